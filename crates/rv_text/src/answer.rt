@@ -1,0 +1,71 @@
+//! What the server answers: welcomes, replies and refusals.
+use crate::item::Item;
+use crate::message::Key;
+use thiserror::Error;
+
+/// What became of a request. Once given, it stays the request's reply.
+#[derive(Debug, PartialEq, Eq, Drop)]
+pub enum Reply {
+    /// A put was accepted.
+    Done,
+    /// A take got this item.
+    Item(Item),
+    /// A take found no item.
+    Empty,
+}
+
+/// Why a message was refused. Its number is [`Refusal::code`].
+#[derive(Clone, Copy, Debug, PartialEq, Eq, Error)]
+pub enum Refusal {
+    /// 1: the body is not a message.
+    #[error("the body is not a message")]
+    BadText,
+    /// 2: the key's epoch is not the server's, which is given.
+    #[error("the server's epoch is {0}")]
+    OtherEpoch(u64),
+    /// 3: the client said no hello in this epoch, or only hellos of lower incarnations.
+    #[error("the client has no session")]
+    NoSession,
+    /// 4: the session has a greater incarnation, which is given.
+    #[error("the session's incarnation is {0}")]
+    OldIncarnation(u64),
+    /// 5: the session's last number, which is given, is past the message's.
+    #[error("the session's last number is {0}")]
+    OldNumber(u64),
+    /// 6: the last number has a request with another call.
+    #[error("the number has another call")]
+    OtherCall,
+    /// 7: the session's last request, whose number is given, still waits.
+    #[error("request {0} still waits")]
+    Busy(u64),
+    /// 8: the number is not the next one after the last, which is given.
+    #[error("the session's last number is {0}, and this is not the next")]
+    Gap(u64),
+    /// 9: there are as many clients as an epoch can have.
+    #[error("the epoch has as many clients as it can")]
+    ClientsFull,
+    /// 10: the epoch has room for no further entry of this kind.
+    #[error("the epoch is full")]
+    EpochFull,
+    /// 11: a growth of memory was refused.
+    #[error("out of memory")]
+    NoMemory,
+}
+
+/// What the server sends back for a message.
+#[derive(Debug, PartialEq, Eq, Drop)]
+pub enum Answer {
+    /// A hello was accepted: the client's session has this incarnation in this epoch.
+    Welcome {
+        epoch: u64,
+        client: u64,
+        incarnation: u64,
+    },
+    /// The request of this key has this reply.
+    Replied {
+        key: Key,
+        reply: Reply,
+    },
+    /// The message was refused.
+    Refused(Refusal),
+}

@@ -1,0 +1,12 @@
+//! The messages and answers of the rendezvous server, and the JSON bodies that carry them.
+#![tactic(auto)]
+
+mod answer;
+mod fault;
+mod item;
+mod message;
+
+pub use answer::{Answer, Refusal, Reply};
+pub use fault::{NoMemory, TextFault};
+pub use item::Item;
+pub use message::{Call, Key, Message, Wait};

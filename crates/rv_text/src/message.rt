@@ -1,0 +1,100 @@
+//! What clients send: hellos, and requests with their keys and calls.
+ghost use Rattle.std.specs.Prelude.{IsTrue, ◌↔◌};
+ghost use Rattle.rv_text.specs.Limits.{FitsIdentifier};
+
+use crate::item::Item;
+
+/// The greatest epoch, client, incarnation and request number: 2^53 - 1.
+pub const MAX_IDENTIFIER: u64 = 9_007_199_254_740_991;
+
+/// The greatest number of a queue; the least is 0.
+pub const MAX_QUEUE: u64 = 63;
+
+/// What names a request: no two requests of an epoch have the same key.
+#[derive(Clone, Copy, Debug, PartialEq, Eq)]
+pub struct Key {
+    /// The server's epoch, 1 to 2^53 - 1.
+    pub epoch: u64,
+    /// The client's number, 1 to 2^53 - 1.
+    pub client: u64,
+    /// Which of the client's lives asks, 1 to 2^53 - 1.
+    pub incarnation: u64,
+    /// The request's number in its session, from 1 on.
+    pub number: u64,
+}
+
+/// How long a request may wait for its partner.
+#[derive(Clone, Copy, Debug, PartialEq, Eq)]
+pub enum Wait {
+    /// Not at all, as Java's untimed `poll`.
+    Now,
+}
+
+/// What a request asks of a queue.
+#[derive(Debug, PartialEq, Eq, Drop)]
+pub enum Call {
+    /// Appends the item at the queue's tail and never waits (Java's `TransferQueue.put`).
+    Put { queue: u64, item: Item },
+    /// Takes the queue's oldest item (Java's `poll`).
+    Take { queue: u64, wait: Wait },
+}
+
+/// What a client sends.
+#[derive(Debug, PartialEq, Eq, Drop)]
+pub enum Message {
+    /// Opens a session, or ends that of a lower incarnation.
+    Hello { client: u64, incarnation: u64 },
+    /// Asks for a call; the same key with the same call is a repeat.
+    Request { key: Key, call: Call },
+}
+
+impl Key {
+    ghost use Rattle.rv_text.specs.Limits.{FitsKey};
+
+    /// Whether each of the four numbers is 1 to 2^53 - 1.
+    pub fn fits(&self) -> bool
+        ensures { IsTrue result ↔ FitsKey self.now }
+    {
+        [self.epoch, self.client, self.incarnation, self.number]
+            .iter()
+            .all(|number| fits_identifier(*number))
+    }
+}
+
+impl Call {
+    ghost use Rattle.rv_text.specs.Limits.{FitsCall};
+
+    /// Whether the queue is 0 to 63 and the item has at most 512 bytes.
+    pub fn fits(&self) -> bool
+        ensures { IsTrue result ↔ FitsCall self.now }
+    {
+        match self {
+            Call::Put { queue, item } => *queue <= MAX_QUEUE && item.fits(),
+            Call::Take { queue, .. } => *queue <= MAX_QUEUE,
+        }
+    }
+}
+
+impl Message {
+    ghost use Rattle.rv_text.specs.Limits.{FitsMessage};
+
+    /// Whether every number and the item are within their limits.
+    pub fn fits(&self) -> bool
+        ensures { IsTrue result ↔ FitsMessage self.now }
+    {
+        match self {
+            Message::Hello {
+                client,
+                incarnation,
+            } => { fits_identifier(*client) && fits_identifier(*incarnation) }
+            Message::Request { key, call } => key.fits() && call.fits(),
+        }
+    }
+}
+
+// Whether an epoch, a client, an incarnation or a number is within its limits.
+pub(crate) fn fits_identifier(number: u64) -> bool
+    ensures { IsTrue result ↔ FitsIdentifier number }
+{
+    (1..=MAX_IDENTIFIER).contains(&number)
+}
