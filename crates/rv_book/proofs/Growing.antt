@@ -1,0 +1,151 @@
+-- What one more entry changes of who was met, who was stopped and who is open.
+use Rattle.std.proofs.Common.{◌≡◌, ◌⊎◌, inl, inr, ℕ, ◌<◌, ◌≤◌, List, [], ◌∷◌, ◌++◌, length, Option, Some, None, option_and_then, option_map, IsTrue, refl, sym, ap, subst, ◌∙◌, arith}
+use Rattle.std.specs.List.{slice_get}
+use Rattle.std.proofs.lemmas.Option.{same_Some, none-some}
+use Rattle.rv_text.specs.declared.message.Call.{Call}
+use Rattle.rv_book.specs.declared.account.Entry.{Entry}
+use Rattle.rv_book.specs.declared.account.Act.{Act}
+use Rattle.rv_book.specs.Account.{act_at, partner_at, call_at, call_in, key_at, key_in, moment_at}
+use Rattle.rv_book.specs.Calls.{may_meet, IsPut, Stays}
+use Rattle.rv_book.specs.Waiting.{NamesPartner, Met, StoppedAt, Stopped, Open, Waiting}
+use Rattle.rv_book.proofs.Places.{get-append, get-append_cases, within}
+
+-- ---- what is read at a place, by a reading that gives nothing where nothing stands
+
+pub read_there : {B : Type 0} (F : Option Entry → Option B) → F None ≡ None → (o : Option Entry) (y : B) → F o ≡ Some y → (e : Entry) × (o ≡ Some e) × (F (Some e) ≡ Some y)
+read_there F none None y h = absurd (none-some y (sym none ∙ h))
+read_there F none (Some e) y h = (e, refl, h)
+
+pub reads_within : {B : Type 0} (F : Option Entry → Option B) → F None ≡ None → (es : List Entry) (r : ℕ) (y : B) → F (slice_get es r) ≡ Some y → r < length es
+reads_within F none es r y h = let there = read_there F none (slice_get es r) y h in within es r there.0 there.1
+
+pub reads_on : {B : Type 0} (F : Option Entry → Option B) → F None ≡ None → (es more : List Entry) (r : ℕ) (y : B) → F (slice_get es r) ≡ Some y → F (slice_get (es ++ more) r) ≡ Some y
+reads_on F none es more r y h =
+    let there = read_there F none (slice_get es r) y h in
+    ap F (get-append es more r there.0 there.1) ∙ there.2
+
+pub reads_back : {B : Type 0} (F : Option Entry → Option B) → F None ≡ None → (es : List Entry) (e : Entry) (r : ℕ) (y : B) → F (slice_get (es ++ e ∷ []) r) ≡ Some y
+    → ((r < length es) × (F (slice_get es r) ≡ Some y)) ⊎ ((r ≡ length es) × (F (Some e) ≡ Some y))
+reads_back F none es e r y h =
+    let there = read_there F none (slice_get (es ++ e ∷ []) r) y h in
+    elim (get-append_cases es e there.0 r there.1) [
+      | inl at ↦ inl (at.0, ap F at.1 ∙ there.2)
+      | inr at ↦ inr (at.0, ap (λ x. F (Some x)) at.1 ∙ there.2)
+    ]
+
+-- the readings that the definitions take
+abbrev pub act_read : Option Entry → Option Act
+act_read o = option_map (λ e. e.act) o
+
+abbrev pub moment_read : Option Entry → Option ℕ
+moment_read o = option_map (λ e. e.moment) o
+
+abbrev pub partner_read : Option Entry → Option ℕ
+partner_read o = option_and_then (λ e. e.partner) o
+
+abbrev pub call_read : Option Entry → Option Call
+call_read o = option_and_then call_in (option_map (λ e. e.act) o)
+
+-- ---- pairs
+
+pub NamesPartner-on : (es more : List Entry) (p q : ℕ) → NamesPartner es p q → NamesPartner (es ++ more) p q
+NamesPartner-on es more p q h = record {
+  call = h.call;
+  arrived = reads_on call_read refl es more p h.call h.arrived;
+  meets = h.meets;
+  named = reads_on partner_read refl es more p q h.named;
+}
+
+pub NamesPartner-back : (es : List Entry) (e : Entry) (p q : ℕ) → NamesPartner (es ++ e ∷ []) p q → NamesPartner es p q ⊎ ((p ≡ length es) × (e.partner ≡ Some q))
+NamesPartner-back es e p q h =
+    elim (reads_back partner_read refl es e p q h.named) [
+      | inl named ↦ elim (reads_back call_read refl es e p h.call h.arrived) [
+        | inl arrived ↦ inl (record { call = h.call; arrived = arrived.1; meets = h.meets; named = named.1 })
+        | inr arrived ↦ absurd (omega arith)
+      ]
+      | inr named ↦ inr named
+    ]
+
+pub Met-on : (es more : List Entry) (r : ℕ) → Met es r → Met (es ++ more) r
+Met-on es more r h = record { later = h.later; earlier = h.earlier; names = NamesPartner-on es more h.later h.earlier h.names; part = h.part }
+
+-- who is met with one more entry was met before, or is that entry, or is its partner
+pub Met-back : (es : List Entry) (e : Entry) (r : ℕ) → Met (es ++ e ∷ []) r → Met es r ⊎ ((r ≡ length es) ⊎ (e.partner ≡ Some r))
+Met-back es e r h =
+    elim (NamesPartner-back es e h.later h.earlier h.names) [
+      | inl names ↦ inl (record { later = h.later; earlier = h.earlier; names = names; part = h.part })
+      | inr new ↦ elim h.part [
+        | inl is ↦ inr (inl (is ∙ new.0))
+        | inr is ↦ inr (inr (new.1 ∙ ap Some (sym is)))
+      ]
+    ]
+
+-- ---- stops
+
+pub StoppedAt-on : (es more : List Entry) (r s : ℕ) → StoppedAt es r s → StoppedAt (es ++ more) r s
+StoppedAt-on es more r s h = record {
+  request = h.request;
+  stopper = h.stopper;
+  key = h.key;
+  call = h.call;
+  request_is = get-append es more r h.request h.request_is;
+  stopper_is = get-append es more s h.stopper h.stopper_is;
+  later = h.later;
+  arrived = h.arrived;
+  no_put = h.no_put;
+  ends = h.ends;
+}
+
+pub Stopped-on : (es more : List Entry) (r : ℕ) → Stopped es r → Stopped (es ++ more) r
+Stopped-on es more r h = (h.0, StoppedAt-on es more r h.0 h.1)
+
+-- who is stopped with one more entry was stopped before, or by that entry
+pub Stopped-back : (es : List Entry) (e : Entry) (r : ℕ) → Stopped (es ++ e ∷ []) r → Stopped es r ⊎ StoppedAt (es ++ e ∷ []) r (length es)
+Stopped-back es e r h =
+    elim (get-append_cases es e h.1.stopper h.0 h.1.stopper_is) [
+      | inl stopper ↦ elim (get-append_cases es e h.1.request r h.1.request_is) [
+        | inl request ↦ inl (
+          h.0,
+          record {
+            request = h.1.request;
+            stopper = h.1.stopper;
+            key = h.1.key;
+            call = h.1.call;
+            request_is = request.1;
+            stopper_is = stopper.1;
+            later = h.1.later;
+            arrived = h.1.arrived;
+            no_put = h.1.no_put;
+            ends = h.1.ends;
+          },
+        )
+        | inr request ↦ let later : r < h.0 = h.1.later in absurd (omega arith)
+      ]
+      | inr stopper ↦ inr (subst (StoppedAt (es ++ e ∷ []) r) stopper.0 h.1)
+    ]
+
+-- ---- who is open
+
+pub Open-on : (es : List Entry) (e : Entry) (r : ℕ) → Open es r → (e.partner ≡ Some r → ⊥) → (StoppedAt (es ++ e ∷ []) r (length es) → ⊥) → Open (es ++ e ∷ []) r
+Open-on es e r h unnamed unstopped = record {
+  call = h.call;
+  arrived = reads_on call_read refl es (e ∷ []) r h.call h.arrived;
+  stays = h.stays;
+  unmet = λ met. elim (Met-back es e r met) [
+    | inl before ↦ h.unmet before
+    | inr new ↦ elim new [
+      | inl last ↦ let inside : r < length es = reads_within call_read refl es r h.call h.arrived in omega arith
+      | inr named ↦ unnamed named
+    ]
+  ];
+  unstopped = λ stopped. elim (Stopped-back es e r stopped) [ inl before ↦ h.unstopped before | inr new ↦ unstopped new ];
+}
+
+pub Open-back : (es more : List Entry) (r : ℕ) (h : Open (es ++ more) r) → call_at es r ≡ Some h.call → Open es r
+Open-back es more r h arrived = record {
+  call = h.call;
+  arrived = arrived;
+  stays = h.stays;
+  unmet = λ met. h.unmet (Met-on es more r met);
+  unstopped = λ stopped. h.unstopped (Stopped-on es more r stopped);
+}

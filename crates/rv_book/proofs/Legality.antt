@@ -1,0 +1,31 @@
+-- When an account stays legal, and that nobody waits as long as no call may.
+use Rattle.std.proofs.Common.{◌≡◌, ◌⊎◌, inl, inr, ℕ, ◌<◌, ◌≤◌, List, [], ◌∷◌, ◌++◌, length, take, Option, Some, None, refl, sym, ap, subst, ◌∙◌, arith}
+use Rattle.std.specs.List.{slice_get}
+use Rattle.std.proofs.lemmas.List.{take-append-le}
+use Rattle.std.proofs.Math.Seq.{take-append_seam}
+use Rattle.rv_text.specs.declared.message.Call.{Call}
+use Rattle.rv_text.specs.declared.message.Call.TheVariants.{Put, Take}
+use Rattle.rv_text.specs.declared.message.Wait.TheVariants.{Now}
+use Rattle.rv_book.specs.declared.account.Entry.{Entry}
+use Rattle.rv_book.specs.Account.{Account, with_entry}
+use Rattle.rv_book.specs.Calls.{IsPut, Stays}
+use Rattle.rv_book.specs.Waiting.{Open, Waiting}
+use Rattle.rv_book.specs.Legal.{Legal, MayFollow, before}
+use Rattle.rv_book.proofs.Places.{get-append_cases}
+
+pub Legal-with_entry : (a : Account) (e : Entry) → Legal a → MayFollow a e → Legal (with_entry a e)
+Legal-with_entry a e legal follows j x there =
+    let P : List Entry → Type 0 = λ entries. MayFollow (record { epoch = a.epoch; opened = a.opened; entries = entries }) x in
+    elim (get-append_cases a.entries e x j there) [
+      | inl inside ↦ let short : j ≤ length a.entries = omega arith in subst P (sym (take-append-le j a.entries (e ∷ []) short)) (legal j x inside.1)
+      | inr last ↦
+          let whole : take j (a.entries ++ e ∷ []) ≡ a.entries = ap (λ n. take n (a.entries ++ e ∷ [])) last.0 ∙ take-append_seam a.entries (e ∷ []) in
+          subst P (sym whole) (subst (MayFollow a) last.1 follows)
+    ]
+
+only_puts_stay : (call : Call) → Stays call → (IsPut call → ⊥) → ⊥
+only_puts_stay (Put queue item) stays no_put = no_put tt
+only_puts_stay (Take queue Now) stays no_put = stays
+
+pub nobody_waits : (es : List Entry) (r : ℕ) → Waiting es r → ⊥
+nobody_waits es r w = only_puts_stay w.«open».call w.«open».stays w.no_put

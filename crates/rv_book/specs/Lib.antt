@@ -1,0 +1,9 @@
+pub mod Account
+pub mod Calls
+pub mod Waiting
+pub mod Sessions
+pub mod Legal
+pub mod Replies
+pub mod Steps
+pub mod Order
+pub mod Tables

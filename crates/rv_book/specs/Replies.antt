@@ -1,0 +1,42 @@
+-- The reply of a request, as an account tells it: the first case that applies.
+use Rattle.std.specs.Prelude.{◌≡◌, ◌⊎◌, ℕ, List, Some, option_and_then}
+use Rattle.rv_text.specs.declared.message.Key.{Key}
+use Rattle.rv_text.specs.declared.message.Wait.{Wait}
+use Rattle.rv_text.specs.declared.message.Wait.TheVariants.{Now}
+use Rattle.rv_text.specs.declared.message.Call.{Call}
+use Rattle.rv_text.specs.declared.message.Call.TheVariants.{Put, Take}
+use Rattle.rv_text.specs.declared.answer.Reply.{Reply}
+use Rattle.rv_text.specs.declared.answer.Reply.TheVariants.{Done, Item, Empty}
+use Rattle.rv_book.specs.declared.account.Entry.{Entry}
+use Rattle.rv_book.specs.declared.account.Act.TheVariants.{Arrive}
+use Rattle.rv_book.specs.Account.{act_at, call_at}
+use Rattle.rv_book.specs.Calls.{item_of}
+use Rattle.rv_book.specs.Waiting.{NamesPartner, Met}
+
+-- the arrivals at r and at s are in one pair or swap
+abbrev pub Meet : List Entry → ℕ → ℕ → Type 0
+Meet entries r s = NamesPartner entries r s ⊎ NamesPartner entries s r
+
+-- the arrival at r meets one that hands over this item
+pub record Gets (entries : List Entry) (r : ℕ) (item : List ℕ) : Type 0 where
+  pub giver : ℕ
+  pub call : Call
+  pub meet : Meet entries giver r
+  pub arrived : call_at entries giver ≡ Some call
+  pub hands_over : item_of call ≡ Some item
+
+-- what an unmet take of this wait is told
+abbrev pub TakesNothing : Wait → Reply → Type 0
+TakesNothing Now reply = reply ≡ Empty
+
+-- the reply of the request with this call that arrived at r
+abbrev pub RepliesAt : List Entry → ℕ → Call → Reply → Type 0
+RepliesAt entries r (Put queue item) reply = reply ≡ Done
+RepliesAt entries r (Take queue wait) reply = ((item : List ℕ) × Gets entries r item × (reply ≡ Item item)) ⊎ ((¬ Met entries r) × TakesNothing wait reply)
+
+-- the reply of the request with this key
+pub record HasReply (entries : List Entry) (key : Key) (reply : Reply) : Type 0 where
+  pub place : ℕ
+  pub call : Call
+  pub arrived : act_at entries place ≡ Some (Arrive key call)
+  pub replies : RepliesAt entries place call reply

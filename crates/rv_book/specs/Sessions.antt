@@ -1,0 +1,28 @@
+-- What a list of entries says of a client's session: its incarnation and its last number.
+use Rattle.std.specs.Prelude.{◌≡◌, ◌⊎◌, ◌<◌, ◌≤◌, ℕ, List, Some}
+use Rattle.rv_text.specs.declared.message.Key.{Key}
+use Rattle.rv_book.specs.declared.account.Entry.{Entry}
+use Rattle.rv_book.specs.declared.account.Act.TheVariants.{Hello}
+use Rattle.rv_book.specs.Account.{act_at, key_at}
+
+-- the client's last hello stands at h and has this incarnation
+pub record LastHello (entries : List Entry) (client incarnation h : ℕ) : Type 0 where
+  pub hello : act_at entries h ≡ Some (Hello client incarnation)
+  pub last : (r other : ℕ) → h < r → act_at entries r ≡ Some (Hello client other) → ⊥
+
+-- the client's session has this incarnation
+abbrev pub HasIncarnation : List Entry → ℕ → ℕ → Type 0
+HasIncarnation entries client incarnation = (h : ℕ) × LastHello entries client incarnation h
+
+-- the entry at r names a key of the client
+pub record NamesKey (entries : List Entry) (client r : ℕ) (key : Key) : Type 0 where
+  pub named : key_at entries r ≡ Some key
+  pub of_client : key.client ≡ client
+
+-- the greatest number of the client since its last hello is n; 0 where it has none yet
+pub record LastNumber (entries : List Entry) (client n : ℕ) : Type 0 where
+  pub incarnation : ℕ
+  pub h : ℕ
+  pub hello : LastHello entries client incarnation h
+  pub greatest : (r : ℕ) (key : Key) → h < r → NamesKey entries client r key → key.number ≤ n
+  pub reached : (n ≡ 0) ⊎ ((r : ℕ) × (key : Key) × (h < r) × NamesKey entries client r key × (key.number ≡ n))

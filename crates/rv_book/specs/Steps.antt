@@ -1,0 +1,136 @@
+-- One step of the book: the answer to a message, and which accounts may stand after it.
+use Rattle.std.specs.Prelude.{◌≡◌, ◌≢◌, ◌⊎◌, ◌<◌, ◌≤◌, ◌+◌, ◌-◌, ◌^◌, ◌↔◌, ℕ, List, length, Contains, Some, min, max, unwrap_or}
+use Rattle.std.specs.List.Sorted.{IsStrictlyIncreasing}
+use Rattle.rv_text.specs.declared.message.Key.{Key}
+use Rattle.rv_text.specs.declared.message.Wait.{Wait}
+use Rattle.rv_text.specs.declared.message.Wait.TheVariants.{Now}
+use Rattle.rv_text.specs.declared.message.Call.{Call}
+use Rattle.rv_text.specs.declared.message.Call.TheVariants.{Put, Take}
+use Rattle.rv_text.specs.declared.message.Message.{Message}
+use Rattle.rv_text.specs.declared.message.Message.TheVariants.{Hello, Request}
+use Rattle.rv_text.specs.declared.answer.Reply.{Reply}
+use Rattle.rv_text.specs.declared.answer.Refusal.{Refusal}
+use Rattle.rv_text.specs.declared.answer.Refusal.TheVariants.{OtherEpoch, NoSession, OldIncarnation, OldNumber, Gap, EpochFull, NoMemory}
+use Rattle.rv_text.specs.declared.answer.Answer.{Answer}
+use Rattle.rv_text.specs.declared.answer.Answer.TheVariants.{Welcome, Replied, Refused}
+use Rattle.rv_book.specs.declared.account.Entry.{Entry}
+use Rattle.rv_book.specs.declared.account.Act.{Act}
+use Rattle.rv_book.specs.declared.account.Act as act
+use Rattle.rv_book.specs.Account.{Account, act_at, moment_at, with_entry}
+use Rattle.rv_book.specs.Sessions.{HasIncarnation, LastNumber}
+use Rattle.rv_book.specs.Waiting.{Waiting}
+use Rattle.rv_book.specs.Legal.{Legal}
+use Rattle.rv_book.specs.Replies.{HasReply}
+
+-- ---- the step's moment
+
+-- a moment above 2 ^ 62 counts as 2 ^ 62
+abbrev pub capped : ℕ → ℕ
+capped now = min now (2 ^ 62)
+
+-- the moment of the last entry, or the opening moment while there is none
+abbrev pub own_moment : Account → ℕ
+own_moment a = unwrap_or (moment_at a.entries (length a.entries - 1)) a.opened
+
+-- a lower moment counts as the book's own
+abbrev pub step_moment : Account → ℕ → ℕ
+step_moment a now = max (own_moment a) (capped now)
+
+-- ---- when each refusal is due
+
+-- the key's epoch isn't the book's
+abbrev pub OtherEpochDue : Account → Key → Refusal → Type 0
+OtherEpochDue a key refusal = (key.epoch ≢ a.epoch) × (refusal ≡ OtherEpoch a.epoch)
+
+-- the client said no hello in this epoch, or only hellos of lower incarnations
+abbrev pub NoSessionDue : Account → Key → Refusal → Type 0
+NoSessionDue a key refusal = ((r incarnation : ℕ) → act_at a.entries r ≡ Some (act.TheVariants.Hello key.client incarnation) → incarnation < key.incarnation) × (refusal ≡ NoSession)
+
+-- the session has a greater incarnation
+abbrev pub OldIncarnationDue : Account → ℕ → ℕ → Refusal → Type 0
+OldIncarnationDue a client incarnation refusal = (current : ℕ) × HasIncarnation a.entries client current × (incarnation < current) × (refusal ≡ OldIncarnation current)
+
+-- the number is at or below the session's last
+abbrev pub OldNumberDue : Account → Key → Refusal → Type 0
+OldNumberDue a key refusal = (last : ℕ) × LastNumber a.entries key.client last × (key.number ≤ last) × (refusal ≡ OldNumber last)
+
+-- the number is above the last plus one
+abbrev pub GapDue : Account → Key → Refusal → Type 0
+GapDue a key refusal = (last : ℕ) × LastNumber a.entries key.client last × (last + 1 < key.number) × (refusal ≡ Gap last)
+
+-- the places with a property, and no others, number n
+abbrev pub NumberOf : (ℕ → Type 0) → ℕ → Type 0
+NumberOf P n = (places : List ℕ) × IsStrictlyIncreasing places × ((r : ℕ) → Contains places r ↔ P r) × (n ≡ length places)
+
+-- how many entries a call may come to need: its own, and one that ends its wait
+abbrev pub need_of : Call → ℕ
+need_of (Put queue item) = 1
+need_of (Take queue Now) = 1
+
+-- the entries, those that the waiting requests may come to need and those that are needed now are more than 100,000
+abbrev pub EpochFullDue : Account → ℕ → Refusal → Type 0
+EpochFullDue a need refusal = (waiting : ℕ) × NumberOf (Waiting a.entries) waiting × (100000 < length a.entries + waiting + need) × (refusal ≡ EpochFull)
+
+-- ---- the lines of a step, of which the first that applies decides
+
+-- a refusal that is due refuses; else the step goes on
+abbrev pub RefuseOr : (Refusal → Type 0) → (Refusal → Type 0) → Type 0 → Type 0
+RefuseOr due refuses otherwise = ((refusal : Refusal) × due refusal × refuses refusal) ⊎ (((refusal : Refusal) → ¬ due refusal) × otherwise)
+
+-- where the condition holds, this; else that
+abbrev pub WhereElse : Type 0 → Type 0 → Type 0 → Type 0
+WhereElse condition this that = (condition × this) ⊎ ((¬ condition) × that)
+
+-- the lines for a request, by what a refusal does and what happens where none is due
+abbrev pub RequestLines : Account → Key → Call → (Refusal → Type 0) → Type 0 → Type 0
+RequestLines a key call refuses enters =
+    RefuseOr (OtherEpochDue a key) refuses
+    (RefuseOr (NoSessionDue a key) refuses
+    (RefuseOr (OldIncarnationDue a key.client key.incarnation) refuses
+    (RefuseOr (OldNumberDue a key) refuses
+    (RefuseOr (GapDue a key) refuses
+    (RefuseOr (EpochFullDue a (need_of call)) refuses
+    enters)))))
+
+-- the lines for a hello: also what happens where it is a repeat
+abbrev pub HelloLines : Account → ℕ → ℕ → (Refusal → Type 0) → Type 0 → Type 0 → Type 0
+HelloLines a client incarnation refuses repeats enters =
+    RefuseOr (OldIncarnationDue a client incarnation) refuses
+    (WhereElse (HasIncarnation a.entries client incarnation) repeats
+    (RefuseOr (EpochFullDue a 1) refuses
+    enters))
+
+-- ---- the accounts after a step
+
+-- the account stays, and the refusal is the answer
+abbrev pub Refuses : Account → Account → Answer → Refusal → Type 0
+Refuses a b answer refusal = (b ≡ a) × (answer ≡ Refused refusal)
+
+-- the second account is legal, and it is the first with one entry more, of this moment and act
+pub record Adds (a : Account) (moment : ℕ) (does : Act) (b : Account) : Type 0 where
+  pub entry : Entry
+  pub moment_is : entry.moment ≡ moment
+  pub act_is : entry.act ≡ does
+  pub follows : b ≡ with_entry a entry
+  pub legal : Legal b
+
+-- the key has a reply, and it is the answer
+abbrev pub Replies : Account → Key → Answer → Type 0
+Replies b key answer = (reply : Reply) × HasReply b.entries key reply × (answer ≡ Replied key reply)
+
+-- where a growth was refused the account stays; else it gets the message's own entry
+abbrev pub Enters : Account → ℕ → Act → Account → Answer → Type 0 → Type 0
+Enters a moment does b answer answers = Refuses a b answer NoMemory ⊎ (Adds a moment does b × answers)
+
+-- the step of a message at a moment: the accounts before and after, and the answer
+abbrev pub NextAt : Account → ℕ → Message → Account → Answer → Type 0
+NextAt a moment (Hello client incarnation) b answer =
+    HelloLines a client incarnation (Refuses a b answer)
+    ((b ≡ a) × (answer ≡ Welcome a.epoch client incarnation))
+    (Enters a moment (act.TheVariants.Hello client incarnation) b answer (answer ≡ Welcome a.epoch client incarnation))
+NextAt a moment (Request key call) b answer =
+    RequestLines a key call (Refuses a b answer)
+    (Enters a moment (act.TheVariants.Arrive key call) b answer (Replies b key answer))
+
+abbrev pub Next : Account → ℕ → Message → Account → Answer → Type 0
+Next a now m b answer = NextAt a (step_moment a now) m b answer

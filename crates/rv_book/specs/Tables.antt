@@ -1,0 +1,60 @@
+-- What the book's private lists say of its account.
+use Rattle.std.specs.Prelude.{◌≡◌, ◌≢◌, ◌<◌, ◌≤◌, ◌^◌, ℕ, List, length, Some, slice_get}
+use Rattle.rv_text.specs.declared.message.Key.{Key}
+use Rattle.rv_text.specs.Limits.{FitsIdentifier, FitsKey, FitsCall}
+use Rattle.rv_book.specs.declared.account.Entry.{Entry}
+use Rattle.rv_book.specs.declared.account.Act.{Act}
+use Rattle.rv_book.specs.declared.account.Act.TheVariants.{Hello, Arrive}
+use Rattle.rv_book.specs.declared.tables.Session.{Session}
+use Rattle.rv_book.specs.declared.tables.WaitingItem.{WaitingItem}
+use Rattle.rv_book.specs.Account.{Account, act_at}
+use Rattle.rv_book.specs.Order.{GivesAt}
+use Rattle.rv_book.specs.Legal.{Legal}
+use Rattle.rv_book.specs.Sessions.{HasIncarnation, LastNumber}
+use Rattle.rv_book.specs.Waiting.{Open, Waiting}
+
+-- ---- limits
+
+abbrev pub FitsAct : Act → Type 0
+FitsAct (Hello client incarnation) = FitsIdentifier client × FitsIdentifier incarnation
+FitsAct (Arrive key call) = FitsKey key × FitsCall call
+
+abbrev pub FitsEntry : Entry → Type 0
+FitsEntry e = (e.moment ≤ 2 ^ 62) × FitsAct e.act
+
+-- the account's numbers, moments and items are within their limits, and it has at most 100,000 entries
+pub record FitsAccount (a : Account) : Type 0 where
+  pub epoch : FitsIdentifier a.epoch
+  pub opened : a.opened ≤ 2 ^ 62
+  pub entries : (r : ℕ) (e : Entry) → slice_get a.entries r ≡ Some e → FitsEntry e
+  pub room : length a.entries ≤ 100000
+
+-- ---- the lists
+
+-- the first item of the queue in the list
+pub record IsFirstOf (waiting : List WaitingItem) (queue i : ℕ) : Type 0 where
+  pub item : WaitingItem
+  pub there : slice_get waiting i ≡ Some item
+  pub of_queue : item.queue ≡ queue
+  pub first : (j : ℕ) (other : WaitingItem) → j < i → slice_get waiting j ≡ Some other → other.queue ≢ queue
+
+-- each client that said a hello has one session, with its incarnation and its last number
+pub record AreSessions (entries : List Entry) (sessions : List Session) : Type 0 where
+  pub incarnations : (i : ℕ) (s : Session) → slice_get sessions i ≡ Some s → HasIncarnation entries s.client s.incarnation
+  pub numbers : (i : ℕ) (s : Session) → slice_get sessions i ≡ Some s → LastNumber entries s.client s.last
+  pub each : (r client incarnation : ℕ) → act_at entries r ≡ Some (Hello client incarnation) → (i : ℕ) × (s : Session) × (slice_get sessions i ≡ Some s) × (s.client ≡ client)
+  pub distinct : (i j : ℕ) (s t : Session) → slice_get sessions i ≡ Some s → slice_get sessions j ≡ Some t → s.client ≡ t.client → i ≡ j
+
+-- the open giving arrivals, each with its queue, in the order of their places
+pub record AreWaitingItems (entries : List Entry) (waiting : List WaitingItem) : Type 0 where
+  pub gives : (i : ℕ) (w : WaitingItem) → slice_get waiting i ≡ Some w → GivesAt entries w.queue w.place
+  pub are_open : (i : ℕ) (w : WaitingItem) → slice_get waiting i ≡ Some w → Open entries w.place
+  pub each : (r queue : ℕ) → GivesAt entries queue r → Open entries r → (i : ℕ) × (w : WaitingItem) × (slice_get waiting i ≡ Some w) × (w.place ≡ r)
+  pub rising : (i j : ℕ) (v w : WaitingItem) → i < j → slice_get waiting i ≡ Some v → slice_get waiting j ≡ Some w → v.place < w.place
+
+-- the account is legal and within the limits, and each list is what the account says
+pub record IsSound (a : Account) (sessions : List Session) (waiting : List WaitingItem) : Type 0 where
+  pub legal : Legal a
+  pub fits : FitsAccount a
+  pub sessions_are : AreSessions a.entries sessions
+  pub waiting_are : AreWaitingItems a.entries waiting

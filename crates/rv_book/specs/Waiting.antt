@@ -1,0 +1,57 @@
+-- Which arrivals of a list of entries were met, were stopped, and are still open.
+use Rattle.std.specs.Prelude.{◌≡◌, ◌⊎◌, ◌<◌, ℕ, List, Option, Some, IsTrue, slice_get}
+use Rattle.rv_text.specs.declared.message.Key.{Key}
+use Rattle.rv_text.specs.declared.message.Call.{Call}
+use Rattle.rv_book.specs.declared.account.Entry.{Entry}
+use Rattle.rv_book.specs.declared.account.Act.{Act}
+use Rattle.rv_book.specs.declared.account.Act.TheVariants.{Hello, Arrive}
+use Rattle.rv_book.specs.Account.{act_at, partner_at, call_at}
+use Rattle.rv_book.specs.Calls.{may_meet, IsPut, Stays, limit_of}
+
+-- the arrival at p names the earlier arrival at q: a pair or a swap, whose place is p
+pub record NamesPartner (entries : List Entry) (p q : ℕ) : Type 0 where
+  pub call : Call
+  pub arrived : call_at entries p ≡ Some call
+  pub meets : IsTrue (may_meet call)
+  pub named : partner_at entries p ≡ Some q
+
+-- the arrival at r is in a pair or a swap
+pub record Met (entries : List Entry) (r : ℕ) : Type 0 where
+  pub later : ℕ
+  pub earlier : ℕ
+  pub names : NamesPartner entries later earlier
+  pub part : (r ≡ later) ⊎ (r ≡ earlier)
+
+-- an act of a moment ends the wait of the request with this key and this limit
+abbrev pub EndsWait : Act → ℕ → Key → Option ℕ → Type 0
+EndsWait (Hello client incarnation) moment key limit = client ≡ key.client
+EndsWait (Arrive other call) moment key limit = ⊥
+
+-- the entry at s stops the request that arrived at r; nothing stops a put
+pub record StoppedAt (entries : List Entry) (r s : ℕ) : Type 0 where
+  pub request : Entry
+  pub stopper : Entry
+  pub key : Key
+  pub call : Call
+  pub request_is : slice_get entries r ≡ Some request
+  pub stopper_is : slice_get entries s ≡ Some stopper
+  pub later : r < s
+  pub arrived : request.act ≡ Arrive key call
+  pub no_put : ¬ IsPut call
+  pub ends : EndsWait stopper.act stopper.moment key (limit_of request.moment call)
+
+abbrev pub Stopped : List Entry → ℕ → Type 0
+Stopped entries r = (s : ℕ) × StoppedAt entries r s
+
+-- the arrival at r stays, and it was neither met nor stopped
+pub record Open (entries : List Entry) (r : ℕ) : Type 0 where
+  pub call : Call
+  pub arrived : call_at entries r ≡ Some call
+  pub stays : Stays call
+  pub unmet : ¬ Met entries r
+  pub unstopped : ¬ Stopped entries r
+
+-- an open request other than a put
+pub record Waiting (entries : List Entry) (r : ℕ) : Type 0 where
+  pub «open» : Open entries r
+  pub no_put : ¬ IsPut «open».call

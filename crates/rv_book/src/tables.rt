@@ -1,0 +1,37 @@
+//! The book's private lists: one session for each client, and the items that wait.
+ghost use Rattle.std.specs.Prelude.{◌≡◌, ◌≢◌, ℕ, Some, IfSome, IfNone, slice_get};
+ghost use Rattle.rv_book.specs.Tables.{IsFirstOf};
+
+use crate::account::Place;
+
+/// What the book keeps of a client.
+#[derive(Clone, Copy)]
+pub(crate) struct Session {
+    pub(crate) client: u64,
+    pub(crate) incarnation: u64,
+    /// The greatest number that the session asked with; 0 before the first.
+    pub(crate) last: u64,
+}
+
+/// A put whose item nobody took yet.
+#[derive(Clone, Copy)]
+pub(crate) struct WaitingItem {
+    pub(crate) queue: u64,
+    pub(crate) place: Place,
+}
+
+// The index of the client's session. The cost grows with the clients.
+pub(crate) fn session_of(sessions: &[Session], client: u64) -> Option<usize>
+    ensures found { IfSome result (λ i. (session : Session) × (slice_get sessions.now i ≡ Some session) × (session.client ≡ client)) }
+    ensures none { IfNone result ((i : ℕ) (session : Session) → slice_get sessions.now i ≡ Some session → session.client ≢ client) }
+{
+    sessions.iter().position(|session| session.client == client)
+}
+
+// The index of the queue's oldest item. The cost grows with the items that wait.
+pub(crate) fn oldest_of(waiting: &[WaitingItem], queue: u64) -> Option<usize>
+    ensures first { IfSome result (IsFirstOf waiting.now queue) }
+    ensures none { IfNone result ((i : ℕ) (item : WaitingItem) → slice_get waiting.now i ≡ Some item → item.queue ≢ queue) }
+{
+    waiting.iter().position(|item| item.queue == queue)
+}

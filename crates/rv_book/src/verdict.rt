@@ -1,0 +1,31 @@
+//! What the book said to a message, in a form that takes no memory.
+use crate::account::Place;
+use rv_text::{Key, Refusal};
+
+// A reply whose text, if it has one, stands in the account at a place.
+#[derive(Clone, Copy)]
+pub(crate) enum Kept {
+    Done,
+    Item(Place),
+    Empty,
+}
+
+#[derive(Clone, Copy)]
+pub(crate) enum Said {
+    Welcome {
+        epoch: u64,
+        client: u64,
+        incarnation: u64,
+    },
+    Replied {
+        key: Key,
+        kept: Kept,
+    },
+    Refused(Refusal),
+}
+
+/// What [`Book::handle`](crate::Book::handle) said to a message. It takes no memory;
+/// [`Book::answer`](crate::Book::answer) makes the answer of it.
+pub struct Verdict {
+    pub(crate) said: Said,
+}
