@@ -1,5 +1,5 @@
 //! A reader and a writer for tests, which give and take a few bytes at a time and stop where they are told.
-ghost use Rattle.std.specs.Prelude.{◌≡◌, ◌<◌, Some, None, []};
+ghost use Rattle.std.specs.Prelude.{◌≡◌, ◌<◌, Some, None, [], IfOk};
 
 use std::alloc::Global;
 use std::io::{Error, ErrorKind, Read, Result, Write};
@@ -32,7 +32,12 @@ impl<'a> TestReader<'a> {
     }
 
     /// The same reader, which fails at this read, counted from 1, and at no other.
-    pub fn failing_at(mut self, read: u64, kind: ErrorKind) -> TestReader<'a> {
+    pub fn failing_at(mut self, read: u64, kind: ErrorKind) -> TestReader<'a>
+        ensures rest { result.rest.now ≡ self.entry.rest.now }
+        ensures most { result.most ≡ self.entry.most }
+        ensures fault { result.fault ≡ Some (read, kind) }
+        ensures reads { result.reads ≡ self.entry.reads }
+    {
         self.fault = Some((read, kind));
         self
     }
@@ -72,6 +77,17 @@ pub enum Stop {
     TakesNothing,
 }
 
+impl Stop {
+    fn answer(self) -> Result<usize>
+        ensures { IfOk result (λ count. count ≡ 0) }
+    {
+        match self {
+            Stop::Error(kind) => Err(Error::from(kind)),
+            Stop::TakesNothing => Ok(0),
+        }
+    }
+}
+
 /// A writer to memory, which takes at most `most` bytes a write and may stop once.
 #[derive(Drop)]
 pub struct TestWriter {
@@ -100,6 +116,9 @@ impl TestWriter {
     /// The same writer, which stops at the first write after `room` more bytes, and at no other.
     pub fn stopping_after(mut self, room: usize, stop: Stop) -> TestWriter
         ensures taken { result.taken.items ≡ self.taken.items }
+        ensures most { result.most ≡ self.most }
+        ensures stop { result.stop ≡ Some (room, stop) }
+        ensures writes { result.writes ≡ self.writes }
     {
         self.stop = Some((room, stop));
         self
@@ -125,22 +144,19 @@ impl Write for TestWriter {
 
     fn write(&mut self, bytes: &[u8]) -> Result<usize> {
         self.writes = self.writes.saturating_add(1);
-        let mut count = bytes.len().min(self.most);
-        match self.stop {
+        let room = match self.stop {
             Some((0, stop)) => {
                 self.stop = None;
-                return match stop {
-                    Stop::Error(kind) => Err(Error::from(kind)),
-                    Stop::TakesNothing => Ok(0),
-                };
+                return stop.answer();
             }
-            Some((room, stop)) => {
-                count = count.min(room);
-                self.stop = Some((room - count, stop));
-            }
-            None => {}
-        }
+            Some((room, _)) => room,
+            None => usize::MAX,
+        };
+        let count = bytes.len().min(self.most).min(room);
         self.taken.extend_from_slice(&bytes[..count])?;
+        if let Some((room, stop)) = self.stop {
+            self.stop = Some((room.saturating_sub(count), stop));
+        }
         Ok(count)
     }
 

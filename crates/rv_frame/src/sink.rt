@@ -22,13 +22,13 @@ pub struct Sink<W> {
 }
 
 impl<W> Sink<W> {
-    /// A sink over this device, of which no write failed yet.
-    pub fn new(device: W) -> Sink<W>
-        ensures device { sink_device result ≡ device }
+    /// A sink over this writer, its device, of which no write failed yet.
+    pub fn new(writer: W) -> Sink<W>
+        ensures device { sink_device result ≡ writer }
         ensures failed { sink_failed result ≡ false }
     {
         Sink {
-            device,
+            device: writer,
             failed: false,
         }
     }
@@ -45,12 +45,15 @@ impl<W: Write> Sink<W> {
     /// Writes all the bytes, in as many writes as the device needs.
     ///
     /// A write error of any kind is a fault, `Interrupted` too, and so is a write that takes 0
-    /// bytes. None is tried again. With no bytes to write the device is not asked. The device is
-    /// not flushed: one that buffers is to be flushed by its owner.
+    /// bytes. None is tried again. With no bytes to write the device is not asked.
     ///
-    /// `WriteFault` says that a write of this call failed, after exactly `sent` bytes and not all
-    /// of them, or that the sink had failed before, and then `sent` is 0. The sink has then
-    /// failed, and every later call is a fault that gives the device nothing.
+    /// The device is never flushed. Standard output and sockets hold nothing back. A device that
+    /// does, as a `BufWriter`, is lent as a `&mut` and flushed by its owner.
+    ///
+    /// `WriteFault` says that a write of this call failed, after the device took exactly `sent`
+    /// of the bytes and not all of them, or that the sink had failed before, and then `sent` is
+    /// 0. The sink has then failed, and every later call is a fault that gives the device
+    /// nothing.
     pub fn write_all(&mut self, bytes: &[u8]) -> Result<(), WriteFault>
         ensures bytes { OnOk result (Appends (sink_contents W.contents self.old)
             (sink_contents W.contents self.new) bytes.now) }

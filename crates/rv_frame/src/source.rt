@@ -22,13 +22,13 @@ pub struct Source<R> {
 }
 
 impl<R> Source<R> {
-    /// A source over this device, of which no read failed yet.
-    pub fn new(device: R) -> Source<R>
-        ensures device { source_device result ≡ device }
+    /// A source over this reader, its device, of which no read failed yet.
+    pub fn new(reader: R) -> Source<R>
+        ensures device { source_device result ≡ reader }
         ensures failed { source_failed result ≡ false }
     {
         Source {
-            device,
+            device: reader,
             failed: false,
         }
     }
@@ -45,11 +45,12 @@ impl<R: Read> Source<R> {
     /// Reads the device's next bytes to the front of the buffer, and answers how many came: at
     /// least one, and 0 only at the end of the device, which is no fault.
     ///
-    /// It makes exactly one read of the device, and none where the source has failed. So an
-    /// error of any kind is a fault, `Interrupted` too, and is not tried again.
+    /// It makes exactly one read of the device, and none where the source has failed. An error of
+    /// any kind is a fault, `Interrupted` too, and is not tried again.
     ///
     /// `ReadFault` says that this read failed or an earlier one did. The source has then failed,
-    /// and every later call is a fault. What stands in the buffer then means nothing.
+    /// and every later call is a fault. After a read that failed, what stands in the buffer means
+    /// nothing; a call on a source that had failed before leaves the buffer as it is.
     pub fn read(&mut self, buffer: &mut [u8]) -> Result<usize, ReadFault>
         requires room { 0 < length buffer.old }
         ensures count { ReadsAtMost result buffer.new }

@@ -1,6 +1,6 @@
 //! What no clause says: that calls succeed on devices that work, and that the device is asked no more often than promised.
 use super::devices::{Stop, TestReader, TestWriter};
-use super::uses::{GatherFault, gather, write_both};
+use super::uses::{CopyFault, GatherFault, copy_all, gather, write_both};
 use super::{ReadFault, Sink, Source, WriteFault};
 use std::alloc::Global;
 use std::io::ErrorKind;
@@ -110,4 +110,23 @@ fn stops_for_good(rt: &impl Abort, alloc: Global, room: usize, stop: Stop) {
     assert!(rt; sink.failed());
     assert_eq!(rt; device.writes(), room as u64 + 1);
     assert_eq!(rt; device.taken(), &TEXT[..room]);
+}
+
+#[test]
+fn copies_and_says_how_far_it_came(rt: HostRuntime) {
+    let mut source = Source::new(TestReader::new(TEXT, 3));
+    let mut device = TestWriter::new(rt.alloc(), 2);
+    let mut sink = Sink::new(&mut device);
+    assert_eq!(rt; copy_all(rt.alloc(), &mut source, &mut sink), Ok(()));
+    assert_eq!(rt; device.taken(), TEXT);
+
+    let mut source = Source::new(TestReader::new(TEXT, 3));
+    let mut device = TestWriter::new(rt.alloc(), 2).stopping_after(
+        5,
+        Stop::Error(ErrorKind::Other),
+    );
+    let mut sink = Sink::new(&mut device);
+    let fault = CopyFault::Write(WriteFault { sent: 5 });
+    assert_eq!(rt; copy_all(rt.alloc(), &mut source, &mut sink), Err(fault));
+    assert_eq!(rt; device.taken(), &TEXT[..5]);
 }

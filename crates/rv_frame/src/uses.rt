@@ -6,6 +6,7 @@ ghost use Rattle.rv_frame.specs.Sink.{sink_contents, sink_failed};
 ghost use Rattle.rv_frame.specs.Source.{source_failed, source_remaining};
 
 use super::{Sink, Source, WriteFault};
+use std::alloc::Global;
 use std::io::{Read, Write};
 
 /// How many bytes `gather` takes at most, but for the last piece.
@@ -64,4 +65,31 @@ pub fn write_both<W: Write>(
             sent: first.len() + fault.sent,
         }),
     }
+}
+
+/// Why `copy_all` gave up.
+#[derive(Clone, Copy, Debug, PartialEq, Eq)]
+pub enum CopyFault {
+    Gather(GatherFault),
+    Write(WriteFault),
+}
+
+/// Reads one device to its end, and then writes what it gave to the other.
+pub fn copy_all<R: Read, W: Write>(
+    alloc: Global,
+    source: &mut Source<R>,
+    sink: &mut Sink<W>,
+) -> Result<(), CopyFault>
+    ensures ok { OnOk result (IfSome (source_remaining R.remaining source.old)
+        (Appends (sink_contents W.contents sink.old) (sink_contents W.contents sink.new))) }
+    ensures sent { (fault : _) → result ≡ Err (CopyFault.Write fault) →
+        IfSome (source_remaining R.remaining source.old) (λ xs.
+        Appends (sink_contents W.contents sink.old) (sink_contents W.contents sink.new)
+        (take fault.sent xs)) }
+    ensures nothing_sent { (fault : _) → result ≡ Err (CopyFault.Gather fault) →
+        sink.new ≡ sink.old }
+{
+    let mut all = Vec::new(alloc);
+    gather(source, &mut all).map_err(CopyFault::Gather)?;
+    sink.write_all(&all).map_err(CopyFault::Write)
 }
