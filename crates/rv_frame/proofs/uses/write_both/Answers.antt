@@ -1,0 +1,11 @@
+-- The bytes that went out of the second text follow the whole first one.
+use Rattle.std.proofs.Common.{sym, subst}
+use Rattle.std.proofs.Math.Seq.{take-append-add}
+use Rattle.std.specs.Io.KnownBytes.{Appends}
+use Rattle.std.proofs.KnownBytes.{Appends-trans}
+use Rattle.rv_frame.proofs.uses.write_both.Goals as goal
+
+pub returns-in-Err-clause-sent : goal.returns-in-Err-clause-sent
+returns-in-Err-clause-sent g c =
+    subst (Appends _ _) (sym (take-append-add c.args.first.now c.args.second.now c.in-Err.fault.sent))
+    (Appends-trans _ _ _ _ _ c.in_ok-write_all.ensures.bytes c.in-Err.ensures.sent)

@@ -1,0 +1,14 @@
+//! Readers and writers that remember a failure and count what went out.
+#![tactic(auto)]
+
+#[cfg(test)]
+mod devices;
+mod sink;
+mod source;
+#[cfg(test)]
+mod tests;
+#[cfg(test)]
+mod uses;
+
+pub use sink::{Sink, WriteFault};
+pub use source::{ReadFault, Source};

@@ -1,0 +1,95 @@
+//! Callers that are proved from the clauses alone: what a crate above can say of a whole run.
+ghost use Rattle.std.specs.Prelude.{◌≡◌, ◌≢◌, ◌+◌, ◌<◌, ◌^◌, ◌++◌, true, take, length, OnOk, IfErr, IfSome};
+ghost use Rattle.std.specs.Io.{appended_bytes, StartsWith};
+ghost use Rattle.std.specs.Io.KnownBytes.{Appends, Consumes, IsAtEnd};
+ghost use Rattle.rv_frame.specs.Sink.{sink_contents, sink_failed};
+ghost use Rattle.rv_frame.specs.Source.{source_failed, source_remaining};
+
+use super::{Sink, Source, WriteFault};
+use std::alloc::Global;
+use std::io::{Read, Write};
+
+/// How many bytes `gather` takes at most, but for the last piece.
+pub const GATHER_LIMIT: usize = 100_000;
+
+/// Why `gather` gave up.
+#[derive(Clone, Copy, Debug, PartialEq, Eq)]
+pub enum GatherFault {
+    ReadFailed,
+    NoMemory,
+    TooLong,
+}
+
+/// Reads the device to its end, and appends what came.
+pub fn gather<R: Read>(source: &mut Source<R>, all: &mut Vec<u8>) -> Result<(), GatherFault>
+    ensures bytes { OnOk result (IfSome (source_remaining R.remaining source.old)
+        (λ xs. all.new.items ≡ all.old.items ++ xs)) }
+    ensures end { OnOk result (IsAtEnd (source_remaining R.remaining source.new)) }
+    ensures front { StartsWith all.new.items all.old.items }
+    ensures none_lost { result ≢ Err GatherFault.NoMemory →
+        Consumes (source_remaining R.remaining source.old) (source_remaining R.remaining source.new)
+        (appended_bytes all.old.items all.new.items) }
+    ensures failed { result ≡ Err GatherFault.ReadFailed → source_failed source.new ≡ true }
+{
+    let mut piece = [0u8; 4];
+    while all.len() < GATHER_LIMIT {
+        let count = match source.read(&mut piece) {
+            Ok(0) => return Ok(()),
+            Ok(count) => count,
+            Err(_) => return Err(GatherFault::ReadFailed),
+        };
+        if all.extend_from_slice(&piece[..count]).is_err() {
+            return Err(GatherFault::NoMemory);
+        }
+    }
+    Err(GatherFault::TooLong)
+}
+
+/// Writes two texts in a row. `sent` counts the bytes of both.
+pub fn write_both<W: Write>(
+    sink: &mut Sink<W>,
+    first: &[u8],
+    second: &[u8],
+) -> Result<(), WriteFault>
+    requires { length first.now + length second.now < 2 ^ 64 }
+    ensures bytes { OnOk result (Appends (sink_contents W.contents sink.old)
+        (sink_contents W.contents sink.new) (first.now ++ second.now)) }
+    ensures sent { IfErr result (λ fault. Appends (sink_contents W.contents sink.old)
+        (sink_contents W.contents sink.new) (take fault.sent (first.now ++ second.now))) }
+    ensures failed { IfErr result (λ _. sink_failed sink.new ≡ true) }
+{
+    sink.write_all(first)?;
+    match sink.write_all(second) {
+        Ok(()) => Ok(()),
+        Err(fault) => Err(WriteFault {
+            sent: first.len() + fault.sent,
+        }),
+    }
+}
+
+/// Why `copy_all` gave up.
+#[derive(Clone, Copy, Debug, PartialEq, Eq)]
+pub enum CopyFault {
+    Gather(GatherFault),
+    Write(WriteFault),
+}
+
+/// Reads one device to its end, and then writes what it gave to the other.
+pub fn copy_all<R: Read, W: Write>(
+    alloc: Global,
+    source: &mut Source<R>,
+    sink: &mut Sink<W>,
+) -> Result<(), CopyFault>
+    ensures ok { OnOk result (IfSome (source_remaining R.remaining source.old)
+        (Appends (sink_contents W.contents sink.old) (sink_contents W.contents sink.new))) }
+    ensures sent { (fault : _) → result ≡ Err (CopyFault.Write fault) →
+        IfSome (source_remaining R.remaining source.old) (λ xs.
+        Appends (sink_contents W.contents sink.old) (sink_contents W.contents sink.new)
+        (take fault.sent xs)) }
+    ensures nothing_sent { (fault : _) → result ≡ Err (CopyFault.Gather fault) →
+        sink.new ≡ sink.old }
+{
+    let mut all = Vec::new(alloc);
+    gather(source, &mut all).map_err(CopyFault::Gather)?;
+    sink.write_all(&all).map_err(CopyFault::Write)
+}
