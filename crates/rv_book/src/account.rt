@@ -1,5 +1,10 @@
 //! The account of an epoch: what came to the book, in order, and who met whom.
-use rv_text::{Call, Key};
+ghost use Rattle.std.specs.Prelude.{◌≡◌, ◌==◌, [], length, slice_get, OnOk, OnErr};
+ghost use Rattle.std.specs.Option.{option_copied};
+ghost use Rattle.rv_book.specs.Account.{with_entry};
+
+use rv_text::{Call, Key, NoMemory};
+use std::alloc::{AllocError, Global};
 use std::marker::Model;
 
 /// An entry's index in its account.
@@ -25,7 +30,8 @@ pub struct Entry {
     pub partner: Option<Place>,
 }
 
-/// All entries of an epoch, in the order in which they were recorded.
+/// All entries of an epoch, in the order in which they were recorded: what contracts see of it are
+/// its epoch, its opening moment and the list of its entries.
 #[derive(Debug, Drop)]
 pub struct Account {
     epoch: u64,
@@ -39,4 +45,62 @@ impl Model for Account {
     ghost Value = { Account };
 
     ghost view = { λ a. record { epoch = a.epoch; opened = a.opened; entries = a.entries.items } };
+}
+
+impl Account {
+    /// The epoch, 1 to 2^53 - 1.
+    pub fn epoch(&self) -> u64
+        ensures { result ≡ self.now.epoch }
+    {
+        self.epoch
+    }
+
+    /// The moment at which the epoch was opened, in milliseconds; at most 2^62.
+    pub fn opened(&self) -> u64
+        ensures { result ≡ self.now.opened }
+    {
+        self.opened
+    }
+
+    /// How many entries there are.
+    pub fn len(&self) -> usize
+        ensures { result ≡ length self.now.entries }
+    {
+        self.entries.len()
+    }
+
+    /// Whether there is no entry yet.
+    pub fn is_empty(&self) -> bool
+        ensures { result ≡ (length self.now.entries == 0) }
+    {
+        self.entries.is_empty()
+    }
+
+    /// The entry at a place, if the account has one there.
+    pub fn entry(&self, place: Place) -> Option<&Entry>
+        ensures { option_copied result ≡ slice_get self.now.entries place }
+    {
+        self.entries.get(place)
+    }
+
+    // An empty account.
+    pub(crate) fn empty(alloc: Global, epoch: u64, opened: u64) -> Account
+        ensures epoch { result.epoch ≡ epoch }
+        ensures opened { result.opened ≡ opened }
+        ensures entries { result.entries ≡ [] }
+    {
+        Account {
+            epoch,
+            opened,
+            entries: Vec::new(alloc),
+        }
+    }
+
+    // Records one entry more. Where its growth is refused the account stays.
+    pub(crate) fn enter(&mut self, entry: Entry) -> Result<(), NoMemory>
+        ensures ok { OnOk result (self.new ≡ with_entry self.old entry) }
+        ensures err { OnErr result (self.new ≡ self.old) }
+    {
+        self.entries.push(entry).map_err(AllocError::from)
+    }
 }
