@@ -40,7 +40,7 @@ no_open_taker es r call queue arrived takes opened =
 
 -- ---- hellos
 
-pub hello_follows : (a : Account) (moment client incarnation : ℕ) → KeepsTime a (entry moment (Hello client incarnation) None)
+pub hello_follows : (a : Account) (moment client incarnation : ℕ) → KeepsTime a moment
     → ((r earlier : ℕ) → act_at a.entries r ≡ Some (Hello client earlier) → earlier < incarnation)
     → MayFollow a (entry moment (Hello client incarnation) None)
 hello_follows a moment client incarnation time raises = record {
@@ -74,7 +74,7 @@ next_number a key next = record { last = next.last; is_last = next.is_last; next
 same_key : (key other : Key) (call more : Call) → Arrive key call ≡ Arrive other more → key ≡ other
 same_key key other call more e = cc
 
-pub put_follows : (a : Account) (moment : ℕ) (key : Key) (queue : ℕ) (item : List ℕ) → KeepsTime a (entry moment (Arrive key (Put queue item)) None) → IsNext a key
+pub put_follows : (a : Account) (moment : ℕ) (key : Key) (queue : ℕ) (item : List ℕ) → KeepsTime a moment → IsNext a key
     → MayFollow a (entry moment (Arrive key (Put queue item)) None)
 put_follows a moment key queue item time next = record {
   keeps_time = time;
@@ -97,7 +97,7 @@ put_follows a moment key queue item time next = record {
 one_queue : (p q : ℕ) → Some p ≡ Some q → p ≡ q
 one_queue p q e = cc
 
-pub poll_follows : (a : Account) (moment : ℕ) (key : Key) (queue : ℕ) (wait : Wait) → KeepsTime a (entry moment (Arrive key (Take queue wait)) None) → IsNext a key
+pub poll_follows : (a : Account) (moment : ℕ) (key : Key) (queue : ℕ) (wait : Wait) → KeepsTime a moment → IsNext a key
     → ((r : ℕ) → GivesAt a.entries queue r → Open a.entries r → ⊥)
     → MayFollow a (entry moment (Arrive key (Take queue wait)) None)
 poll_follows a moment key queue wait time next none = record {
@@ -124,7 +124,7 @@ pub record IsOldest (es : List Entry) (queue g : ℕ) : Type 0 where
   pub is_open : Open es g
   pub oldest : (r : ℕ) → r < g → GivesAt es queue r → Open es r → ⊥
 
-pub take_follows : (a : Account) (moment : ℕ) (key : Key) (queue : ℕ) (wait : Wait) (g : ℕ) → KeepsTime a (entry moment (Arrive key (Take queue wait)) (Some g)) → IsNext a key
+pub take_follows : (a : Account) (moment : ℕ) (key : Key) (queue : ℕ) (wait : Wait) (g : ℕ) → KeepsTime a moment → IsNext a key
     → IsOldest a.entries queue g
     → MayFollow a (entry moment (Arrive key (Take queue wait)) (Some g))
 take_follows a moment key queue wait g time next first = record {

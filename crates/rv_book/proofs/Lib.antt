@@ -5,3 +5,4 @@ pub mod Legality
 pub mod Following
 pub mod Sessions
 pub mod WaitingItems
+pub mod Lines

@@ -12,9 +12,9 @@ use Rattle.rv_book.specs.Waiting.{Met, Open, Waiting}
 -- ---- moments
 
 -- moments never fall, and none is below the opening moment
-pub record KeepsTime (a : Account) (e : Entry) : Type 0 where
-  pub opened : a.opened ≤ e.moment
-  pub since : (r moment : ℕ) → moment_at a.entries r ≡ Some moment → moment ≤ e.moment
+pub record KeepsTime (a : Account) (moment : ℕ) : Type 0 where
+  pub opened : a.opened ≤ moment
+  pub since : (r earlier : ℕ) → moment_at a.entries r ≡ Some earlier → earlier ≤ moment
 
 -- no waiting request has a limit at or below the entry's moment
 abbrev pub KeepsLimits : List Entry → Entry → Type 0
@@ -82,7 +82,7 @@ PairsWherePossible entries e = (r : ℕ) (call other : Call) → e.partner ≡ N
 
 -- the entry may stand behind those of the account
 pub record MayFollow (a : Account) (e : Entry) : Type 0 where
-  pub keeps_time : KeepsTime a e
+  pub keeps_time : KeepsTime a e.moment
   pub keeps_limits : KeepsLimits a.entries e
   pub raises_incarnation : RaisesIncarnation a.entries e
   pub of_session : IsOfSession a e

@@ -7,3 +7,4 @@ pub mod Replies
 pub mod Steps
 pub mod Order
 pub mod Tables
+pub mod Verdicts

@@ -81,16 +81,19 @@ RefuseOr due refuses otherwise = ((refusal : Refusal) × due refusal × refuses 
 abbrev pub WhereElse : Type 0 → Type 0 → Type 0 → Type 0
 WhereElse condition this that = (condition × this) ⊎ ((¬ condition) × that)
 
--- the lines for a request, by what a refusal does and what happens where none is due
-abbrev pub RequestLines : Account → Key → Call → (Refusal → Type 0) → Type 0 → Type 0
-RequestLines a key call refuses enters =
+-- the lines for a key, by what a refusal does and what happens where none is due
+abbrev pub KeyLines : Account → Key → (Refusal → Type 0) → Type 0 → Type 0
+KeyLines a key refuses goes_on =
     RefuseOr (OtherEpochDue a key) refuses
     (RefuseOr (NoSessionDue a key) refuses
     (RefuseOr (OldIncarnationDue a key.client key.incarnation) refuses
     (RefuseOr (OldNumberDue a key) refuses
     (RefuseOr (GapDue a key) refuses
-    (RefuseOr (EpochFullDue a (need_of call)) refuses
-    enters)))))
+    goes_on))))
+
+-- the lines for a request
+abbrev pub RequestLines : Account → Key → Call → (Refusal → Type 0) → Type 0 → Type 0
+RequestLines a key call refuses enters = KeyLines a key refuses (RefuseOr (EpochFullDue a (need_of call)) refuses enters)
 
 -- the lines for a hello: also what happens where it is a repeat
 abbrev pub HelloLines : Account → ℕ → ℕ → (Refusal → Type 0) → Type 0 → Type 0 → Type 0

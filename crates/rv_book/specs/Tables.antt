@@ -1,5 +1,5 @@
 -- What the book's private lists say of its account.
-use Rattle.std.specs.Prelude.{◌≡◌, ◌≢◌, ◌<◌, ◌≤◌, ◌^◌, ℕ, List, length, Some, slice_get}
+use Rattle.std.specs.Prelude.{◌≡◌, ◌≢◌, ◌<◌, ◌≤◌, ◌+◌, ◌^◌, ℕ, List, length, Some, slice_get}
 use Rattle.rv_text.specs.declared.message.Key.{Key}
 use Rattle.rv_text.specs.Limits.{FitsIdentifier, FitsKey, FitsCall}
 use Rattle.rv_book.specs.declared.account.Entry.{Entry}
@@ -58,3 +58,12 @@ pub record IsSound (a : Account) (sessions : List Session) (waiting : List Waiti
   pub fits : FitsAccount a
   pub sessions_are : AreSessions a.entries sessions
   pub waiting_are : AreWaitingItems a.entries waiting
+
+-- the session at i is the key's, and the key has its next number
+pub record IsNextIn (a : Account) (sessions : List Session) (key : Key) (i : ℕ) : Type 0 where
+  pub session : Session
+  pub there : slice_get sessions i ≡ Some session
+  pub epoch : key.epoch ≡ a.epoch
+  pub client : session.client ≡ key.client
+  pub incarnation : session.incarnation ≡ key.incarnation
+  pub next : key.number ≡ session.last + 1

@@ -2,6 +2,7 @@
 #![tactic(auto)]
 
 mod account;
+mod state;
 mod tables;
 mod verdict;
 

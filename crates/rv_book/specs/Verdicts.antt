@@ -1,0 +1,32 @@
+-- The answer that a verdict stands for, in an account that has the places which the verdict keeps.
+use Rattle.std.specs.Prelude.{ℕ, List, Option, Some, option_map, option_and_then}
+use Rattle.rv_text.specs.declared.answer.Reply.{Reply}
+use Rattle.rv_text.specs.declared.answer.Reply as reply
+use Rattle.rv_text.specs.declared.answer.Answer.{Answer}
+use Rattle.rv_text.specs.declared.answer.Answer as answer
+use Rattle.rv_book.specs.declared.verdict.Kept.{Kept}
+use Rattle.rv_book.specs.declared.verdict.Kept.TheVariants.{Done, Item, Empty}
+use Rattle.rv_book.specs.declared.verdict.Said.{Said}
+use Rattle.rv_book.specs.declared.verdict.Said.TheVariants.{Welcome, Replied, Refused}
+use Rattle.rv_book.specs.declared.verdict.Verdict.{Verdict}
+use Rattle.rv_book.specs.declared.account.Entry.{Entry}
+use Rattle.rv_book.specs.Account.{Account, call_at}
+use Rattle.rv_book.specs.Calls.{item_of}
+
+-- the item that the arrival at a place hands over
+abbrev pub item_at : List Entry → ℕ → Option (List ℕ)
+item_at entries place = option_and_then item_of (call_at entries place)
+
+abbrev pub reply_of : List Entry → Kept → Option Reply
+reply_of entries Done = Some reply.TheVariants.Done
+reply_of entries (Item place) = option_map reply.TheVariants.Item (item_at entries place)
+reply_of entries Empty = Some reply.TheVariants.Empty
+
+abbrev pub answer_of : List Entry → Said → Option Answer
+answer_of entries (Welcome epoch client incarnation) = Some (answer.TheVariants.Welcome epoch client incarnation)
+answer_of entries (Replied key kept) = option_map (answer.TheVariants.Replied key) (reply_of entries kept)
+answer_of entries (Refused refusal) = Some (answer.TheVariants.Refused refusal)
+
+-- what the verdict says in the account
+abbrev pub says : Account → Verdict → Option Answer
+says a verdict = answer_of a.entries verdict.said
