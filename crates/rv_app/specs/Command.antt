@@ -40,3 +40,6 @@ Says subcommand (Book epoch) = (subcommand.0 ≡ codes "book")
 pub record Names (words : List Text) (command : Command) : Type 0 where
   pub taken : fault_of rv_app words ≡ []
   pub said : IsSomeAnd (subcommand_of rv_app words) (λ subcommand. Says subcommand command)
+
+abbrev pub NamesNone : List Text → Type 0
+NamesNone words = (command : Command) → ¬ Names words command

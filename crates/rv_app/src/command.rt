@@ -1,12 +1,12 @@
 //! Reads the words of a command line.
-ghost use Rattle.std.specs.Prelude.{Err, IfOk, IfSome, None, codes, false, option_map};
+ghost use Rattle.std.specs.Prelude.{IfOk, IfSome, IsErrOf, None, codes, false, option_map};
 ghost use Rattle.std.specs.Prelude.{ℕ, ◌≡◌, ◌≤◌, []};
 ghost use Rattle.std.specs.Option.{IsSomeAnd};
 ghost use Rattle.clap.specs.Words.{app_of, fault_of, found_of, kind_of, rows_of, rule_of, shape_of};
 ghost use Rattle.clap.specs.Words.{subcommand_of, subcommand_rows_of};
 ghost use Rattle.clap.specs.declared.Command.TheViews.{out-Command};
 ghost use Rattle.clap.specs.Walk.{texts};
-ghost use Rattle.rv_app.specs.Command.{GivesNumber, Names, Says, book_app, required_option, rv_app};
+ghost use Rattle.rv_app.specs.Command.{GivesNumber, Names, NamesNone, Says, book_app, required_option, rv_app};
 ghost use Rattle.rv_app.specs.declared.command.CommandFault.TheVariants.{Bad, NoMemory};
 ghost use Rattle.clap.specs.declared.error.ErrorKind.TheVariants.{OutOfMemory};
 
@@ -27,7 +27,8 @@ pub enum Command {
 /// Why the words of a command line give no command.
 #[derive(Clone, Copy, Debug, PartialEq, Eq, Error)]
 pub enum CommandFault {
-    /// The words name no command. A call for help does neither.
+    /// The words name no command, and a call for help is none: `clap` refuses them, or a number is
+    /// written otherwise or lies outside its limits.
     #[error("command fault 1")]
     Bad,
     /// A growth was refused.
@@ -58,17 +59,17 @@ impl From<clap::Error> for CommandFault {
 // The largest epoch.
 const LARGEST_ID: u64 = 9_007_199_254_740_991;
 
-/// The command that the words name. The first word is the program's name.
+/// The command that the words name, as `clap` reads them. The first word is the program's name. A
+/// number is 1 to 19 ASCII digits, read in decimal.
 pub fn read_command<'a>(alloc: Global, words: &'a [&'a str]) -> Result<Command, CommandFault>
     ensures ok { IfOk result (λ command. Names (texts words.entry.now) command) }
-    ensures bad { result ≡ Err CommandFault.Bad
-        → (command : Command) → ¬ Names (texts words.entry.now) command }
+    ensures bad { IsErrOf result CommandFault.Bad → NamesNone (texts words.entry.now) }
 {
     let matches = matches_of(alloc, words)?;
     command_of(&matches).ok_or(CommandFault::Bad)
 }
 
-// The command that the matches are.
+// The command that the subcommand is.
 fn command_of(matches: &ArgMatches) -> Option<Command>
     ensures some { IfSome result (λ command.
         IsSomeAnd (subcommand_rows_of matches.now) (λ s. Says s command)) }
@@ -82,6 +83,7 @@ fn command_of(matches: &ArgMatches) -> Option<Command>
     }
 }
 
+// The command `book` with these options.
 fn book_of(options: &ArgMatches) -> Option<Command>
     ensures some { IfSome result (Says (codes "book", rows_of (found_of options.now))) }
     ensures none { result ≡ None → (command : Command)
@@ -110,7 +112,7 @@ fn matches_of<'a>(alloc: Global, words: &'a [&'a str]) -> Result<ArgMatches<'a>,
     ensures taken { IfOk result (λ _. fault_of rv_app (texts words.entry.now) ≡ []) }
     ensures found { IfOk result (λ m.
         subcommand_rows_of m ≡ subcommand_of rv_app (texts words.entry.now)) }
-    ensures bad { result ≡ Err CommandFault.Bad
+    ensures bad { IsErrOf result CommandFault.Bad
         → ¬ (fault_of rv_app (texts words.entry.now) ≡ []) }
 {
     Ok(program(alloc)?.try_get_matches_from(words)?)
@@ -123,6 +125,7 @@ fn program<'a>(alloc: Global) -> Result<clap::Command<'a>, AllocError>
     clap::Command::new(alloc, "rv").subcommand(book(alloc)?)
 }
 
+// `book --epoch E`, as clap reads it.
 fn book<'a>(alloc: Global) -> Result<clap::Command<'a>, AllocError>
     ensures shape { IfOk result (λ c. shape_of c ≡ book_app.top) }
     ensures local { IfOk result (λ c. (out-Command c).has_globals ≡ false) }

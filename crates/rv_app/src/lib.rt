@@ -6,3 +6,6 @@ pub mod number;
 
 pub use command::{Command, CommandFault, read_command};
 pub use number::read_number;
+
+#[cfg(test)]
+mod tests;
