@@ -17,7 +17,7 @@ fn book_one(alloc: Global) -> Result<Command, CommandFault>
 
 #[test]
 fn known_from_the_words(rt: HostRuntime) {
-    assert!(rt; book_one(rt.alloc()) == Ok(Command::Book(1)));
+    assert_eq!(rt; book_one(rt.alloc()), Ok(Command::Book(1)));
 }
 
 #[test]
