@@ -1,6 +1,5 @@
 -- What a number's digits tell of each of them, and how large their value is.
 use Rattle.std.proofs.Common.{arith, subst, get_or, length, List, take, ℕ, ◌<◌, ◌≡◌, ◌≤◌, ◌^◌, ◌+◌, ◌*◌, ◌-◌}
-use Rattle.std.specs.Char.{digit_value}
 use Rattle.std.specs.Int.{IsInRange}
 use Rattle.std.specs.List.{All}
 use Rattle.std.specs.Str.Parse.{AllDigits, digits_value}

@@ -41,5 +41,6 @@ pub record Names (words : List Text) (command : Command) : Type 0 where
   pub taken : fault_of rv_app words ≡ []
   pub said : IsSomeAnd (subcommand_of rv_app words) (λ subcommand. Says subcommand command)
 
+-- the words name no command
 abbrev pub NamesNone : List Text → Type 0
 NamesNone words = (command : Command) → ¬ Names words command

@@ -121,3 +121,12 @@ fn reads_numbers(rt: HostRuntime) {
     assert!(rt; read_number(b"10000000000000000000").is_none());
     assert!(rt; read_number(b"").is_none());
 }
+
+#[test]
+fn prints_the_fault(rt: HostRuntime) -> Result<(), Fail> {
+    assert!(rt; format!(in rt.alloc(); "{}", CommandFault::Bad)?.as_str() == "command fault 1");
+    assert!(rt;
+        format!(in rt.alloc(); "{}", CommandFault::NoMemory)?.as_str() == "command fault 2"
+    );
+    Ok(())
+}

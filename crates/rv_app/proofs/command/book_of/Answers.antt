@@ -1,5 +1,5 @@
 -- The option's value is the one of the subcommand's rows.
-use Rattle.std.proofs.Common.{codes, Option, refl, rules, subst, sym}
+use Rattle.std.proofs.Common.{codes, Option, refl, subst, sym}
 use Rattle.clap.specs.Words.{Text, found_of, rows_of}
 use Rattle.rv_app.specs.Command.{GivesNumber, largest_id}
 use Rattle.rv_app.proofs.Options.{book_alone, value_in_rows}

@@ -1,5 +1,5 @@
 -- The value fits, and is read digit by digit.
-use Rattle.std.proofs.Common.{arith, refl, rules, subst, take}
+use Rattle.std.proofs.Common.{arith, refl, rules, subst}
 use Rattle.std.proofs.lemmas.List.{take_all}
 use Rattle.std.specs.Str.Parse.{AllDigits}
 use Rattle.rv_app.proofs.Numbers.{all_in_range, digits_with_next, value_before_last, value_with_next}

@@ -1,9 +1,8 @@
 -- `rv book --epoch 1` names the command, by computing what clap makes of the words.
 use Rattle.std.proofs.Common.{codes, List, map, refl, rules, subst, sym, ◌∷◌, [], ◌≡◌, lit<, lit≤}
-use Rattle.std.specs.Prelude.{MatchResult}
-use Rattle.clap.specs.Words.{Text, fault_of, subcommand_of}
+use Rattle.clap.specs.Words.{Text}
 use Rattle.clap.proofs.OnLiterals.{clap_on_literals}
-use Rattle.rv_app.specs.Command.{Names, Says, rv_app}
+use Rattle.rv_app.specs.Command.{Names}
 use Rattle.rv_app.specs.declared.command.Command.TheVariants.{Book}
 use Rattle.rv_app.proofs.Commands.{named_is_read}
 use Rattle.rv_app.proofs.Numbers.{all_in_range}
