@@ -1,0 +1,4 @@
+-- The lemmas that the proofs of this crate share.
+pub mod Numbers
+pub mod Options
+pub mod Commands

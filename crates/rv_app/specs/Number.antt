@@ -1,0 +1,17 @@
+-- Numbers that are written in decimal digits.
+use Rattle.std.specs.Prelude.{length, List, ℕ, ◌≡◌, ◌≤◌}
+use Rattle.std.specs.Int.{IsInRange}
+use Rattle.std.specs.List.{All}
+use Rattle.std.specs.Str.Parse.{digits_value}
+
+-- 1 to 19 ASCII digits, '0' (48) to '9' (57), and nothing else
+abbrev pub IsDigits : List ℕ → Type 0
+IsDigits text = (1 ≤ length text) × (length text ≤ 19) × All (IsInRange 48 57) text
+
+-- the number that the digits write in decimal
+abbrev pub value_of_digits : List ℕ → ℕ
+value_of_digits = digits_value 10
+
+-- the text is a number's digits
+abbrev pub Writes : List ℕ → ℕ → Type 0
+Writes text n = IsDigits text × (n ≡ value_of_digits text)
