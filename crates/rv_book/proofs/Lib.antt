@@ -6,3 +6,4 @@ pub mod Following
 pub mod Sessions
 pub mod WaitingItems
 pub mod Lines
+pub mod Keeping

@@ -13,7 +13,7 @@ use Rattle.rv_book.specs.Account.{Account, act_at}
 use Rattle.rv_book.specs.Sessions.{HasIncarnation, LastNumber}
 use Rattle.rv_book.specs.Legal.{Legal}
 use Rattle.rv_book.specs.Steps.{OtherEpochDue, NoSessionDue, OldIncarnationDue, OldNumberDue, GapDue, EpochFullDue, NumberOf, KeyLines}
-use Rattle.rv_book.specs.Tables.{AreSessions}
+use Rattle.rv_book.specs.Tables.{AreSessions, IsNextIn}
 use Rattle.rv_book.specs.Waiting.{Waiting}
 use Rattle.rv_book.proofs.Histories.{one_incarnation, one_last_number, hellos_at_most}
 use Rattle.rv_book.proofs.Legality.{nobody_waits}
@@ -60,22 +60,41 @@ line_old_incarnation R G a key current epoch has less refuses =
 pub line_old_number : (R : Refusal → Type 0) (G : Type 0) (a : Account) (key : Key) (last : ℕ) → key.epoch ≡ a.epoch → HasIncarnation a.entries key.client key.incarnation
     → LastNumber a.entries key.client last → key.number ≤ last → R (OldNumber last) → KeyLines a key R G
 line_old_number R G a key last epoch has is most refuses =
-    inr (not_other_epoch a key epoch, inr (not_no_session a key key.incarnation has (omega arith),
-    inr (not_old_incarnation a key.client key.incarnation key.incarnation has (omega arith), inl (OldNumber last, (last, is, most, refl), refuses))))
+    inr (
+      not_other_epoch a key epoch,
+      inr (
+        not_no_session a key key.incarnation has (omega arith),
+        inr (not_old_incarnation a key.client key.incarnation key.incarnation has (omega arith), inl (OldNumber last, (last, is, most, refl), refuses)),
+      ),
+    )
 
 pub line_gap : (R : Refusal → Type 0) (G : Type 0) (a : Account) (key : Key) (last : ℕ) → key.epoch ≡ a.epoch → HasIncarnation a.entries key.client key.incarnation
     → LastNumber a.entries key.client last → last + 1 < key.number → R (Gap last) → KeyLines a key R G
 line_gap R G a key last epoch has is above refuses =
-    inr (not_other_epoch a key epoch, inr (not_no_session a key key.incarnation has (omega arith),
-    inr (not_old_incarnation a key.client key.incarnation key.incarnation has (omega arith),
-    inr (not_old_number a key last is (omega arith), inl (Gap last, (last, is, above, refl), refuses)))))
+    inr (
+      not_other_epoch a key epoch,
+      inr (
+        not_no_session a key key.incarnation has (omega arith),
+        inr (
+          not_old_incarnation a key.client key.incarnation key.incarnation has (omega arith),
+          inr (not_old_number a key last is (omega arith), inl (Gap last, (last, is, above, refl), refuses)),
+        ),
+      ),
+    )
 
 pub line_next : (R : Refusal → Type 0) (G : Type 0) (a : Account) (key : Key) (last : ℕ) → key.epoch ≡ a.epoch → HasIncarnation a.entries key.client key.incarnation
     → LastNumber a.entries key.client last → key.number ≡ last + 1 → G → KeyLines a key R G
 line_next R G a key last epoch has is next goes_on =
-    inr (not_other_epoch a key epoch, inr (not_no_session a key key.incarnation has (omega arith),
-    inr (not_old_incarnation a key.client key.incarnation key.incarnation has (omega arith),
-    inr (not_old_number a key last is (omega arith), inr (not_gap a key last is (omega arith), goes_on)))))
+    inr (
+      not_other_epoch a key epoch,
+      inr (
+        not_no_session a key key.incarnation has (omega arith),
+        inr (
+          not_old_incarnation a key.client key.incarnation key.incarnation has (omega arith),
+          inr (not_old_number a key last is (omega arith), inr (not_gap a key last is (omega arith), goes_on)),
+        ),
+      ),
+    )
 
 -- lines that decide one thing decide what follows from it
 pub KeyLines-map : (R S : Refusal → Type 0) (G H : Type 0) (a : Account) (key : Key) → ((refusal : Refusal) → R refusal → S refusal) → (G → H) → KeyLines a key R G → KeyLines a key S H
@@ -105,8 +124,22 @@ session_found es sessions client i d s are there of_client =
     let P : Session → Type 0 = λ t. SessionFound es client t in
     subst P read (record {
       incarnation = subst (λ c. HasIncarnation es c s.incarnation) of_client (are.incarnations i s there);
-      last = subst (λ c. LastNumber es c s.last) of_client (are.numbers i s there)
+      last = subst (λ c. LastNumber es c s.last) of_client (are.numbers i s there);
     })
+
+-- the session that was found, as the code reads it, is the key's
+pub next_in : (a : Account) (sessions : List Session) (key : Key) (i : ℕ) (d s : Session) → slice_get sessions i ≡ Some s → s.client ≡ key.client → key.epoch ≡ a.epoch
+    → (get_or sessions i d).incarnation ≡ key.incarnation → key.number ≡ (get_or sessions i d).last + 1 → IsNextIn a sessions key i
+next_in a sessions key i d s there of_client epoch incarnation next =
+    let read : s ≡ get_or sessions i d = sym (get_or_from_slice_get sessions i s d there) in
+    record {
+      session = get_or sessions i d;
+      there = there ∙ ap Some read;
+      epoch = epoch;
+      client = ap (λ (t : Session). t.client) (sym read) ∙ of_client;
+      incarnation = incarnation;
+      next = next;
+    }
 
 -- ---- room
 
