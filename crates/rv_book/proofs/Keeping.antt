@@ -1,5 +1,5 @@
 -- The account and its lists stay sound: after a put, a poll that finds nothing, a take and a hello.
-use Rattle.std.proofs.Common.{◌≡◌, ◌⊎◌, inl, inr, ℕ, ◌+◌, ◌^◌, ◌<◌, ◌≤◌, List, [], ◌∷◌, ◌++◌, length, Option, Some, None, refl, sym, ap, subst, ◌∙◌, arith, length-append}
+use Rattle.std.proofs.Common.{◌≡◌, inl, inr, ℕ, ◌+◌, ◌<◌, ◌≤◌, List, [], ◌∷◌, ◌++◌, length, Option, Some, None, refl, sym, ap, subst, ◌∙◌, arith, length-append}
 use Rattle.std.specs.List.{slice_get, remove}
 use Rattle.std.proofs.Math.ListN.{set}
 use Rattle.std.proofs.lemmas.Bool.{cases_order}
@@ -8,21 +8,19 @@ use Rattle.rv_text.specs.declared.message.Key.{Key}
 use Rattle.rv_text.specs.declared.message.Wait.{Wait}
 use Rattle.rv_text.specs.declared.message.Call.{Call}
 use Rattle.rv_text.specs.declared.message.Call.TheVariants.{Put, Take}
-use Rattle.rv_text.specs.Limits.{FitsIdentifier, FitsKey, FitsCall}
 use Rattle.rv_book.specs.declared.account.Entry.{Entry}
-use Rattle.rv_book.specs.declared.account.Act.{Act}
 use Rattle.rv_book.specs.declared.account.Act.TheVariants.{Hello, Arrive}
 use Rattle.rv_book.specs.declared.tables.Session.{Session}
 use Rattle.rv_book.specs.declared.tables.WaitingItem.{WaitingItem}
-use Rattle.rv_book.specs.Account.{Account, with_entry, act_at, call_in}
+use Rattle.rv_book.specs.Account.{Account, with_entry, act_at}
 use Rattle.rv_book.specs.Calls.{gives_to}
 use Rattle.rv_book.specs.Sessions.{HasIncarnation, LastNumber}
 use Rattle.rv_book.specs.Waiting.{Open}
-use Rattle.rv_book.specs.Legal.{Legal, KeepsTime, MayFollow}
+use Rattle.rv_book.specs.Legal.{MayFollow}
 use Rattle.rv_book.specs.Order.{GivesAt}
-use Rattle.rv_book.specs.Tables.{FitsEntry, FitsAccount, AreSessions, AreWaitingItems, IsSound, IsNextIn, IsFirstOf}
+use Rattle.rv_book.specs.Tables.{FitsEntry, AreSessions, AreWaitingItems, IsSound, IsNextIn, IsFirstOf, Arrives, Greets}
 use Rattle.rv_book.proofs.Places.{get-append_cases}
-use Rattle.rv_book.proofs.Legality.{Legal-with_entry}
+use Rattle.rv_book.proofs.Legality.{Legal-with_entry, nobody}
 use Rattle.rv_book.proofs.Histories.{hellos_at_most}
 use Rattle.rv_book.proofs.Following.{entry, IsNext, IsOldest, hello_follows, put_follows, poll_follows, take_follows}
 use Rattle.rv_book.proofs.Sessions.{client_of, IsSession, AreSessions-next, Replaces-set, Replaces-push, arrived_session, greeted_session}
@@ -38,7 +36,7 @@ sound_with a sessions more waiting left e sound follows fits room are_sessions a
     epoch = sound.fits.epoch;
     opened = sound.fits.opened;
     entries = λ r x there. elim (get-append_cases a.entries e x r there) [ inl inside ↦ sound.fits.entries r x inside.1 | inr last ↦ subst FitsEntry last.1 fits ];
-    room = omega (arith, length-append a.entries (e ∷ []));
+    room = λ waiting count. let none : waiting ≡ 0 = nobody (a.entries ++ e ∷ []) waiting count in omega (arith, length-append a.entries (e ∷ []));
   };
   sessions_are = are_sessions;
   waiting_are = are_waiting;
@@ -69,16 +67,6 @@ sessions_after a sessions e key call i are next is =
     let Q : ℕ → Type 0 = λ n. IsSession (es ++ e ∷ []) (record { client = key.client; incarnation = n; last = key.number }) in
     AreSessions-next es e sessions (set sessions i (session_of key)) (session_of key) are (Replaces-set sessions i s (session_of key) are.distinct next.there next.client)
     (ap client_of is) (subst Q next.incarnation (subst P next.client after))
-
--- what a request brings: its session, its moment and its room
-pub record Arrives (a : Account) (sessions : List Session) (waiting : List WaitingItem) (i moment : ℕ) (key : Key) (call : Call) : Type 0 where
-  pub sound : IsSound a sessions waiting
-  pub next : IsNextIn a sessions key i
-  pub time : KeepsTime a moment
-  pub moment_fits : moment ≤ 2 ^ 62
-  pub key_fits : FitsKey key
-  pub call_fits : FitsCall call
-  pub room : length a.entries < 100000
 
 pub sound_put : (a : Account) (sessions : List Session) (waiting : List WaitingItem) (i moment : ℕ) (key : Key) (queue : ℕ) (item : List ℕ) → Arrives a sessions waiting i moment key (Put queue item)
     → IsSound (with_entry a (entry moment (Arrive key (Put queue item)) None)) (set sessions i (session_of key)) (waiting ++ record { queue = queue; place = length a.entries } ∷ [])
@@ -150,15 +138,6 @@ sound_take a sessions waiting i moment key queue wait j h first =
 
 hellos_give_nothing : (moment client incarnation : ℕ) → GivesNothing (entry moment (Hello client incarnation) None)
 hellos_give_nothing moment client incarnation call queue is gives = none-some call is
-
--- what a hello brings: its moment, its room and numbers that fit
-pub record Greets (a : Account) (sessions : List Session) (waiting : List WaitingItem) (moment client incarnation : ℕ) : Type 0 where
-  pub sound : IsSound a sessions waiting
-  pub time : KeepsTime a moment
-  pub moment_fits : moment ≤ 2 ^ 62
-  pub client_fits : FitsIdentifier client
-  pub incarnation_fits : FitsIdentifier incarnation
-  pub room : length a.entries < 100000
 
 abbrev pub fresh : ℕ → ℕ → Session
 fresh client incarnation = record { client = client; incarnation = incarnation; last = 0 }

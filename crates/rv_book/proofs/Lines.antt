@@ -1,5 +1,5 @@
 -- Which line of a step decides, by what the list of sessions says of the key's client.
-use Rattle.std.proofs.Common.{◌≡◌, ◌≢◌, ◌⊎◌, inl, inr, ℕ, ◌+◌, ◌<◌, ◌≤◌, List, [], ◌∷◌, length, Some, None, refl, sym, ap, subst, ◌∙◌, arith}
+use Rattle.std.proofs.Common.{◌≡◌, inl, inr, ℕ, ◌+◌, ◌<◌, ◌≤◌, List, length, Some, refl, sym, ap, subst, ◌∙◌, arith}
 use Rattle.std.specs.List.{slice_get}
 use Rattle.std.proofs.Math.ListN.{get_or}
 use Rattle.std.proofs.lemmas.Option.{get_or_from_slice_get}
@@ -11,12 +11,10 @@ use Rattle.rv_book.specs.declared.account.Act.TheVariants.{Hello}
 use Rattle.rv_book.specs.declared.tables.Session.{Session}
 use Rattle.rv_book.specs.Account.{Account, act_at}
 use Rattle.rv_book.specs.Sessions.{HasIncarnation, LastNumber}
-use Rattle.rv_book.specs.Legal.{Legal}
-use Rattle.rv_book.specs.Steps.{OtherEpochDue, NoSessionDue, OldIncarnationDue, OldNumberDue, GapDue, EpochFullDue, NumberOf, KeyLines}
+use Rattle.rv_book.specs.Steps.{OtherEpochDue, NoSessionDue, OldIncarnationDue, OldNumberDue, GapDue, EpochFullDue, KeyLines}
 use Rattle.rv_book.specs.Tables.{AreSessions, IsNextIn}
-use Rattle.rv_book.specs.Waiting.{Waiting}
-use Rattle.rv_book.proofs.Histories.{one_incarnation, one_last_number, hellos_at_most}
-use Rattle.rv_book.proofs.Legality.{nobody_waits}
+use Rattle.rv_book.proofs.Histories.{one_incarnation, one_last_number}
+use Rattle.rv_book.proofs.Legality.{nobody, none_waits}
 
 not_other_epoch : (a : Account) (key : Key) → key.epoch ≡ a.epoch → (refusal : Refusal) → OtherEpochDue a key refusal → ⊥
 not_other_epoch a key same refusal due = due.0 same
@@ -142,13 +140,6 @@ next_in a sessions key i d s there of_client epoch incarnation next =
     }
 
 -- ---- room
-
-nobody : (es : List Entry) (n : ℕ) → NumberOf (Waiting es) n → n ≡ 0
-nobody es n ([], rising, are, is) = is
-nobody es n (r ∷ places, rising, are, is) = absurd (nobody_waits es r ((are r).0 (0, omega arith, refl)))
-
-none_waits : (es : List Entry) → NumberOf (Waiting es) 0
-none_waits es = ([], (λ k h. absurd (omega arith)), (λ r. ((λ h. absurd (omega arith)), λ w. absurd (nobody_waits es r w))), refl)
 
 pub room_left : (a : Account) → length a.entries < 100000 → (refusal : Refusal) → EpochFullDue a 1 refusal → ⊥
 room_left a room refusal due =

@@ -1,5 +1,5 @@
 -- The answer that a verdict stands for, in an account that has the places which the verdict keeps.
-use Rattle.std.specs.Prelude.{ℕ, List, Option, Some, option_map, option_and_then}
+use Rattle.std.specs.Prelude.{ℕ, List, Option, Some, None, option_map, option_and_then}
 use Rattle.rv_text.specs.declared.answer.Reply.{Reply}
 use Rattle.rv_text.specs.declared.answer.Reply as reply
 use Rattle.rv_text.specs.declared.answer.Answer.{Answer}
@@ -30,3 +30,8 @@ answer_of entries (Refused refusal) = Some (answer.TheVariants.Refused refusal)
 -- what the verdict says in the account
 abbrev pub says : Account → Verdict → Option Answer
 says a verdict = answer_of a.entries verdict.said
+
+-- what is kept for a take, by the partner that it found
+abbrev pub kept_for : Option ℕ → Kept
+kept_for None = Empty
+kept_for (Some place) = Item place

@@ -1,15 +1,15 @@
 //! The account with the lists that answer for it, and the steps that change them together.
-ghost use Rattle.std.specs.Prelude.{◌≡◌, ◌<◌, ◌≤◌, ◌^◌, ℕ, Some, None, length, IfOk, IfErr, IsTrue, ◌↔◌, slice_get};
-ghost use Rattle.rv_text.specs.Limits.{FitsIdentifier, FitsKey, FitsCall};
-ghost use Rattle.rv_book.specs.Account.{Account, with_entry};
+ghost use Rattle.std.specs.Prelude.{◌≡◌, ◌≢◌, ◌<◌, ◌≤◌, ◌^◌, ℕ, Option, Some, None, length, OnOk, OnErr, IfOk, IfErr, IsErrOf, slice_get};
+ghost use Rattle.rv_text.specs.Limits.{FitsIdentifier, FitsKey, FitsItem, FitsQueue, FitsCall};
+ghost use Rattle.rv_book.specs.Account.{with_entry};
 ghost use Rattle.rv_book.specs.Legal.{KeepsTime, Legal};
 ghost use Rattle.rv_book.specs.Steps.{KeyLines};
 ghost use Rattle.rv_book.specs.Tables.{IsSound, IsNextIn, AreSessions};
 
-use crate::account::{Account, Act, Entry};
-use crate::tables::{Session, WaitingItem, oldest_of, session_of};
+use crate::account::{Account, Act, Entry, Place};
+use crate::tables::{Session, WaitingItem, append, oldest_of, session_of};
 use crate::verdict::Kept;
-use rv_text::{Call, Item, Key, Refusal, Wait};
+use rv_text::{Call, Item, Key, NoMemory, Refusal, Wait};
 
 /// The most entries of an epoch.
 pub(crate) const MAX_ENTRIES: usize = 100_000;
@@ -21,6 +21,13 @@ pub(crate) struct State {
     pub(crate) waiting: Vec<WaitingItem>,
 }
 
+// The refusal of a growth.
+fn no_memory(_refused: NoMemory) -> Refusal
+    ensures { result ≡ Refusal.NoMemory }
+{
+    Refusal::NoMemory
+}
+
 // The index of the key's session, where the key has its next number; else the refusal.
 pub(crate) fn next_session(
     account: &Account,
@@ -29,7 +36,8 @@ pub(crate) fn next_session(
 ) -> Result<usize, Refusal>
     requires legal { Legal account.now }
     requires are { AreSessions account.now.entries sessions.now }
-    ensures lines { KeyLines account.now key.now (λ refusal. result ≡ Err refusal) ((i : ℕ) × (result ≡ Ok i) × IsNextIn account.now sessions.now key.now i) }
+    ensures lines { KeyLines account.now key.now (λ refusal. result ≡ Err refusal)
+        ((i : ℕ) × (result ≡ Ok i) × IsNextIn account.now sessions.now key.now i) }
 {
     if key.epoch != account.epoch() {
         return Err(Refusal::OtherEpoch(account.epoch()));
@@ -51,4 +59,109 @@ pub(crate) fn next_session(
         return Err(Refusal::Gap(session.last));
     }
     Ok(index)
+}
+
+// A request that has its session's next number.
+#[derive(Clone, Copy)]
+struct Arrival {
+    // The index of its session.
+    session: usize,
+    moment: u64,
+    key: Key,
+}
+
+impl State {
+    ghost use Rattle.rv_text.specs.declared.message.Call.TheVariants.{Put, Take};
+    ghost use Rattle.rv_book.specs.declared.account.Act.TheVariants.{Hello, Arrive};
+    ghost use Rattle.rv_book.specs.Tables.{Arrives, IsFirstOf, IsSoundState};
+    ghost use Rattle.rv_book.specs.Verdicts.{kept_for};
+
+    // Records a put, whose item waits from then on.
+    fn put(&mut self, at: Arrival, queue: u64, item: Item) -> Result<Kept, Refusal>
+        requires { Arrives self.old.account self.old.sessions.items self.old.waiting.items at.session at.moment at.key (Put queue item) }
+        ensures sound { IsSoundState self.new }
+        ensures ok { IfOk result (λ kept. (kept ≡ Kept.Done) × (self.new.account
+            ≡ with_entry self.old.account (record { moment = at.moment; act = Arrive at.key (Put queue item); partner = None }))) }
+        ensures err { IfErr result (λ refusal. (refusal ≡ Refusal.NoMemory) × (self.new.account ≡ self.old.account)) }
+    {
+        self.waiting.reserve(1).map_err(no_memory)?;
+        let place = self.account.len();
+        let call = Call::Put { queue, item };
+        self.account.enter(at.entry(call, None)).map_err(no_memory)?;
+        append(&mut self.waiting, WaitingItem { queue, place });
+        self.sessions[at.session] = Session::after(&at.key);
+        Ok(Kept::Done)
+    }
+
+    // Records a take that finds no item.
+    fn take_nothing(&mut self, at: Arrival, queue: u64, wait: Wait) -> Result<Kept, Refusal>
+        requires arrives { Arrives self.old.account self.old.sessions.items self.old.waiting.items at.session at.moment at.key (Take queue wait) }
+        requires none { (i : ℕ) (item : WaitingItem) → slice_get self.old.waiting.items i ≡ Some item → item.queue ≢ queue }
+        ensures sound { IsSoundState self.new }
+        ensures ok { IfOk result (λ kept. (kept ≡ Kept.Empty) × (self.new.account
+            ≡ with_entry self.old.account (record { moment = at.moment; act = Arrive at.key (Take queue wait); partner = None }))) }
+        ensures err { IfErr result (λ refusal. (refusal ≡ Refusal.NoMemory) × (self.new.account ≡ self.old.account)) }
+    {
+        let call = Call::Take { queue, wait };
+        self.account.enter(at.entry(call, None)).map_err(no_memory)?;
+        self.sessions[at.session] = Session::after(&at.key);
+        Ok(Kept::Empty)
+    }
+
+    // Records a take of the item at an index of the waiting ones, the first of its queue.
+    fn take_item(
+        &mut self,
+        at: Arrival,
+        queue: u64,
+        wait: Wait,
+        index: usize,
+    ) -> Result<Kept, Refusal>
+        requires arrives { Arrives self.old.account self.old.sessions.items self.old.waiting.items at.session at.moment at.key (Take queue wait) }
+        requires first { IsFirstOf self.old.waiting.items queue index }
+        ensures sound { IsSoundState self.new }
+        ensures ok { IfOk result (λ kept. (place : ℕ) × (kept ≡ Kept.Item place) × (self.new.account
+            ≡ with_entry self.old.account (record { moment = at.moment; act = Arrive at.key (Take queue wait); partner = Some place }))) }
+        ensures err { IfErr result (λ refusal. (refusal ≡ Refusal.NoMemory) × (self.new.account ≡ self.old.account)) }
+    {
+        let place = self.waiting[index].place;
+        let call = Call::Take { queue, wait };
+        self.account
+            .enter(at.entry(call, Some(place)))
+            .map_err(no_memory)?;
+        self.waiting.remove(index);
+        self.sessions[at.session] = Session::after(&at.key);
+        Ok(Kept::Item(place))
+    }
+
+    // Records a take, which gets the oldest item of its queue if one waits.
+    fn take(&mut self, at: Arrival, queue: u64, wait: Wait) -> Result<Kept, Refusal>
+        requires { Arrives self.old.account self.old.sessions.items self.old.waiting.items at.session at.moment at.key (Take queue wait) }
+        ensures sound { IsSoundState self.new }
+        ensures ok { IfOk result (λ kept. (partner : Option ℕ) × (kept ≡ kept_for partner) × (self.new.account
+            ≡ with_entry self.old.account (record { moment = at.moment; act = Arrive at.key (Take queue wait); partner = partner }))) }
+        ensures err { IfErr result (λ refusal. (refusal ≡ Refusal.NoMemory) × (self.new.account ≡ self.old.account)) }
+    {
+        match oldest_of(&self.waiting, queue) {
+            Some(index) => self.take_item(at, queue, wait, index),
+            None => self.take_nothing(at, queue, wait),
+        }
+    }
+}
+
+impl Arrival {
+    ghost use Rattle.rv_book.specs.declared.account.Act.TheVariants.{Arrive};
+
+    // The entry of the arrival with this call and partner.
+    fn entry(&self, call: Call, partner: Option<Place>) -> Entry
+        ensures { result ≡ record { moment = self.now.moment; act = Arrive self.now.key call; partner = partner } }
+    {
+        Entry {
+            moment: self.moment,
+            act: Act::Arrive {
+                key: self.key,
+                call,
+            },
+            partner,
+        }
+    }
 }

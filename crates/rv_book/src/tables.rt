@@ -1,8 +1,9 @@
 //! The book's private lists: one session for each client, and the items that wait.
-ghost use Rattle.std.specs.Prelude.{◌≡◌, ◌≢◌, ℕ, Some, IfSome, IfNone, slice_get};
+ghost use Rattle.std.specs.Prelude.{◌≡◌, ◌≢◌, ◌<◌, ◌++◌, ◌∷◌, [], ℕ, Some, IfSome, IfNone, slice_get, vec_len, vec_capacity};
 ghost use Rattle.rv_book.specs.Tables.{IsFirstOf};
 
 use crate::account::Place;
+use rv_text::Key;
 
 /// What the book keeps of a client.
 #[derive(Clone, Copy)]
@@ -34,4 +35,25 @@ pub(crate) fn oldest_of(waiting: &[WaitingItem], queue: u64) -> Option<usize>
     ensures none { IfNone result ((i : ℕ) (item : WaitingItem) → slice_get waiting.now i ≡ Some item → item.queue ≢ queue) }
 {
     waiting.iter().position(|item| item.queue == queue)
+}
+
+// Appends where there is room.
+pub(crate) fn append<T>(list: &mut Vec<T>, value: T)
+    requires { vec_len list.old < vec_capacity list.old }
+    ensures { list.new.items ≡ list.old.items ++ value ∷ [] }
+{
+    list.push(value).unwrap();
+}
+
+impl Session {
+    // The key's session, once its request has come.
+    pub(crate) fn after(key: &Key) -> Session
+        ensures { result ≡ record { client = key.now.client; incarnation = key.now.incarnation; last = key.now.number } }
+    {
+        Session {
+            client: key.client,
+            incarnation: key.incarnation,
+            last: key.number,
+        }
+    }
 }

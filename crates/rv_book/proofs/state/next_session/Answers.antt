@@ -1,5 +1,5 @@
 -- Which refusal is due, or that the key has its session's next number.
-use Rattle.std.proofs.Common.{◌≡◌, ◌<◌, ◌≤◌, ◌+◌, ℕ, refl, sym, subst, ◌∙◌, arith}
+use Rattle.std.proofs.Common.{◌≡◌, ◌+◌, refl, subst, ◌∙◌, arith}
 use Rattle.std.proofs.Math.ListN.{get_or}
 use Rattle.rv_book.specs.declared.tables.Session.{Session}
 use Rattle.rv_book.specs.Sessions.{HasIncarnation}
