@@ -7,3 +7,4 @@ pub mod Sessions
 pub mod WaitingItems
 pub mod Lines
 pub mod Keeping
+pub mod Replying

@@ -92,3 +92,11 @@ pub record Greets (a : Account) (sessions : List Session) (waiting : List Waitin
 
 abbrev pub IsSoundState : State → Type 0
 IsSoundState state = IsSound state.account state.sessions.items state.waiting.items
+
+-- what any request brings: its moment and its limits
+pub record Asks (state : State) (moment : ℕ) (key : Key) (call : Call) : Type 0 where
+  pub sound : IsSoundState state
+  pub time : KeepsTime state.account moment
+  pub moment_fits : moment ≤ 2 ^ 62
+  pub key_fits : FitsKey key
+  pub call_fits : FitsCall call

@@ -73,8 +73,12 @@ struct Arrival {
 impl State {
     ghost use Rattle.rv_text.specs.declared.message.Call.TheVariants.{Put, Take};
     ghost use Rattle.rv_book.specs.declared.account.Act.TheVariants.{Hello, Arrive};
-    ghost use Rattle.rv_book.specs.Tables.{Arrives, IsFirstOf, IsSoundState};
-    ghost use Rattle.rv_book.specs.Verdicts.{kept_for};
+    ghost use Rattle.rv_text.specs.declared.message.Message.TheVariants.{Request};
+    ghost use Rattle.rv_text.specs.declared.answer.Reply.{Reply};
+    ghost use Rattle.rv_text.specs.declared.answer.Answer.TheVariants.{Replied, Refused};
+    ghost use Rattle.rv_book.specs.Steps.{NextAt};
+    ghost use Rattle.rv_book.specs.Tables.{Arrives, Asks, IsFirstOf, IsSoundState};
+    ghost use Rattle.rv_book.specs.Verdicts.{IsTold, kept_for, reply_of};
 
     // Records a put, whose item waits from then on.
     fn put(&mut self, at: Arrival, queue: u64, item: Item) -> Result<Kept, Refusal>
@@ -145,6 +149,39 @@ impl State {
             Some(index) => self.take_item(at, queue, wait, index),
             None => self.take_nothing(at, queue, wait),
         }
+    }
+
+    // Answers a request that is next in its session and has room, and records it.
+    fn arrive(&mut self, at: Arrival, call: Call) -> Result<Kept, Refusal>
+        requires { Arrives self.old.account self.old.sessions.items self.old.waiting.items at.session at.moment at.key call }
+        ensures sound { IsSoundState self.new }
+        ensures ok { IfOk result (λ kept. IsTold self.old.account self.new.account at.moment at.key call kept) }
+        ensures err { IfErr result (λ refusal. (refusal ≡ Refusal.NoMemory) × (self.new.account ≡ self.old.account)) }
+    {
+        match call {
+            Call::Put { queue, item } => self.put(at, queue, item),
+            Call::Take { queue, wait } => self.take(at, queue, wait),
+        }
+    }
+
+    // Answers a request, and records it where no refusal is due.
+    pub(crate) fn request(&mut self, moment: u64, key: Key, call: Call) -> Result<Kept, Refusal>
+        requires { Asks self.old moment key call }
+        ensures sound { IsSoundState self.new }
+        ensures ok { IfOk result (λ kept. (reply : Reply) × (reply_of self.new.account.entries kept ≡ Some reply)
+            × NextAt self.old.account moment (Request key call) self.new.account (Replied key reply)) }
+        ensures err { IfErr result (λ refusal. NextAt self.old.account moment (Request key call) self.new.account (Refused refusal)) }
+    {
+        let session = next_session(&self.account, &self.sessions, &key)?;
+        if self.account.len() >= MAX_ENTRIES {
+            return Err(Refusal::EpochFull);
+        }
+        let at = Arrival {
+            session,
+            moment,
+            key,
+        };
+        self.arrive(at, call)
     }
 }
 
