@@ -1,5 +1,5 @@
 -- The account and its lists stay sound: after a put, a poll that finds nothing, a take and a hello.
-use Rattle.std.proofs.Common.{◌≡◌, inl, inr, ℕ, ◌+◌, ◌<◌, ◌≤◌, List, [], ◌∷◌, ◌++◌, length, Option, Some, None, refl, sym, ap, subst, ◌∙◌, arith, length-append}
+use Rattle.std.proofs.Common.{◌^◌, ◌≡◌, inl, inr, ℕ, ◌+◌, ◌<◌, ◌≤◌, List, [], ◌∷◌, ◌++◌, length, Option, Some, None, refl, sym, ap, subst, ◌∙◌, arith, length-append}
 use Rattle.std.specs.List.{slice_get, remove}
 use Rattle.std.proofs.Math.ListN.{set}
 use Rattle.std.proofs.lemmas.Bool.{cases_order}
@@ -8,6 +8,7 @@ use Rattle.rv_text.specs.declared.message.Key.{Key}
 use Rattle.rv_text.specs.declared.message.Wait.{Wait}
 use Rattle.rv_text.specs.declared.message.Call.{Call}
 use Rattle.rv_text.specs.declared.message.Call.TheVariants.{Put, Take}
+use Rattle.rv_text.specs.Limits.{FitsIdentifier}
 use Rattle.rv_book.specs.declared.account.Entry.{Entry}
 use Rattle.rv_book.specs.declared.account.Act.TheVariants.{Hello, Arrive}
 use Rattle.rv_book.specs.declared.tables.Session.{Session}
@@ -19,7 +20,8 @@ use Rattle.rv_book.specs.Waiting.{Open}
 use Rattle.rv_book.specs.Legal.{MayFollow}
 use Rattle.rv_book.specs.Order.{GivesAt}
 use Rattle.rv_book.specs.Tables.{FitsEntry, AreSessions, AreWaitingItems, IsSound, IsNextIn, IsFirstOf, Arrives, Greets}
-use Rattle.rv_book.proofs.Places.{get-append_cases}
+use Rattle.rv_book.proofs.Places.{get-append_cases, within}
+use Rattle.rv_book.proofs.Growing.{act_read, call_read, reads_within}
 use Rattle.rv_book.proofs.Legality.{Legal-with_entry, nobody}
 use Rattle.rv_book.proofs.Histories.{hellos_at_most}
 use Rattle.rv_book.proofs.Following.{entry, IsNext, IsOldest, hello_follows, put_follows, poll_follows, take_follows}
@@ -174,3 +176,33 @@ sound_new a sessions waiting moment client incarnation h none =
     (λ r earlier hello. let one = h.sound.sessions_are.each r client earlier hello in absurd (none one.0 one.1 one.2 one.3))
     (AreSessions-next a.entries e sessions (sessions ++ fresh client incarnation ∷ []) (fresh client incarnation) h.sound.sessions_are
     (Replaces-push sessions (fresh client incarnation) h.sound.sessions_are.distinct none) refl (greeted_session a.entries e client incarnation refl))
+
+-- ---- an empty account
+
+nothing_there : {X : Type 0} (xs : List X) → xs ≡ [] → (i : ℕ) (x : X) → slice_get xs i ≡ Some x → ⊥
+nothing_there xs none i x there = let inside = within xs i x there in let short : length xs ≡ 0 = ap length none in omega arith
+
+pub sound_empty : (a : Account) (sessions : List Session) (waiting : List WaitingItem) → FitsIdentifier a.epoch → a.opened ≤ 2 ^ 62 → a.entries ≡ [] → sessions ≡ [] → waiting ≡ []
+    → IsSound a sessions waiting
+sound_empty a sessions waiting epoch opened none no_sessions no_items =
+    record {
+      legal = λ j e there. absurd (nothing_there a.entries none j e there);
+      fits = record {
+        epoch = epoch;
+        opened = opened;
+        entries = λ r e there. absurd (nothing_there a.entries none r e there);
+        room = λ waits count. let nobody_there : waits ≡ 0 = nobody a.entries waits count in let short : length a.entries ≡ 0 = ap length none in omega arith;
+      };
+      sessions_are = record {
+        incarnations = λ i s there. absurd (nothing_there sessions no_sessions i s there);
+        numbers = λ i s there. absurd (nothing_there sessions no_sessions i s there);
+        each = λ r client incarnation hello. absurd (let inside = reads_within act_read refl a.entries r _ hello in let short : length a.entries ≡ 0 = ap length none in omega arith);
+        distinct = λ i j s t at_i at_j same. absurd (nothing_there sessions no_sessions i s at_i);
+      };
+      waiting_are = record {
+        gives = λ i w there. absurd (nothing_there waiting no_items i w there);
+        are_open = λ i w there. absurd (nothing_there waiting no_items i w there);
+        each = λ r queue gives opened. absurd (let inside = reads_within call_read refl a.entries r _ gives.arrived in let short : length a.entries ≡ 0 = ap length none in omega arith);
+        rising = λ i j v w less at_i at_j. absurd (nothing_there waiting no_items i v at_i);
+      };
+    }

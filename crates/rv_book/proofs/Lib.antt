@@ -8,3 +8,4 @@ pub mod WaitingItems
 pub mod Lines
 pub mod Keeping
 pub mod Replying
+pub mod Greeting

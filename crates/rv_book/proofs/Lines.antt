@@ -1,5 +1,5 @@
 -- Which line of a step decides, by what the list of sessions says of the key's client.
-use Rattle.std.proofs.Common.{◌≡◌, inl, inr, ℕ, ◌+◌, ◌<◌, ◌≤◌, List, length, Some, refl, sym, ap, subst, ◌∙◌, arith}
+use Rattle.std.proofs.Common.{◌≡◌, ◌≢◌, inl, inr, ℕ, ◌+◌, ◌<◌, ◌≤◌, List, length, Some, option_map, unwrap_or, refl, sym, ap, subst, ◌∙◌, arith}
 use Rattle.std.specs.List.{slice_get}
 use Rattle.std.proofs.Math.ListN.{get_or}
 use Rattle.std.proofs.lemmas.Option.{get_or_from_slice_get}
@@ -12,7 +12,7 @@ use Rattle.rv_book.specs.declared.tables.Session.{Session}
 use Rattle.rv_book.specs.Account.{Account, act_at}
 use Rattle.rv_book.specs.Sessions.{HasIncarnation, LastNumber}
 use Rattle.rv_book.specs.Steps.{OtherEpochDue, NoSessionDue, OldIncarnationDue, OldNumberDue, GapDue, EpochFullDue, KeyLines}
-use Rattle.rv_book.specs.Tables.{AreSessions, IsNextIn}
+use Rattle.rv_book.specs.Tables.{AreSessions, IsNextIn, IsUnknown, known_incarnation}
 use Rattle.rv_book.proofs.Histories.{one_incarnation, one_last_number}
 use Rattle.rv_book.proofs.Legality.{nobody, none_waits}
 
@@ -109,6 +109,28 @@ KeyLines-map R S G H a key f g (inr (n, inr (o, inr (p, inr (q, inr (r, h)))))) 
 pub no_hellos : (es : List Entry) (sessions : List Session) (client bound : ℕ) → AreSessions es sessions
     → ((i : ℕ) (s : Session) → slice_get sessions i ≡ Some s → s.client ≡ client → ⊥) → (r incarnation : ℕ) → act_at es r ≡ Some (Hello client incarnation) → incarnation < bound
 no_hellos es sessions client bound are none r incarnation hello = let one = are.each r client incarnation hello in absurd (none one.0 one.1 one.2 one.3)
+
+pub said_no_hello : (es : List Entry) (sessions : List Session) (client : ℕ) → AreSessions es sessions → IsUnknown sessions client
+    → (r incarnation : ℕ) → act_at es r ≡ Some (Hello client incarnation) → ⊥
+said_no_hello es sessions client are none r incarnation hello = let one = are.each r client incarnation hello in none one.0 one.1 one.2 one.3
+
+pub known_incarnation_is : (sessions : List Session) (i : ℕ) (s : Session) → slice_get sessions i ≡ Some s → known_incarnation sessions i ≡ s.incarnation
+known_incarnation_is sessions i s there = ap (λ o. unwrap_or (option_map (λ (t : Session). t.incarnation) o) 0) there
+
+-- the session that was read at i, of which neither the same nor a lower incarnation comes
+pub record ReadLower (sessions : List Session) (i incarnation : ℕ) (s : Session) : Type 0 where
+  pub above : s.incarnation < incarnation
+  pub known : known_incarnation sessions i < incarnation
+
+pub read_lower : (sessions : List Session) (i incarnation : ℕ) (s read : Session) → slice_get sessions i ≡ Some s → read ≡ get_or sessions i read → read.incarnation ≤ incarnation
+    → (incarnation ≡ read.incarnation → ⊥) → ReadLower sessions i incarnation s
+read_lower sessions i incarnation s read there is most other =
+    let same : read ≡ s = is ∙ get_or_from_slice_get sessions i s read there in
+    let number : read.incarnation ≡ s.incarnation = ap (λ (t : Session). t.incarnation) same in
+    let known : known_incarnation sessions i ≡ s.incarnation = known_incarnation_is sessions i s there in
+    let apart : incarnation ≢ read.incarnation = other in
+    let below : s.incarnation < incarnation = omega arith in
+    record { above = below; known = subst (λ (n : ℕ). n < incarnation) (sym known) below }
 
 -- what the list says of the client whose session was found at i, as the code reads it there
 pub record SessionFound (es : List Entry) (client : ℕ) (s : Session) : Type 0 where

@@ -1,5 +1,5 @@
 -- What the book's private lists say of its account.
-use Rattle.std.specs.Prelude.{◌≡◌, ◌≢◌, ◌<◌, ◌≤◌, ◌+◌, ◌^◌, ℕ, List, length, Some, slice_get}
+use Rattle.std.specs.Prelude.{◌≡◌, ◌≢◌, ◌<◌, ◌≤◌, ◌+◌, ◌^◌, ℕ, List, length, Some, option_map, unwrap_or, slice_get}
 use Rattle.rv_text.specs.declared.message.Key.{Key}
 use Rattle.rv_text.specs.declared.message.Call.{Call}
 use Rattle.rv_text.specs.Limits.{FitsIdentifier, FitsKey, FitsCall}
@@ -100,3 +100,23 @@ pub record Asks (state : State) (moment : ℕ) (key : Key) (call : Call) : Type 
   pub moment_fits : moment ≤ 2 ^ 62
   pub key_fits : FitsKey key
   pub call_fits : FitsCall call
+
+-- what any hello brings: its moment and its limits
+pub record AsksAnew (state : State) (moment client incarnation : ℕ) : Type 0 where
+  pub sound : IsSoundState state
+  pub time : KeepsTime state.account moment
+  pub moment_fits : moment ≤ 2 ^ 62
+  pub client_fits : FitsIdentifier client
+  pub incarnation_fits : FitsIdentifier incarnation
+
+-- the client's session stands at i
+abbrev pub IsKnown : List Session → ℕ → ℕ → Type 0
+IsKnown sessions client i = (session : Session) × (slice_get sessions i ≡ Some session) × (session.client ≡ client)
+
+-- the client has no session
+abbrev pub IsUnknown : List Session → ℕ → Type 0
+IsUnknown sessions client = (i : ℕ) (session : Session) → slice_get sessions i ≡ Some session → session.client ≢ client
+
+-- the incarnation of the session at i; 0 where none stands there
+abbrev pub known_incarnation : List Session → ℕ → ℕ
+known_incarnation sessions i = unwrap_or (option_map (λ s. s.incarnation) (slice_get sessions i)) 0

@@ -2,9 +2,12 @@
 #![tactic(auto)]
 
 mod account;
+mod book;
 mod state;
 mod tables;
 mod verdict;
 
 pub use account::{Account, Act, Entry, Place};
+pub use book::Book;
+pub use state::MAX_MOMENT;
 pub use verdict::Verdict;

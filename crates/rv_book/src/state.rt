@@ -8,11 +8,14 @@ ghost use Rattle.rv_book.specs.Tables.{IsSound, IsNextIn, AreSessions};
 
 use crate::account::{Account, Act, Entry, Place};
 use crate::tables::{Session, WaitingItem, append, oldest_of, session_of};
-use crate::verdict::Kept;
-use rv_text::{Call, Item, Key, NoMemory, Refusal, Wait};
+use crate::verdict::{Kept, Said};
+use rv_text::{Call, Item, Key, Message, NoMemory, Refusal, Wait};
 
 /// The most entries of an epoch.
 pub(crate) const MAX_ENTRIES: usize = 100_000;
+
+/// The greatest moment, in milliseconds: 2^62. One above it counts as this one.
+pub const MAX_MOMENT: u64 = 4_611_686_018_427_387_904;
 
 #[derive(Drop)]
 pub(crate) struct State {
@@ -73,12 +76,15 @@ struct Arrival {
 impl State {
     ghost use Rattle.rv_text.specs.declared.message.Call.TheVariants.{Put, Take};
     ghost use Rattle.rv_book.specs.declared.account.Act.TheVariants.{Hello, Arrive};
+    ghost use Rattle.rv_text.specs.declared.message.Message.TheVariants as message;
     ghost use Rattle.rv_text.specs.declared.message.Message.TheVariants.{Request};
     ghost use Rattle.rv_text.specs.declared.answer.Reply.{Reply};
-    ghost use Rattle.rv_text.specs.declared.answer.Answer.TheVariants.{Replied, Refused};
-    ghost use Rattle.rv_book.specs.Steps.{NextAt};
-    ghost use Rattle.rv_book.specs.Tables.{Arrives, Asks, IsFirstOf, IsSoundState};
-    ghost use Rattle.rv_book.specs.Verdicts.{IsTold, kept_for, reply_of};
+    ghost use Rattle.rv_text.specs.declared.answer.Answer.{Answer};
+    ghost use Rattle.rv_text.specs.Limits.{FitsMessage};
+    ghost use Rattle.rv_text.specs.declared.answer.Answer.TheVariants.{Welcome, Replied, Refused};
+    ghost use Rattle.rv_book.specs.Steps.{NextAt, step_moment};
+    ghost use Rattle.rv_book.specs.Tables.{Arrives, Asks, AsksAnew, Greets, IsFirstOf, IsKnown, IsUnknown, IsSoundState, known_incarnation};
+    ghost use Rattle.rv_book.specs.Verdicts.{IsTold, answer_of, kept_for, reply_of};
 
     // Records a put, whose item waits from then on.
     fn put(&mut self, at: Arrival, queue: u64, item: Item) -> Result<Kept, Refusal>
@@ -182,6 +188,143 @@ impl State {
             key,
         };
         self.arrive(at, call)
+    }
+
+    // Records the first hello of a client.
+    fn open_session(&mut self, moment: u64, client: u64, incarnation: u64) -> Result<(), Refusal>
+        requires greets { Greets self.old.account self.old.sessions.items self.old.waiting.items moment client incarnation }
+        requires none { IsUnknown self.old.sessions.items client }
+        ensures sound { IsSoundState self.new }
+        ensures ok { OnOk result (self.new.account
+            ≡ with_entry self.old.account (record { moment = moment; act = Hello client incarnation; partner = None })) }
+        ensures err { IfErr result (λ refusal. (refusal ≡ Refusal.NoMemory) × (self.new.account ≡ self.old.account)) }
+    {
+        self.sessions.reserve(1).map_err(no_memory)?;
+        let entry = Entry::hello(moment, client, incarnation);
+        self.account.enter(entry).map_err(no_memory)?;
+        append(&mut self.sessions, Session::fresh(client, incarnation));
+        Ok(())
+    }
+
+    // Records the hello of a greater incarnation of the client whose session stands at an index.
+    fn renew_session(
+        &mut self,
+        index: usize,
+        moment: u64,
+        client: u64,
+        incarnation: u64,
+    ) -> Result<(), Refusal>
+        requires greets { Greets self.old.account self.old.sessions.items self.old.waiting.items moment client incarnation }
+        requires known { IsKnown self.old.sessions.items client index }
+        requires newer { known_incarnation self.old.sessions.items index < incarnation }
+        ensures sound { IsSoundState self.new }
+        ensures ok { OnOk result (self.new.account
+            ≡ with_entry self.old.account (record { moment = moment; act = Hello client incarnation; partner = None })) }
+        ensures err { IfErr result (λ refusal. (refusal ≡ Refusal.NoMemory) × (self.new.account ≡ self.old.account)) }
+    {
+        let entry = Entry::hello(moment, client, incarnation);
+        self.account.enter(entry).map_err(no_memory)?;
+        self.sessions[index] = Session::fresh(client, incarnation);
+        Ok(())
+    }
+
+    // Answers the hello of a client that has no session.
+    fn admit(&mut self, moment: u64, client: u64, incarnation: u64) -> Result<(), Refusal>
+        requires asks { AsksAnew self.old moment client incarnation }
+        requires none { IsUnknown self.old.sessions.items client }
+        ensures sound { IsSoundState self.new }
+        ensures ok { OnOk result (NextAt self.old.account moment (message.Hello client incarnation) self.new.account (Welcome self.old.account.epoch client incarnation)) }
+        ensures err { IfErr result (λ refusal. NextAt self.old.account moment (message.Hello client incarnation) self.new.account (Refused refusal)) }
+    {
+        if self.account.len() >= MAX_ENTRIES {
+            return Err(Refusal::EpochFull);
+        }
+        self.open_session(moment, client, incarnation)
+    }
+
+    // Answers the hello of a client whose session stands at an index.
+    fn renew(
+        &mut self,
+        index: usize,
+        moment: u64,
+        client: u64,
+        incarnation: u64,
+    ) -> Result<(), Refusal>
+        requires asks { AsksAnew self.old moment client incarnation }
+        requires known { IsKnown self.old.sessions.items client index }
+        ensures sound { IsSoundState self.new }
+        ensures ok { OnOk result (NextAt self.old.account moment (message.Hello client incarnation) self.new.account (Welcome self.old.account.epoch client incarnation)) }
+        ensures err { IfErr result (λ refusal. NextAt self.old.account moment (message.Hello client incarnation) self.new.account (Refused refusal)) }
+    {
+        let current = self.sessions[index].incarnation;
+        if incarnation < current {
+            return Err(Refusal::OldIncarnation(current));
+        }
+        if incarnation == current {
+            return Ok(());
+        }
+        if self.account.len() >= MAX_ENTRIES {
+            return Err(Refusal::EpochFull);
+        }
+        self.renew_session(index, moment, client, incarnation)
+    }
+
+    // Answers a hello, and records it where it is no repeat and no refusal is due.
+    pub(crate) fn greet(
+        &mut self,
+        moment: u64,
+        client: u64,
+        incarnation: u64,
+    ) -> Result<(), Refusal>
+        requires { AsksAnew self.old moment client incarnation }
+        ensures sound { IsSoundState self.new }
+        ensures ok { OnOk result (NextAt self.old.account moment (message.Hello client incarnation) self.new.account (Welcome self.old.account.epoch client incarnation)) }
+        ensures err { IfErr result (λ refusal. NextAt self.old.account moment (message.Hello client incarnation) self.new.account (Refused refusal)) }
+    {
+        match session_of(&self.sessions, client) {
+            Some(index) => self.renew(index, moment, client, incarnation),
+            None => self.admit(moment, client, incarnation),
+        }
+    }
+
+    // The moment of a step: the book's own where that is later than the one handed in.
+    pub(crate) fn moment_at(&self, now: u64) -> u64
+        requires { IsSoundState self.now }
+        ensures exact { result ≡ step_moment self.now.account now }
+        ensures time { KeepsTime self.now.account result }
+        ensures fits { result ≤ 2 ^ 62 }
+    {
+        self.account.own_moment().max(now.min(MAX_MOMENT))
+    }
+
+    // Takes one step with a message of a moment, and says what became of it.
+    pub(crate) fn step(&mut self, moment: u64, message: Message) -> Said
+        requires sound { IsSoundState self.old }
+        requires time { KeepsTime self.old.account moment }
+        requires moment_fits { moment ≤ 2 ^ 62 }
+        requires message_fits { FitsMessage message }
+        ensures sound { IsSoundState self.new }
+        ensures step { (answer : Answer) × (answer_of self.new.account.entries result ≡ Some answer)
+            × NextAt self.old.account moment message self.new.account answer }
+    {
+        let epoch = self.account.epoch();
+        match message {
+            Message::Hello {
+                client,
+                incarnation,
+            } => match self.greet(moment, client, incarnation) {
+                Ok(()) => Said::Welcome {
+                    epoch,
+                    client,
+                    incarnation,
+                },
+                Err(refusal) => Said::Refused(refusal),
+            },
+            Message::Request { key, call } => match self.request(moment, key, call) {
+                Ok(kept) => Said::Replied { key, kept },
+                Err(refusal) => Said::Refused(refusal),
+            },
+        }
     }
 }
 
