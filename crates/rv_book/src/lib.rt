@@ -2,6 +2,10 @@
 #![tactic(auto)]
 
 mod account;
+#[cfg(test)]
+mod accounts;
+#[cfg(test)]
+mod plain;
 mod tables;
 mod verdict;
 
