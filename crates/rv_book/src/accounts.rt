@@ -1,11 +1,9 @@
-//! Accounts written by hand from the rules, legal ones and broken ones, and what the plain reading says of them.
+//! A short way to write accounts by hand, for tests.
 use crate::account::{Account, Act, Entry, Place};
-use crate::plain::{
-    Rule, first_fault, last_hello, last_number, met, open, reply, stopped, waiting,
-};
+use crate::plain::{Rule, first_fault, reply};
 use rv_text::{Call, Item, Key, NoMemory, Reply, Wait};
 use std::alloc::Global;
-use std::test::Fail;
+use std::process::Abort;
 
 /// What an entry of an account written by hand records.
 #[derive(Clone, Copy)]
@@ -75,60 +73,49 @@ impl Line {
     }
 
     /// The same line at this moment.
-    pub(crate) fn at(self, moment: u64) -> Line {
-        Line {
-            moment,
-            does: self.does,
-            partner: self.partner,
-        }
+    pub(crate) fn at(mut self, moment: u64) -> Line {
+        self.moment = moment;
+        self
     }
 
-    /// The same line, which names the place as its partner.
-    pub(crate) fn meeting(self, place: Place) -> Line {
-        Line {
-            moment: self.moment,
-            does: self.does,
-            partner: Some(place),
-        }
+    /// The same line, which names this place as its partner.
+    pub(crate) fn meeting(mut self, place: Place) -> Line {
+        self.partner = Some(place);
+        self
     }
 
-    /// The same line of another queue; a hello has none.
-    pub(crate) fn on(self, queue: u64) -> Line {
-        let does = match self.does {
-            Does::Hello {
-                client,
-                incarnation,
-            } => Does::Hello {
-                client,
-                incarnation,
-            },
-            Does::Put { key, text, .. } => Does::Put { key, queue, text },
-            Does::Take { key, .. } => Does::Take { key, queue },
-        };
-        Line {
-            moment: self.moment,
-            does,
-            partner: self.partner,
+    /// The same line of another queue; a hello stays as it is.
+    pub(crate) fn on(mut self, other: u64) -> Line {
+        match &mut self.does {
+            Does::Put { queue, .. } | Does::Take { queue, .. } => *queue = other,
+            Does::Hello { .. } => {}
         }
+        self
     }
 
-    /// The same line with another key; a hello has none.
-    pub(crate) fn keyed(self, key: Key) -> Line {
-        let does = match self.does {
-            Does::Hello {
-                client,
-                incarnation,
-            } => Does::Hello {
-                client,
-                incarnation,
-            },
-            Does::Put { queue, text, .. } => Does::Put { key, queue, text },
-            Does::Take { queue, .. } => Does::Take { key, queue },
-        };
-        Line {
-            moment: self.moment,
-            does,
-            partner: self.partner,
+    /// The same line of another epoch; a hello stays as it is.
+    pub(crate) fn in_epoch(mut self, epoch: u64) -> Line {
+        match &mut self.does {
+            Does::Put { key, .. } | Does::Take { key, .. } => key.epoch = epoch,
+            Does::Hello { .. } => {}
+        }
+        self
+    }
+
+    /// The same line of another incarnation.
+    pub(crate) fn by(mut self, other: u64) -> Line {
+        match &mut self.does {
+            Does::Put { key, .. } | Does::Take { key, .. } => key.incarnation = other,
+            Does::Hello { incarnation, .. } => *incarnation = other,
+        }
+        self
+    }
+
+    /// The client that says or asks it.
+    pub(crate) fn client(&self) -> u64 {
+        match self.does {
+            Does::Put { key, .. } | Does::Take { key, .. } => key.client,
+            Does::Hello { client, .. } => client,
         }
     }
 
@@ -176,35 +163,48 @@ pub(crate) fn account_of(alloc: Global, opened: u64, lines: &[Line]) -> Result<A
     Ok(Account::of(1, opened, entries))
 }
 
-// The fault of the account of these lines, opened at moment 0.
-fn fault_of(alloc: Global, lines: &[Line]) -> Result<Option<(Place, Rule)>, NoMemory> {
+/// What the client of a key is told.
+#[derive(Clone, Copy)]
+pub(crate) enum Told {
+    Done,
+    Item(&'static str),
+    Empty,
+    Nothing,
+}
+
+impl Told {
+    fn reply(self, alloc: Global) -> Result<Option<Reply>, NoMemory> {
+        let reply = match self {
+            Told::Done => Some(Reply::Done),
+            Told::Item(text) => Some(Reply::Item(Item::from_text(String::from_str(alloc, text)?))),
+            Told::Empty => Some(Reply::Empty),
+            Told::Nothing => None,
+        };
+        Ok(reply)
+    }
+}
+
+/// Asserts that the account of these lines, opened at moment 0, is legal and gives these replies.
+pub(crate) fn gives(
+    rt: &impl Abort,
+    alloc: Global,
+    lines: &[Line],
+    replies: &[(Key, Told)],
+) -> Result<(), NoMemory> {
+    let account = account_of(alloc, 0, lines)?;
+    assert_eq!(rt; first_fault(&account), None);
+    for (key, told) in replies {
+        assert_eq!(rt;
+            reply(alloc, &account, key)?,
+            told.reply(alloc)?,
+            "at {key:?}"
+        );
+    }
+    Ok(())
+}
+
+/// The first fault of the account of these lines, opened at moment 0.
+pub(crate) fn fault_of(alloc: Global, lines: &[Line]) -> Result<Option<(Place, Rule)>, NoMemory> {
     let account = account_of(alloc, 0, lines)?;
     Ok(first_fault(&account))
-}
-
-// The reply of this key in the account of these lines.
-fn reply_of(alloc: Global, lines: &[Line], key: Key) -> Result<Option<Reply>, NoMemory> {
-    let account = account_of(alloc, 0, lines)?;
-    reply(alloc, &account, &key)
-}
-
-fn item(alloc: Global, text: &str) -> Result<Option<Reply>, NoMemory> {
-    let text = String::from_str(alloc, text)?;
-    Ok(Some(Reply::Item(Item::from_text(text))))
-}
-
-#[test]
-fn a_put_and_its_taker_are_legal(rt: HostRuntime) -> Result<(), Fail> {
-    let alloc = rt.alloc();
-    let lines = [
-        hello(1, 1),
-        hello(2, 1),
-        put(1, 1, "a"),
-        take(2, 1).meeting(2),
-    ];
-    assert_eq!(rt; fault_of(alloc, &lines)?, None);
-    assert_eq!(rt; reply_of(alloc, &lines, key(1, 1))?, Some(Reply::Done));
-    assert_eq!(rt; reply_of(alloc, &lines, key(2, 1))?, item(alloc, "a")?);
-    assert_eq!(rt; reply_of(alloc, &lines, key(2, 2))?, None);
-    Ok(())
 }

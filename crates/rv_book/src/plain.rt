@@ -1,4 +1,7 @@
 //! A plain, slow reading of accounts for tests: each rule by its formula over places, with no table.
+mod sequences;
+mod tests;
+
 use crate::account::{Account, Act, Entry, Place};
 use rv_text::{Call, Item, Key, NoMemory, Reply, Wait};
 use std::alloc::Global;
