@@ -1,4 +1,10 @@
 //! A plain, slow reading of accounts for tests: each rule by its formula over places, with no table.
+ghost use Rattle.std.specs.Prelude.{◌≡◌, ◌↔◌, ℕ, IsTrue, Some};
+ghost use Rattle.std.specs.Option.{option_copied};
+ghost use Rattle.rv_book.specs.Account as accounts;
+ghost use Rattle.rv_book.specs.Calls as calls;
+ghost use Rattle.rv_book.specs.Waiting as waits;
+
 mod sequences;
 mod tests;
 
@@ -44,39 +50,51 @@ const RULES: [Rule; 9] = [
 
 // ---- what a call does
 
-fn gives_to(call: &Call) -> Option<u64> {
+fn gives_to(call: &Call) -> Option<u64>
+    ensures { result ≡ calls.gives_to call.now }
+{
     match call {
         Call::Put { queue, .. } => Some(*queue),
         Call::Take { .. } => None,
     }
 }
 
-fn takes_from(call: &Call) -> Option<u64> {
+fn takes_from(call: &Call) -> Option<u64>
+    ensures { result ≡ calls.takes_from call.now }
+{
     match call {
         Call::Put { .. } => None,
         Call::Take { queue, .. } => Some(*queue),
     }
 }
 
-fn item_of(call: &Call) -> Option<&Item> {
+fn item_of(call: &Call) -> Option<&Item>
+    ensures { option_copied result ≡ calls.item_of call.now }
+{
     match call {
         Call::Put { item, .. } => Some(item),
         Call::Take { .. } => None,
     }
 }
 
-fn may_meet(call: &Call) -> bool {
+fn may_meet(call: &Call) -> bool
+    ensures { result ≡ calls.may_meet call.now }
+{
     match call {
         Call::Put { .. } | Call::Take { .. } => true,
     }
 }
 
-fn is_put(call: &Call) -> bool {
+fn is_put(call: &Call) -> bool
+    ensures { IsTrue result ↔ calls.IsPut call.now }
+{
     matches!(call, Call::Put { .. })
 }
 
 // Whether the call stays where no partner is there.
-fn stays(call: &Call) -> bool {
+fn stays(call: &Call) -> bool
+    ensures { IsTrue result ↔ calls.Stays call.now }
+{
     match call {
         Call::Put { .. } => true,
         Call::Take {
@@ -87,7 +105,9 @@ fn stays(call: &Call) -> bool {
 }
 
 // The moment at which the wait of a call that arrived at a moment has elapsed.
-fn limit_of(_moment: u64, call: &Call) -> Option<u64> {
+fn limit_of(_moment: u64, call: &Call) -> Option<u64>
+    ensures { result ≡ calls.limit_of _moment call.now }
+{
     match call {
         Call::Put { .. }
         | Call::Take {
@@ -97,8 +117,14 @@ fn limit_of(_moment: u64, call: &Call) -> Option<u64> {
     }
 }
 
-fn is_same_queue(one: Option<u64>, other: Option<u64>) -> bool {
-    one.is_some() && one == other
+// Both are there, and they are the same.
+fn is_same_queue(one: Option<u64>, other: Option<u64>) -> bool
+    ensures { IsTrue result ↔ ((queue : ℕ) × (one ≡ Some queue) × (other ≡ Some queue)) }
+{
+    match (one, other) {
+        (Some(one), Some(other)) => one == other,
+        _ => false,
+    }
 }
 
 fn is_of_queue(call: &Call) -> bool {
@@ -106,43 +132,57 @@ fn is_of_queue(call: &Call) -> bool {
 }
 
 // One gives to the queue that the other takes from.
-fn are_opposite(one: &Call, other: &Call) -> bool {
+fn are_opposite(one: &Call, other: &Call) -> bool
+    ensures { IsTrue result ↔ calls.AreOpposite one.now other.now }
+{
     is_same_queue(gives_to(one), takes_from(other))
         || is_same_queue(takes_from(one), gives_to(other))
 }
 
 // Both give to one queue, or both take from one.
-fn are_one_side(one: &Call, other: &Call) -> bool {
+fn are_one_side(one: &Call, other: &Call) -> bool
+    ensures { IsTrue result ↔ calls.AreOneSide one.now other.now }
+{
     is_same_queue(gives_to(one), gives_to(other))
         || is_same_queue(takes_from(one), takes_from(other))
 }
 
 // ---- what stands at a place
 
-fn call_in(entry: &Entry) -> Option<&Call> {
+fn call_in(entry: &Entry) -> Option<&Call>
+    ensures { option_copied result ≡ accounts.call_in entry.now.act }
+{
     match &entry.act {
         Act::Arrive { call, .. } => Some(call),
         Act::Hello { .. } => None,
     }
 }
 
-fn key_in(entry: &Entry) -> Option<&Key> {
+fn key_in(entry: &Entry) -> Option<&Key>
+    ensures { option_copied result ≡ accounts.key_in entry.now.act }
+{
     match &entry.act {
         Act::Arrive { key, .. } => Some(key),
         Act::Hello { .. } => None,
     }
 }
 
-fn call_at(account: &Account, place: Place) -> Option<&Call> {
+fn call_at(account: &Account, place: Place) -> Option<&Call>
+    ensures { option_copied result ≡ accounts.call_at account.now.entries place }
+{
     account.entry(place).and_then(call_in)
 }
 
-fn key_at(account: &Account, place: Place) -> Option<&Key> {
+fn key_at(account: &Account, place: Place) -> Option<&Key>
+    ensures { option_copied result ≡ accounts.key_at account.now.entries place }
+{
     account.entry(place).and_then(key_in)
 }
 
 // The partner that the arrival at a place names, where its call may meet one.
-fn named_at(account: &Account, place: Place) -> Option<Place> {
+fn named_at(account: &Account, place: Place) -> Option<Place>
+    ensures { (q : _) → (result ≡ Some q) ↔ waits.NamesPartner account.now.entries place q }
+{
     let entry = account.entry(place)?;
     let call = call_in(entry)?;
     if may_meet(call) { entry.partner } else { None }
@@ -171,11 +211,14 @@ fn number_at(account: &Account, place: Place, client: u64) -> Option<u64> {
 
 // ---- which arrivals were met, were stopped and are open, by the entries before a place
 
+// Whether the arrival at a place is in the pair whose later entry is this one.
+fn is_in_pair(account: &Account, place: Place, later: Place) -> bool {
+    named_at(account, later).is_some_and(|earlier| place == later || place == earlier)
+}
+
 /// Whether the arrival at a place is in a pair whose later entry stands before the other place.
 pub(crate) fn met(account: &Account, place: Place, before: Place) -> bool {
-    (0..before).any(|later| {
-        named_at(account, later).is_some_and(|earlier| place == later || place == earlier)
-    })
+    (0..before).any(|later| is_in_pair(account, place, later))
 }
 
 // Whether the entry at a later place ends a wait of the client.
