@@ -278,7 +278,8 @@ pub(crate) fn last_number(account: &Account, client: u64, before: Place) -> Opti
 // ---- the rules
 
 /// The least place at which a rule is broken, and the first rule in the audit's order that is
-/// broken there; `None` where the account is legal.
+/// broken there; `None` where the account is legal. The cost grows with the third power of the
+/// entries, so it is for accounts of some dozens.
 pub(crate) fn first_fault(account: &Account) -> Option<(Place, Rule)> {
     (0..account.len()).find_map(|place| {
         let entry = account.entry(place)?;

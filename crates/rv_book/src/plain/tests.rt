@@ -221,7 +221,7 @@ fn finds_a_broken_order(rt: HostRuntime) -> Result<(), Fail> {
     let [a, b, c] = [put(1, 1, "a"), put(1, 2, "b"), put(1, 3, "c")];
     let next = take(2, 2);
     let broken: [(&[Line], Rule); 7] = [
-        // A later item first, at once, once the first is gone, and though its giver is anew.
+        // A later item first, at once, once the first is gone, and though its giver came anew.
         (&[one, two, a, b, poll.at(1).meeting(3)], Rule::P3),
         (
             &[one, two, a, b, c, poll.meeting(2), next.meeting(4)],
@@ -249,7 +249,7 @@ fn names_the_first_place_and_there_the_first_rule(rt: HostRuntime) -> Result<(),
         fault_of(alloc, &[one, hello(1, 1), a, b, take(2, 1)])?,
         Some((1, Rule::N1))
     );
-    // The last entry breaks the rule and every later one of its kind.
+    // The last entry breaks this rule and later ones too.
     let broken: [(&[Line], Rule); 5] = [
         (&[one.at(1), one.meeting(9)], Rule::M1),
         (&[one, one.meeting(9)], Rule::N1),
