@@ -250,12 +250,15 @@ fn names_the_first_place_and_there_the_first_rule(rt: HostRuntime) -> Result<(),
         Some((1, Rule::N1))
     );
     // The last entry breaks this rule and later ones too.
-    let broken: [(&[Line], Rule); 5] = [
+    let broken: [(&[Line], Rule); 8] = [
         (&[one.at(1), one.meeting(9)], Rule::M1),
         (&[one, one.meeting(9)], Rule::N1),
         (&[one, two, a, b, take(2, 2).by(2).meeting(4)], Rule::N2),
         (&[one, two, a, b, take(2, 2).meeting(4)], Rule::N3),
         (&[one, two, a, b, take(2, 1).on(4).meeting(4)], Rule::P1),
+        (&[one, two, a, b, take(2, 2)], Rule::N3),
+        (&[one, two, a, b, take(2, 1).on(4).meeting(3)], Rule::P2),
+        (&[one, two, a, b, put(1, 3, "c").meeting(3)], Rule::P2),
     ];
     breaks_last(&rt, alloc, &broken)?;
     Ok(())
