@@ -155,4 +155,18 @@ impl Account {
     {
         self.entries.push(entry).map_err(AllocError::from)
     }
+
+    // The account of these entries, legal or not.
+    #[cfg(test)]
+    pub(crate) fn of(epoch: u64, opened: u64, entries: Vec<Entry>) -> Account
+        ensures epoch { result.epoch ≡ epoch }
+        ensures opened { result.opened ≡ opened }
+        ensures entries { result.entries ≡ entries.items }
+    {
+        Account {
+            epoch,
+            opened,
+            entries,
+        }
+    }
 }

@@ -2,7 +2,11 @@
 #![tactic(auto)]
 
 mod account;
+#[cfg(test)]
+mod accounts;
 mod book;
+#[cfg(test)]
+mod plain;
 mod state;
 mod tables;
 mod verdict;
