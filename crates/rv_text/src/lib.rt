@@ -2,11 +2,13 @@
 #![tactic(auto)]
 
 mod answer;
+mod encode;
 mod fault;
 mod item;
 mod message;
 
 pub use answer::{Answer, Refusal, Reply};
+pub use encode::encode_answer;
 pub use fault::{NoMemory, TextFault};
 pub use item::Item;
 pub use message::{Call, Key, Message, Wait};
