@@ -5,6 +5,7 @@ mod answer;
 mod encode;
 mod fault;
 mod item;
+mod members;
 mod message;
 
 pub use answer::{Answer, Refusal, Reply};
