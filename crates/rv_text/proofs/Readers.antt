@@ -131,8 +131,12 @@ module _ (ms : Members) where
 
   find_key : (key : Key) → HasFields (key_fields key) ms → FitsKey key → key_in ms ≡ Some key
   find_key key has fits =
-      rw (find_identifier (codes "epoch") key.epoch has.0 fits.0, find_identifier (codes "client") key.client has.1.0 fits.1,
-      find_identifier (codes "incarnation") key.incarnation has.1.1.0 fits.2, find_identifier (codes "number") key.number has.1.1.1.0 fits.3) refl
+      rw (
+        find_identifier (codes "epoch") key.epoch has.0 fits.0,
+        find_identifier (codes "client") key.client has.1.0 fits.1,
+        find_identifier (codes "incarnation") key.incarnation has.1.1.0 fits.2,
+        find_identifier (codes "number") key.number has.1.1.1.0 fits.3,
+      ) refl
 
   put_found : (call : Call) → put_in ms ≡ Some call → Has (text (codes "call") (codes "put")) → HasFields (call_fields call) ms × FitsCall call
   put_found call e word =
@@ -161,7 +165,7 @@ module _ (ms : Members) where
           → HasFields (call_fields call) ms × FitsCall call
       by_word s read (inl way) = put_found call way.1 (word_found (codes "call") (codes "put") s read way.0)
       by_word s read (inr way) = elim (chosen (bytes_eq s (codes "take")) (take_in ms) None call way.1) [
-          inl take ↦ take_found call take.1 (word_found (codes "call") (codes "take") s read take.0)
+        | inl take ↦ take_found call take.1 (word_found (codes "call") (codes "take") s read take.0)
         | inr none ↦ absurd (cc)
       ]
 
@@ -199,7 +203,7 @@ module _ (ms : Members) where
           → HasFields (message_fields message) ms × FitsMessage message
       by_word s read (inl way) = hello_found message way.1 (word_found (codes "kind") (codes "hello") s read way.0)
       by_word s read (inr way) = elim (chosen (bytes_eq s (codes "request")) (request_in ms) None message way.1) [
-          inl request ↦ request_found message request.1 (word_found (codes "kind") (codes "request") s read request.0)
+        | inl request ↦ request_found message request.1 (word_found (codes "kind") (codes "request") s read request.0)
         | inr none ↦ absurd (cc)
       ]
 

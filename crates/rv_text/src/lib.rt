@@ -2,6 +2,7 @@
 #![tactic(auto)]
 
 mod answer;
+mod decode;
 mod encode;
 mod fault;
 mod item;
@@ -9,6 +10,7 @@ mod members;
 mod message;
 
 pub use answer::{Answer, Refusal, Reply};
+pub use decode::decode_message;
 pub use encode::encode_answer;
 pub use fault::{NoMemory, TextFault};
 pub use item::Item;
