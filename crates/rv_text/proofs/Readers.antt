@@ -1,10 +1,13 @@
 -- A reader finds a value exactly where its members are found and it is within the limits.
-use Rattle.std.proofs.Common.{◌≡◌, ℕ, ◌≤◌, List, [], ◌∷◌, ◌++◌, length, codes, Bool, true, false, ◌&&◌, cond, Option, Some, None, option_and_then, bytes_eq, refl, sym, ap, ◌∙◌, subst, inl, inr, arith, leb}
-use Rattle.std.proofs.lemmas.Bool.{and_parts, and_from, leb-true, le-leb, eqb-true, eq-eqb}
+use Rattle.std.proofs.Common.{String, Global, BTreeMap, string_cmp, ◌≡◌, ℕ, List, [], ◌∷◌, ◌++◌, length, codes, Bool, true, false, cond, Option, Some, None, option_and_then, bytes_eq, refl, ap, ◌∙◌, subst, inl, inr}
+use Rattle.std.proofs.lemmas.Bool.{and_parts, leb-true, le-leb, eqb-true, eq-eqb, ne_eqb}
 use Rattle.std.proofs.lemmas.Option.{cond_some}
 use Rattle.std.proofs.lemmas.Slice.Eq.{bytes_eq-Decides}
-use Rattle.std.specs.Prelude.{◌⊎◌, nat_le, ◌==◌}
-use Rattle.serde_json.specs.Data.{Num, unsigned, negative, float, Data, null, boolean, number, string, array, object, Members, no_members}
+use Rattle.std.specs.Prelude.{◌⊎◌}
+use Rattle.serde_json.specs.Data.{unsigned, negative, float, Data, null, boolean, number, string, array, object, Members, no_members}
+use Rattle.std.specs.BTreeMap.{IsOrdered}
+use Rattle.serde_json.specs.View.{members_view}
+use Rattle.serde_json.specs.declared.value.Value.{Value}
 use Rattle.serde_json.specs.Events.{members_len}
 use Rattle.serde_json.specs.Find.{get_member, as_number, as_u64, as_str}
 use Rattle.rv_text.specs.declared.message.Key.{Key}
@@ -14,10 +17,10 @@ use Rattle.rv_text.specs.declared.message.Call.{Call}
 use Rattle.rv_text.specs.declared.message.Call.TheVariants.{Put, Take}
 use Rattle.rv_text.specs.declared.message.Message.{Message}
 use Rattle.rv_text.specs.declared.message.Message.TheVariants.{Hello, Request}
-use Rattle.rv_text.specs.Fields.{Field, whole, text, with_fields, key_fields, wait_field, call_fields, message_fields}
+use Rattle.rv_text.specs.Fields.{Field, whole, text, with_fields, key_fields, wait_field, call_fields, message_fields, object_of}
 use Rattle.rv_text.specs.Limits.{FitsIdentifier, FitsQueue, FitsItem, FitsKey, FitsCall, FitsMessage}
 use Rattle.rv_text.specs.Reading.{◌>>=◌, whole_in, text_in, identifier_in, queue_in, item_in, wait_in, key_in, put_in, take_in, call_in, hello_in, request_in, kind_in, message_in}
-use Rattle.rv_text.proofs.Objects.{HasFields, IsSorted, are_distinct, with_fields-found, found-with_fields, members_len-with_fields}
+use Rattle.rv_text.proofs.Objects.{HasFields, IsSorted, IsSorted-entries, are_distinct, with_fields-found, found-with_fields, members_len-with_fields}
 
 -- ---- the steps of a reader
 
@@ -240,3 +243,16 @@ find_message message fits =
     let ms = with_fields fields no_members in
     rw (find_kind ms message (found-with_fields fields (distinct_message message)) fits)
     (rw (eq-eqb (members_len ms) (length fields) (members_len-with_fields fields (distinct_message message))) refl)
+
+pub message_in-counted : (ms : Members) (message : Message) → kind_in ms ≡ Some message → members_len ms ≡ length (message_fields message) → message_in ms ≡ Some message
+message_in-counted ms message kind size = rw kind (rw (eq-eqb _ _ size) refl)
+
+pub message_in-further : (ms : Members) (message : Message) → kind_in ms ≡ Some message → (members_len ms ≡ length (message_fields message) → ⊥) → message_in ms ≡ None
+message_in-further ms message kind other = rw kind (rw (ne_eqb _ _ other) refl)
+
+-- an object's message, from a map in order
+pub body_found : (m : BTreeMap (String Global) Value) (message : Message) → IsOrdered string_cmp m → message_in (members_view m.entries) ≡ Some message
+    → (object (members_view m.entries) ≡ object_of (message_fields message)) × FitsMessage message
+body_found m message ordered found =
+    let exact = message_found (members_view m.entries) message (IsSorted-entries m.entries ordered) found in
+    (ap object exact.0, exact.1)
