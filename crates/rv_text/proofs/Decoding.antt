@@ -12,6 +12,7 @@ use Rattle.rv_text.specs.declared.fault.TextFault.TheVariants.{NotJson, NotMessa
 use Rattle.rv_text.specs.declared.message.Message.{Message}
 use Rattle.rv_text.specs.Bodies.{HasBodyLength, Reads, IsMessageBody}
 use Rattle.rv_text.specs.Fields.{with_fields, object_of, message_fields}
+use Rattle.rv_text.specs.Laws.{OneMessage}
 use Rattle.rv_text.specs.Reading.{Gives, message_in}
 use Rattle.rv_text.proofs.Readers.{body_found, find_message}
 
@@ -43,3 +44,11 @@ module _ (bytes : List ℕ) (value : Data) (m : BTreeMap (String Global) Value) 
       let same : Some (object (members_view m.entries)) ≡ Some (object_of (message_fields message)) = ap Some (sym is) ∙ sym reads.1 ∙ body.1.1 in
       let members : members_view m.entries ≡ with_fields (message_fields message) no_members = cc in
       gives_some answer message (rw (← find_message message body.2, ← members) gives)
+
+-- each message is found again in its object
+pub one_body : OneMessage
+one_body bytes m n p q =
+    let same : Some (object_of (message_fields m)) ≡ Some (object_of (message_fields n)) = sym p.1.1 ∙ q.1.1 in
+    let members : with_fields (message_fields m) no_members ≡ with_fields (message_fields n) no_members = cc in
+    let found : Some m ≡ Some n = sym (find_message m p.2) ∙ ap message_in members ∙ find_message n q.2 in
+    cc

@@ -18,14 +18,15 @@ use Rattle.rv_text.specs.declared.answer.Answer.TheVariants.{Welcome, Replied, R
 use Rattle.rv_text.specs.Bodies.{HasBodyLength, message_text, answer_text}
 use Rattle.rv_text.specs.Fields.{Field, object_of, key_fields, call_fields, message_fields, reply_fields, detail_fields, code_of, answer_fields}
 use Rattle.rv_text.specs.Limits.{FitsIdentifier, FitsKey, FitsCall, FitsMessage, FitsReply, FitsRefusal, FitsAnswer}
-use Rattle.rv_text.proofs.Sizes.{fields_size, fields_size-append, AreFlatFields, AreFlatFields-append, length-object_of}
+use Rattle.rv_text.proofs.Sizes.{fields_size, fields_size-append, IsFlatMember, length-object_of}
+use Rattle.rv_text.proofs.Objects.{AllFields, AllFields-append}
 
 -- flat fields that take no more than this
 abbrev pub TakesAtMost : ℕ → List Field → Type 0
-TakesAtMost n fs = AreFlatFields fs × (fields_size fs ≤ n)
+TakesAtMost n fs = AllFields IsFlatMember fs × (fields_size fs ≤ n)
 
 TakesAtMost-append : (m n : ℕ) (fs gs : List Field) → TakesAtMost m fs → TakesAtMost n gs → TakesAtMost (m + n) (fs ++ gs)
-TakesAtMost-append m n fs gs h k = (AreFlatFields-append fs gs h.0 k.0, omega (arith, fields_size-append fs gs, h.1, k.1))
+TakesAtMost-append m n fs gs h k = (AllFields-append IsFlatMember fs gs h.0 k.0, omega (arith, fields_size-append fs gs, h.1, k.1))
 
 key_size : (key : Key) → FitsKey key → TakesAtMost 300 (key_fields key)
 key_size key fits = ((omega arith, (omega arith, (omega arith, (omega arith, tt)))), omega arith)

@@ -1,5 +1,5 @@
 -- An object in which each of these members is found, and which has no more of them, is the object with these members.
-use Rattle.std.proofs.Common.{◌≡◌, ℕ, suc, ◌+◌, ◌≤◌, List, [], ◌∷◌, length, Bool, true, ◌&&◌, not, Some, None, String, Global, Ordering, Less, Equal, Greater, string_bytes, string_cmp, nat_cmp, is_eq, bytes_eq, refl, sym, ap, ◌∙◌, subst, inl, inr, arith}
+use Rattle.std.proofs.Common.{◌≡◌, ℕ, suc, ◌+◌, ◌≤◌, List, [], ◌∷◌, ◌++◌, length, Bool, true, ◌&&◌, not, Some, None, String, Global, Ordering, Less, Equal, Greater, string_bytes, string_cmp, nat_cmp, is_eq, bytes_eq, refl, sym, ap, ◌∙◌, subst, inl, inr, arith}
 use Rattle.std.proofs.lemmas.Bool.{and_parts, not-true, both_ways}
 use Rattle.std.proofs.lemmas.Cmp.{nat_list_cmp_total}
 use Rattle.std.proofs.lemmas.Map.Text.{is_eq-slice_cmp}
@@ -194,3 +194,34 @@ found-with_fields fs apart = HasFields-with_fields fs no_members apart
 -- and no more
 pub members_len-with_fields : (fs : List Field) → are_distinct fs ≡ true → members_len (with_fields fs no_members) ≡ length fs
 members_len-with_fields fs apart = members_len-with_fields_from fs no_members apart (AreFresh-none fs) ∙ omega arith
+
+-- ---- what holds of each field holds of each member
+
+abbrev pub AllFields : (List ℕ → Data → Type 0) → List Field → Type 0
+AllFields P [] = Unit {0}
+AllFields P (f ∷ fs) = P f.0 f.1 × AllFields P fs
+
+pub AllFields-append : (P : List ℕ → Data → Type 0) (fs gs : List Field) → AllFields P fs → AllFields P gs → AllFields P (fs ++ gs)
+AllFields-append P [] gs h k = k
+AllFields-append P (f ∷ fs) gs h k = (h.0, AllFields-append P fs gs h.1 k)
+
+abbrev pub AllMembers : (List ℕ → Data → Type 0) → Members → Type 0
+AllMembers P no_members = Unit {0}
+AllMembers P (member k d ms) = P k d × AllMembers P ms
+
+AllMembers-put_at : (P : List ℕ → Data → Type 0) (o : Ordering) (k : List ℕ) (d : Data) (l : List ℕ) (e : Data) (ms : Members) → slice_cmp nat_cmp k l ≡ o → P k d → AllMembers P (member l e ms) → AllMembers P (put k d ms)
+    → AllMembers P (match_ordering o (member k d (member l e ms)) (member l d ms) (member l e (put k d ms)))
+AllMembers-put_at P Less k d l e ms is here there later = (here, there)
+AllMembers-put_at P Equal k d l e ms is here there later = (subst (λ n. P n d) (same_name k l is) here, there.1)
+AllMembers-put_at P Greater k d l e ms is here there later = (there.0, later)
+
+AllMembers-put : (P : List ℕ → Data → Type 0) (k : List ℕ) (d : Data) (ms : Members) → P k d → AllMembers P ms → AllMembers P (put k d ms)
+AllMembers-put P k d no_members here there = (here, tt)
+AllMembers-put P k d (member l e ms) here there = AllMembers-put_at P (slice_cmp nat_cmp k l) k d l e ms refl here there (AllMembers-put P k d ms here there.1)
+
+AllMembers-with_fields_from : (P : List ℕ → Data → Type 0) (fs : List Field) (ms : Members) → AllFields P fs → AllMembers P ms → AllMembers P (with_fields fs ms)
+AllMembers-with_fields_from P [] ms h k = k
+AllMembers-with_fields_from P (f ∷ fs) ms h k = AllMembers-with_fields_from P fs (put f.0 f.1 ms) h.1 (AllMembers-put P f.0 f.1 ms h.0 k)
+
+pub AllMembers-with_fields : (P : List ℕ → Data → Type 0) (fs : List Field) → AllFields P fs → AllMembers P (with_fields fs no_members)
+AllMembers-with_fields P fs h = AllMembers-with_fields_from P fs no_members h tt

@@ -9,6 +9,7 @@ use Rattle.json.specs.Print.{escape_letter, escape_byte, escape, quoted}
 use Rattle.serde_json.specs.Data.{Num, unsigned, negative, float, Data, null, boolean, number, string, array, object, Members, no_members, member, put}
 use Rattle.serde_json.specs.Written.{comma_if, compact_text, members_text}
 use Rattle.rv_text.specs.Fields.{Field, with_fields, object_of}
+use Rattle.rv_text.proofs.Objects.{AllFields, AllMembers, AllMembers-with_fields}
 
 cond_length : (b : Bool) (xs ys : List ℕ) (n : ℕ) → length xs ≤ n → length ys ≤ n → length (cond b xs ys) ≤ n
 cond_length true xs ys n p q = p
@@ -60,17 +61,9 @@ IsFlat (boolean b) = ⊥
 IsFlat (array ds) = ⊥
 IsFlat (object ms) = ⊥
 
-abbrev pub AreFlatFields : List Field → Type 0
-AreFlatFields [] = Unit {0}
-AreFlatFields (f ∷ fs) = IsFlat f.1 × AreFlatFields fs
-
-pub AreFlatFields-append : (fs gs : List Field) → AreFlatFields fs → AreFlatFields gs → AreFlatFields (fs ++ gs)
-AreFlatFields-append [] gs h k = k
-AreFlatFields-append (f ∷ fs) gs h k = (h.0, AreFlatFields-append fs gs h.1 k)
-
-abbrev pub AreFlat : Members → Type 0
-AreFlat no_members = Unit {0}
-AreFlat (member k d ms) = IsFlat d × AreFlat ms
+-- the same of each member
+abbrev pub IsFlatMember : List ℕ → Data → Type 0
+IsFlatMember name value = IsFlat value
 
 abbrev members_size : Members → ℕ
 members_size no_members = 0
@@ -89,11 +82,19 @@ length-value (object ms) h = absurd h
 length-comma_if : (later : Bool) → length (comma_if later) ≤ 1
 length-comma_if later = cond_length later (44 ∷ []) [] 1 (omega arith) (omega arith)
 
-length-members_text : (later : Bool) (ms : Members) → AreFlat ms → length (members_text later ms) ≤ members_size ms + 1
+length-members_text : (later : Bool) (ms : Members) → AllMembers IsFlatMember ms → length (members_text later ms) ≤ members_size ms + 1
 length-members_text later no_members h = omega arith
 length-members_text later (member k d ms) h =
-    omega (arith, length-append (comma_if later) (quoted k ++ 58 ∷ (compact_text d ++ members_text true ms)), length-append (quoted k) (58 ∷ (compact_text d ++ members_text true ms)),
-    length-append (compact_text d) (members_text true ms), length-comma_if later, length-quoted k, length-value d h.0, length-members_text true ms h.1)
+    omega (
+      arith,
+      length-append (comma_if later) (quoted k ++ 58 ∷ (compact_text d ++ members_text true ms)),
+      length-append (quoted k) (58 ∷ (compact_text d ++ members_text true ms)),
+      length-append (compact_text d) (members_text true ms),
+      length-comma_if later,
+      length-quoted k,
+      length-value d h.0,
+      length-members_text true ms h.1,
+    )
 
 -- ---- fields that are put in
 
@@ -111,21 +112,7 @@ members_size-with_fields : (fs : List Field) (ms : Members) → members_size (wi
 members_size-with_fields [] ms = omega arith
 members_size-with_fields (f ∷ fs) ms = omega (arith, members_size-with_fields fs (put f.0 f.1 ms), members_size-put f.0 f.1 ms)
 
-AreFlat-put_at : (o : Ordering) (k : List ℕ) (d : Data) (l : List ℕ) (e : Data) (ms : Members) → IsFlat d → AreFlat (member l e ms) → AreFlat (put k d ms)
-    → AreFlat (match_ordering o (member k d (member l e ms)) (member l d ms) (member l e (put k d ms)))
-AreFlat-put_at Less k d l e ms here there later = (here, there)
-AreFlat-put_at Equal k d l e ms here there later = (here, there.1)
-AreFlat-put_at Greater k d l e ms here there later = (there.0, later)
-
-AreFlat-put : (k : List ℕ) (d : Data) (ms : Members) → IsFlat d → AreFlat ms → AreFlat (put k d ms)
-AreFlat-put k d no_members here there = (here, tt)
-AreFlat-put k d (member l e ms) here there = AreFlat-put_at (slice_cmp nat_cmp k l) k d l e ms here there (AreFlat-put k d ms here there.1)
-
-pub AreFlat-with_fields : (fs : List Field) (ms : Members) → AreFlatFields fs → AreFlat ms → AreFlat (with_fields fs ms)
-AreFlat-with_fields [] ms h k = k
-AreFlat-with_fields (f ∷ fs) ms h k = AreFlat-with_fields fs (put f.0 f.1 ms) h.1 (AreFlat-put f.0 f.1 ms h.0 k)
-
 -- the text of an object takes no more than its fields
-pub length-object_of : (fs : List Field) → AreFlatFields fs → length (compact_text (object_of fs)) ≤ fields_size fs + 2
+pub length-object_of : (fs : List Field) → AllFields IsFlatMember fs → length (compact_text (object_of fs)) ≤ fields_size fs + 2
 length-object_of fs h =
-    omega (arith, length-members_text false (with_fields fs no_members) (AreFlat-with_fields fs no_members h tt), members_size-with_fields fs no_members)
+    omega (arith, length-members_text false (with_fields fs no_members) (AllMembers-with_fields IsFlatMember fs h), members_size-with_fields fs no_members)

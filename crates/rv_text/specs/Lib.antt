@@ -2,3 +2,4 @@ pub mod Limits
 pub mod Fields
 pub mod Bodies
 pub mod Reading
+pub mod Laws

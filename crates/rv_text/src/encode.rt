@@ -2,7 +2,8 @@
 ghost use Rattle.std.specs.Prelude.{◌≡◌, [], ◌∷◌, OnOk, IfOk, string_bytes};
 ghost use Rattle.serde_json.specs.View.{members_view};
 ghost use Rattle.rv_text.specs.Fields.{with_fields, whole, text, key_fields, reply_fields, detail_fields, answer_fields};
-ghost use Rattle.rv_text.specs.Bodies.{answer_text};
+ghost use Rattle.rv_text.specs.Bodies.{HasBodyLength, answer_text};
+ghost use Rattle.rv_text.specs.Limits.{FitsAnswer};
 
 use crate::answer::{Answer, Refusal, Reply};
 use crate::fault::NoMemory;
@@ -10,10 +11,18 @@ use crate::message::Key;
 use serde_json::{Map, Value};
 use std::alloc::Global;
 
+/// The body of [`Refusal::BadText`], which answers bytes that are no message's body.
+pub const BAD_TEXT_BODY: &str = "{\"code\":1,\"kind\":\"refused\"}";
+
+/// The body of [`Refusal::NoMemory`], for an answer whose text finds no memory.
+pub const NO_MEMORY_BODY: &str = "{\"code\":11,\"kind\":\"refused\"}";
+
 /// The body that is written for an answer: JSON with no white space, its members in byte order of
-/// their names. It fails only where memory was refused.
+/// their names. An answer within its limits has a body of at most 4,096 bytes. It fails only where
+/// memory was refused.
 pub fn encode_answer(alloc: Global, answer: &Answer) -> Result<String, NoMemory>
     ensures text { IfOk result (λ s. string_bytes s ≡ answer_text answer.now) }
+    ensures short { FitsAnswer answer.now → IfOk result (λ s. HasBodyLength (string_bytes s)) }
 {
     let mut members = Map::new(alloc);
     put_answer(&mut members, alloc, answer)?;
