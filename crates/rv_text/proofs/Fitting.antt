@@ -1,9 +1,7 @@
 -- What fits is written in a body's length.
-use Rattle.std.proofs.Common.{◌≡◌, ℕ, ◌+◌, ◌*◌, ◌^◌, ◌<◌, ◌≤◌, List, [], ◌∷◌, ◌++◌, length, codes, arith}
-use Rattle.serde_json.specs.Data.{Data, no_members, member, put}
+use Rattle.std.proofs.Common.{ℕ, ◌+◌, ◌^◌, ◌<◌, ◌≤◌, List, ◌++◌, arith}
 use Rattle.serde_json.specs.Written.{compact_text}
 use Rattle.rv_text.specs.declared.message.Key.{Key}
-use Rattle.rv_text.specs.declared.message.Wait.{Wait}
 use Rattle.rv_text.specs.declared.message.Wait.TheVariants.{Now}
 use Rattle.rv_text.specs.declared.message.Call.{Call}
 use Rattle.rv_text.specs.declared.message.Call.TheVariants.{Put, Take}
@@ -17,7 +15,7 @@ use Rattle.rv_text.specs.declared.answer.Answer.{Answer}
 use Rattle.rv_text.specs.declared.answer.Answer.TheVariants.{Welcome, Replied, Refused}
 use Rattle.rv_text.specs.Bodies.{HasBodyLength, message_text, answer_text}
 use Rattle.rv_text.specs.Fields.{Field, object_of, key_fields, call_fields, message_fields, reply_fields, detail_fields, code_of, answer_fields}
-use Rattle.rv_text.specs.Limits.{FitsIdentifier, FitsKey, FitsCall, FitsMessage, FitsReply, FitsRefusal, FitsAnswer}
+use Rattle.rv_text.specs.Limits.{FitsKey, FitsCall, FitsMessage, FitsReply, FitsRefusal, FitsAnswer}
 use Rattle.rv_text.proofs.Sizes.{fields_size, fields_size-append, IsFlatMember, length-object_of}
 use Rattle.rv_text.proofs.Objects.{AllFields, AllFields-append}
 

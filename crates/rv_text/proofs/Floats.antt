@@ -1,9 +1,7 @@
 -- No message and no answer has a float, so that its text is known to the byte.
-use Rattle.std.proofs.Common.{◌≡◌, ℕ, Bool, true, false, List, [], ◌∷◌, ◌++◌, length, Ordering, Less, Equal, Greater, nat_cmp, refl, sym, ap, ◌∙◌}
-use Rattle.std.proofs.lemmas.Bool.{or_parts, or_from}
-use Rattle.std.specs.Cmp.Lexicographic.{slice_cmp}
-use Rattle.std.specs.Ordering.{match_ordering}
-use Rattle.serde_json.specs.Data.{Data, Members, no_members, member, put}
+use Rattle.std.proofs.Common.{◌≡◌, false, List, refl}
+use Rattle.std.proofs.lemmas.Bool.{or_from}
+use Rattle.serde_json.specs.Data.{Members, no_members, member}
 use Rattle.serde_json.specs.Written.{has_float, members_have_float}
 use Rattle.rv_text.specs.declared.answer.Reply.{Reply}
 use Rattle.rv_text.specs.declared.answer.Reply.TheVariants.{Done, Item, Empty}
@@ -12,7 +10,7 @@ use Rattle.rv_text.specs.declared.answer.Refusal.TheVariants.{BadText, OtherEpoc
 use Rattle.rv_text.specs.declared.answer.Answer.{Answer}
 use Rattle.rv_text.specs.declared.answer.Answer.TheVariants.{Welcome, Replied, Refused}
 use Rattle.rv_text.proofs.Objects.{AllFields, AllMembers, AllMembers-with_fields}
-use Rattle.rv_text.specs.Fields.{Field, with_fields, object_of, detail_fields, reply_fields, answer_fields}
+use Rattle.rv_text.specs.Fields.{Field, object_of, detail_fields, reply_fields, answer_fields}
 
 abbrev HasNoFloat : List Field → Type 0
 HasNoFloat = AllFields (λ name value. has_float value ≡ false)

@@ -5,3 +5,4 @@ pub mod Floats
 pub mod Sizes
 pub mod Fitting
 pub mod Texts
+pub mod Written

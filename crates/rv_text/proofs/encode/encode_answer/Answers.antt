@@ -1,7 +1,7 @@
 -- An answer's object has no float, and the text of an answer that fits is short.
 use Rattle.std.proofs.Common.{◌≡◌, false, string_bytes, sym, ap, ◌∙◌, subst}
 use Rattle.std.proofs.lemmas.Result.{IfOk-weaker}
-use Rattle.serde_json.specs.Data.{Data, object}
+use Rattle.serde_json.specs.Data.{object}
 use Rattle.serde_json.specs.View.{view, members_view}
 use Rattle.serde_json.specs.Written.{has_float, compact_text}
 use Rattle.serde_json.specs.declared.value.Value.{Object}
