@@ -16,3 +16,6 @@ pub use encode::{BAD_TEXT_BODY, NO_MEMORY_BODY, encode_answer};
 pub use fault::{NoMemory, TextFault};
 pub use item::Item;
 pub use message::{Call, Key, Message, Wait};
+
+#[cfg(test)]
+mod tests;
