@@ -411,3 +411,30 @@ fn each_input_has_its_answer(rt: HostRuntime) -> Result<(), Fail> {
     }
     Ok(())
 }
+
+// With ample memory these two calls succeed, as the tests above show. Under `rt try --test
+// --fail-alloc N` the Nth growth is refused, and then they answer want of memory and nothing else.
+#[test]
+fn a_refused_growth_of_decode_message(rt: HostRuntime) {
+    let body =
+        b"{\"call\":\"put\",\"client\":1,\"epoch\":1,\"incarnation\":1,\"item\":\"a\\u0041\",\
+        \"kind\":\"request\",\"number\":1,\"queue\":3}";
+    match decode_message(rt.alloc(), body) {
+        Ok(message) => assert!(rt; message.fits()),
+        Err(fault) => assert_eq!(rt; fault, TextFault::NoMemory),
+    }
+}
+
+#[test]
+fn a_refused_growth_of_encode_answer(rt: HostRuntime) {
+    let Ok(item) = item(rt.alloc(), "a") else {
+        return;
+    };
+    let answer = Answer::Replied {
+        key: key(2, 1),
+        reply: Reply::Item(item),
+    };
+    if let Ok(body) = encode_answer(rt.alloc(), &answer) {
+        assert!(rt; body.as_str().ends_with("\"reply\":\"item\"}"));
+    }
+}
