@@ -8,3 +8,4 @@ pub mod Steps
 pub mod Order
 pub mod Tables
 pub mod Verdicts
+pub mod Laws

@@ -1,0 +1,42 @@
+-- The laws of accounts, replies and steps, over the definitions alone.
+use Rattle.std.specs.Prelude.{◌≡◌, ℕ, List, Some}
+use Rattle.rv_text.specs.declared.message.Key.{Key}
+use Rattle.rv_text.specs.declared.message.Call.{Call}
+use Rattle.rv_text.specs.declared.message.Message.{Message}
+use Rattle.rv_text.specs.declared.answer.Reply.{Reply}
+use Rattle.rv_text.specs.declared.answer.Answer.{Answer}
+use Rattle.rv_book.specs.declared.account.Act.TheVariants.{Hello, Arrive}
+use Rattle.rv_book.specs.declared.verdict.Verdict.{Verdict}
+use Rattle.rv_book.specs.Account.{Account, Extends}
+use Rattle.rv_book.specs.Legal.{Legal}
+use Rattle.rv_book.specs.Replies.{HasReply}
+use Rattle.rv_book.specs.Steps.{HelloLines, RequestLines, Adds, Tells, Next, step_moment}
+use Rattle.rv_book.specs.Order.{InOrder}
+use Rattle.rv_book.specs.Verdicts.{says}
+
+-- a reply that stands in a legal account stands in every legal account that extends it, and no other reply does
+abbrev pub RepliesStay : Type 0
+RepliesStay = (a b : Account) (key : Key) (reply : Reply) → Legal a → Legal b → Extends a b → HasReply a.entries key reply
+    → HasReply b.entries key reply × ((other : Reply) → HasReply b.entries key other → other ≡ reply)
+
+-- where no refusal of a request is due, a legal account with its entry and its reply exists
+abbrev pub RequestsCanEnter : Type 0
+RequestsCanEnter = (a : Account) (now : ℕ) (key : Key) (call : Call) → Legal a
+    → RequestLines a key call (λ refusal. Unit {0}) ((b : Account) × (x : Answer) × Adds a (step_moment a now) (Arrive key call) b × Tells b key x)
+
+-- where no refusal of a hello is due and it is no repeat, a legal account with its entry exists
+abbrev pub HellosCanEnter : Type 0
+HellosCanEnter = (a : Account) (now client incarnation : ℕ) → Legal a
+    → HelloLines a client incarnation (λ refusal. Unit {0}) (Unit {0}) ((b : Account) × Adds a (step_moment a now) (Hello client incarnation) b)
+
+-- in a legal account the items of each queue leave in their order of arrival
+abbrev pub ItemsLeaveInOrder : Type 0
+ItemsLeaveInOrder = (a : Account) → Legal a → InOrder a.entries
+
+-- a step only adds to the account
+abbrev pub StepsExtend : Type 0
+StepsExtend = (a b : Account) (now : ℕ) (m : Message) (x : Answer) → Next a now m b x → Extends a b
+
+-- what a verdict says it says in every account that extends the one in which it was given
+abbrev pub VerdictsStay : Type 0
+VerdictsStay = (a b : Account) (verdict : Verdict) (x : Answer) → Extends a b → says a verdict ≡ Some x → says b verdict ≡ Some x
