@@ -11,3 +11,6 @@ pub mod Replying
 pub mod Greeting
 pub mod Fitting
 pub mod Staying
+pub mod Fronts
+pub mod OnePartner
+pub mod Leaving

@@ -1,0 +1,57 @@
+-- What a front of an account's entries and the whole say of one another.
+use Rattle.std.proofs.Common.{◌≡◌, ◌⊎◌, inl, inr, ℕ, zero, suc, ◌<◌, ◌≤◌, List, [], ◌∷◌, ◌++◌, length, take, drop, Option, Some, None, refl, sym, ap, subst, ◌∙◌, arith, length-take}
+use Rattle.std.specs.List.{slice_get}
+use Rattle.rv_book.specs.declared.account.Entry.{Entry}
+use Rattle.rv_book.specs.Account.{Account, call_at}
+use Rattle.rv_book.specs.Waiting.{NamesPartner, Met, Open}
+use Rattle.rv_book.specs.Legal.{Legal, MayFollow, before}
+use Rattle.rv_book.proofs.Places.{get-take}
+use Rattle.rv_book.proofs.Growing.{call_read, partner_read, read_there, reads_within, Open-back}
+
+-- a front and what follows it up to a longer front
+pub longer_front : {X : Type 0} (xs : List X) (m n : ℕ) → m ≤ n → take m xs ++ drop m (take n xs) ≡ take n xs
+longer_front [] zero zero h = refl
+longer_front [] zero (suc n) h = refl
+longer_front [] (suc m) zero h = refl
+longer_front [] (suc m) (suc n) h = refl
+longer_front (x ∷ xs) zero zero h = refl
+longer_front (x ∷ xs) zero (suc n) h = refl
+longer_front (x ∷ xs) (suc m) zero h = absurd (omega arith)
+longer_front (x ∷ xs) (suc m) (suc n) h = ap (λ ys. x ∷ ys) (longer_front xs m n (omega arith))
+
+-- what is read in a front is read in the whole, and the other way round
+pub read_front : {B : Type 0} (F : Option Entry → Option B) (es : List Entry) (n r : ℕ) (y : B) → r < n → F (slice_get es r) ≡ Some y → F (slice_get (take n es) r) ≡ Some y
+read_front F es n r y h there = ap F (get-take es n r h) ∙ there
+
+pub read_whole : {B : Type 0} (F : Option Entry → Option B) → F None ≡ None → (es : List Entry) (n r : ℕ) (y : B) → F (slice_get (take n es) r) ≡ Some y → (r < n) × (F (slice_get es r) ≡ Some y)
+read_whole F none es n r y there =
+    let inside : r < length (take n es) = reads_within F none (take n es) r y there in
+    let below : r < n = omega (arith, length-take n es) in
+    (below, ap F (sym (get-take es n r below)) ∙ there)
+
+pub names_in_front : (es : List Entry) (n p q : ℕ) → p < n → NamesPartner es p q → NamesPartner (take n es) p q
+names_in_front es n p q h names = record {
+  call = names.call;
+  arrived = read_front call_read es n p names.call h names.arrived;
+  meets = names.meets;
+  named = read_front partner_read es n p q h names.named;
+}
+
+-- who is open in a longer front and stands in a shorter one is open there
+pub open_in_shorter : (es : List Entry) (m n r : ℕ) → m ≤ n → r < m → Open (take n es) r → Open (take m es) r
+open_in_shorter es m n r less inside opened =
+    let longer : Open (take m es ++ drop m (take n es)) r = subst (λ (xs : List Entry). Open xs r) (sym (longer_front es m n less)) opened in
+    let whole = read_whole call_read refl es n r opened.call opened.arrived in
+    Open-back (take m es) (drop m (take n es)) r longer (read_front call_read es m r opened.call inside whole.1)
+
+-- the entry that names a partner, and that it may follow those before it
+pub record Naming (a : Account) (p q : ℕ) : Type 0 where
+  pub entry : Entry
+  pub there : slice_get a.entries p ≡ Some entry
+  pub named : entry.partner ≡ Some q
+  pub follows : MayFollow (before a p) entry
+
+pub naming : (a : Account) (p q : ℕ) → Legal a → NamesPartner a.entries p q → Naming a p q
+naming a p q legal names =
+    let at = read_there partner_read refl (slice_get a.entries p) q names.named in
+    record { entry = at.0; there = at.1; named = at.2; follows = legal p at.0 at.1 }

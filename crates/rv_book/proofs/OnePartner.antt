@@ -1,0 +1,122 @@
+-- In a legal account each arrival is in one pair at most, a key arrives once, and nobody meets a request that does not stay.
+use Rattle.std.proofs.Common.{◌≡◌, ◌⊎◌, inl, inr, ℕ, ◌+◌, ◌<◌, ◌≤◌, List, length, take, option_and_then, Option, Some, None, refl, sym, ap, subst, ◌∙◌, arith}
+use Rattle.std.specs.List.{slice_get}
+use Rattle.std.proofs.lemmas.Bool.{cases_order}
+use Rattle.std.proofs.lemmas.Option.{none-some, same_Some}
+use Rattle.rv_text.specs.declared.message.Key.{Key}
+use Rattle.rv_text.specs.declared.message.Wait.{Wait}
+use Rattle.rv_text.specs.declared.message.Wait.TheVariants.{Now}
+use Rattle.rv_text.specs.declared.message.Call.{Call}
+use Rattle.rv_text.specs.declared.message.Call.TheVariants.{Put, Take}
+use Rattle.rv_book.specs.declared.account.Entry.{Entry}
+use Rattle.rv_book.specs.declared.account.Act.TheVariants.{Hello, Arrive}
+use Rattle.rv_book.specs.Account.{Account, act_at, call_at, call_in, key_in, partner_at}
+use Rattle.rv_book.specs.Calls.{gives_to, takes_from, Stays}
+use Rattle.rv_book.specs.Sessions.{HasIncarnation, LastNumber, NamesKey}
+use Rattle.rv_book.specs.Waiting.{NamesPartner, Met, Open}
+use Rattle.rv_book.specs.Legal.{Legal, IsOfQueue, IsOpenOpposite}
+use Rattle.rv_book.specs.Replies.{Meet}
+use Rattle.rv_book.proofs.Growing.{act_read, call_read, partner_read, read_there}
+use Rattle.rv_book.proofs.Histories.{one_last_hello}
+use Rattle.rv_book.proofs.Sessions.{key_read}
+use Rattle.rv_book.proofs.WaitingItems.{partner_before}
+use Rattle.rv_book.proofs.Fronts.{Naming, naming, names_in_front, read_front, read_whole}
+
+-- ---- partners
+
+pub of_queue : (call : Call) → IsOfQueue call
+of_queue (Put queue item) = (queue, inl refl)
+of_queue (Take queue wait) = (queue, inr refl)
+
+goes_at_once : (wait : Wait) (queue : ℕ) → Stays (Take queue wait) → ⊥
+goes_at_once Now queue stays = stays
+
+-- the partner that an arrival names, as it stands before that arrival
+pub partner_open : (a : Account) (p q : ℕ) → Legal a → (names : NamesPartner a.entries p q) → IsOpenOpposite (take p a.entries) names.call q
+partner_open a p q legal names =
+    let at = naming a p q legal names in
+    let call : call_in at.entry.act ≡ Some names.call = ap call_read (sym at.there) ∙ names.arrived in
+    at.follows.pairs_opposites q names.call at.named call (of_queue names.call)
+
+pub partner_unmet : (a : Account) (p q : ℕ) → Legal a → NamesPartner a.entries p q → Met (take p a.entries) q → ⊥
+partner_unmet a p q legal names met = let at = naming a p q legal names in (at.follows.names_free_partner q at.named).unmet met
+
+-- nobody names a take that does not wait
+pub takes_unnamed : (a : Account) (p r queue : ℕ) (wait : Wait) → Legal a → call_at a.entries r ≡ Some (Take queue wait) → NamesPartner a.entries p r → ⊥
+takes_unnamed a p r queue wait legal arrived names =
+    let partner = partner_open a p r legal names in
+    let whole = read_whole call_read refl a.entries p r partner.is_open.call partner.is_open.arrived in
+    let same : partner.is_open.call ≡ Take queue wait = same_Some _ _ (sym whole.1 ∙ arrived) in
+    goes_at_once wait queue (subst Stays same partner.is_open.stays)
+
+names_one : (es : List Entry) (r s t : ℕ) → NamesPartner es r s → NamesPartner es r t → s ≡ t
+names_one es r s t first second = same_Some _ _ (sym first.named ∙ second.named)
+
+named_before : (a : Account) (p q r : ℕ) → Legal a → NamesPartner a.entries p r → NamesPartner a.entries q r → p < q → ⊥
+named_before a p q r legal first second less =
+    let front = names_in_front a.entries q p r less first in
+    partner_unmet a q r legal second (record { later = p; earlier = r; names = front; part = inr refl })
+
+pub named_once : (a : Account) (p q r : ℕ) → Legal a → NamesPartner a.entries p r → NamesPartner a.entries q r → p ≡ q
+named_once a p q r legal first second =
+    elim (cases_order p q) [
+      | inl same ↦ same
+      | inr differ ↦ elim differ [ inl less ↦ absurd (named_before a p q r legal first second less) | inr more ↦ absurd (named_before a q p r legal second first more) ]
+    ]
+
+names_and_named : (a : Account) (p r s : ℕ) → Legal a → NamesPartner a.entries r s → NamesPartner a.entries p r → ⊥
+names_and_named a p r s legal names named =
+    let less : r < p = partner_before a p r legal named in
+    partner_unmet a p r legal named (record { later = r; earlier = s; names = names_in_front a.entries p r s less names; part = inl refl })
+
+pub meets_one : (a : Account) (r s t : ℕ) → Legal a → Meet a.entries s r → Meet a.entries t r → s ≡ t
+meets_one a r s t legal (inl first) (inl second) = named_once a s t r legal first second
+meets_one a r s t legal (inl first) (inr second) = absurd (names_and_named a s r t legal second first)
+meets_one a r s t legal (inr first) (inl second) = absurd (names_and_named a t r s legal first second)
+meets_one a r s t legal (inr first) (inr second) = names_one a.entries r s t first second
+
+-- ---- keys
+
+no_hello : (key : Key) (call : Call) (c i : ℕ) → Some (Arrive key call) ≡ Some (Hello c i) → ⊥
+no_hello key call c i e = cc
+
+-- the session of an arrival, before it
+of_session : (a : Account) (q : ℕ) (key : Key) (call : Call) → Legal a → act_at a.entries q ≡ Some (Arrive key call) → HasIncarnation (take q a.entries) key.client key.incarnation
+of_session a q key call legal arrived =
+    let at = read_there act_read refl (slice_get a.entries q) (Arrive key call) arrived in
+    let names : key_in at.0.act ≡ Some key = ap key_in (same_Some _ _ at.2) in
+    ((legal q at.0 at.1).of_session key names).1
+
+arrives_later : (a : Account) (p q : ℕ) (key : Key) (c d : Call) → Legal a → act_at a.entries p ≡ Some (Arrive key c) → act_at a.entries q ≡ Some (Arrive key d) → p < q → ⊥
+arrives_later a p q key c d legal first second less =
+    let at = read_there act_read refl (slice_get a.entries q) (Arrive key d) second in
+    let next = (legal q at.0 at.1).counts_up key d (same_Some _ _ at.2) in
+    let has = of_session a q key d legal second in
+    let same : next.is_last.h ≡ has.0 = one_last_hello (take q a.entries) key.client next.is_last.incarnation key.incarnation next.is_last.h has.0 next.is_last.hello has.1 in
+    elim (cases_order p has.0) [
+      | inl is ↦
+          let hello = (read_whole act_read refl a.entries q has.0 _ has.1.hello).1 in
+          no_hello key c key.client key.incarnation (sym first ∙ ap (act_at a.entries) is ∙ hello)
+      | inr differ ↦ elim differ [
+        | inl before ↦
+            let hello = (read_whole act_read refl a.entries q has.0 _ has.1.hello).1 in
+            let earlier = of_session a p key c legal first in
+            let there = read_whole act_read refl a.entries p earlier.0 _ earlier.1.hello in
+            let below : earlier.0 < has.0 = omega arith in
+            let entry = read_there act_read refl (slice_get a.entries has.0) (Hello key.client key.incarnation) hello in
+            let raises = (legal has.0 entry.0 entry.1).raises_incarnation key.client key.incarnation earlier.0 key.incarnation (same_Some _ _ entry.2) (read_front act_read a.entries has.0 earlier.0 _ below there.1) in
+            omega arith
+        | inr after ↦
+            let named = read_front key_read a.entries q p key less (ap (option_and_then key_in) first) in
+            let most : key.number ≤ next.last = next.is_last.greatest p key (omega arith) (record { named = named; of_client = refl }) in
+            let number : key.number ≡ next.last + 1 = next.next in
+            omega arith
+      ]
+    ]
+
+pub arrives_once : (a : Account) (p q : ℕ) (key : Key) (c d : Call) → Legal a → act_at a.entries p ≡ Some (Arrive key c) → act_at a.entries q ≡ Some (Arrive key d) → p ≡ q
+arrives_once a p q key c d legal first second =
+    elim (cases_order p q) [
+      | inl same ↦ same
+      | inr differ ↦ elim differ [ inl less ↦ absurd (arrives_later a p q key c d legal first second less) | inr more ↦ absurd (arrives_later a q p key d c legal second first more) ]
+    ]
