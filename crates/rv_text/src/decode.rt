@@ -1,11 +1,11 @@
 //! The message whose body given bytes are.
-ghost use Rattle.std.specs.Prelude.{◌≡◌, ◌⊎◌, ◌↔◌, List, IsTrue, IfOk, IfErr, OnOk, Ok, Err, string_cmp, codes, length};
+ghost use Rattle.std.specs.Prelude.{◌≡◌, ◌⊎◌, ◌↔◌, IsTrue, IfOk, IfErr, OnOk, string_cmp, length};
 ghost use Rattle.std.specs.BTreeMap.{IsOrdered};
 ghost use Rattle.serde_json.specs.Events.{members_len};
 ghost use Rattle.serde_json.specs.View.{view, members_view};
 ghost use Rattle.rv_text.specs.Bodies.{HasBodyLength, Reads, IsNotJson, IsMessageBody};
 ghost use Rattle.rv_text.specs.Fields.{message_fields};
-ghost use Rattle.rv_text.specs.Reading.{Gives, hello_in, request_in, kind_in, message_in};
+ghost use Rattle.rv_text.specs.Reading.{Gives, kind_in, message_in};
 ghost use Rattle.rv_text.specs.declared.message.Message.{Message};
 
 use crate::fault::TextFault;
