@@ -1,8 +1,8 @@
 //! What stands in a JSON object, member by member.
-ghost use Rattle.std.specs.Prelude.{◌≡◌, option_map, codes};
+ghost use Rattle.std.specs.Prelude.{◌≡◌, option_map};
 ghost use Rattle.serde_json.specs.Find.{get_member};
 ghost use Rattle.serde_json.specs.View.{view, members_view};
-ghost use Rattle.rv_text.specs.Reading.{Gives, GivesSeen, whole_in, text_in, identifier_in, queue_in, item_in, wait_in, key_in, call_in, put_in, take_in};
+ghost use Rattle.rv_text.specs.Reading.{Gives, GivesSeen, whole_in, text_in, identifier_in, queue_in, item_in, wait_in, key_in, call_in};
 
 use crate::fault::TextFault;
 use crate::item::{Item, MAX_ITEM_BYTES};
