@@ -14,3 +14,4 @@ pub mod Staying
 pub mod Fronts
 pub mod OnePartner
 pub mod Leaving
+pub mod Deciding

@@ -103,7 +103,8 @@ put_told a b moment key queue item said legal is follows =
     record {
       reply = reply.TheVariants.Done;
       is = ap (reply_of b.entries) is;
-      enters = inr (adds a b moment key (Put queue item) None follows legal, (reply.TheVariants.Done, subst (λ (c : Account). HasReply c.entries key reply.TheVariants.Done) (sym follows) told, refl));
+      adds = adds a b moment key (Put queue item) None follows legal;
+      tells = (reply.TheVariants.Done, subst (λ (c : Account). HasReply c.entries key reply.TheVariants.Done) (sym follows) told, refl);
     }
 
 -- what a giving call hands over
@@ -153,7 +154,7 @@ take_told_there a moment key queue wait None legal after =
       arrived = arrived_last a e key (Take queue wait) refl;
       replies = inr (last_unmet a e legal refl, told_empty wait (with_entry a e).entries (length a.entries));
     } in
-    record { reply = reply.TheVariants.Empty; is = refl; enters = inr (adds a (with_entry a e) moment key (Take queue wait) None refl after, (reply.TheVariants.Empty, told, refl)) }
+    record { reply = reply.TheVariants.Empty; is = refl; adds = adds a (with_entry a e) moment key (Take queue wait) None refl after; tells = (reply.TheVariants.Empty, told, refl) }
 take_told_there a moment key queue wait (Some place) legal after =
     let e = entry moment (Arrive key (Take queue wait)) (Some place) in
     let from = takes_from_partner a moment key queue wait place after in
@@ -174,7 +175,8 @@ take_told_there a moment key queue wait (Some place) legal after =
     record {
       reply = reply.TheVariants.Item from.item;
       is = ap (option_map reply.TheVariants.Item) item;
-      enters = inr (adds a (with_entry a e) moment key (Take queue wait) (Some place) refl after, (reply.TheVariants.Item from.item, told, refl));
+      adds = adds a (with_entry a e) moment key (Take queue wait) (Some place) refl after;
+      tells = (reply.TheVariants.Item from.item, told, refl);
     }
 
 pub take_told : (a b : Account) (moment : ℕ) (key : Key) (queue : ℕ) (wait : Wait) (partner : Option ℕ) (said : Kept) → Legal a → Legal b → said ≡ kept_for partner

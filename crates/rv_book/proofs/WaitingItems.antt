@@ -29,8 +29,8 @@ abbrev pub GivesNothing : Entry → Type 0
 GivesNothing e = (call : Call) (queue : ℕ) → call_in e.act ≡ Some call → gives_to call ≡ Some queue → ⊥
 
 -- no entry stops a giving arrival
-unstopped : (es : List Entry) (queue r s : ℕ) → GivesAt es queue r → StoppedAt es r s → ⊥
-unstopped es queue r s gives stopped =
+pub puts_unstopped : (es : List Entry) (queue r s : ℕ) → GivesAt es queue r → StoppedAt es r s → ⊥
+puts_unstopped es queue r s gives stopped =
     let same : gives.call ≡ stopped.call = same_Some _ _ (sym gives.arrived ∙ ap (option_and_then call_in) stopped.arrived) in
     stopped.no_put (subst IsPut same (givers_are_puts gives.call queue gives.gives))
 
@@ -39,7 +39,7 @@ GivesAt-on es more queue r h = record { call = h.call; arrived = reads_on call_r
 
 -- an open giving arrival that the entry does not name stays open
 pub still_open : (es : List Entry) (e : Entry) (queue r : ℕ) → GivesAt es queue r → Open es r → (e.partner ≡ Some r → ⊥) → Open (es ++ e ∷ []) r
-still_open es e queue r gives opened unnamed = Open-on es e r opened unnamed (unstopped (es ++ e ∷ []) queue r (length es) (GivesAt-on es (e ∷ []) queue r gives))
+still_open es e queue r gives opened unnamed = Open-on es e r opened unnamed (puts_unstopped (es ++ e ∷ []) queue r (length es) (GivesAt-on es (e ∷ []) queue r gives))
 
 -- the partner of the last entry is met
 names_last : (es : List Entry) (e : Entry) (p : ℕ) → NamesFreePartner es e → e.partner ≡ Some p → Met (es ++ e ∷ []) p

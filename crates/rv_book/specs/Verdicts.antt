@@ -13,7 +13,7 @@ use Rattle.rv_book.specs.declared.verdict.Said.TheVariants.{Welcome, Replied, Re
 use Rattle.rv_book.specs.declared.verdict.Verdict.{Verdict}
 use Rattle.rv_book.specs.declared.account.Entry.{Entry}
 use Rattle.rv_book.specs.declared.account.Act.TheVariants.{Arrive}
-use Rattle.rv_book.specs.Steps.{EntersOrNoMemory, Tells}
+use Rattle.rv_book.specs.Steps.{Adds, Tells}
 use Rattle.rv_book.specs.Account.{Account, call_at}
 use Rattle.rv_book.specs.Calls.{item_of}
 
@@ -44,4 +44,5 @@ kept_for (Some place) = Item place
 pub record IsTold (a b : Account) (moment : ℕ) (key : Key) (call : Call) (kept : Kept) : Type 0 where
   pub reply : Reply
   pub is : reply_of b.entries kept ≡ Some reply
-  pub enters : EntersOrNoMemory a moment (Arrive key call) b (answer.TheVariants.Replied key reply) (Tells b key (answer.TheVariants.Replied key reply))
+  pub adds : Adds a moment (Arrive key call) b
+  pub tells : Tells b key (answer.TheVariants.Replied key reply)

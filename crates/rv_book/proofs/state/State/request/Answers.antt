@@ -1,5 +1,5 @@
 -- Which line of the step decides for a request.
-use Rattle.std.proofs.Common.{◌≡◌, ◌<◌, ◌≤◌, inl, length, Ok, Err, refl, sym, ap, subst, ◌∙◌, arith}
+use Rattle.std.proofs.Common.{◌≡◌, ◌<◌, ◌≤◌, inl, inr, length, Ok, Err, refl, sym, ap, subst, ◌∙◌, arith}
 use Rattle.std.proofs.lemmas.Result.{IfOk-weaker, IfErr-weaker}
 use Rattle.rv_text.specs.declared.answer.Refusal.TheVariants.{NoMemory}
 use Rattle.rv_text.specs.declared.answer.Answer.TheVariants.{Refused}
@@ -21,7 +21,7 @@ returns-clause-ok c =
       told.reply,
       told.is,
       entered_step a c.arrive.new.self.account c.deref.result.now c.args.moment c.args.key c.args.call c.next_session.result c.in_ok-session.session _
-          c.next_session.ensures.lines c.in_ok-session.was room told.enters,
+          c.next_session.ensures.lines c.in_ok-session.was room (inr (told.adds, told.tells)),
     ))
     c.arrive.ensures.ok
 
