@@ -15,3 +15,4 @@ pub mod Fronts
 pub mod OnePartner
 pub mod Leaving
 pub mod Deciding
+pub mod Entering

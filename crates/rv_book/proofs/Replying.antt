@@ -35,7 +35,7 @@ use Rattle.rv_book.proofs.Lines.{KeyLines-map, room_left, no_room}
 
 -- ---- the lines of a request
 
-need_is_one : (call : Call) → need_of call ≡ 1
+pub need_is_one : (call : Call) → need_of call ≡ 1
 need_is_one (Put queue item) = refl
 need_is_one (Take queue Now) = refl
 

@@ -5,6 +5,7 @@ mod account;
 #[cfg(test)]
 mod accounts;
 mod book;
+pub mod laws;
 #[cfg(test)]
 mod plain;
 mod state;

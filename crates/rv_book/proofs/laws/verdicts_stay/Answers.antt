@@ -1,0 +1,6 @@
+-- The law, which Staying proves.
+use Rattle.rv_book.proofs.Staying.{verdicts_stay}
+use Rattle.rv_book.proofs.laws.verdicts_stay.Goals as goal
+
+pub returns : goal.returns
+returns c = verdicts_stay

@@ -1,0 +1,35 @@
+//! Laws of accounts, replies and steps: each function is its contract, over the definitions alone.
+ghost use Rattle.rv_book.specs.Laws.{RepliesStay, RequestsCanEnter, HellosCanEnter, ItemsLeaveInOrder, StepsExtend, VerdictsStay};
+
+/// A reply that stands in a legal account stands in every legal account that extends it, and the
+/// request has no other reply there.
+pub fn replies_stay()
+    ensures { RepliesStay }
+{}
+
+/// Where no refusal of a request is due, a legal account with the request's entry exists, and with it
+/// the request's reply.
+pub fn requests_can_enter()
+    ensures { RequestsCanEnter }
+{}
+
+/// Where no refusal of a hello is due and the hello is no repeat, a legal account with its entry exists.
+pub fn hellos_can_enter()
+    ensures { HellosCanEnter }
+{}
+
+/// In a legal account the items of each queue leave in their order of arrival (the fair dual queue of
+/// Scherer, Lea and Scott), and none that waits is passed over.
+pub fn items_leave_in_order()
+    ensures { ItemsLeaveInOrder }
+{}
+
+/// A step only adds to the account.
+pub fn steps_extend()
+    ensures { StepsExtend }
+{}
+
+/// What a verdict says, it says in every later account.
+pub fn verdicts_stay()
+    ensures { VerdictsStay }
+{}
