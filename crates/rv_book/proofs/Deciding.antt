@@ -1,6 +1,5 @@
 -- What any list of entries decides: a client's last hello and last number, who is met, and the oldest open item of a queue.
-use Rattle.std.proofs.Common.{◌≡◌, ◌⊎◌, inl, inr, ℕ, zero, suc, ◌<◌, ◌≤◌, List, length, Option, Some, None, option_and_then, refl, sym, ap, subst, ◌∙◌, arith}
-use Rattle.std.specs.List.{slice_get}
+use Rattle.std.proofs.Common.{◌≡◌, ◌⊎◌, inl, inr, ℕ, zero, suc, ◌<◌, ◌≤◌, List, length, Option, Some, None, refl, sym, ap, subst, ◌∙◌, arith}
 use Rattle.std.proofs.lemmas.Bool.{cases_lt, cases_order}
 use Rattle.std.proofs.lemmas.Option.{none-some, same_Some}
 use Rattle.rv_text.specs.declared.message.Key.{Key}
@@ -9,8 +8,8 @@ use Rattle.rv_text.specs.declared.message.Call.TheVariants.{Put, Take}
 use Rattle.rv_book.specs.declared.account.Entry.{Entry}
 use Rattle.rv_book.specs.declared.account.Act.{Act}
 use Rattle.rv_book.specs.declared.account.Act.TheVariants.{Hello, Arrive}
-use Rattle.rv_book.specs.Account.{act_at, call_in, call_at, key_in, key_at, partner_at}
-use Rattle.rv_book.specs.Calls.{gives_to, MayMeet, IsPut, Stays}
+use Rattle.rv_book.specs.Account.{act_at, call_at, key_at, partner_at}
+use Rattle.rv_book.specs.Calls.{gives_to, MayMeet, Stays}
 use Rattle.rv_book.specs.Sessions.{LastHello, HasIncarnation, NamesKey, LastNumber}
 use Rattle.rv_book.specs.Waiting.{NamesPartner, Met, Open}
 use Rattle.rv_book.specs.Order.{GivesAt}

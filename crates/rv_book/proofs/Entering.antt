@@ -1,5 +1,5 @@
 -- Where an own entry is due, a legal next account exists.
-use Rattle.std.proofs.Common.{◌≡◌, ◌⊎◌, inl, inr, ℕ, ◌+◌, ◌-◌, ◌<◌, ◌≤◌, List, length, take, Option, Some, None, unwrap_or, option_map, refl, sym, ap, subst, ◌∙◌, arith}
+use Rattle.std.proofs.Common.{◌≡◌, inl, inr, ℕ, ◌+◌, ◌-◌, ◌<◌, ◌≤◌, length, Option, Some, None, unwrap_or, option_map, refl, sym, ap, subst, ◌∙◌, arith}
 use Rattle.std.specs.List.{slice_get}
 use Rattle.std.proofs.lemmas.Bool.{cases_lt, cases_order}
 use Rattle.std.proofs.lemmas.Option.{none-some, same_Some, slice_get_cases}
@@ -14,13 +14,13 @@ use Rattle.rv_book.specs.declared.account.Entry.{Entry}
 use Rattle.rv_book.specs.declared.account.Act.TheVariants.{Hello, Arrive}
 use Rattle.rv_book.specs.declared.verdict.Kept.{Kept}
 use Rattle.rv_book.specs.declared.verdict.Kept as kept
-use Rattle.rv_book.specs.Account.{Account, with_entry, act_at, moment_at}
+use Rattle.rv_book.specs.Account.{Account, with_entry, act_at}
 use Rattle.rv_book.specs.Sessions.{HasIncarnation}
 use Rattle.rv_book.specs.Legal.{Legal, KeepsTime}
-use Rattle.rv_book.specs.Steps.{own_moment, step_moment, KeyLines, RequestLines, HelloLines, RefuseOr, EpochFullDue, Adds, Tells, max_entries, need_of}
+use Rattle.rv_book.specs.Steps.{own_moment, step_moment, KeyLines, HelloLines, RefuseOr, EpochFullDue, Adds, Tells, max_entries, need_of}
 use Rattle.rv_book.specs.Verdicts.{IsTold, kept_for}
 use Rattle.rv_book.specs.Laws.{RequestsCanEnter, HellosCanEnter}
-use Rattle.rv_book.proofs.Growing.{moment_read, read_there, reads_within}
+use Rattle.rv_book.proofs.Growing.{moment_read, reads_within}
 use Rattle.rv_book.proofs.Histories.{hellos_at_most}
 use Rattle.rv_book.proofs.Legality.{Legal-with_entry}
 use Rattle.rv_book.proofs.Fronts.{read_front}

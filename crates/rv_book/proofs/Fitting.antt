@@ -1,5 +1,5 @@
 -- What a step answers is within the limits, where its message and its account are.
-use Rattle.std.proofs.Common.{◌≡◌, ◌⊎◌, inl, inr, ℕ, ◌<◌, ◌≤◌, List, length, Option, Some, None, option_map, option_and_then, refl, sym, ap, subst, ◌∙◌, arith}
+use Rattle.std.proofs.Common.{◌≡◌, inl, inr, ℕ, ◌≤◌, List, Option, Some, None, option_and_then, refl, sym, subst, arith}
 use Rattle.std.specs.List.{slice_get}
 use Rattle.std.proofs.lemmas.Option.{none-some, same_Some}
 use Rattle.rv_text.specs.declared.message.Key.{Key}
@@ -9,22 +9,19 @@ use Rattle.rv_text.specs.declared.message.Wait.TheVariants.{Now}
 use Rattle.rv_text.specs.declared.message.Message.{Message}
 use Rattle.rv_text.specs.declared.message.Message.TheVariants.{Hello, Request}
 use Rattle.rv_text.specs.declared.answer.Reply.{Reply}
-use Rattle.rv_text.specs.declared.answer.Reply.TheVariants.{Done, Item, Empty}
 use Rattle.rv_text.specs.declared.answer.Refusal.{Refusal}
-use Rattle.rv_text.specs.declared.answer.Refusal.TheVariants.{OtherEpoch, NoSession, OldIncarnation, OldNumber, Gap, EpochFull, NoMemory}
+use Rattle.rv_text.specs.declared.answer.Refusal.TheVariants.{NoMemory}
 use Rattle.rv_text.specs.declared.answer.Answer.{Answer}
-use Rattle.rv_text.specs.declared.answer.Answer.TheVariants.{Welcome, Replied, Refused}
 use Rattle.rv_text.specs.Limits.{FitsIdentifier, FitsItem, FitsKey, FitsCall, FitsLast, FitsMessage, FitsReply, FitsRefusal, FitsAnswer}
-use Rattle.rv_book.specs.declared.account.Entry.{Entry}
 use Rattle.rv_book.specs.declared.account.Act.{Act}
 use Rattle.rv_book.specs.declared.account.Act as act
-use Rattle.rv_book.specs.Account.{Account, act_at, call_at, call_in, key_in}
+use Rattle.rv_book.specs.Account.{Account, act_at, call_in, key_in}
 use Rattle.rv_book.specs.Calls.{item_of}
 use Rattle.rv_book.specs.Sessions.{HasIncarnation, LastNumber}
-use Rattle.rv_book.specs.Replies.{Gets, RepliesAt, HasReply}
+use Rattle.rv_book.specs.Replies.{Gets, RepliesAt}
 use Rattle.rv_book.specs.Steps.{NextAt, Tells, Refuses}
-use Rattle.rv_book.specs.Tables.{FitsAct, FitsEntry, FitsAccount}
-use Rattle.rv_book.proofs.Growing.{act_read, call_read, read_there}
+use Rattle.rv_book.specs.Tables.{FitsAct, FitsAccount}
+use Rattle.rv_book.proofs.Growing.{act_read, read_there}
 
 -- ---- what stands in an account fits
 

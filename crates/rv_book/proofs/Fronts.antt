@@ -1,9 +1,9 @@
 -- What a front of an account's entries and the whole say of one another.
-use Rattle.std.proofs.Common.{◌≡◌, ◌⊎◌, inl, inr, ℕ, zero, suc, ◌<◌, ◌≤◌, List, [], ◌∷◌, ◌++◌, length, take, drop, Option, Some, None, refl, sym, ap, subst, ◌∙◌, arith, length-take}
+use Rattle.std.proofs.Common.{◌≡◌, ℕ, zero, suc, ◌<◌, ◌≤◌, List, [], ◌∷◌, ◌++◌, length, take, drop, Option, Some, None, refl, sym, ap, subst, ◌∙◌, arith, length-take}
 use Rattle.std.specs.List.{slice_get}
 use Rattle.rv_book.specs.declared.account.Entry.{Entry}
-use Rattle.rv_book.specs.Account.{Account, call_at}
-use Rattle.rv_book.specs.Waiting.{NamesPartner, Met, Open}
+use Rattle.rv_book.specs.Account.{Account}
+use Rattle.rv_book.specs.Waiting.{NamesPartner, Open}
 use Rattle.rv_book.specs.Legal.{Legal, MayFollow, before}
 use Rattle.rv_book.proofs.Places.{get-take}
 use Rattle.rv_book.proofs.Growing.{call_read, partner_read, read_there, reads_within, Open-back}

@@ -1,21 +1,19 @@
 -- Items leave each queue in their order of arrival.
-use Rattle.std.proofs.Common.{◌≡◌, ◌⊎◌, inl, inr, ℕ, ◌<◌, ◌≤◌, List, take, Some, refl, sym, ap, subst, ◌∙◌, arith}
-use Rattle.std.specs.List.{slice_get}
+use Rattle.std.proofs.Common.{◌≡◌, inl, inr, ℕ, ◌<◌, take, Some, refl, sym, ap, subst, ◌∙◌, arith}
 use Rattle.std.proofs.lemmas.Bool.{cases_order}
 use Rattle.std.proofs.lemmas.Option.{none-some, same_Some}
 use Rattle.rv_text.specs.declared.message.Wait.{Wait}
 use Rattle.rv_text.specs.declared.message.Call.{Call}
 use Rattle.rv_text.specs.declared.message.Call.TheVariants.{Put, Take}
-use Rattle.rv_book.specs.declared.account.Entry.{Entry}
-use Rattle.rv_book.specs.Account.{Account, call_at, call_in, partner_at}
-use Rattle.rv_book.specs.Calls.{gives_to, takes_from, Stays}
+use Rattle.rv_book.specs.Account.{Account, call_in, partner_at}
+use Rattle.rv_book.specs.Calls.{takes_from}
 use Rattle.rv_book.specs.Waiting.{NamesPartner, Open}
 use Rattle.rv_book.specs.Legal.{Legal}
-use Rattle.rv_book.specs.Order.{GivesAt, TakesAt, PairAt}
+use Rattle.rv_book.specs.Order.{GivesAt, PairAt}
 use Rattle.rv_book.specs.Laws.{ItemsLeaveInOrder}
 use Rattle.rv_book.proofs.Growing.{call_read}
 use Rattle.rv_book.proofs.WaitingItems.{partner_before}
-use Rattle.rv_book.proofs.Fronts.{naming, read_front, read_whole, open_in_shorter}
+use Rattle.rv_book.proofs.Fronts.{naming, read_front, open_in_shorter}
 use Rattle.rv_book.proofs.OnePartner.{of_queue, partner_open, takes_unnamed}
 
 takes_call : (call : Call) (queue : ℕ) → takes_from call ≡ Some queue → (q : ℕ) × (w : Wait) × (call ≡ Take q w)

@@ -1,8 +1,8 @@
 -- In a legal account each arrival is in one pair at most, a key arrives once, and nobody meets a request that does not stay.
-use Rattle.std.proofs.Common.{◌≡◌, ◌⊎◌, inl, inr, ℕ, ◌+◌, ◌<◌, ◌≤◌, List, length, take, option_and_then, Option, Some, None, refl, sym, ap, subst, ◌∙◌, arith}
+use Rattle.std.proofs.Common.{◌≡◌, inl, inr, ℕ, ◌+◌, ◌<◌, ◌≤◌, List, take, option_and_then, Some, refl, sym, ap, subst, ◌∙◌, arith}
 use Rattle.std.specs.List.{slice_get}
 use Rattle.std.proofs.lemmas.Bool.{cases_order}
-use Rattle.std.proofs.lemmas.Option.{none-some, same_Some}
+use Rattle.std.proofs.lemmas.Option.{same_Some}
 use Rattle.rv_text.specs.declared.message.Key.{Key}
 use Rattle.rv_text.specs.declared.message.Wait.{Wait}
 use Rattle.rv_text.specs.declared.message.Wait.TheVariants.{Now}
@@ -10,17 +10,17 @@ use Rattle.rv_text.specs.declared.message.Call.{Call}
 use Rattle.rv_text.specs.declared.message.Call.TheVariants.{Put, Take}
 use Rattle.rv_book.specs.declared.account.Entry.{Entry}
 use Rattle.rv_book.specs.declared.account.Act.TheVariants.{Hello, Arrive}
-use Rattle.rv_book.specs.Account.{Account, act_at, call_at, call_in, key_in, partner_at}
-use Rattle.rv_book.specs.Calls.{gives_to, takes_from, Stays}
-use Rattle.rv_book.specs.Sessions.{HasIncarnation, LastNumber, NamesKey}
-use Rattle.rv_book.specs.Waiting.{NamesPartner, Met, Open}
+use Rattle.rv_book.specs.Account.{Account, act_at, call_at, call_in, key_in}
+use Rattle.rv_book.specs.Calls.{Stays}
+use Rattle.rv_book.specs.Sessions.{HasIncarnation}
+use Rattle.rv_book.specs.Waiting.{NamesPartner, Met}
 use Rattle.rv_book.specs.Legal.{Legal, IsOfQueue, IsOpenOpposite}
 use Rattle.rv_book.specs.Replies.{Meet}
-use Rattle.rv_book.proofs.Growing.{act_read, call_read, partner_read, read_there}
+use Rattle.rv_book.proofs.Growing.{act_read, call_read, read_there}
 use Rattle.rv_book.proofs.Histories.{one_last_hello}
 use Rattle.rv_book.proofs.Sessions.{key_read}
 use Rattle.rv_book.proofs.WaitingItems.{partner_before}
-use Rattle.rv_book.proofs.Fronts.{Naming, naming, names_in_front, read_front, read_whole}
+use Rattle.rv_book.proofs.Fronts.{naming, names_in_front, read_front, read_whole}
 
 -- ---- partners
 

@@ -1,7 +1,6 @@
 -- Replies and verdicts stay where an account is extended, and a key has one reply.
-use Rattle.std.proofs.Common.{◌≡◌, ◌⊎◌, inl, inr, ℕ, ◌+◌, ◌-◌, ◌<◌, ◌≤◌, List, [], ◌∷◌, ◌++◌, length, take, Option, Some, None, option_map, option_and_then, refl, sym, ap, subst, ◌∙◌, arith, length-take, append-nil}
+use Rattle.std.proofs.Common.{◌≡◌, inl, inr, ℕ, ◌<◌, List, [], ◌∷◌, ◌++◌, length, Option, Some, None, option_map, option_and_then, refl, sym, ap, subst, ◌∙◌, append-nil}
 use Rattle.std.specs.List.{slice_get}
-use Rattle.std.proofs.lemmas.Bool.{cases_lt, cases_order}
 use Rattle.std.proofs.lemmas.Option.{none-some, same_Some}
 use Rattle.rv_text.specs.declared.message.Key.{Key}
 use Rattle.rv_text.specs.declared.message.Wait.{Wait}
@@ -21,18 +20,16 @@ use Rattle.rv_book.specs.declared.verdict.Kept.{Kept}
 use Rattle.rv_book.specs.declared.verdict.Kept as kept
 use Rattle.rv_book.specs.declared.verdict.Said.{Said}
 use Rattle.rv_book.specs.declared.verdict.Said as said
-use Rattle.rv_book.specs.declared.verdict.Verdict.{Verdict}
-use Rattle.rv_book.specs.Account.{Account, Extends, with_entry, act_at, call_in, call_at, key_at, partner_at}
-use Rattle.rv_book.specs.Calls.{gives_to, takes_from, item_of, Stays}
-use Rattle.rv_book.specs.Waiting.{NamesPartner, Met, Open}
-use Rattle.rv_book.specs.Legal.{Legal, MayFollow, IsOfQueue, before}
-use Rattle.rv_book.specs.Sessions.{HasIncarnation, LastNumber}
-use Rattle.rv_book.specs.Replies.{Meet, Gets, RepliesAt, RepliesUnmet, HasReply}
-use Rattle.rv_book.specs.Steps.{Next, NextAt, Adds}
+use Rattle.rv_book.specs.Account.{Account, Extends, act_at, call_in, call_at}
+use Rattle.rv_book.specs.Calls.{item_of}
+use Rattle.rv_book.specs.Waiting.{NamesPartner, Met}
+use Rattle.rv_book.specs.Legal.{Legal, before}
+use Rattle.rv_book.specs.Replies.{Meet, Gets, RepliesAt, HasReply}
+use Rattle.rv_book.specs.Steps.{NextAt, Adds}
 use Rattle.rv_book.specs.Laws.{RepliesStay, StepsExtend, VerdictsStay}
 use Rattle.rv_book.specs.Verdicts.{item_at, reply_of, answer_of}
-use Rattle.rv_book.proofs.Places.{get-append_within, get-take, within}
-use Rattle.rv_book.proofs.Growing.{act_read, call_read, partner_read, read_there, reads_on, reads_within, NamesPartner-on, Met-on}
+use Rattle.rv_book.proofs.Places.{get-append_within}
+use Rattle.rv_book.proofs.Growing.{act_read, call_read, partner_read, reads_on, reads_within, NamesPartner-on}
 use Rattle.rv_book.proofs.OnePartner.{arrives_once, meets_one, takes_unnamed}
 
 -- ---- a step only adds

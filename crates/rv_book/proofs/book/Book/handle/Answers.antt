@@ -1,5 +1,5 @@
 -- What a verdict says is within the limits.
-use Rattle.std.proofs.Common.{◌≡◌, Some, sym, subst}
+use Rattle.std.proofs.Common.{sym, subst}
 use Rattle.std.specs.Option.{IfSome}
 use Rattle.rv_text.specs.Limits.{FitsAnswer}
 use Rattle.rv_book.proofs.Fitting.{step_fits}

@@ -1,5 +1,5 @@
 -- An empty account with empty lists is sound.
-use Rattle.std.proofs.Common.{◌≡◌, ◌^◌, ◌≤◌, List, [], subst, sym, arith}
+use Rattle.std.proofs.Common.{◌^◌, ◌≤◌, arith}
 use Rattle.rv_book.proofs.Keeping.{sound_empty}
 use Rattle.rv_book.proofs.book.Book.open.Goals as goal
 

@@ -1,7 +1,6 @@
 -- Which line of the step decides for a client's first hello.
-use Rattle.std.proofs.Common.{◌≡◌, ◌<◌, ◌≤◌, length, refl, ap, subst, sym, arith}
+use Rattle.std.proofs.Common.{◌<◌, length, arith}
 use Rattle.std.proofs.lemmas.Result.{IfErr-weaker, on_ok_weaker}
-use Rattle.rv_text.specs.declared.answer.Answer.TheVariants.{Refused}
 use Rattle.rv_book.specs.Steps.{max_entries}
 use Rattle.rv_book.proofs.Greeting.{newer_than_none, full_hello, refused_hello_as, entered_hello}
 use Rattle.rv_book.proofs.Lines.{said_no_hello}

@@ -1,7 +1,6 @@
 -- After a client's first hello the account and its lists are sound.
-use Rattle.std.proofs.Common.{rules, ◌≡◌, [], ◌∷◌, ◌++◌, None, ap, ◌∙◌}
+use Rattle.std.proofs.Common.{rules, ◌≡◌, [], ◌∷◌, ◌++◌, None}
 use Rattle.rv_book.specs.declared.account.Act.TheVariants.{Hello}
-use Rattle.rv_book.specs.declared.tables.Session.{Session}
 use Rattle.rv_book.specs.Account.{with_entry}
 use Rattle.rv_book.proofs.Following.{entry}
 use Rattle.rv_book.proofs.Keeping.{fresh, sound_new}

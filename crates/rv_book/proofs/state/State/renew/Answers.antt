@@ -1,5 +1,5 @@
 -- Which line of the step decides for the hello of a known client.
-use Rattle.std.proofs.Common.{◌≡◌, ◌<◌, ◌≤◌, ℕ, length, refl, ap, subst, sym, ◌∙◌, arith}
+use Rattle.std.proofs.Common.{◌<◌, length, subst, arith}
 use Rattle.std.proofs.lemmas.Result.{IfErr-weaker, on_ok_weaker}
 use Rattle.rv_book.specs.Sessions.{HasIncarnation}
 use Rattle.rv_book.specs.Steps.{max_entries}

@@ -1,7 +1,6 @@
 -- After a known client's hello of a greater incarnation the account and its lists are sound.
-use Rattle.std.proofs.Common.{rules, ◌≡◌, ◌<◌, ℕ, None, option_map, unwrap_or, ap, subst}
+use Rattle.std.proofs.Common.{rules, ◌≡◌, ◌<◌, ℕ, None, subst}
 use Rattle.rv_book.specs.declared.account.Act.TheVariants.{Hello}
-use Rattle.rv_book.specs.declared.tables.Session.{Session}
 use Rattle.rv_book.specs.Account.{with_entry}
 use Rattle.rv_book.specs.Tables.{known_incarnation}
 use Rattle.rv_book.proofs.Following.{entry}

@@ -1,7 +1,6 @@
 -- The step of a hello or a request is the step of the message.
-use Rattle.std.proofs.Common.{◌≡◌, Some, option_map, refl, sym, ap, subst, ◌∙◌}
+use Rattle.std.proofs.Common.{Some, option_map, refl, sym, ap, subst}
 use Rattle.rv_text.specs.declared.message.Message.{Message}
-use Rattle.rv_text.specs.declared.message.Message.TheVariants as message
 use Rattle.rv_text.specs.declared.answer.Answer.TheVariants.{Welcome, Replied, Refused}
 use Rattle.rv_book.specs.Steps.{NextAt}
 use Rattle.rv_book.proofs.state.State.step.Goals as goal
