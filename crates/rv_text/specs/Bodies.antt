@@ -3,7 +3,10 @@ use Rattle.std.specs.Prelude.{◌≡◌, ℕ, ◌≤◌, List, length, Some, IsU
 use Rattle.serde_json.specs.Data.{Data}
 use Rattle.serde_json.specs.Read.{read}
 use Rattle.serde_json.specs.Written.{compact_text}
+use Rattle.rv_text.specs.declared.message.Call.{Call}
+use Rattle.rv_text.specs.declared.message.Call.TheVariants.{Put, Take}
 use Rattle.rv_text.specs.declared.message.Message.{Message}
+use Rattle.rv_text.specs.declared.message.Message.TheVariants.{Hello, Request}
 use Rattle.rv_text.specs.declared.answer.Answer.{Answer}
 use Rattle.rv_text.specs.Fields.{object_of, message_fields, answer_fields}
 use Rattle.rv_text.specs.Limits.{FitsMessage}
@@ -23,6 +26,15 @@ IsNotJson bytes = (value : Data) → ¬ Reads bytes value
 -- the bytes are a body of the message: they have a body's length, they read as the object with exactly the message's members, and the message is within the limits
 abbrev pub IsMessageBody : List ℕ → Message → Type 0
 IsMessageBody bytes message = HasBodyLength bytes × Reads bytes (object_of (message_fields message)) × FitsMessage message
+
+-- the item is text; every `Item` is, and a variable of a law ranges over all lists of numbers
+abbrev pub CallHasUtf8 : Call → Type 0
+CallHasUtf8 (Put queue item) = IsUtf8 item
+CallHasUtf8 (Take queue wait) = Unit {0}
+
+abbrev pub HasUtf8 : Message → Type 0
+HasUtf8 (Hello client incarnation) = Unit {0}
+HasUtf8 (Request key call) = CallHasUtf8 call
 
 -- the body that is written for a message
 abbrev pub message_text : Message → List ℕ

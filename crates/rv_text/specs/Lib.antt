@@ -1,3 +1,5 @@
 pub mod Limits
 pub mod Fields
 pub mod Bodies
+pub mod Reading
+pub mod Laws

@@ -52,6 +52,30 @@ pub enum Refusal {
     NoMemory,
 }
 
+impl Refusal {
+    ghost use Rattle.std.specs.Prelude.{◌≡◌};
+    ghost use Rattle.rv_text.specs.Fields.{code_of};
+
+    /// The refusal's number, 1 to 11: the place of its test among those that a message meets.
+    pub fn code(&self) -> u64
+        ensures { result ≡ code_of self.now }
+    {
+        match self {
+            Refusal::BadText => 1,
+            Refusal::OtherEpoch(_) => 2,
+            Refusal::NoSession => 3,
+            Refusal::OldIncarnation(_) => 4,
+            Refusal::OldNumber(_) => 5,
+            Refusal::OtherCall => 6,
+            Refusal::Busy(_) => 7,
+            Refusal::Gap(_) => 8,
+            Refusal::ClientsFull => 9,
+            Refusal::EpochFull => 10,
+            Refusal::NoMemory => 11,
+        }
+    }
+}
+
 /// What the server sends back for a message.
 #[derive(Debug, PartialEq, Eq, Drop)]
 pub enum Answer {

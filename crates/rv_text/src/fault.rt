@@ -19,3 +19,14 @@ pub enum TextFault {
     #[error("out of memory")]
     NoMemory,
 }
+
+impl From<AllocError> for TextFault {
+    ghost use Rattle.std.specs.Prelude.{◌≡◌};
+    ghost use Rattle.rv_text.specs.declared.fault.TextFault.TheVariants.{NoMemory};
+
+    ghost from_gives = { λ _ fault. fault ≡ NoMemory };
+
+    fn from(_refused: AllocError) -> TextFault {
+        TextFault::NoMemory
+    }
+}

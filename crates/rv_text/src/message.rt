@@ -1,5 +1,5 @@
 //! What clients send: hellos, and requests with their keys and calls.
-ghost use Rattle.std.specs.Prelude.{IsTrue, ◌↔◌};
+ghost use Rattle.std.specs.Prelude.{◌≡◌, IsTrue, ◌↔◌, length};
 ghost use Rattle.rv_text.specs.Limits.{FitsIdentifier};
 
 use crate::item::Item;
@@ -62,7 +62,18 @@ impl Key {
 }
 
 impl Call {
+    ghost use Rattle.rv_text.specs.Fields.{call_fields};
     ghost use Rattle.rv_text.specs.Limits.{FitsCall};
+
+    // How many members the call has in a body.
+    pub(crate) fn member_count(&self) -> usize
+        ensures { result ≡ length (call_fields self.now) }
+    {
+        match self {
+            Call::Put { .. } => 3,
+            Call::Take { .. } => 3,
+        }
+    }
 
     /// Whether the queue is 0 to 63 and the item has at most 512 bytes.
     pub fn fits(&self) -> bool
@@ -76,7 +87,18 @@ impl Call {
 }
 
 impl Message {
+    ghost use Rattle.rv_text.specs.Fields.{message_fields};
     ghost use Rattle.rv_text.specs.Limits.{FitsMessage};
+
+    // How many members the message has in its body.
+    pub(crate) fn member_count(&self) -> usize
+        ensures { result ≡ length (message_fields self.now) }
+    {
+        match self {
+            Message::Hello { .. } => 3,
+            Message::Request { call, .. } => 5 + call.member_count(),
+        }
+    }
 
     /// Whether every number and the item are within their limits.
     pub fn fits(&self) -> bool

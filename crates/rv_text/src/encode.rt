@@ -1,0 +1,134 @@
+//! The one text that is written for an answer.
+ghost use Rattle.std.specs.Prelude.{◌≡◌, [], ◌∷◌, OnOk, IfOk, string_bytes};
+ghost use Rattle.serde_json.specs.View.{members_view};
+ghost use Rattle.rv_text.specs.Fields.{with_fields, whole, text, key_fields, reply_fields, detail_fields, answer_fields};
+ghost use Rattle.rv_text.specs.Bodies.{HasBodyLength, answer_text};
+ghost use Rattle.rv_text.specs.Limits.{FitsAnswer};
+
+use crate::answer::{Answer, Refusal, Reply};
+use crate::fault::NoMemory;
+use crate::message::Key;
+use serde_json::{Map, Value};
+use std::alloc::Global;
+
+/// The body of [`Refusal::BadText`], which answers bytes that are no message's body.
+pub const BAD_TEXT_BODY: &str = "{\"code\":1,\"kind\":\"refused\"}";
+
+/// The body of [`Refusal::NoMemory`], for an answer whose text finds no memory.
+pub const NO_MEMORY_BODY: &str = "{\"code\":11,\"kind\":\"refused\"}";
+
+/// The body that is written for an answer: JSON with no white space, its members in byte order of
+/// their names. An answer within its limits has a body of at most 4,096 bytes. It fails only where
+/// memory was refused.
+pub fn encode_answer(alloc: Global, answer: &Answer) -> Result<String, NoMemory>
+    ensures text { IfOk result (λ s. string_bytes s ≡ answer_text answer.now) }
+    ensures short { FitsAnswer answer.now → IfOk result (λ s. HasBodyLength (string_bytes s)) }
+{
+    let mut members = Map::new(alloc);
+    put_answer(&mut members, alloc, answer)?;
+    Value::Object(members).to_string(alloc)
+}
+
+fn put_answer(
+    members: &mut Map<String, Value>,
+    alloc: Global,
+    answer: &Answer,
+) -> Result<(), NoMemory>
+    ensures { OnOk result (members_view members.new.entries
+        ≡ with_fields (answer_fields answer.now) (members_view members.old.entries)) }
+{
+    match answer {
+        Answer::Welcome {
+            epoch,
+            client,
+            incarnation,
+        } => {
+            put_text(members, alloc, "kind", "welcome")?;
+            put_whole(members, alloc, "epoch", *epoch)?;
+            put_whole(members, alloc, "client", *client)?;
+            put_whole(members, alloc, "incarnation", *incarnation)
+        }
+        Answer::Replied { key, reply } => {
+            put_text(members, alloc, "kind", "reply")?;
+            put_key(members, alloc, key)?;
+            put_reply(members, alloc, reply)
+        }
+        Answer::Refused(refusal) => {
+            put_text(members, alloc, "kind", "refused")?;
+            put_whole(members, alloc, "code", refusal.code())?;
+            put_detail(members, alloc, *refusal)
+        }
+    }
+}
+
+fn put_key(members: &mut Map<String, Value>, alloc: Global, key: &Key) -> Result<(), NoMemory>
+    ensures { OnOk result (members_view members.new.entries
+        ≡ with_fields (key_fields key.now) (members_view members.old.entries)) }
+{
+    put_whole(members, alloc, "epoch", key.epoch)?;
+    put_whole(members, alloc, "client", key.client)?;
+    put_whole(members, alloc, "incarnation", key.incarnation)?;
+    put_whole(members, alloc, "number", key.number)
+}
+
+fn put_reply(members: &mut Map<String, Value>, alloc: Global, reply: &Reply) -> Result<(), NoMemory>
+    ensures { OnOk result (members_view members.new.entries
+        ≡ with_fields (reply_fields reply.now) (members_view members.old.entries)) }
+{
+    match reply {
+        Reply::Done => put_text(members, alloc, "reply", "done"),
+        Reply::Item(item) => {
+            put_text(members, alloc, "reply", "item")?;
+            put_text(members, alloc, "item", item.as_str())
+        }
+        Reply::Empty => put_text(members, alloc, "reply", "empty"),
+    }
+}
+
+// What a refusal says beside its code.
+fn put_detail(
+    members: &mut Map<String, Value>,
+    alloc: Global,
+    refusal: Refusal,
+) -> Result<(), NoMemory>
+    ensures { OnOk result (members_view members.new.entries
+        ≡ with_fields (detail_fields refusal) (members_view members.old.entries)) }
+{
+    match refusal {
+        Refusal::OtherEpoch(current) => put_whole(members, alloc, "current", current),
+        Refusal::OldIncarnation(current) => put_whole(members, alloc, "current", current),
+        Refusal::OldNumber(last) => put_whole(members, alloc, "last", last),
+        Refusal::Gap(last) => put_whole(members, alloc, "last", last),
+        Refusal::Busy(number) => put_whole(members, alloc, "open", number),
+        Refusal::BadText
+        | Refusal::NoSession
+        | Refusal::OtherCall
+        | Refusal::ClientsFull
+        | Refusal::EpochFull
+        | Refusal::NoMemory => Ok(()),
+    }
+}
+
+fn put_text(
+    members: &mut Map<String, Value>,
+    alloc: Global,
+    name: &str,
+    value: &str,
+) -> Result<(), NoMemory>
+    ensures { OnOk result (members_view members.new.entries
+        ≡ with_fields (text name.now value.now ∷ []) (members_view members.old.entries)) }
+{
+    serde_json::put(members, alloc, name, Value::try_from_str(alloc, value)?)
+}
+
+fn put_whole(
+    members: &mut Map<String, Value>,
+    alloc: Global,
+    name: &str,
+    value: u64,
+) -> Result<(), NoMemory>
+    ensures { OnOk result (members_view members.new.entries
+        ≡ with_fields (whole name.now value ∷ []) (members_view members.old.entries)) }
+{
+    serde_json::put(members, alloc, name, Value::from(value))
+}

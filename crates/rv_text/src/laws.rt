@@ -1,0 +1,23 @@
+//! What holds of messages and their bodies as such: each contract is a law, and no body does anything.
+ghost use Rattle.std.specs.Prelude.{◌≡◌};
+ghost use Rattle.rv_text.specs.Bodies.{answer_text};
+ghost use Rattle.rv_text.specs.Laws.{OneMessage, WrittenBody};
+
+use crate::answer::{Answer, Refusal};
+use crate::encode::{BAD_TEXT_BODY, NO_MEMORY_BODY};
+
+/// Bytes are the body of at most one message.
+pub fn one_message()
+    ensures { OneMessage }
+{}
+
+/// The text that is written for a message within the limits is a body of it.
+pub fn written_body()
+    ensures { WrittenBody }
+{}
+
+/// The constant bodies are what is written for their refusals.
+pub fn body_constants()
+    ensures bad_text { BAD_TEXT_BODY.now ≡ answer_text (Answer.Refused Refusal.BadText) }
+    ensures no_memory { NO_MEMORY_BODY.now ≡ answer_text (Answer.Refused Refusal.NoMemory) }
+{}
