@@ -2,3 +2,5 @@
 pub mod Numbers
 pub mod Options
 pub mod Commands
+pub mod Cutting
+pub mod Progress

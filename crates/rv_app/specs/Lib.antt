@@ -1,3 +1,7 @@
 -- The definitions that the contracts of this crate cite.
+pub mod Body
 pub mod Command
+pub mod Lines
 pub mod Number
+pub mod Output
+pub mod Run
