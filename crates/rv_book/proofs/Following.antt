@@ -1,6 +1,5 @@
 -- Which entries may stand behind an account: a hello, a put, a take that finds nothing and a take of the oldest item.
-use Rattle.std.proofs.Common.{◌≡◌, ◌⊎◌, inl, inr, ℕ, ◌+◌, ◌<◌, ◌≤◌, List, length, Option, Some, None, true, refl, sym, ap, subst, ◌∙◌, arith}
-use Rattle.std.specs.List.{slice_get}
+use Rattle.std.proofs.Common.{◌≡◌, inl, inr, ℕ, ◌+◌, ◌<◌, List, Option, Some, None, refl, sym, ap, subst, ◌∙◌, arith}
 use Rattle.std.proofs.lemmas.Option.{same_Some, none-some}
 use Rattle.rv_text.specs.declared.message.Key.{Key}
 use Rattle.rv_text.specs.declared.message.Wait.{Wait}
@@ -11,9 +10,9 @@ use Rattle.rv_book.specs.declared.account.Entry.{Entry}
 use Rattle.rv_book.specs.declared.account.Act.{Act}
 use Rattle.rv_book.specs.declared.account.Act.TheVariants.{Hello, Arrive}
 use Rattle.rv_book.specs.Account.{Account, act_at, call_at}
-use Rattle.rv_book.specs.Calls.{gives_to, takes_from, Stays, AreOpposite, AreOneSide}
+use Rattle.rv_book.specs.Calls.{gives_to, takes_from, Stays, AreOpposite}
 use Rattle.rv_book.specs.Sessions.{HasIncarnation, LastNumber}
-use Rattle.rv_book.specs.Waiting.{Met, Open}
+use Rattle.rv_book.specs.Waiting.{Open}
 use Rattle.rv_book.specs.Legal.{KeepsTime, MayFollow, IsNextNumber, IsFreePartner, IsOpenOpposite}
 use Rattle.rv_book.specs.Order.{GivesAt}
 use Rattle.rv_book.proofs.Growing.{call_read, reads_within}
@@ -45,12 +44,12 @@ pub hello_follows : (a : Account) (moment client incarnation : ℕ) → KeepsTim
     → MayFollow a (entry moment (Hello client incarnation) None)
 hello_follows a moment client incarnation time raises = record {
   keeps_time = time;
-  keeps_limits = λ r limit request call waits is calls limited. absurd (nobody_waits a.entries r waits);
+  keeps_limits = λ r limit waits limited. absurd (nobody_waits a.entries r waits);
   raises_incarnation = λ c i r earlier is hello.
       let same_client : client ≡ c = cc in
       let same_incarnation : incarnation ≡ i = cc in
       subst (λ n. earlier < n) same_incarnation (raises r earlier (hello ∙ ap (λ n. Some (Hello n earlier)) (sym same_client)));
-  of_session = λ key call is. absurd (let no : ⊥ = cc in no);
+  of_session = λ key is. absurd (none-some key is);
   counts_up = λ key call is. absurd (let no : ⊥ = cc in no);
   names_free_partner = λ p is. absurd (none-some p is);
   pairs_opposites = λ p call is calls of_queue. absurd (none-some p is);
@@ -78,9 +77,9 @@ pub put_follows : (a : Account) (moment : ℕ) (key : Key) (queue : ℕ) (item :
     → MayFollow a (entry moment (Arrive key (Put queue item)) None)
 put_follows a moment key queue item time next = record {
   keeps_time = time;
-  keeps_limits = λ r limit request call waits is calls limited. absurd (nobody_waits a.entries r waits);
+  keeps_limits = λ r limit waits limited. absurd (nobody_waits a.entries r waits);
   raises_incarnation = λ c i r earlier is hello. absurd (let no : ⊥ = cc in no);
-  of_session = λ other call is. subst (λ (k : Key). (k.epoch ≡ a.epoch) × HasIncarnation a.entries k.client k.incarnation) (same_key _ _ _ _ is) (next.epoch, next.incarnation);
+  of_session = λ other is. subst (λ (k : Key). (k.epoch ≡ a.epoch) × HasIncarnation a.entries k.client k.incarnation) (same_Some _ _ is) (next.epoch, next.incarnation);
   counts_up = λ other call is. subst (IsNextNumber a.entries) (same_key _ _ _ _ is) (next_number a key next);
   names_free_partner = λ p is. absurd (none-some p is);
   pairs_opposites = λ p call is calls of_queue. absurd (none-some p is);
@@ -102,9 +101,9 @@ pub poll_follows : (a : Account) (moment : ℕ) (key : Key) (queue : ℕ) (wait 
     → MayFollow a (entry moment (Arrive key (Take queue wait)) None)
 poll_follows a moment key queue wait time next none = record {
   keeps_time = time;
-  keeps_limits = λ r limit request call waits is calls limited. absurd (nobody_waits a.entries r waits);
+  keeps_limits = λ r limit waits limited. absurd (nobody_waits a.entries r waits);
   raises_incarnation = λ c i r earlier is hello. absurd (let no : ⊥ = cc in no);
-  of_session = λ other call is. subst (λ (k : Key). (k.epoch ≡ a.epoch) × HasIncarnation a.entries k.client k.incarnation) (same_key _ _ _ _ is) (next.epoch, next.incarnation);
+  of_session = λ other is. subst (λ (k : Key). (k.epoch ≡ a.epoch) × HasIncarnation a.entries k.client k.incarnation) (same_Some _ _ is) (next.epoch, next.incarnation);
   counts_up = λ other call is. subst (IsNextNumber a.entries) (same_key _ _ _ _ is) (next_number a key next);
   names_free_partner = λ p is. absurd (none-some p is);
   pairs_opposites = λ p call is calls of_queue. absurd (none-some p is);
@@ -129,20 +128,20 @@ pub take_follows : (a : Account) (moment : ℕ) (key : Key) (queue : ℕ) (wait 
     → MayFollow a (entry moment (Arrive key (Take queue wait)) (Some g))
 take_follows a moment key queue wait g time next first = record {
   keeps_time = time;
-  keeps_limits = λ r limit request call waits is calls limited. absurd (nobody_waits a.entries r waits);
+  keeps_limits = λ r limit waits limited. absurd (nobody_waits a.entries r waits);
   raises_incarnation = λ c i r earlier is hello. absurd (let no : ⊥ = cc in no);
-  of_session = λ other call is. subst (λ (k : Key). (k.epoch ≡ a.epoch) × HasIncarnation a.entries k.client k.incarnation) (same_key _ _ _ _ is) (next.epoch, next.incarnation);
+  of_session = λ other is. subst (λ (k : Key). (k.epoch ≡ a.epoch) × HasIncarnation a.entries k.client k.incarnation) (same_Some _ _ is) (next.epoch, next.incarnation);
   counts_up = λ other call is. subst (IsNextNumber a.entries) (same_key _ _ _ _ is) (next_number a key next);
   names_free_partner = λ p is. subst (λ n. IsFreePartner a.entries (entry moment (Arrive key (Take queue wait)) (Some g)) n) (one_queue g p is) (record {
     call = Take queue wait;
     arrives = refl;
-    meets = refl;
+    meets = tt;
     earlier = reads_within call_read refl a.entries g first.gives.call first.gives.arrived;
     unmet = first.is_open.unmet;
   });
   pairs_opposites = λ p call is calls of_queue.
       let same : Take queue wait ≡ call = same_Some _ _ calls in
-      let partner : IsOpenOpposite a.entries (Take queue wait) g = record { other = first.gives.call; arrived = first.gives.arrived; opposite = (queue, inl (first.gives.gives, refl)); «open» = first.is_open } in
+      let partner : IsOpenOpposite a.entries (Take queue wait) g = record { other = first.gives.call; arrived = first.gives.arrived; opposite = (queue, inl (first.gives.gives, refl)); is_open = first.is_open } in
       subst (λ c. IsOpenOpposite a.entries c p) same (subst (IsOpenOpposite a.entries (Take queue wait)) (one_queue g p is) partner);
   pairs_oldest = λ p r call other earlier is calls of_queue there before at one_side opened.
       let same : g ≡ p = one_queue g p is in

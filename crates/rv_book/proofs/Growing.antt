@@ -1,14 +1,14 @@
 -- What one more entry changes of who was met, who was stopped and who is open.
-use Rattle.std.proofs.Common.{◌≡◌, ◌⊎◌, inl, inr, ℕ, ◌<◌, ◌≤◌, List, [], ◌∷◌, ◌++◌, length, Option, Some, None, option_and_then, option_map, IsTrue, refl, sym, ap, subst, ◌∙◌, arith}
+use Rattle.std.proofs.Common.{◌≡◌, ◌⊎◌, inl, inr, ℕ, ◌<◌, List, [], ◌∷◌, ◌++◌, length, Option, Some, None, option_and_then, option_map, refl, sym, ap, subst, ◌∙◌, arith}
 use Rattle.std.specs.List.{slice_get}
-use Rattle.std.proofs.lemmas.Option.{same_Some, none-some}
+use Rattle.std.proofs.lemmas.Option.{none-some}
 use Rattle.rv_text.specs.declared.message.Call.{Call}
 use Rattle.rv_book.specs.declared.account.Entry.{Entry}
 use Rattle.rv_book.specs.declared.account.Act.{Act}
-use Rattle.rv_book.specs.Account.{act_at, partner_at, call_at, call_in, key_at, key_in, moment_at}
-use Rattle.rv_book.specs.Calls.{may_meet, IsPut, Stays}
-use Rattle.rv_book.specs.Waiting.{NamesPartner, Met, StoppedAt, Stopped, Open, Waiting}
-use Rattle.rv_book.proofs.Places.{get-append, get-append_cases, within}
+use Rattle.rv_book.specs.declared.account.Act.TheVariants.{Arrive}
+use Rattle.rv_book.specs.Account.{act_at, call_at, call_in}
+use Rattle.rv_book.specs.Waiting.{NamesPartner, Met, limit_in, limit_at, EndsWait, StoppedAt, Stopped, Open}
+use Rattle.rv_book.proofs.Places.{get-append, get-append_within, get-append_cases, within}
 
 -- ---- what is read at a place, by a reading that gives nothing where nothing stands
 
@@ -82,18 +82,22 @@ Met-back es e r h =
 
 -- ---- stops
 
+-- a request's limit is read where the request stands
+limit_on : (es more : List Entry) (r : ℕ) (act : Act) → act_at es r ≡ Some act → limit_at (es ++ more) r ≡ limit_at es r
+limit_on es more r act there =
+    let inside : r < length es = reads_within act_read refl es r act there in
+    ap (option_and_then limit_in) (get-append_within es more r inside)
+
 pub StoppedAt-on : (es more : List Entry) (r s : ℕ) → StoppedAt es r s → StoppedAt (es ++ more) r s
 StoppedAt-on es more r s h = record {
-  request = h.request;
-  stopper = h.stopper;
   key = h.key;
   call = h.call;
-  request_is = get-append es more r h.request h.request_is;
-  stopper_is = get-append es more s h.stopper h.stopper_is;
-  later = h.later;
-  arrived = h.arrived;
+  stopper = h.stopper;
+  arrived = reads_on act_read refl es more r (Arrive h.key h.call) h.arrived;
   no_put = h.no_put;
-  ends = h.ends;
+  later = h.later;
+  there = get-append es more s h.stopper h.there;
+  ends = subst (EndsWait h.stopper.act h.stopper.moment h.key) (sym (limit_on es more r (Arrive h.key h.call) h.arrived)) h.ends;
 }
 
 pub Stopped-on : (es more : List Entry) (r : ℕ) → Stopped es r → Stopped (es ++ more) r
@@ -102,21 +106,19 @@ Stopped-on es more r h = (h.0, StoppedAt-on es more r h.0 h.1)
 -- who is stopped with one more entry was stopped before, or by that entry
 pub Stopped-back : (es : List Entry) (e : Entry) (r : ℕ) → Stopped (es ++ e ∷ []) r → Stopped es r ⊎ StoppedAt (es ++ e ∷ []) r (length es)
 Stopped-back es e r h =
-    elim (get-append_cases es e h.1.stopper h.0 h.1.stopper_is) [
-      | inl stopper ↦ elim (get-append_cases es e h.1.request r h.1.request_is) [
+    elim (get-append_cases es e h.1.stopper h.0 h.1.there) [
+      | inl stopper ↦ elim (reads_back act_read refl es e r (Arrive h.1.key h.1.call) h.1.arrived) [
         | inl request ↦ inl (
           h.0,
           record {
-            request = h.1.request;
-            stopper = h.1.stopper;
             key = h.1.key;
             call = h.1.call;
-            request_is = request.1;
-            stopper_is = stopper.1;
-            later = h.1.later;
-            arrived = h.1.arrived;
+            stopper = h.1.stopper;
+            arrived = request.1;
             no_put = h.1.no_put;
-            ends = h.1.ends;
+            later = h.1.later;
+            there = stopper.1;
+            ends = subst (EndsWait h.1.stopper.act h.1.stopper.moment h.1.key) (limit_on es (e ∷ []) r (Arrive h.1.key h.1.call) request.1) h.1.ends;
           },
         )
         | inr request ↦ let later : r < h.0 = h.1.later in absurd (omega arith)

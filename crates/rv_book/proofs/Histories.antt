@@ -1,15 +1,13 @@
 -- What a legal account says of its sessions: one incarnation, one last number, and hellos that only rise.
-use Rattle.std.proofs.Common.{◌≡◌, ◌⊎◌, inl, inr, ℕ, ◌<◌, ◌≤◌, List, length, take, Option, Some, None, refl, sym, ap, subst, ◌∙◌, arith}
+use Rattle.std.proofs.Common.{◌≡◌, inl, inr, ℕ, ◌<◌, ◌≤◌, List, take, Some, refl, sym, ap, ◌∙◌, arith}
 use Rattle.std.specs.List.{slice_get}
 use Rattle.std.proofs.lemmas.Bool.{cases_order}
-use Rattle.std.proofs.lemmas.Option.{same_Some, none-some}
-use Rattle.rv_text.specs.declared.message.Key.{Key}
+use Rattle.std.proofs.lemmas.Option.{same_Some}
 use Rattle.rv_book.specs.declared.account.Entry.{Entry}
-use Rattle.rv_book.specs.declared.account.Act.{Act}
-use Rattle.rv_book.specs.declared.account.Act.TheVariants.{Hello, Arrive}
+use Rattle.rv_book.specs.declared.account.Act.TheVariants.{Hello}
 use Rattle.rv_book.specs.Account.{Account, act_at}
-use Rattle.rv_book.specs.Sessions.{LastHello, HasIncarnation, LastNumber, NamesKey}
-use Rattle.rv_book.specs.Legal.{Legal, before}
+use Rattle.rv_book.specs.Sessions.{LastHello, HasIncarnation, LastNumber}
+use Rattle.rv_book.specs.Legal.{Legal}
 use Rattle.rv_book.proofs.Places.{get-take}
 use Rattle.rv_book.proofs.Growing.{read_there, act_read}
 

@@ -6,3 +6,6 @@ pub mod Following
 pub mod Sessions
 pub mod WaitingItems
 pub mod Lines
+pub mod Keeping
+pub mod Replying
+pub mod Greeting

@@ -1,5 +1,5 @@
 -- Which line of a step decides, by what the list of sessions says of the key's client.
-use Rattle.std.proofs.Common.{◌≡◌, ◌≢◌, ◌⊎◌, inl, inr, ℕ, ◌+◌, ◌<◌, ◌≤◌, List, [], ◌∷◌, length, Some, None, refl, sym, ap, subst, ◌∙◌, arith}
+use Rattle.std.proofs.Common.{◌≡◌, ◌≢◌, inl, inr, ℕ, ◌+◌, ◌<◌, ◌≤◌, List, length, Some, option_map, unwrap_or, refl, sym, ap, subst, ◌∙◌, arith}
 use Rattle.std.specs.List.{slice_get}
 use Rattle.std.proofs.Math.ListN.{get_or}
 use Rattle.std.proofs.lemmas.Option.{get_or_from_slice_get}
@@ -11,12 +11,10 @@ use Rattle.rv_book.specs.declared.account.Act.TheVariants.{Hello}
 use Rattle.rv_book.specs.declared.tables.Session.{Session}
 use Rattle.rv_book.specs.Account.{Account, act_at}
 use Rattle.rv_book.specs.Sessions.{HasIncarnation, LastNumber}
-use Rattle.rv_book.specs.Legal.{Legal}
-use Rattle.rv_book.specs.Steps.{OtherEpochDue, NoSessionDue, OldIncarnationDue, OldNumberDue, GapDue, EpochFullDue, NumberOf, KeyLines}
-use Rattle.rv_book.specs.Tables.{AreSessions}
-use Rattle.rv_book.specs.Waiting.{Waiting}
-use Rattle.rv_book.proofs.Histories.{one_incarnation, one_last_number, hellos_at_most}
-use Rattle.rv_book.proofs.Legality.{nobody_waits}
+use Rattle.rv_book.specs.Steps.{OtherEpochDue, NoSessionDue, OldIncarnationDue, OldNumberDue, GapDue, EpochFullDue, KeyLines}
+use Rattle.rv_book.specs.Tables.{AreSessions, IsNextIn, IsUnknown, known_incarnation}
+use Rattle.rv_book.proofs.Histories.{one_incarnation, one_last_number}
+use Rattle.rv_book.proofs.Legality.{nobody, none_waits}
 
 not_other_epoch : (a : Account) (key : Key) → key.epoch ≡ a.epoch → (refusal : Refusal) → OtherEpochDue a key refusal → ⊥
 not_other_epoch a key same refusal due = due.0 same
@@ -60,22 +58,41 @@ line_old_incarnation R G a key current epoch has less refuses =
 pub line_old_number : (R : Refusal → Type 0) (G : Type 0) (a : Account) (key : Key) (last : ℕ) → key.epoch ≡ a.epoch → HasIncarnation a.entries key.client key.incarnation
     → LastNumber a.entries key.client last → key.number ≤ last → R (OldNumber last) → KeyLines a key R G
 line_old_number R G a key last epoch has is most refuses =
-    inr (not_other_epoch a key epoch, inr (not_no_session a key key.incarnation has (omega arith),
-    inr (not_old_incarnation a key.client key.incarnation key.incarnation has (omega arith), inl (OldNumber last, (last, is, most, refl), refuses))))
+    inr (
+      not_other_epoch a key epoch,
+      inr (
+        not_no_session a key key.incarnation has (omega arith),
+        inr (not_old_incarnation a key.client key.incarnation key.incarnation has (omega arith), inl (OldNumber last, (last, is, most, refl), refuses)),
+      ),
+    )
 
 pub line_gap : (R : Refusal → Type 0) (G : Type 0) (a : Account) (key : Key) (last : ℕ) → key.epoch ≡ a.epoch → HasIncarnation a.entries key.client key.incarnation
     → LastNumber a.entries key.client last → last + 1 < key.number → R (Gap last) → KeyLines a key R G
 line_gap R G a key last epoch has is above refuses =
-    inr (not_other_epoch a key epoch, inr (not_no_session a key key.incarnation has (omega arith),
-    inr (not_old_incarnation a key.client key.incarnation key.incarnation has (omega arith),
-    inr (not_old_number a key last is (omega arith), inl (Gap last, (last, is, above, refl), refuses)))))
+    inr (
+      not_other_epoch a key epoch,
+      inr (
+        not_no_session a key key.incarnation has (omega arith),
+        inr (
+          not_old_incarnation a key.client key.incarnation key.incarnation has (omega arith),
+          inr (not_old_number a key last is (omega arith), inl (Gap last, (last, is, above, refl), refuses)),
+        ),
+      ),
+    )
 
 pub line_next : (R : Refusal → Type 0) (G : Type 0) (a : Account) (key : Key) (last : ℕ) → key.epoch ≡ a.epoch → HasIncarnation a.entries key.client key.incarnation
     → LastNumber a.entries key.client last → key.number ≡ last + 1 → G → KeyLines a key R G
 line_next R G a key last epoch has is next goes_on =
-    inr (not_other_epoch a key epoch, inr (not_no_session a key key.incarnation has (omega arith),
-    inr (not_old_incarnation a key.client key.incarnation key.incarnation has (omega arith),
-    inr (not_old_number a key last is (omega arith), inr (not_gap a key last is (omega arith), goes_on)))))
+    inr (
+      not_other_epoch a key epoch,
+      inr (
+        not_no_session a key key.incarnation has (omega arith),
+        inr (
+          not_old_incarnation a key.client key.incarnation key.incarnation has (omega arith),
+          inr (not_old_number a key last is (omega arith), inr (not_gap a key last is (omega arith), goes_on)),
+        ),
+      ),
+    )
 
 -- lines that decide one thing decide what follows from it
 pub KeyLines-map : (R S : Refusal → Type 0) (G H : Type 0) (a : Account) (key : Key) → ((refusal : Refusal) → R refusal → S refusal) → (G → H) → KeyLines a key R G → KeyLines a key S H
@@ -93,6 +110,28 @@ pub no_hellos : (es : List Entry) (sessions : List Session) (client bound : ℕ)
     → ((i : ℕ) (s : Session) → slice_get sessions i ≡ Some s → s.client ≡ client → ⊥) → (r incarnation : ℕ) → act_at es r ≡ Some (Hello client incarnation) → incarnation < bound
 no_hellos es sessions client bound are none r incarnation hello = let one = are.each r client incarnation hello in absurd (none one.0 one.1 one.2 one.3)
 
+pub said_no_hello : (es : List Entry) (sessions : List Session) (client : ℕ) → AreSessions es sessions → IsUnknown sessions client
+    → (r incarnation : ℕ) → act_at es r ≡ Some (Hello client incarnation) → ⊥
+said_no_hello es sessions client are none r incarnation hello = let one = are.each r client incarnation hello in none one.0 one.1 one.2 one.3
+
+pub known_incarnation_is : (sessions : List Session) (i : ℕ) (s : Session) → slice_get sessions i ≡ Some s → known_incarnation sessions i ≡ s.incarnation
+known_incarnation_is sessions i s there = ap (λ o. unwrap_or (option_map (λ (t : Session). t.incarnation) o) 0) there
+
+-- the session that was read at i, of which neither the same nor a lower incarnation comes
+pub record ReadLower (sessions : List Session) (i incarnation : ℕ) (s : Session) : Type 0 where
+  pub above : s.incarnation < incarnation
+  pub known : known_incarnation sessions i < incarnation
+
+pub read_lower : (sessions : List Session) (i incarnation : ℕ) (s read : Session) → slice_get sessions i ≡ Some s → read ≡ get_or sessions i read → read.incarnation ≤ incarnation
+    → (incarnation ≡ read.incarnation → ⊥) → ReadLower sessions i incarnation s
+read_lower sessions i incarnation s read there is most other =
+    let same : read ≡ s = is ∙ get_or_from_slice_get sessions i s read there in
+    let number : read.incarnation ≡ s.incarnation = ap (λ (t : Session). t.incarnation) same in
+    let known : known_incarnation sessions i ≡ s.incarnation = known_incarnation_is sessions i s there in
+    let apart : incarnation ≢ read.incarnation = other in
+    let below : s.incarnation < incarnation = omega arith in
+    record { above = below; known = subst (λ (n : ℕ). n < incarnation) (sym known) below }
+
 -- what the list says of the client whose session was found at i, as the code reads it there
 pub record SessionFound (es : List Entry) (client : ℕ) (s : Session) : Type 0 where
   pub incarnation : HasIncarnation es client s.incarnation
@@ -105,17 +144,24 @@ session_found es sessions client i d s are there of_client =
     let P : Session → Type 0 = λ t. SessionFound es client t in
     subst P read (record {
       incarnation = subst (λ c. HasIncarnation es c s.incarnation) of_client (are.incarnations i s there);
-      last = subst (λ c. LastNumber es c s.last) of_client (are.numbers i s there)
+      last = subst (λ c. LastNumber es c s.last) of_client (are.numbers i s there);
     })
 
+-- the session that was found, as the code reads it, is the key's
+pub next_in : (a : Account) (sessions : List Session) (key : Key) (i : ℕ) (d s : Session) → slice_get sessions i ≡ Some s → s.client ≡ key.client → key.epoch ≡ a.epoch
+    → (get_or sessions i d).incarnation ≡ key.incarnation → key.number ≡ (get_or sessions i d).last + 1 → IsNextIn a sessions key i
+next_in a sessions key i d s there of_client epoch incarnation next =
+    let read : s ≡ get_or sessions i d = sym (get_or_from_slice_get sessions i s d there) in
+    record {
+      session = get_or sessions i d;
+      there = there ∙ ap Some read;
+      epoch = epoch;
+      client = ap (λ (t : Session). t.client) (sym read) ∙ of_client;
+      incarnation = incarnation;
+      next = next;
+    }
+
 -- ---- room
-
-nobody : (es : List Entry) (n : ℕ) → NumberOf (Waiting es) n → n ≡ 0
-nobody es n ([], rising, are, is) = is
-nobody es n (r ∷ places, rising, are, is) = absurd (nobody_waits es r ((are r).0 (0, omega arith, refl)))
-
-none_waits : (es : List Entry) → NumberOf (Waiting es) 0
-none_waits es = ([], (λ k h. absurd (omega arith)), (λ r. ((λ h. absurd (omega arith)), λ w. absurd (nobody_waits es r w))), refl)
 
 pub room_left : (a : Account) → length a.entries < 100000 → (refusal : Refusal) → EpochFullDue a 1 refusal → ⊥
 room_left a room refusal due =

@@ -1,5 +1,5 @@
 -- The list of waiting items stays what the account says: after an entry that neither gives nor meets, a put, and a take of an item.
-use Rattle.std.proofs.Common.{◌≡◌, ◌⊎◌, inl, inr, ℕ, zero, suc, ◌-◌, ◌<◌, ◌≤◌, List, [], ◌∷◌, ◌++◌, length, take, Option, Some, None, true, refl, sym, ap, subst, ◌∙◌, arith, length-take}
+use Rattle.std.proofs.Common.{◌≡◌, ◌⊎◌, inl, inr, ℕ, zero, suc, ◌<◌, ◌≤◌, List, [], ◌∷◌, ◌++◌, length, take, Some, None, option_and_then, refl, sym, ap, subst, ◌∙◌, arith, length-take}
 use Rattle.std.specs.List.{slice_get, remove}
 use Rattle.std.proofs.lemmas.Bool.{cases_order, cases_lt}
 use Rattle.std.proofs.lemmas.Option.{same_Some, none-some}
@@ -7,16 +7,16 @@ use Rattle.rv_text.specs.declared.message.Key.{Key}
 use Rattle.rv_text.specs.declared.message.Call.{Call}
 use Rattle.rv_text.specs.declared.message.Call.TheVariants.{Put, Take}
 use Rattle.rv_book.specs.declared.account.Entry.{Entry}
-use Rattle.rv_book.specs.declared.account.Act.TheVariants.{Hello, Arrive}
+use Rattle.rv_book.specs.declared.account.Act.TheVariants.{Arrive}
 use Rattle.rv_book.specs.declared.tables.WaitingItem.{WaitingItem}
 use Rattle.rv_book.specs.Account.{Account, call_in, call_at}
-use Rattle.rv_book.specs.Calls.{gives_to, IsPut, Stays, may_meet}
+use Rattle.rv_book.specs.Calls.{gives_to, IsPut}
 use Rattle.rv_book.specs.Waiting.{NamesPartner, Met, StoppedAt, Stopped, Open}
-use Rattle.rv_book.specs.Legal.{Legal, NamesFreePartner, before}
+use Rattle.rv_book.specs.Legal.{Legal, NamesFreePartner}
 use Rattle.rv_book.specs.Order.{GivesAt}
 use Rattle.rv_book.specs.Tables.{AreWaitingItems}
-use Rattle.rv_book.proofs.Places.{get-append, get-append_end, get-append_cases, get-remove_before, get-remove_from, within}
-use Rattle.rv_book.proofs.Growing.{call_read, partner_read, act_read, read_there, reads_on, reads_back, reads_within, NamesPartner-back, Open-on, Open-back}
+use Rattle.rv_book.proofs.Places.{get-append, get-append_end, get-append_cases, get-remove_before, get-remove_from}
+use Rattle.rv_book.proofs.Growing.{call_read, partner_read, read_there, reads_on, reads_back, reads_within, NamesPartner-back, Open-on, Open-back}
 
 -- ---- one more entry
 
@@ -31,7 +31,7 @@ GivesNothing e = (call : Call) (queue : ℕ) → call_in e.act ≡ Some call →
 -- no entry stops a giving arrival
 unstopped : (es : List Entry) (queue r s : ℕ) → GivesAt es queue r → StoppedAt es r s → ⊥
 unstopped es queue r s gives stopped =
-    let same : gives.call ≡ stopped.call = same_Some _ _ (sym gives.arrived ∙ ap call_read stopped.request_is ∙ ap call_in stopped.arrived) in
+    let same : gives.call ≡ stopped.call = same_Some _ _ (sym gives.arrived ∙ ap (option_and_then call_in) stopped.arrived) in
     stopped.no_put (subst IsPut same (givers_are_puts gives.call queue gives.gives))
 
 GivesAt-on : (es more : List Entry) (queue r : ℕ) → GivesAt es queue r → GivesAt (es ++ more) queue r
@@ -100,7 +100,7 @@ last_unmet a e legal none met =
 last_unstopped : (es : List Entry) (e : Entry) → Stopped (es ++ e ∷ []) (length es) → ⊥
 last_unstopped es e stopped =
     let later : length es < stopped.0 = stopped.1.later in
-    elim (get-append_cases es e stopped.1.stopper stopped.0 stopped.1.stopper_is) [ inl inside ↦ omega arith | inr last ↦ omega arith ]
+    elim (get-append_cases es e stopped.1.stopper stopped.0 stopped.1.there) [ inl inside ↦ omega arith | inr last ↦ omega arith ]
 
 -- ---- the list
 

@@ -1,5 +1,5 @@
 -- The kinds of calls: who gives, who takes, who stays until it is met (Java SE 21, `TransferQueue`).
-use Rattle.std.specs.Prelude.{◌≡◌, ◌⊎◌, ℕ, List, Bool, true, Option, Some, None}
+use Rattle.std.specs.Prelude.{◌≡◌, ◌⊎◌, ℕ, List, Option, Some, None}
 use Rattle.rv_text.specs.declared.message.Wait.{Wait}
 use Rattle.rv_text.specs.declared.message.Wait.TheVariants.{Now}
 use Rattle.rv_text.specs.declared.message.Call.{Call}
@@ -21,9 +21,9 @@ item_of (Put queue item) = Some item
 item_of (Take queue wait) = None
 
 -- the call may name a partner: it gives, takes or exchanges
-abbrev pub may_meet : Call → Bool
-may_meet (Put queue item) = true
-may_meet (Take queue wait) = true
+abbrev pub MayMeet : Call → Type 0
+MayMeet (Put queue item) = Unit {0}
+MayMeet (Take queue wait) = Unit {0}
 
 abbrev pub IsPut : Call → Type 0
 IsPut (Put queue item) = Unit {0}

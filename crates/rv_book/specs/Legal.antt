@@ -1,13 +1,14 @@
 -- Which entry may stand behind which entries, and so which accounts are legal.
-use Rattle.std.specs.Prelude.{◌≡◌, ◌⊎◌, ◌<◌, ◌≤◌, ◌+◌, ℕ, List, length, take, Option, Some, None, IsTrue, slice_get}
+use Rattle.std.specs.Prelude.{◌≡◌, ◌⊎◌, ◌<◌, ◌≤◌, ◌+◌, ℕ, List, length, take, Some, None, slice_get}
 use Rattle.rv_text.specs.declared.message.Key.{Key}
 use Rattle.rv_text.specs.declared.message.Call.{Call}
 use Rattle.rv_book.specs.declared.account.Entry.{Entry}
+use Rattle.rv_book.specs.declared.account.Act.{Act}
 use Rattle.rv_book.specs.declared.account.Act.TheVariants.{Hello, Arrive}
-use Rattle.rv_book.specs.Account.{Account, act_at, moment_at, call_in, call_at}
-use Rattle.rv_book.specs.Calls.{gives_to, takes_from, may_meet, limit_of, AreOpposite, AreOneSide}
+use Rattle.rv_book.specs.Account.{Account, act_at, moment_at, call_in, key_in, call_at}
+use Rattle.rv_book.specs.Calls.{gives_to, takes_from, MayMeet, AreOpposite, AreOneSide}
 use Rattle.rv_book.specs.Sessions.{HasIncarnation, LastNumber, NamesKey}
-use Rattle.rv_book.specs.Waiting.{Met, Open, Waiting}
+use Rattle.rv_book.specs.Waiting.{limit_at, Met, Open, Waiting}
 
 -- ---- moments
 
@@ -16,10 +17,14 @@ pub record KeepsTime (a : Account) (moment : ℕ) : Type 0 where
   pub opened : a.opened ≤ moment
   pub since : (r earlier : ℕ) → moment_at a.entries r ≡ Some earlier → earlier ≤ moment
 
--- no waiting request has a limit at or below the entry's moment
-abbrev pub KeepsLimits : List Entry → Entry → Type 0
-KeepsLimits entries e = (r limit : ℕ) (request : Entry) (call : Call) → Waiting entries r → slice_get entries r ≡ Some request → call_in request.act ≡ Some call
-    → limit_of request.moment call ≡ Some limit → e.moment < limit
+-- no waiting request has a limit at or below the moment
+abbrev pub NothingDue : List Entry → ℕ → Type 0
+NothingDue entries moment = (r limit : ℕ) → Waiting entries r → limit_at entries r ≡ Some limit → moment < limit
+
+-- at an act other than a time-out, no waiting request has a limit at or below its moment
+abbrev pub KeepsLimits : List Entry → ℕ → Act → Type 0
+KeepsLimits entries moment (Hello client incarnation) = NothingDue entries moment
+KeepsLimits entries moment (Arrive key call) = NothingDue entries moment
 
 -- ---- numbers
 
@@ -27,9 +32,9 @@ KeepsLimits entries e = (r limit : ℕ) (request : Entry) (call : Call) → Wait
 abbrev pub RaisesIncarnation : List Entry → Entry → Type 0
 RaisesIncarnation entries e = (client incarnation r earlier : ℕ) → e.act ≡ Hello client incarnation → act_at entries r ≡ Some (Hello client earlier) → earlier < incarnation
 
--- an arrival has the account's epoch and its client's incarnation
+-- the key that an entry names has the account's epoch and its client's incarnation
 abbrev pub IsOfSession : Account → Entry → Type 0
-IsOfSession a e = (key : Key) (call : Call) → e.act ≡ Arrive key call → (key.epoch ≡ a.epoch) × HasIncarnation a.entries key.client key.incarnation
+IsOfSession a e = (key : Key) → key_in e.act ≡ Some key → (key.epoch ≡ a.epoch) × HasIncarnation a.entries key.client key.incarnation
 
 -- an arrival has its session's next number, and nothing of that session waits
 pub record IsNextNumber (entries : List Entry) (key : Key) : Type 0 where
@@ -47,7 +52,7 @@ CountsUp entries e = (key : Key) (call : Call) → e.act ≡ Arrive key call →
 pub record IsFreePartner (entries : List Entry) (e : Entry) (p : ℕ) : Type 0 where
   pub call : Call
   pub arrives : call_in e.act ≡ Some call
-  pub meets : IsTrue (may_meet call)
+  pub meets : MayMeet call
   pub earlier : p < length entries
   pub unmet : ¬ Met entries p
 
@@ -63,7 +68,7 @@ pub record IsOpenOpposite (entries : List Entry) (call : Call) (p : ℕ) : Type 
   pub other : Call
   pub arrived : call_at entries p ≡ Some other
   pub opposite : AreOpposite other call
-  pub «open» : Open entries p
+  pub is_open : Open entries p
 
 abbrev pub PairsOpposites : List Entry → Entry → Type 0
 PairsOpposites entries e = (p : ℕ) (call : Call) → e.partner ≡ Some p → call_in e.act ≡ Some call → IsOfQueue call → IsOpenOpposite entries call p
@@ -83,7 +88,7 @@ PairsWherePossible entries e = (r : ℕ) (call other : Call) → e.partner ≡ N
 -- the entry may stand behind those of the account
 pub record MayFollow (a : Account) (e : Entry) : Type 0 where
   pub keeps_time : KeepsTime a e.moment
-  pub keeps_limits : KeepsLimits a.entries e
+  pub keeps_limits : KeepsLimits a.entries e.moment e.act
   pub raises_incarnation : RaisesIncarnation a.entries e
   pub of_session : IsOfSession a e
   pub counts_up : CountsUp a.entries e

@@ -1,5 +1,5 @@
 -- The reply of a request, as an account tells it: the first case that applies.
-use Rattle.std.specs.Prelude.{◌≡◌, ◌⊎◌, ℕ, List, Some, option_and_then}
+use Rattle.std.specs.Prelude.{◌≡◌, ◌⊎◌, ℕ, List, Some}
 use Rattle.rv_text.specs.declared.message.Key.{Key}
 use Rattle.rv_text.specs.declared.message.Wait.{Wait}
 use Rattle.rv_text.specs.declared.message.Wait.TheVariants.{Now}
@@ -25,18 +25,22 @@ pub record Gets (entries : List Entry) (r : ℕ) (item : List ℕ) : Type 0 wher
   pub arrived : call_at entries giver ≡ Some call
   pub hands_over : item_of call ≡ Some item
 
--- what an unmet take of this wait is told
-abbrev pub TakesNothing : Wait → Reply → Type 0
-TakesNothing Now reply = reply ≡ Empty
+-- what the unmet request that arrived at r is told, by its wait: at once this reply
+abbrev pub RepliesUnmet : List Entry → ℕ → Wait → Reply → Reply → Type 0
+RepliesUnmet entries r Now at_once reply = reply ≡ at_once
 
 -- the reply of the request with this call that arrived at r
 abbrev pub RepliesAt : List Entry → ℕ → Call → Reply → Type 0
 RepliesAt entries r (Put queue item) reply = reply ≡ Done
-RepliesAt entries r (Take queue wait) reply = ((item : List ℕ) × Gets entries r item × (reply ≡ Item item)) ⊎ ((¬ Met entries r) × TakesNothing wait reply)
+RepliesAt entries r (Take queue wait) reply = ((item : List ℕ) × Gets entries r item × (reply ≡ Item item)) ⊎ ((¬ Met entries r) × RepliesUnmet entries r wait Empty reply)
 
--- the reply of the request with this key
-pub record HasReply (entries : List Entry) (key : Key) (reply : Reply) : Type 0 where
+-- the request with this key arrived, and it has this reply
+pub record RepliesToArrival (entries : List Entry) (key : Key) (reply : Reply) : Type 0 where
   pub place : ℕ
   pub call : Call
   pub arrived : act_at entries place ≡ Some (Arrive key call)
   pub replies : RepliesAt entries place call reply
+
+-- the reply of the request with this key
+abbrev pub HasReply : List Entry → Key → Reply → Type 0
+HasReply entries key reply = RepliesToArrival entries key reply

@@ -2,7 +2,6 @@
 use Rattle.std.specs.Prelude.{◌≡◌, ◌≢◌, ◌⊎◌, ◌<◌, ◌≤◌, ◌+◌, ◌-◌, ◌^◌, ◌↔◌, ℕ, List, length, Contains, Some, min, max, unwrap_or}
 use Rattle.std.specs.List.Sorted.{IsStrictlyIncreasing}
 use Rattle.rv_text.specs.declared.message.Key.{Key}
-use Rattle.rv_text.specs.declared.message.Wait.{Wait}
 use Rattle.rv_text.specs.declared.message.Wait.TheVariants.{Now}
 use Rattle.rv_text.specs.declared.message.Call.{Call}
 use Rattle.rv_text.specs.declared.message.Call.TheVariants.{Put, Take}
@@ -58,6 +57,10 @@ OldNumberDue a key refusal = (last : ℕ) × LastNumber a.entries key.client las
 abbrev pub GapDue : Account → Key → Refusal → Type 0
 GapDue a key refusal = (last : ℕ) × LastNumber a.entries key.client last × (last + 1 < key.number) × (refusal ≡ Gap last)
 
+-- the most entries of an epoch
+abbrev pub max_entries : ℕ
+max_entries = 100000
+
 -- the places with a property, and no others, number n
 abbrev pub NumberOf : (ℕ → Type 0) → ℕ → Type 0
 NumberOf P n = (places : List ℕ) × IsStrictlyIncreasing places × ((r : ℕ) → Contains places r ↔ P r) × (n ≡ length places)
@@ -69,7 +72,7 @@ need_of (Take queue Now) = 1
 
 -- the entries, those that the waiting requests may come to need and those that are needed now are more than 100,000
 abbrev pub EpochFullDue : Account → ℕ → Refusal → Type 0
-EpochFullDue a need refusal = (waiting : ℕ) × NumberOf (Waiting a.entries) waiting × (100000 < length a.entries + waiting + need) × (refusal ≡ EpochFull)
+EpochFullDue a need refusal = (waiting : ℕ) × NumberOf (Waiting a.entries) waiting × (max_entries < length a.entries + waiting + need) × (refusal ≡ EpochFull)
 
 -- ---- the lines of a step, of which the first that applies decides
 
@@ -117,23 +120,28 @@ pub record Adds (a : Account) (moment : ℕ) (does : Act) (b : Account) : Type 0
   pub follows : b ≡ with_entry a entry
   pub legal : Legal b
 
--- the key has a reply, and it is the answer
-abbrev pub Replies : Account → Key → Answer → Type 0
-Replies b key answer = (reply : Reply) × HasReply b.entries key reply × (answer ≡ Replied key reply)
+-- what the request with this key is told: its reply
+abbrev pub Tells : Account → Key → Answer → Type 0
+Tells b key answer = (reply : Reply) × HasReply b.entries key reply × (answer ≡ Replied key reply)
 
 -- where a growth was refused the account stays; else it gets the message's own entry
-abbrev pub Enters : Account → ℕ → Act → Account → Answer → Type 0 → Type 0
-Enters a moment does b answer answers = Refuses a b answer NoMemory ⊎ (Adds a moment does b × answers)
+abbrev pub EntersOrNoMemory : Account → ℕ → Act → Account → Answer → Type 0 → Type 0
+EntersOrNoMemory a moment does b answer told = Refuses a b answer NoMemory ⊎ (Adds a moment does b × told)
 
 -- the step of a message at a moment: the accounts before and after, and the answer
 abbrev pub NextAt : Account → ℕ → Message → Account → Answer → Type 0
 NextAt a moment (Hello client incarnation) b answer =
     HelloLines a client incarnation (Refuses a b answer)
     ((b ≡ a) × (answer ≡ Welcome a.epoch client incarnation))
-    (Enters a moment (act.TheVariants.Hello client incarnation) b answer (answer ≡ Welcome a.epoch client incarnation))
+    (EntersOrNoMemory a moment (act.TheVariants.Hello client incarnation) b answer (answer ≡ Welcome a.epoch client incarnation))
 NextAt a moment (Request key call) b answer =
     RequestLines a key call (Refuses a b answer)
-    (Enters a moment (act.TheVariants.Arrive key call) b answer (Replies b key answer))
+    (EntersOrNoMemory a moment (act.TheVariants.Arrive key call) b answer (Tells b key answer))
 
+-- the account after the time-outs of a step: the same, where nothing can be due
+abbrev pub Ticks : Account → ℕ → Account → Type 0
+Ticks a moment b = b ≡ a
+
+-- one step: the account before, the moment that is handed in, the message, the account after and the answer
 abbrev pub Next : Account → ℕ → Message → Account → Answer → Type 0
-Next a now m b answer = NextAt a (step_moment a now) m b answer
+Next a now m b answer = (ticked : Account) × Ticks a (step_moment a now) ticked × NextAt ticked (step_moment a now) m b answer

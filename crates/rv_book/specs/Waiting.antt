@@ -1,18 +1,18 @@
 -- Which arrivals of a list of entries were met, were stopped, and are still open.
-use Rattle.std.specs.Prelude.{◌≡◌, ◌⊎◌, ◌<◌, ℕ, List, Option, Some, IsTrue, slice_get}
+use Rattle.std.specs.Prelude.{◌≡◌, ◌⊎◌, ◌<◌, ℕ, List, Option, Some, option_and_then, slice_get}
 use Rattle.rv_text.specs.declared.message.Key.{Key}
 use Rattle.rv_text.specs.declared.message.Call.{Call}
 use Rattle.rv_book.specs.declared.account.Entry.{Entry}
 use Rattle.rv_book.specs.declared.account.Act.{Act}
 use Rattle.rv_book.specs.declared.account.Act.TheVariants.{Hello, Arrive}
-use Rattle.rv_book.specs.Account.{act_at, partner_at, call_at}
-use Rattle.rv_book.specs.Calls.{may_meet, IsPut, Stays, limit_of}
+use Rattle.rv_book.specs.Account.{act_at, partner_at, call_in, call_at}
+use Rattle.rv_book.specs.Calls.{MayMeet, IsPut, Stays, limit_of}
 
 -- the arrival at p names the earlier arrival at q: a pair or a swap, whose place is p
 pub record NamesPartner (entries : List Entry) (p q : ℕ) : Type 0 where
   pub call : Call
   pub arrived : call_at entries p ≡ Some call
-  pub meets : IsTrue (may_meet call)
+  pub meets : MayMeet call
   pub named : partner_at entries p ≡ Some q
 
 -- the arrival at r is in a pair or a swap
@@ -22,6 +22,13 @@ pub record Met (entries : List Entry) (r : ℕ) : Type 0 where
   pub names : NamesPartner entries later earlier
   pub part : (r ≡ later) ⊎ (r ≡ earlier)
 
+-- the limit of the request that arrived at r
+abbrev pub limit_in : Entry → Option ℕ
+limit_in e = option_and_then (limit_of e.moment) (call_in e.act)
+
+abbrev pub limit_at : List Entry → ℕ → Option ℕ
+limit_at entries r = option_and_then limit_in (slice_get entries r)
+
 -- an act of a moment ends the wait of the request with this key and this limit
 abbrev pub EndsWait : Act → ℕ → Key → Option ℕ → Type 0
 EndsWait (Hello client incarnation) moment key limit = client ≡ key.client
@@ -29,16 +36,14 @@ EndsWait (Arrive other call) moment key limit = ⊥
 
 -- the entry at s stops the request that arrived at r; nothing stops a put
 pub record StoppedAt (entries : List Entry) (r s : ℕ) : Type 0 where
-  pub request : Entry
-  pub stopper : Entry
   pub key : Key
   pub call : Call
-  pub request_is : slice_get entries r ≡ Some request
-  pub stopper_is : slice_get entries s ≡ Some stopper
-  pub later : r < s
-  pub arrived : request.act ≡ Arrive key call
+  pub stopper : Entry
+  pub arrived : act_at entries r ≡ Some (Arrive key call)
   pub no_put : ¬ IsPut call
-  pub ends : EndsWait stopper.act stopper.moment key (limit_of request.moment call)
+  pub later : r < s
+  pub there : slice_get entries s ≡ Some stopper
+  pub ends : EndsWait stopper.act stopper.moment key (limit_at entries r)
 
 abbrev pub Stopped : List Entry → ℕ → Type 0
 Stopped entries r = (s : ℕ) × StoppedAt entries r s
@@ -53,5 +58,5 @@ pub record Open (entries : List Entry) (r : ℕ) : Type 0 where
 
 -- an open request other than a put
 pub record Waiting (entries : List Entry) (r : ℕ) : Type 0 where
-  pub «open» : Open entries r
-  pub no_put : ¬ IsPut «open».call
+  pub is_open : Open entries r
+  pub no_put : ¬ IsPut is_open.call

@@ -3,7 +3,7 @@ ghost use Rattle.std.specs.Prelude.{◌≡◌, ◌==◌, [], length, slice_get, 
 ghost use Rattle.std.specs.Option.{option_copied};
 ghost use Rattle.rv_book.specs.Account.{with_entry};
 
-use rv_text::{Call, Key, NoMemory};
+use rv_text::{Call, Item, Key, NoMemory};
 use std::alloc::{AllocError, Global};
 use std::marker::Model;
 
@@ -47,7 +47,30 @@ impl Model for Account {
     ghost view = { λ a. record { epoch = a.epoch; opened = a.opened; entries = a.entries.items } };
 }
 
+impl Entry {
+    ghost use Rattle.rv_book.specs.declared.account.Act.TheVariants.{Hello};
+    ghost use Rattle.std.specs.Prelude.{None};
+
+    // A hello's entry.
+    pub(crate) fn hello(moment: u64, client: u64, incarnation: u64) -> Entry
+        ensures { result ≡ record { moment = moment; act = Hello client incarnation; partner = None } }
+    {
+        Entry {
+            moment,
+            act: Act::Hello {
+                client,
+                incarnation,
+            },
+            partner: None,
+        }
+    }
+}
+
 impl Account {
+    ghost use Rattle.rv_book.specs.Steps.{own_moment};
+    ghost use Rattle.rv_book.specs.Verdicts.{item_at};
+    ghost use Rattle.std.specs.Prelude.{Some, IsSome};
+
     /// The epoch, 1 to 2^53 - 1.
     pub fn epoch(&self) -> u64
         ensures { result ≡ self.now.epoch }
@@ -83,6 +106,35 @@ impl Account {
         self.entries.get(place)
     }
 
+    // The item that the arrival at a place hands over.
+    pub(crate) fn item(&self, place: Place) -> &Item
+        requires { IsSome (item_at self.now.entries place) }
+        ensures { item_at self.now.entries place ≡ Some result.now }
+    {
+        match self.entry(place) {
+            Some(
+                Entry {
+                    act: Act::Arrive {
+                        call: Call::Put { item, .. },
+                        ..
+                    },
+                    ..
+                },
+            ) => item,
+            _ => unreachable!(),
+        }
+    }
+
+    // The moment of the last entry, or the opening moment while there is none.
+    pub(crate) fn own_moment(&self) -> u64
+        ensures { result ≡ own_moment self.now }
+    {
+        match self.entries.last() {
+            Some(entry) => entry.moment,
+            None => self.opened,
+        }
+    }
+
     // An empty account.
     pub(crate) fn empty(alloc: Global, epoch: u64, opened: u64) -> Account
         ensures epoch { result.epoch ≡ epoch }
@@ -102,5 +154,19 @@ impl Account {
         ensures err { OnErr result (self.new ≡ self.old) }
     {
         self.entries.push(entry).map_err(AllocError::from)
+    }
+
+    // The account of these entries, legal or not.
+    #[cfg(test)]
+    pub(crate) fn of(epoch: u64, opened: u64, entries: Vec<Entry>) -> Account
+        ensures epoch { result.epoch ≡ epoch }
+        ensures opened { result.opened ≡ opened }
+        ensures entries { result.entries ≡ entries.items }
+    {
+        Account {
+            epoch,
+            opened,
+            entries,
+        }
     }
 }

@@ -2,9 +2,16 @@
 #![tactic(auto)]
 
 mod account;
+#[cfg(test)]
+mod accounts;
+mod book;
+#[cfg(test)]
+mod plain;
 mod state;
 mod tables;
 mod verdict;
 
 pub use account::{Account, Act, Entry, Place};
+pub use book::Book;
+pub use state::MAX_MOMENT;
 pub use verdict::Verdict;

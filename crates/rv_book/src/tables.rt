@@ -1,8 +1,9 @@
 //! The book's private lists: one session for each client, and the items that wait.
-ghost use Rattle.std.specs.Prelude.{◌≡◌, ◌≢◌, ℕ, Some, IfSome, IfNone, slice_get};
-ghost use Rattle.rv_book.specs.Tables.{IsFirstOf};
+ghost use Rattle.std.specs.Prelude.{◌≡◌, ◌≢◌, ◌<◌, ◌++◌, ◌∷◌, [], ℕ, Some, IfSome, IfNone, slice_get, vec_len, vec_capacity};
+ghost use Rattle.rv_book.specs.Tables.{IsFirstOf, IsKnown, IsUnknown};
 
 use crate::account::Place;
+use rv_text::Key;
 
 /// What the book keeps of a client.
 #[derive(Clone, Copy)]
@@ -22,8 +23,8 @@ pub(crate) struct WaitingItem {
 
 // The index of the client's session. The cost grows with the clients.
 pub(crate) fn session_of(sessions: &[Session], client: u64) -> Option<usize>
-    ensures found { IfSome result (λ i. (session : Session) × (slice_get sessions.now i ≡ Some session) × (session.client ≡ client)) }
-    ensures none { IfNone result ((i : ℕ) (session : Session) → slice_get sessions.now i ≡ Some session → session.client ≢ client) }
+    ensures found { IfSome result (IsKnown sessions.now client) }
+    ensures none { IfNone result (IsUnknown sessions.now client) }
 {
     sessions.iter().position(|session| session.client == client)
 }
@@ -34,4 +35,36 @@ pub(crate) fn oldest_of(waiting: &[WaitingItem], queue: u64) -> Option<usize>
     ensures none { IfNone result ((i : ℕ) (item : WaitingItem) → slice_get waiting.now i ≡ Some item → item.queue ≢ queue) }
 {
     waiting.iter().position(|item| item.queue == queue)
+}
+
+// Appends where there is room.
+pub(crate) fn append<T>(list: &mut Vec<T>, value: T)
+    requires { vec_len list.old < vec_capacity list.old }
+    ensures { list.new.items ≡ list.old.items ++ value ∷ [] }
+{
+    list.push(value).unwrap();
+}
+
+impl Session {
+    // A session that asked for nothing yet.
+    pub(crate) fn fresh(client: u64, incarnation: u64) -> Session
+        ensures { result ≡ record { client = client; incarnation = incarnation; last = 0 } }
+    {
+        Session {
+            client,
+            incarnation,
+            last: 0,
+        }
+    }
+
+    // The key's session, once its request has come.
+    pub(crate) fn after(key: &Key) -> Session
+        ensures { result ≡ record { client = key.now.client; incarnation = key.now.incarnation; last = key.now.number } }
+    {
+        Session {
+            client: key.client,
+            incarnation: key.incarnation,
+            last: key.number,
+        }
+    }
 }

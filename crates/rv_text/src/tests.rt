@@ -6,17 +6,25 @@ use crate::{
 use std::alloc::{AllocError, Global};
 use std::test::Fail;
 
-fn key(client: u64, number: u64) -> Key {
+// The key of the client's first request.
+fn key(client: u64) -> Key {
     Key {
         epoch: 1,
         client,
         incarnation: 1,
-        number,
+        number: 1,
     }
 }
 
 fn item(alloc: Global, text: &str) -> Result<Item, AllocError> {
     Ok(Item::from_text(String::from_str(alloc, text)?))
+}
+
+fn replied(client: u64, reply: Reply) -> Answer {
+    Answer::Replied {
+        key: key(client),
+        reply,
+    }
 }
 
 #[test]
@@ -27,38 +35,20 @@ fn answers_are_written(rt: HostRuntime) -> Result<(), Fail> {
         client: 1,
         incarnation: 1,
     };
-    let done = Answer::Replied {
-        key: key(1, 1),
-        reply: Reply::Done,
-    };
-    let taken = Answer::Replied {
-        key: key(2, 1),
-        reply: Reply::Item(item(alloc, "a")?),
-    };
-    let empty = Answer::Replied {
-        key: key(2, 1),
-        reply: Reply::Empty,
-    };
-    for (answer, want) in [
-        (
-            &welcome,
-            "{\"client\":1,\"epoch\":1,\"incarnation\":1,\"kind\":\"welcome\"}",
-        ),
-        (
-            &done,
-            "{\"client\":1,\"epoch\":1,\"incarnation\":1,\"kind\":\"reply\",\"number\":1,\"reply\":\"done\"}",
-        ),
-        (
-            &taken,
-            "{\"client\":2,\"epoch\":1,\"incarnation\":1,\"item\":\"a\",\"kind\":\"reply\",\"number\":1,\"reply\":\"item\"}",
-        ),
-        (
-            &empty,
-            "{\"client\":2,\"epoch\":1,\"incarnation\":1,\"kind\":\"reply\",\"number\":1,\"reply\":\"empty\"}",
-        ),
-    ] {
-        assert_eq!(rt; encode_answer(alloc, answer)?.as_str(), want);
-    }
+    let want = "{\"client\":1,\"epoch\":1,\"incarnation\":1,\"kind\":\"welcome\"}";
+    assert_eq!(rt; encode_answer(alloc, &welcome)?.as_str(), want);
+    let done = replied(1, Reply::Done);
+    let want = "{\"client\":1,\"epoch\":1,\"incarnation\":1,\"kind\":\"reply\",\"number\":1,\
+        \"reply\":\"done\"}";
+    assert_eq!(rt; encode_answer(alloc, &done)?.as_str(), want);
+    let taken = replied(2, Reply::Item(item(alloc, "a")?));
+    let want = "{\"client\":2,\"epoch\":1,\"incarnation\":1,\"item\":\"a\",\"kind\":\"reply\",\
+        \"number\":1,\"reply\":\"item\"}";
+    assert_eq!(rt; encode_answer(alloc, &taken)?.as_str(), want);
+    let empty = replied(2, Reply::Empty);
+    let want = "{\"client\":2,\"epoch\":1,\"incarnation\":1,\"kind\":\"reply\",\"number\":1,\
+        \"reply\":\"empty\"}";
+    assert_eq!(rt; encode_answer(alloc, &empty)?.as_str(), want);
     Ok(())
 }
 
@@ -113,27 +103,15 @@ fn items_are_escaped(rt: HostRuntime) -> Result<(), Fail> {
         return Err(Fail::new("the body is no put"));
     };
     assert_eq!(rt; item.as_str(), "\u{1}\"\\é");
-    let answer = Answer::Replied {
-        key: key(2, 1),
-        reply: Reply::Item(item),
-    };
+    let answer = replied(2, Reply::Item(item));
     let want = "{\"client\":2,\"epoch\":1,\"incarnation\":1,\"item\":\"\\u0001\\\"\\\\é\",\
         \"kind\":\"reply\",\"number\":1,\"reply\":\"item\"}";
     assert_eq!(rt; encode_answer(alloc, &answer)?.as_str(), want);
     Ok(())
 }
 
-fn hello_7(alloc: Global, body: &str) -> bool {
-    let hello = Message::Hello {
-        client: 7,
-        incarnation: 1,
-    };
-    decode_message(alloc, body.as_bytes()) == Ok(hello)
-}
-
 #[test]
-fn messages_are_read(rt: HostRuntime) -> Result<(), Fail> {
-    let alloc = rt.alloc();
+fn hellos_are_read(rt: HostRuntime) -> Result<(), Fail> {
     for body in [
         "{\"client\":7,\"incarnation\":1,\"kind\":\"hello\"}",
         "{ \"kind\":\"hello\", \"incarnation\":1, \"client\":7 }",
@@ -141,254 +119,218 @@ fn messages_are_read(rt: HostRuntime) -> Result<(), Fail> {
         // The last of two counts.
         "{\"client\":8,\"client\":7,\"incarnation\":1,\"kind\":\"hello\"}",
     ] {
-        assert!(rt; hello_7(alloc, body), "{body}");
+        let hello = Message::Hello {
+            client: 7,
+            incarnation: 1,
+        };
+        assert!(rt;
+            decode_message(rt.alloc(), body.as_bytes())? == hello,
+            "{body}"
+        );
     }
+    let body = "{\"client\":9007199254740991,\"incarnation\":9007199254740991,\"kind\":\"hello\"}";
+    let greatest = Message::Hello {
+        client: 9_007_199_254_740_991,
+        incarnation: 9_007_199_254_740_991,
+    };
+    assert!(rt; decode_message(rt.alloc(), body.as_bytes())? == greatest);
+    Ok(())
+}
+
+#[test]
+fn requests_are_read(rt: HostRuntime) -> Result<(), Fail> {
+    let alloc = rt.alloc();
+    let body = "{\"call\":\"put\",\"client\":1,\"epoch\":1,\"incarnation\":1,\"item\":\"a\",\
+        \"kind\":\"request\",\"number\":1,\"queue\":3}";
     let put = Message::Request {
-        key: key(1, 1),
+        key: key(1),
         call: Call::Put {
             queue: 3,
             item: item(alloc, "a")?,
         },
     };
-    let body = "{\"call\":\"put\",\"client\":1,\"epoch\":1,\"incarnation\":1,\"item\":\"a\",\
-        \"kind\":\"request\",\"number\":1,\"queue\":3}";
     assert!(rt; decode_message(alloc, body.as_bytes())? == put);
+    let body = "{\"call\":\"take\",\"client\":2,\"epoch\":1,\"incarnation\":1,\
+        \"kind\":\"request\",\"number\":1,\"queue\":3,\"wait\":\"now\"}";
     let take = Message::Request {
-        key: key(2, 1),
+        key: key(2),
         call: Call::Take {
             queue: 3,
             wait: Wait::Now,
         },
     };
-    let body = "{\"call\":\"take\",\"client\":2,\"epoch\":1,\"incarnation\":1,\
-        \"kind\":\"request\",\"number\":1,\"queue\":3,\"wait\":\"now\"}";
     assert!(rt; decode_message(alloc, body.as_bytes())? == take);
-    let limits =
-        "{\"client\":9007199254740991,\"incarnation\":9007199254740991,\"kind\":\"hello\"}";
-    let greatest = Message::Hello {
-        client: 9_007_199_254_740_991,
-        incarnation: 9_007_199_254_740_991,
-    };
-    assert!(rt; decode_message(alloc, limits.as_bytes())? == greatest);
     Ok(())
 }
 
 const HELLO: &[u8] = b"{\"client\":7,\"incarnation\":1,\"kind\":\"hello\"}";
 
+// What follows the client in a hello, the queue in a take, and what stands before the item's text in
+// a put.
+const REST: &[u8] = b",\"incarnation\":1,\"kind\":\"hello\"}";
+
+const TAKE_REST: &[u8] = b",\"call\":\"take\",\"client\":2,\"epoch\":1,\"incarnation\":1,\
+    \"kind\":\"request\",\"number\":1,\"wait\":\"now\"}";
+
 const PUT: &[u8] = b"{\"call\":\"put\",\"client\":1,\"epoch\":1,\"incarnation\":1,\
     \"kind\":\"request\",\"number\":1,\"queue\":3,\"item\":\"";
 
-// What each body gives: `None` where it is read, and else its fault. A body is its pieces, each as
-// often as its number says.
+const READ: Option<TextFault> = None;
+
+const NOT_JSON: Option<TextFault> = Some(TextFault::NotJson);
+
+const NOT_MESSAGE: Option<TextFault> = Some(TextFault::NotMessage);
+
+// What each body gives. A body is its pieces, each as often as its number says.
 const INPUTS: &[(&str, &[(&[u8], usize)], Option<TextFault>)] = &[
-    ("a hello", &[(HELLO, 1)], None),
-    ("no bytes", &[], Some(TextFault::NotMessage)),
-    ("4,096 bytes", &[(HELLO, 1), (b" ", 4053)], None),
-    (
-        "4,097 bytes",
-        &[(HELLO, 1), (b" ", 4054)],
-        Some(TextFault::NotMessage),
-    ),
-    (
-        "4,097 bytes that are no JSON",
-        &[(b"?", 4097)],
-        Some(TextFault::NotMessage),
-    ),
+    ("a hello", &[(HELLO, 1)], READ),
+    ("no bytes", &[], NOT_MESSAGE),
+    ("4,096 bytes", &[(HELLO, 1), (b" ", 4053)], READ),
+    ("4,097 bytes", &[(HELLO, 1), (b" ", 4054)], NOT_MESSAGE),
+    ("4,097 bytes that are no JSON", &[(b"?", 4097)], NOT_MESSAGE),
     (
         "not UTF-8",
-        &[(
-            b"{\"client\":7,\"incarnation\":1,\"kind\":\"hello\xff\"}",
-            1,
-        )],
-        Some(TextFault::NotJson),
+        &[(b"{\"x\xff\":1,\"client\":7", 1), (REST, 1)],
+        NOT_JSON,
     ),
     (
         "cut in the middle",
         &[(b"{\"client\":7,\"incar", 1)],
-        Some(TextFault::NotJson),
+        NOT_JSON,
     ),
-    (
-        "cut in a character",
-        &[(PUT, 1), (b"\xc3", 1)],
-        Some(TextFault::NotJson),
-    ),
-    (
-        "127 arrays",
-        &[(b"[", 127), (b"]", 127)],
-        Some(TextFault::NotMessage),
-    ),
-    (
-        "128 arrays",
-        &[(b"[", 128), (b"]", 128)],
-        Some(TextFault::NotJson),
-    ),
+    ("cut in a character", &[(PUT, 1), (b"\xc3", 1)], NOT_JSON),
+    ("127 arrays", &[(b"[", 127), (b"]", 127)], NOT_MESSAGE),
+    ("128 arrays", &[(b"[", 128), (b"]", 128)], NOT_JSON),
+    ("an array", &[(b"[", 1), (HELLO, 1), (b"]", 1)], NOT_MESSAGE),
+    ("client 7", &[(b"{\"client\":7", 1), (REST, 1)], READ),
     (
         "client 1.0",
-        &[(b"{\"client\":1.0,\"incarnation\":1,\"kind\":\"hello\"}", 1)],
-        Some(TextFault::NotMessage),
+        &[(b"{\"client\":1.0", 1), (REST, 1)],
+        NOT_MESSAGE,
     ),
     (
         "client 1e2",
-        &[(b"{\"client\":1e2,\"incarnation\":1,\"kind\":\"hello\"}", 1)],
-        Some(TextFault::NotMessage),
+        &[(b"{\"client\":1e2", 1), (REST, 1)],
+        NOT_MESSAGE,
     ),
     (
         "client -0",
-        &[(b"{\"client\":-0,\"incarnation\":1,\"kind\":\"hello\"}", 1)],
-        Some(TextFault::NotMessage),
+        &[(b"{\"client\":-0", 1), (REST, 1)],
+        NOT_MESSAGE,
+    ),
+    ("client 07", &[(b"{\"client\":07", 1), (REST, 1)], NOT_JSON),
+    ("client 0", &[(b"{\"client\":0", 1), (REST, 1)], NOT_MESSAGE),
+    (
+        "client 2^53",
+        &[(b"{\"client\":9007199254740992", 1), (REST, 1)],
+        NOT_MESSAGE,
     ),
     (
         "client 2^64",
-        &[(
-            b"{\"client\":18446744073709551616,\"incarnation\":1,\"kind\":\"hello\"}",
-            1,
-        )],
-        Some(TextFault::NotMessage),
+        &[(b"{\"client\":18446744073709551616", 1), (REST, 1)],
+        NOT_MESSAGE,
     ),
     (
-        "client 0",
-        &[(b"{\"client\":0,\"incarnation\":1,\"kind\":\"hello\"}", 1)],
-        Some(TextFault::NotMessage),
-    ),
-    (
-        "client 2^53",
-        &[(
-            b"{\"client\":9007199254740992,\"incarnation\":1,\"kind\":\"hello\"}",
-            1,
-        )],
-        Some(TextFault::NotMessage),
-    ),
-    (
-        "client 07",
-        &[(b"{\"client\":07,\"incarnation\":1,\"kind\":\"hello\"}", 1)],
-        Some(TextFault::NotJson),
-    ),
-    (
-        "client 1e400",
-        &[(
-            b"{\"client\":1e400,\"incarnation\":1,\"kind\":\"hello\"}",
-            1,
-        )],
-        Some(TextFault::NotJson),
+        "a text for the client",
+        &[(b"{\"client\":\"7\"", 1), (REST, 1)],
+        NOT_MESSAGE,
     ),
     (
         "a name twice",
-        &[(
-            b"{\"client\":0,\"client\":7,\"incarnation\":1,\"kind\":\"hello\"}",
-            1,
-        )],
-        None,
+        &[(b"{\"client\":0,\"client\":7", 1), (REST, 1)],
+        READ,
     ),
     (
-        "a name twice, the last bad",
-        &[(
-            b"{\"client\":7,\"client\":0,\"incarnation\":1,\"kind\":\"hello\"}",
-            1,
-        )],
-        Some(TextFault::NotMessage),
+        "twice, the last bad",
+        &[(b"{\"client\":7,\"client\":0", 1), (REST, 1)],
+        NOT_MESSAGE,
     ),
     (
         "a further member",
-        &[(
-            b"{\"client\":7,\"incarnation\":1,\"kind\":\"hello\",\"x\":1}",
-            1,
-        )],
-        Some(TextFault::NotMessage),
+        &[(b"{\"x\":1,\"client\":7", 1), (REST, 1)],
+        NOT_MESSAGE,
     ),
     (
         "a missing member",
         &[(b"{\"client\":7,\"kind\":\"hello\"}", 1)],
-        Some(TextFault::NotMessage),
+        NOT_MESSAGE,
     ),
     (
         "another kind",
         &[(b"{\"client\":7,\"incarnation\":1,\"kind\":\"hallo\"}", 1)],
-        Some(TextFault::NotMessage),
+        NOT_MESSAGE,
     ),
-    ("an array", &[(b"[1]", 1)], Some(TextFault::NotMessage)),
     (
         "a byte order mark",
         &[(b"\xef\xbb\xbf", 1), (HELLO, 1)],
-        Some(TextFault::NotJson),
+        NOT_JSON,
     ),
     (
         "white space of JSON",
         &[(b" \t\r\n", 1), (HELLO, 1), (b" \t\r\n", 1)],
-        None,
+        READ,
     ),
-    (
-        "a form feed",
-        &[(HELLO, 1), (b"\x0c", 1)],
-        Some(TextFault::NotJson),
-    ),
+    ("a form feed", &[(HELLO, 1), (b"\x0c", 1)], NOT_JSON),
     (
         "a space of U+00A0",
         &[(HELLO, 1), (b"\xc2\xa0", 1)],
-        Some(TextFault::NotJson),
+        NOT_JSON,
     ),
     (
         "a lone surrogate",
         &[(PUT, 1), (b"\\ud800\"}", 1)],
-        Some(TextFault::NotJson),
+        NOT_JSON,
     ),
     (
         "a pair of surrogates",
         &[(PUT, 1), (b"\\ud83d\\ude00\"}", 1)],
-        None,
+        READ,
     ),
     (
         "an item of 512 bytes",
         &[(PUT, 1), (b"x", 512), (b"\"}", 1)],
-        None,
+        READ,
     ),
     (
         "an item of 513 bytes",
         &[(PUT, 1), (b"x", 513), (b"\"}", 1)],
-        Some(TextFault::NotMessage),
+        NOT_MESSAGE,
     ),
     (
-        "512 bytes from escapes",
+        "512 escapes",
         &[(PUT, 1), (b"\\u0041", 512), (b"\"}", 1)],
-        None,
+        READ,
     ),
     (
-        "513 bytes from escapes",
+        "513 escapes",
         &[(PUT, 1), (b"\\u0041", 513), (b"\"}", 1)],
-        Some(TextFault::NotMessage),
+        NOT_MESSAGE,
     ),
     (
-        "512 bytes from escapes of two",
+        "256 escapes of two bytes",
         &[(PUT, 1), (b"\\u00e9", 256), (b"\"}", 1)],
-        None,
+        READ,
     ),
     (
-        "514 bytes from escapes of two",
+        "257 escapes of two bytes",
         &[(PUT, 1), (b"\\u00e9", 257), (b"\"}", 1)],
-        Some(TextFault::NotMessage),
+        NOT_MESSAGE,
     ),
+    ("queue 63", &[(b"{\"queue\":63", 1), (TAKE_REST, 1)], READ),
     (
         "queue 64",
-        &[(
-            b"{\"call\":\"take\",\"client\":2,\"epoch\":1,\"incarnation\":1,\"kind\":\"request\",\"number\":1,\"queue\":64,\"wait\":\"now\"}",
-            1,
-        )],
-        Some(TextFault::NotMessage),
+        &[(b"{\"queue\":64", 1), (TAKE_REST, 1)],
+        NOT_MESSAGE,
     ),
     (
         "queue 3.0",
-        &[(
-            b"{\"call\":\"take\",\"client\":2,\"epoch\":1,\"incarnation\":1,\"kind\":\"request\",\"number\":1,\"queue\":3.0,\"wait\":\"now\"}",
-            1,
-        )],
-        Some(TextFault::NotMessage),
+        &[(b"{\"queue\":3.0", 1), (TAKE_REST, 1)],
+        NOT_MESSAGE,
     ),
     (
         "a take with an item",
-        &[(
-            b"{\"call\":\"take\",\"client\":2,\"epoch\":1,\"incarnation\":1,\"item\":\"a\",\"kind\":\"request\",\"number\":1,\"queue\":3}",
-            1,
-        )],
-        Some(TextFault::NotMessage),
+        &[(b"{\"item\":\"\",\"queue\":3", 1), (TAKE_REST, 1)],
+        NOT_MESSAGE,
     ),
 ];
 
@@ -410,4 +352,28 @@ fn each_input_has_its_answer(rt: HostRuntime) -> Result<(), Fail> {
         assert_eq!(rt; found, *want, "{name}");
     }
     Ok(())
+}
+
+// With ample memory these two calls succeed, as the tests above show. Under `rt try --test
+// --fail-alloc N` the Nth growth is refused, and then they answer want of memory and nothing else.
+#[test]
+fn a_refused_growth_of_decode_message(rt: HostRuntime) {
+    let body =
+        b"{\"call\":\"put\",\"client\":1,\"epoch\":1,\"incarnation\":1,\"item\":\"a\\u0041\",\
+        \"kind\":\"request\",\"number\":1,\"queue\":3}";
+    match decode_message(rt.alloc(), body) {
+        Ok(message) => assert!(rt; message.fits()),
+        Err(fault) => assert_eq!(rt; fault, TextFault::NoMemory),
+    }
+}
+
+#[test]
+fn a_refused_growth_of_encode_answer(rt: HostRuntime) {
+    let Ok(item) = item(rt.alloc(), "a") else {
+        return;
+    };
+    let answer = replied(2, Reply::Item(item));
+    if let Ok(body) = encode_answer(rt.alloc(), &answer) {
+        assert!(rt; body.as_str().ends_with("\"reply\":\"item\"}"));
+    }
 }

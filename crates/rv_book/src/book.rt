@@ -1,0 +1,115 @@
+//! The book of one epoch: it takes messages one by one and says what becomes of each.
+ghost use Rattle.std.specs.Prelude.{◌≡◌, ◌≤◌, ◌^◌, [], Some, IsSome, IfOk, min};
+ghost use Rattle.rv_text.specs.declared.answer.Answer.{Answer};
+ghost use Rattle.rv_text.specs.Limits.{FitsIdentifier, FitsMessage};
+ghost use Rattle.rv_book.specs.Legal.{Legal};
+ghost use Rattle.rv_book.specs.Steps.{Next};
+ghost use Rattle.rv_book.specs.Verdicts.{says, reply_of as kept_reply};
+
+use crate::account::Account;
+use crate::state::{MAX_MOMENT, State};
+use crate::verdict::{Kept, Said, Verdict};
+use rv_text::{Answer, Message, NoMemory, Reply};
+use std::alloc::Global;
+use std::marker::Model;
+
+/// The book of an epoch, which contracts see as its [`Account`].
+///
+/// The account is always legal and within the limits; what the book keeps beside it, one session for
+/// each client and the items that wait, is what the account says.
+#[derive(Drop)]
+pub struct Book {
+    state: State,
+}
+
+impl Model for Book {
+    ghost use Rattle.rv_book.specs.Account.{Account};
+
+    ghost Value = { Account };
+
+    ghost use Rattle.rv_book.specs.Tables.{IsSoundState};
+
+    ghost view = { λ b. b.state.account };
+
+    ghost invariant = { λ b. IsSoundState b.state };
+}
+
+impl Book {
+    ghost use Rattle.rv_book.specs.Tables.{FitsAccount};
+
+    /// The book's account, as it stands.
+    pub fn account(&self) -> &Account
+        ensures same { result.now ≡ self.now }
+        ensures legal { Legal self.now }
+        ensures fits { FitsAccount self.now }
+    {
+        &self.state.account
+    }
+
+    /// Opens a book with an empty account of an epoch, 1 to 2^53 - 1, at a moment in milliseconds; one
+    /// above 2^62 counts as 2^62. It fails only where memory was refused.
+    pub fn open(alloc: Global, epoch: u64, now: u64) -> Result<Book, NoMemory>
+        requires { FitsIdentifier epoch }
+        ensures epoch { IfOk result (λ book. book.epoch ≡ epoch) }
+        ensures opened { IfOk result (λ book. book.opened ≡ min now (2 ^ 62)) }
+        ensures empty { IfOk result (λ book. book.entries ≡ []) }
+    {
+        Ok(Book {
+            state: State {
+                account: Account::empty(alloc, epoch, now.min(MAX_MOMENT)),
+                sessions: Vec::new(alloc),
+                waiting: Vec::new(alloc),
+            },
+        })
+    }
+
+    /// Takes one step with a message that came at a moment in milliseconds: refuses it and leaves the
+    /// account, or records it. It always gives a verdict; where a growth was refused the verdict is
+    /// refusal 11, and nothing changed. A moment before the book's own counts as the book's own.
+    ///
+    /// The cost grows with the clients and with the items that wait, and not with the entries.
+    pub fn handle(&mut self, now: u64, message: Message) -> Verdict
+        requires { FitsMessage message }
+        ensures step { (answer : Answer) × (says self.new result ≡ Some answer) × Next self.old now message self.new answer }
+    {
+        let moment = self.state.moment_at(now);
+        let said = self.state.step(moment, message);
+        Verdict { said }
+    }
+
+    /// The answer that a verdict of this book stands for, in the state that gave it and in every later
+    /// one. It takes memory only for an item's text, and fails only where that was refused.
+    pub fn answer(&self, alloc: Global, verdict: &Verdict) -> Result<Answer, NoMemory>
+        requires { IsSome (says self.now verdict.now) }
+        ensures { IfOk result (λ answer. says self.now verdict.now ≡ Some answer) }
+    {
+        match verdict.said {
+            Said::Welcome {
+                epoch,
+                client,
+                incarnation,
+            } => Ok(Answer::Welcome {
+                epoch,
+                client,
+                incarnation,
+            }),
+            Said::Replied { key, kept } => {
+                let reply = reply_of(alloc, &self.state.account, kept)?;
+                Ok(Answer::Replied { key, reply })
+            }
+            Said::Refused(refusal) => Ok(Answer::Refused(refusal)),
+        }
+    }
+}
+
+// The reply that is kept, with its text copied from the account.
+fn reply_of(alloc: Global, account: &Account, kept: Kept) -> Result<Reply, NoMemory>
+    requires { IsSome (kept_reply account.now.entries kept) }
+    ensures { IfOk result (λ reply. kept_reply account.now.entries kept ≡ Some reply) }
+{
+    match kept {
+        Kept::Done => Ok(Reply::Done),
+        Kept::Item(place) => Ok(Reply::Item(account.item(place).copy(alloc)?)),
+        Kept::Empty => Ok(Reply::Empty),
+    }
+}
