@@ -1,6 +1,6 @@
 -- A reader finds a value exactly where its members are found and it is within the limits.
 use Rattle.std.proofs.Common.{String, Global, BTreeMap, string_cmp, ◌≡◌, ℕ, List, [], ◌∷◌, ◌++◌, length, codes, Bool, true, false, cond, Option, Some, None, option_and_then, bytes_eq, refl, ap, ◌∙◌, subst, inl, inr}
-use Rattle.std.proofs.lemmas.Bool.{and_parts, leb-true, le-leb, eqb-true, eq-eqb, ne_eqb}
+use Rattle.std.proofs.lemmas.Bool.{and_parts, leb-true, le-leb, eqb-true, eq-eqb}
 use Rattle.std.proofs.lemmas.Option.{cond_some}
 use Rattle.std.proofs.lemmas.Slice.Eq.{bytes_eq-Decides}
 use Rattle.std.specs.Prelude.{◌⊎◌}
@@ -8,6 +8,7 @@ use Rattle.serde_json.specs.Data.{unsigned, negative, float, Data, null, boolean
 use Rattle.std.specs.BTreeMap.{IsOrdered}
 use Rattle.serde_json.specs.View.{members_view}
 use Rattle.serde_json.specs.declared.value.Value.{Value}
+use Rattle.serde_json.proofs.Views.{members_len-members_view}
 use Rattle.serde_json.specs.Events.{members_len}
 use Rattle.serde_json.specs.Find.{get_member, as_number, as_u64, as_str}
 use Rattle.rv_text.specs.declared.message.Key.{Key}
@@ -244,11 +245,9 @@ find_message message fits =
     rw (find_kind ms message (found-with_fields fields (distinct_message message)) fits)
     (rw (eq-eqb (members_len ms) (length fields) (members_len-with_fields fields (distinct_message message))) refl)
 
-pub message_in-counted : (ms : Members) (message : Message) → kind_in ms ≡ Some message → members_len ms ≡ length (message_fields message) → message_in ms ≡ Some message
-message_in-counted ms message kind size = rw kind (rw (eq-eqb _ _ size) refl)
-
-pub message_in-further : (ms : Members) (message : Message) → kind_in ms ≡ Some message → (members_len ms ≡ length (message_fields message) → ⊥) → message_in ms ≡ None
-message_in-further ms message kind other = rw kind (rw (ne_eqb _ _ other) refl)
+-- as many members as the map has entries
+pub members_counted : (es : List (String Global × Value)) → members_len (members_view es) ≡ length es
+members_counted = members_len-members_view
 
 -- an object's message, from a map in order
 pub body_found : (m : BTreeMap (String Global) Value) (message : Message) → IsOrdered string_cmp m → message_in (members_view m.entries) ≡ Some message

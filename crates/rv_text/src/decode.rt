@@ -1,8 +1,10 @@
 //! The message whose body given bytes are.
 ghost use Rattle.std.specs.Prelude.{◌≡◌, ◌⊎◌, ◌↔◌, List, IsTrue, IfOk, IfErr, OnOk, Ok, Err, string_cmp, codes, length};
 ghost use Rattle.std.specs.BTreeMap.{IsOrdered};
+ghost use Rattle.serde_json.specs.Events.{members_len};
 ghost use Rattle.serde_json.specs.View.{view, members_view};
 ghost use Rattle.rv_text.specs.Bodies.{HasBodyLength, Reads, IsNotJson, IsMessageBody};
+ghost use Rattle.rv_text.specs.Fields.{message_fields};
 ghost use Rattle.rv_text.specs.Reading.{Gives, hello_in, request_in, kind_in, message_in};
 ghost use Rattle.rv_text.specs.declared.message.Message.{Message};
 
@@ -19,7 +21,8 @@ pub const MAX_BODY_BYTES: usize = 4096;
 ///
 /// The length is looked at first, without memory. Bytes of a body's length that are no JSON give
 /// [`TextFault::NotJson`], and all other bytes that are no message's body give
-/// [`TextFault::NotMessage`].
+/// [`TextFault::NotMessage`]. A name that stands twice counts with its last value.
+/// [`TextFault::NoMemory`] comes only where a growth was refused.
 pub fn decode_message(alloc: Global, bytes: &[u8]) -> Result<Message, TextFault>
     // With both: a message comes exactly where the bytes are its body, unless memory ran out.
     ensures found { IfOk result (IsMessageBody bytes.now) }
@@ -64,16 +67,25 @@ fn read_json(alloc: Global, bytes: &[u8]) -> Result<Value, TextFault>
     }
 }
 
-// An object with further members is no message.
 fn read_message(alloc: Global, members: &Map<String, Value>) -> Result<Message, TextFault>
     ensures exact { Gives result (message_in (members_view members.now.entries)) }
     ensures ordered { OnOk result (IsOrdered string_cmp members.now) }
 {
     let message = read_kind(alloc, members)?;
-    if members.len() != message.member_count() {
+    if !is_whole(members, &message) {
         return Err(TextFault::NotMessage);
     }
     Ok(message)
+}
+
+// Whether an object that has the message's members has no others.
+#[tactic(auto, using(crate::proofs::Readers::members_counted))]
+fn is_whole(members: &Map<String, Value>, message: &Message) -> bool
+    ensures count { IsTrue result ↔ (members_len (members_view members.now.entries)
+        ≡ length (message_fields message.now)) }
+    ensures ordered { IsOrdered string_cmp members.now }
+{
+    members.len() == message.member_count()
 }
 
 fn read_kind(alloc: Global, members: &Map<String, Value>) -> Result<Message, TextFault>
