@@ -1,5 +1,6 @@
 //! The program `rv`: it reads its command line, and runs what the words name.
 #![tactic(auto)]
+
 ghost use Rattle.std.specs.Prelude.{IfOk};
 ghost use Rattle.rv_text.specs.Limits.{FitsIdentifier};
 ghost use Rattle.rv_app.specs.Command.{FitsCommand};
@@ -10,16 +11,14 @@ mod line;
 mod number;
 mod output;
 mod run;
-mod turn;
-
 #[cfg(test)]
 mod tests;
+mod turn;
 
 pub use command::{Command, CommandFault, read_command};
 pub use number::read_number;
 pub use output::OutputFault;
 pub use run::{RunFault, book_run};
-
 use rv_frame::{Sink, Source};
 use std::alloc::Global;
 use std::env;

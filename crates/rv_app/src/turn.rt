@@ -2,7 +2,7 @@
 ghost use Rattle.std.specs.Prelude.{◌≡◌, ◌≤◌, length, string_bytes, IsSome, IfOk, IfSome};
 ghost use Rattle.rv_text.specs.Bodies.{answer_text};
 ghost use Rattle.rv_book.specs.Verdicts.{says};
-ghost use Rattle.rv_text.specs.Limits.{FitsMessage};
+ghost use Rattle.rv_text.specs.Limits.{FitsAnswer, FitsMessage};
 ghost use Rattle.rv_book.specs.Steps.{Next};
 ghost use Rattle.rv_app.specs.Body.{HasShortText, body_text};
 ghost use Rattle.rv_app.specs.Run.{AnswersLine, SaysNext};
@@ -67,7 +67,8 @@ fn answer_message(alloc: Global, book: &mut Book, moment: u64, message: Message)
 
 // The text of the answer that the verdict says.
 fn verdict_text(alloc: Global, book: &Book, verdict: &Verdict) -> Result<String, NoMemory>
-    requires { IsSome (says book.now verdict.now) }
+    requires said { IsSome (says book.now verdict.now) }
+    requires fits { IfSome (says book.now verdict.now) FitsAnswer }
     ensures text { IfOk result (λ s. IfSome (says book.now verdict.now)
         (λ answer. string_bytes s ≡ answer_text answer)) }
     ensures short { IfOk result (λ s. length (string_bytes s) ≤ 4096) }

@@ -9,3 +9,4 @@ pub mod Lines
 pub mod Keeping
 pub mod Replying
 pub mod Greeting
+pub mod Fitting

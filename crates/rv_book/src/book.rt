@@ -1,7 +1,7 @@
 //! The book of one epoch: it takes messages one by one and says what becomes of each.
-ghost use Rattle.std.specs.Prelude.{◌≡◌, ◌≤◌, ◌^◌, [], Some, IsSome, IfOk, min};
+ghost use Rattle.std.specs.Prelude.{◌≡◌, ◌≤◌, ◌^◌, [], Some, IsSome, IfOk, IfSome, min};
 ghost use Rattle.rv_text.specs.declared.answer.Answer.{Answer};
-ghost use Rattle.rv_text.specs.Limits.{FitsIdentifier, FitsMessage};
+ghost use Rattle.rv_text.specs.Limits.{FitsAnswer, FitsIdentifier, FitsMessage};
 ghost use Rattle.rv_book.specs.Legal.{Legal};
 ghost use Rattle.rv_book.specs.Steps.{Next};
 ghost use Rattle.rv_book.specs.Verdicts.{says, reply_of as kept_reply};
@@ -71,6 +71,7 @@ impl Book {
     pub fn handle(&mut self, now: u64, message: Message) -> Verdict
         requires { FitsMessage message }
         ensures step { (answer : Answer) × (says self.new result ≡ Some answer) × Next self.old now message self.new answer }
+        ensures fits { IfSome (says self.new result) FitsAnswer }
     {
         let moment = self.state.moment_at(now);
         let said = self.state.step(moment, message);
