@@ -6,13 +6,15 @@ ghost use Rattle.rv_text.specs.Limits.{FitsIdentifier};
 ghost use Rattle.rv_app.specs.Command.{FitsCommand};
 
 mod command;
+#[cfg(test)]
+mod command_tests;
 mod input;
 mod line;
 mod number;
 mod output;
 mod run;
 #[cfg(test)]
-mod tests;
+mod run_tests;
 mod turn;
 
 pub use command::{Command, CommandFault, read_command};

@@ -5,6 +5,7 @@ ghost use Rattle.rv_text.specs.Limits.{FitsIdentifier};
 ghost use Rattle.rv_frame.specs.Sink.{sink_contents, sink_failed};
 ghost use Rattle.rv_frame.specs.Source.{source_failed, source_remaining};
 ghost use Rattle.rv_app.specs.Output.{gathered, taken_in};
+ghost use Rattle.rv_app.specs.Faults.{fault_number};
 ghost use Rattle.rv_app.specs.Run.{Prints, opened_account};
 ghost use Rattle.rv_app.specs.declared.run.RunFault.TheVariants.{NoMemory, ReadFault, WriteFault};
 
@@ -33,6 +34,20 @@ pub enum RunFault {
     /// 4: the input has more than 536,870,912 bytes. Nothing was printed.
     #[error("run fault 4")]
     TooLong,
+}
+
+impl RunFault {
+    /// The fault's number, as the program prints it.
+    pub fn number(&self) -> u8
+        ensures { result ≡ fault_number self.now }
+    {
+        match self {
+            RunFault::ReadFault => 1,
+            RunFault::WriteFault(_) => 2,
+            RunFault::NoMemory => 3,
+            RunFault::TooLong => 4,
+        }
+    }
 }
 
 impl From<ReadFault> for RunFault {
