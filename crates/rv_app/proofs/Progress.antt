@@ -4,10 +4,11 @@ use Rattle.std.proofs.Math.Seq.{take-append-add}
 use Rattle.std.proofs.lemmas.List.{take-append-le}
 use Rattle.std.specs.Io.KnownBytes.{Appends, append_known}
 use Rattle.std.proofs.KnownBytes.{Appends-trans}
-use Rattle.rv_text.specs.declared.answer.Refusal.TheVariants.{NoMemory}
+use Rattle.rv_text.specs.declared.answer.Refusal.TheVariants.{BadText, NoMemory}
 use Rattle.rv_book.specs.Account.{Account}
 use Rattle.rv_app.specs.declared.output.OutputFault.{OutputFault}
 use Rattle.rv_app.specs.Lines.{lines}
+use Rattle.rv_app.proofs.Forms.{formless_is_bad, has_form}
 use Rattle.rv_app.specs.Run.{AnswersLine, Prints, Runs, printed, refused_text}
 
 -- ---- runs, one after the other
@@ -22,10 +23,16 @@ pub printed_append : (bodies others : List (List ℕ)) → printed (bodies ++ ot
 printed_append [] others = refl
 printed_append (body ∷ bodies) others = ap (λ rest. body ++ 10 ∷ rest) (printed_append bodies others) ∙ sym (append_assoc body (10 ∷ printed bodies) (printed others))
 
--- lines can be answered whatever becomes of memory
+-- a line can be answered whatever becomes of memory, and the account stays
+answered : (a : Account) (line : List ℕ) → (body : List ℕ) × AnswersLine line a a body
+answered a line = elim (has_form line) [
+  | inl form ↦ (refused_text NoMemory, inr (inr (form, inl refl, refl)))
+  | inr formless ↦ (refused_text BadText, inl (formless_is_bad line formless, refl, refl))
+]
+
 pub runs_on : (a : Account) (all : List (List ℕ)) → (bodies : List (List ℕ)) × Runs a all bodies a
 runs_on a [] = ([], refl)
-runs_on a (line ∷ all) = let later = runs_on a all in (refused_text NoMemory ∷ later.0, (a, inr (inr (inl refl, refl)), later.1))
+runs_on a (line ∷ all) = let here = answered a line in let later = runs_on a all in (here.0 ∷ later.0, (a, here.1, later.1))
 
 -- ---- what went out
 

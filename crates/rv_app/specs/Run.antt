@@ -8,7 +8,7 @@ use Rattle.rv_text.specs.declared.message.Message.{Message}
 use Rattle.rv_text.specs.Bodies.{answer_text}
 use Rattle.rv_book.specs.Account.{Account}
 use Rattle.rv_book.specs.Steps.{Next}
-use Rattle.rv_app.specs.Lines.{IsBadLine, ReadsLine, lines}
+use Rattle.rv_app.specs.Lines.{HasForm, IsBadLine, ReadsLine, lines}
 
 -- the account of an epoch that was opened at this moment, with no entry yet
 abbrev pub opened_account : ℕ → ℕ → Account
@@ -32,9 +32,9 @@ RefusesLine line a b body = IsBadLine line × (b ≡ a) × (body ≡ refused_tex
 abbrev pub SaysAnswer : List ℕ → Account → Account → List ℕ → Type 0
 SaysAnswer line a b body = (answer : Answer) × StepsBy line a b answer × (body ≡ answer_text answer)
 
--- memory was refused: the account stays or takes the step of the line's message, and the body says that memory was refused
+-- memory was refused, for a line of a message's form: the account stays or takes the step of the line's message, and the body says that memory was refused
 abbrev pub LacksMemory : List ℕ → Account → Account → List ℕ → Type 0
-LacksMemory line a b body = ((b ≡ a) ⊎ ((answer : Answer) × StepsBy line a b answer)) × (body ≡ refused_text NoMemory)
+LacksMemory line a b body = HasForm line × ((b ≡ a) ⊎ ((answer : Answer) × StepsBy line a b answer)) × (body ≡ refused_text NoMemory)
 
 -- the line is answered by this body, and leads from one account to the other
 abbrev pub AnswersLine : List ℕ → Account → Account → List ℕ → Type 0

@@ -1,7 +1,7 @@
 //! Cuts an input into lines, and a line into its moment and body.
 ghost use Rattle.std.specs.Prelude.{◌≡◌, ◌≢◌, ◌<◌, ◌∷◌, ◌++◌, [], ℕ, List, length, None, IfSome, IfOk, Err};
 ghost use Rattle.std.specs.List.{All};
-ghost use Rattle.rv_app.specs.Lines.{IsBadLine, ReadsLine, lines};
+ghost use Rattle.rv_app.specs.Lines.{HasForm, IsBadLine, ReadsLine, lines};
 ghost use Rattle.rv_app.specs.Number.{Writes};
 
 use crate::number::read_number;
@@ -13,7 +13,7 @@ use std::alloc::Global;
 pub(crate) enum LineFault {
     /// The line is no moment, space and message's body.
     Bad,
-    /// Memory was refused.
+    /// Memory was refused, for a line that may say one.
     NoMemory,
 }
 
@@ -37,6 +37,7 @@ pub(crate) fn first_line(bytes: &[u8]) -> Option<(&[u8], &[u8])>
 pub(crate) fn read_line(alloc: Global, line: &[u8]) -> Result<(u64, Message), LineFault>
     ensures reads { IfOk result (λ p. ReadsLine line.now p.0 p.1) }
     ensures bad { result ≡ Err LineFault.Bad → IsBadLine line.now }
+    ensures no_memory { result ≡ Err LineFault.NoMemory → HasForm line.now }
 {
     let (moment, body) = moment_and_body(line).ok_or(LineFault::Bad)?;
     match decode_message(alloc, body) {
