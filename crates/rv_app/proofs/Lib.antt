@@ -2,3 +2,6 @@
 pub mod Numbers
 pub mod Options
 pub mod Commands
+pub mod Cutting
+pub mod Forms
+pub mod Progress

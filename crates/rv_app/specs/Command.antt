@@ -4,6 +4,7 @@ use Rattle.std.specs.Option.{IsSomeAnd}
 use Rattle.clap.specs.Words.{App, Row, Rule, Text, fault_of, first_of, new_app, new_rule}
 use Rattle.clap.specs.Words.{subcommand_of, with_rule, with_subcommand}
 use Rattle.clap.specs.declared.builder.ArgAction.TheVariants.{Set}
+use Rattle.rv_text.specs.Limits.{FitsIdentifier}
 use Rattle.rv_app.specs.Number.{Writes}
 use Rattle.rv_app.specs.declared.command.Command.{Command}
 use Rattle.rv_app.specs.declared.command.Command.TheVariants.{Book}
@@ -44,3 +45,7 @@ pub record Names (words : List Text) (command : Command) : Type 0 where
 -- the words name no command
 abbrev pub NamesNone : List Text → Type 0
 NamesNone words = (command : Command) → ¬ Names words command
+
+-- the numbers of the command keep their limits
+abbrev pub FitsCommand : Command → Type 0
+FitsCommand (Book epoch) = FitsIdentifier epoch

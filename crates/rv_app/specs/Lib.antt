@@ -1,3 +1,8 @@
 -- The definitions that the contracts of this crate cite.
+pub mod Body
 pub mod Command
+pub mod Faults
+pub mod Lines
 pub mod Number
+pub mod Output
+pub mod Run

@@ -6,7 +6,7 @@ ghost use Rattle.clap.specs.Words.{app_of, fault_of, found_of, kind_of, rows_of,
 ghost use Rattle.clap.specs.Words.{subcommand_of, subcommand_rows_of};
 ghost use Rattle.clap.specs.declared.Command.TheViews.{out-Command};
 ghost use Rattle.clap.specs.Walk.{texts};
-ghost use Rattle.rv_app.specs.Command.{GivesNumber, Names, NamesNone, Says, book_app, required_option, rv_app};
+ghost use Rattle.rv_app.specs.Command.{FitsCommand, GivesNumber, Names, NamesNone, Says, book_app, required_option, rv_app};
 ghost use Rattle.rv_app.specs.declared.command.CommandFault.TheVariants.{Bad, NoMemory};
 ghost use Rattle.clap.specs.declared.error.ErrorKind.TheVariants.{OutOfMemory};
 
@@ -64,6 +64,7 @@ const LARGEST_ID: u64 = 9_007_199_254_740_991;
 pub fn read_command<'a>(alloc: Global, words: &'a [&'a str]) -> Result<Command, CommandFault>
     ensures ok { IfOk result (λ command. Names (texts words.entry.now) command) }
     ensures bad { IsErrOf result CommandFault.Bad → NamesNone (texts words.entry.now) }
+    ensures fits { IfOk result FitsCommand }
 {
     let matches = matches_of(alloc, words)?;
     command_of(&matches).ok_or(CommandFault::Bad)

@@ -1,10 +1,9 @@
 //! Readers and writers that remember a failure and count what went out.
 #![tactic(auto)]
 
-#[cfg(test)]
-mod devices;
 mod sink;
 mod source;
+pub mod testing;
 #[cfg(test)]
 mod tests;
 #[cfg(test)]

@@ -1,5 +1,5 @@
 //! What no clause says: that calls succeed on devices that work, and that the device is asked no more often than promised.
-use super::devices::{Stop, TestReader, TestWriter};
+use super::testing::{Stop, TestReader, TestWriter};
 use super::uses::{CopyFault, GatherFault, copy_all, gather, write_both};
 use super::{ReadFault, Sink, Source, WriteFault};
 use std::alloc::Global;

@@ -15,13 +15,15 @@ pub struct TestReader<'a> {
 }
 
 impl<'a> TestReader<'a> {
+    ghost use Rattle.rv_frame.specs.Testing.{reader_fault, reader_most, reader_reads, reader_rest};
+
     /// A reader of these bytes that never fails, and gives at most `most` bytes a read.
     pub fn new(bytes: &'a [u8], most: usize) -> TestReader<'a>
         requires { 0 < most }
-        ensures rest { result.rest.now ≡ bytes.now }
-        ensures most { result.most ≡ most }
-        ensures fault { result.fault ≡ None }
-        ensures reads { result.reads ≡ 0 }
+        ensures rest { reader_rest result ≡ bytes.now }
+        ensures most { reader_most result ≡ most }
+        ensures fault { reader_fault result ≡ None }
+        ensures reads { reader_reads result ≡ 0 }
     {
         TestReader {
             rest: bytes,
@@ -33,10 +35,10 @@ impl<'a> TestReader<'a> {
 
     /// The same reader, which fails at this read, counted from 1, and at no other.
     pub fn failing_at(mut self, read: u64, kind: ErrorKind) -> TestReader<'a>
-        ensures rest { result.rest.now ≡ self.entry.rest.now }
-        ensures most { result.most ≡ self.entry.most }
-        ensures fault { result.fault ≡ Some (read, kind) }
-        ensures reads { result.reads ≡ self.entry.reads }
+        ensures rest { reader_rest result ≡ reader_rest self.entry }
+        ensures most { reader_most result ≡ reader_most self.entry }
+        ensures fault { reader_fault result ≡ Some (read, kind) }
+        ensures reads { reader_reads result ≡ reader_reads self.entry }
     {
         self.fault = Some((read, kind));
         self
@@ -44,7 +46,7 @@ impl<'a> TestReader<'a> {
 
     /// How many reads were made of it.
     pub fn reads(&self) -> u64
-        ensures { result ≡ self.now.reads }
+        ensures { result ≡ reader_reads self.now }
     {
         self.reads
     }
@@ -98,12 +100,14 @@ pub struct TestWriter {
 }
 
 impl TestWriter {
+    ghost use Rattle.rv_frame.specs.Testing.{writer_most, writer_stop, writer_taken, writer_writes};
+
     /// A writer that has taken nothing, never stops, and takes at most `most` bytes a write.
     pub fn new(alloc: Global, most: usize) -> TestWriter
-        ensures taken { result.taken.items ≡ [] }
-        ensures most { result.most ≡ most }
-        ensures stop { result.stop ≡ None }
-        ensures writes { result.writes ≡ 0 }
+        ensures taken { writer_taken result ≡ [] }
+        ensures most { writer_most result ≡ most }
+        ensures stop { writer_stop result ≡ None }
+        ensures writes { writer_writes result ≡ 0 }
     {
         TestWriter {
             taken: Vec::new(alloc),
@@ -115,10 +119,10 @@ impl TestWriter {
 
     /// The same writer, which stops at the first write after `room` more bytes, and at no other.
     pub fn stopping_after(mut self, room: usize, stop: Stop) -> TestWriter
-        ensures taken { result.taken.items ≡ self.taken.items }
-        ensures most { result.most ≡ self.most }
-        ensures stop { result.stop ≡ Some (room, stop) }
-        ensures writes { result.writes ≡ self.writes }
+        ensures taken { writer_taken result ≡ writer_taken self }
+        ensures most { writer_most result ≡ writer_most self }
+        ensures stop { writer_stop result ≡ Some (room, stop) }
+        ensures writes { writer_writes result ≡ writer_writes self }
     {
         self.stop = Some((room, stop));
         self
@@ -126,14 +130,14 @@ impl TestWriter {
 
     /// The bytes that it took.
     pub fn taken(&self) -> &[u8]
-        ensures { result.now ≡ self.now.taken.items }
+        ensures { result.now ≡ writer_taken self.now }
     {
         &self.taken
     }
 
     /// How many writes were made to it.
     pub fn writes(&self) -> u64
-        ensures { result ≡ self.now.writes }
+        ensures { result ≡ writer_writes self.now }
     {
         self.writes
     }

@@ -6,7 +6,7 @@ use Rattle.rv_app.specs.Command.{Names}
 use Rattle.rv_app.specs.declared.command.Command.TheVariants.{Book}
 use Rattle.rv_app.proofs.Commands.{named_is_read}
 use Rattle.rv_app.proofs.Numbers.{all_in_range}
-use Rattle.rv_app.proofs.tests.book_one.Goals as goal
+use Rattle.rv_app.proofs.command_tests.book_one.Goals as goal
 
 abbrev words : List Text
 words = codes "rv" ∷ codes "book" ∷ codes "--epoch" ∷ codes "1" ∷ []

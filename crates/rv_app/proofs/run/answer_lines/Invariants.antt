@@ -1,0 +1,13 @@
+-- The lines before the rest are answered, and each turn answers one.
+use Rattle.std.proofs.Common.{length}
+use Rattle.rv_frame.specs.Sink.{sink_contents}
+use Rattle.rv_app.specs.Output.{gathered}
+use Rattle.rv_app.proofs.Progress.{Progress}
+use Rattle.rv_app.proofs.run.answer_lines.Given as goal
+
+abbrev pub invariant-loop-line : goal.invariant-loop-line
+invariant-loop-line g l =
+    Progress (sink_contents g.W.Write.contents l.initial.sink) l.initial.book l.input (sink_contents g.W.Write.contents l.sink) l.book l.rest (gathered l.output) l.output.sent
+
+abbrev pub decreases-loop-line : goal.decreases-loop-line
+decreases-loop-line g l = length l.rest

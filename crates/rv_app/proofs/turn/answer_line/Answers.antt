@@ -1,0 +1,6 @@
+-- A bad line is refused, and the account stays.
+use Rattle.std.proofs.Common.{refl, ap, Err, inl}
+use Rattle.rv_app.proofs.turn.answer_line.Goals as goal
+
+pub returns-in-Err-Bad-clause-answers : goal.returns-in-Err-Bad-clause-answers
+returns-in-Err-Bad-clause-answers c = inl (c.in-Err-Bad.ensures.bad (cc), refl, refl)

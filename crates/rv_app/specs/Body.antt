@@ -1,0 +1,17 @@
+-- The bytes of a body.
+use Rattle.std.specs.Prelude.{ℕ, ◌≤◌, List, length, string_bytes}
+use Rattle.rv_text.specs.declared.answer.Refusal as refusal
+use Rattle.rv_app.specs.Run.{refused_text}
+use Rattle.rv_app.specs.declared.turn.Body.{Body}
+use Rattle.rv_app.specs.declared.turn.Body.TheVariants.{BadText, NoMemory, Text}
+
+abbrev pub body_text : Body → List ℕ
+body_text BadText = refused_text refusal.TheVariants.BadText
+body_text NoMemory = refused_text refusal.TheVariants.NoMemory
+body_text (Text text) = string_bytes text
+
+-- a text of the book is no longer than a body is
+abbrev pub HasShortText : Body → Type 0
+HasShortText BadText = Unit {0}
+HasShortText NoMemory = Unit {0}
+HasShortText (Text text) = length (string_bytes text) ≤ 4096

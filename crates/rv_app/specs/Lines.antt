@@ -1,0 +1,31 @@
+-- The lines of an input, and what a line of the book's input says.
+use Rattle.std.specs.Prelude.{ℕ, List, [], ◌∷◌, ◌++◌, ◌≡◌, ◌==◌, if◌then◌else◌}
+use Rattle.std.specs.List.{onto_first}
+use Rattle.rv_text.specs.declared.message.Message.{Message}
+use Rattle.rv_text.specs.Bodies.{HasBodyLength, IsMessageBody}
+use Rattle.rv_app.specs.Number.{IsDigits, Writes}
+
+-- the bytes before each LF (10), and those after the last LF if there are any
+abbrev pub lines : List ℕ → List (List ℕ)
+lines [] = []
+lines (byte ∷ bytes) = if byte == 10 then [] ∷ lines bytes else onto_first byte (lines bytes)
+
+-- the line is the digits of a moment, one space (32) and a body of the message
+pub record ReadsLine (line : List ℕ) (moment : ℕ) (message : Message) : Type 0 where
+  pub digits : List ℕ
+  pub body : List ℕ
+  pub parts : line ≡ digits ++ 32 ∷ body
+  pub says_moment : Writes digits moment
+  pub says_message : IsMessageBody body message
+
+-- the line is the digits of a moment, one space (32) and bytes of a body's length
+pub record HasForm (line : List ℕ) : Type 0 where
+  pub digits : List ℕ
+  pub body : List ℕ
+  pub parts : line ≡ digits ++ 32 ∷ body
+  pub are_digits : IsDigits digits
+  pub is_long : HasBodyLength body
+
+-- no moment and message are read from the line
+abbrev pub IsBadLine : List ℕ → Type 0
+IsBadLine line = (moment : ℕ) (message : Message) → ¬ ReadsLine line moment message

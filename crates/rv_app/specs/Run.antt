@@ -1,0 +1,65 @@
+-- A run of the book over the lines of its input: which bodies answer them, and what is printed.
+use Rattle.std.specs.Prelude.{ℕ, List, [], ◌∷◌, ◌++◌, ◌≡◌, ◌⊎◌}
+use Rattle.rv_text.specs.declared.answer.Answer.{Answer}
+use Rattle.rv_text.specs.declared.answer.Answer.TheVariants.{Refused}
+use Rattle.rv_text.specs.declared.answer.Refusal.{Refusal}
+use Rattle.rv_text.specs.declared.answer.Refusal.TheVariants.{BadText, NoMemory}
+use Rattle.rv_text.specs.declared.message.Message.{Message}
+use Rattle.rv_text.specs.Bodies.{answer_text}
+use Rattle.rv_book.specs.Account.{Account}
+use Rattle.rv_book.specs.Steps.{Next}
+use Rattle.rv_app.specs.Lines.{HasForm, IsBadLine, ReadsLine, lines}
+
+-- the account of an epoch that was opened at this moment, with no entry yet
+abbrev pub opened_account : ℕ → ℕ → Account
+opened_account epoch moment = record { epoch = epoch; opened = moment; entries = [] }
+
+-- ---- one line
+
+-- the body of a refusal
+unfoldable pub refused_text : Refusal → List ℕ
+refused_text refusal = answer_text (Refused refusal)
+
+-- the line's message, at the line's moment, leads from one account to the other with this answer
+abbrev pub StepsBy : List ℕ → Account → Account → Answer → Type 0
+StepsBy line a b answer = (moment : ℕ) × (message : Message) × ReadsLine line moment message × Next a moment message b answer
+
+-- a line that says no message is refused as that, and the account stays
+abbrev pub RefusesLine : List ℕ → Account → Account → List ℕ → Type 0
+RefusesLine line a b body = IsBadLine line × (b ≡ a) × (body ≡ refused_text BadText)
+
+-- the line's message takes its step, and the body says the step's answer
+abbrev pub SaysAnswer : List ℕ → Account → Account → List ℕ → Type 0
+SaysAnswer line a b body = (answer : Answer) × StepsBy line a b answer × (body ≡ answer_text answer)
+
+-- memory was refused, for a line of a message's form: the account stays or takes the step of the line's message, and the body says that memory was refused
+abbrev pub LacksMemory : List ℕ → Account → Account → List ℕ → Type 0
+LacksMemory line a b body = HasForm line × ((b ≡ a) ⊎ ((answer : Answer) × StepsBy line a b answer)) × (body ≡ refused_text NoMemory)
+
+-- the line is answered by this body, and leads from one account to the other
+abbrev pub AnswersLine : List ℕ → Account → Account → List ℕ → Type 0
+AnswersLine line a b body = RefusesLine line a b body ⊎ (SaysAnswer line a b body ⊎ LacksMemory line a b body)
+
+-- the message takes its step and the body says the answer, or the body says that memory was refused
+abbrev pub SaysNext : ℕ → Message → Account → Account → List ℕ → Type 0
+SaysNext moment message a b body = (answer : Answer) × Next a moment message b answer × ((body ≡ answer_text answer) ⊎ (body ≡ refused_text NoMemory))
+
+-- ---- all lines
+
+-- the lines, in order, are answered by these bodies, one a line, and lead from one account to the other
+abbrev pub Runs : Account → List (List ℕ) → List (List ℕ) → Account → Type 0
+Runs a [] [] b = b ≡ a
+Runs a (line ∷ lines) (body ∷ bodies) b = (between : Account) × AnswersLine line a between body × Runs between lines bodies b
+Runs a _ _ b = ⊥
+
+-- each body, and LF (10) after it
+abbrev pub printed : List (List ℕ) → List ℕ
+printed [] = []
+printed (body ∷ bodies) = body ++ 10 ∷ printed bodies
+
+-- the output is what one run over the lines of the input prints, from this account on
+pub record Prints (a : Account) (input output : List ℕ) : Type 0 where
+  pub bodies : List (List ℕ)
+  pub last : Account
+  pub run : Runs a (lines input) bodies last
+  pub output_is : output ≡ printed bodies

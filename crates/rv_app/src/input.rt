@@ -1,0 +1,45 @@
+//! Reads the whole input of a run.
+ghost use Rattle.std.specs.Prelude.{◌≡◌, ◌<◌, ◌≤◌, ℕ, true, false, length, vec_len, Err, IfOk, IfSome, OnOk};
+ghost use Rattle.std.specs.Io.KnownBytes.{IsAtEnd};
+ghost use Rattle.rv_frame.specs.Source.{source_failed, source_remaining};
+
+use crate::run::RunFault;
+use rv_frame::Source;
+use std::alloc::Global;
+use std::io::Read;
+
+/// The most bytes of an input: 512 MiB.
+pub(crate) const MAX_INPUT_BYTES: usize = 536_870_912;
+
+// How many bytes are asked for at a time.
+const PIECE_BYTES: usize = 65_536;
+
+/// All the bytes that the source has left. It is a fault where they are more than
+/// [`MAX_INPUT_BYTES`].
+pub(crate) fn read_input<R: Read>(
+    alloc: Global,
+    source: &mut Source<R>,
+) -> Result<Vec<u8>, RunFault>
+    ensures bytes { IfOk result (λ input.
+        IfSome (source_remaining R.remaining source.old) (λ bytes. input.items ≡ bytes)) }
+    ensures end { OnOk result (IsAtEnd (source_remaining R.remaining source.new)) }
+    ensures within { IfOk result (λ input. vec_len input ≤ MAX_INPUT_BYTES) }
+    ensures too_long { result ≡ Err RunFault.TooLong →
+        IfSome (source_remaining R.remaining source.old) (λ bytes. MAX_INPUT_BYTES < length bytes) }
+    ensures fault { result ≡ Err RunFault.ReadFault → source_failed source.new ≡ true }
+    ensures failed { source_failed source.new ≡ true → result ≡ Err RunFault.ReadFault }
+    ensures no_write { (fault : _) → ¬ (result ≡ Err (RunFault.WriteFault fault)) }
+{
+    let mut input = Vec::new(alloc);
+    let mut piece = [0u8; PIECE_BYTES];
+    loop {
+        let count = source.read(&mut piece)?;
+        if count == 0 {
+            return Ok(input);
+        }
+        if count > MAX_INPUT_BYTES - input.len() {
+            return Err(RunFault::TooLong);
+        }
+        input.extend_from_slice(&piece[..count])?;
+    }
+}

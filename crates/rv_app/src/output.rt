@@ -1,0 +1,112 @@
+//! Gathers what is printed, and sends it in large pieces.
+ghost use Rattle.std.specs.Prelude.{◌≡◌, ◌∷◌, ◌++◌, ◌+◌, ◌-◌, ◌^◌, ◌<◌, ◌≤◌, [], true, length, take, IfOk, IfErr, OnOk, OnErr};
+ghost use Rattle.std.specs.Io.KnownBytes.{Appends, Keeps};
+ghost use Rattle.std.specs.Vec.{vec_capacity};
+ghost use Rattle.rv_frame.specs.Sink.{sink_contents, sink_failed};
+
+use rv_frame::Sink;
+use std::alloc::{AllocError, Global};
+use std::io::Write;
+use thiserror::Error;
+
+/// A write of the output failed. Of all that the run prints, exactly the first `sent` bytes went
+/// out.
+#[derive(Clone, Copy, Debug, PartialEq, Eq, Error)]
+#[error("a write failed after {sent} bytes")]
+pub struct OutputFault {
+    pub sent: u64,
+}
+
+// How many bytes are gathered at most.
+const ROOM: usize = 65_536;
+
+// The most bytes of a line with its LF.
+const LONGEST_LINE: usize = 4_097;
+
+// Lines on their way to a sink. Its room is made once, so that a line needs no memory.
+#[derive(Drop)]
+pub(crate) struct Output {
+    gathered: Vec<u8>,
+    sent: u64,
+    ghost has_room: { 65536 ≤ vec_capacity gathered },
+}
+
+impl Output {
+    ghost use Rattle.rv_app.specs.Output.{gathered, promised, taken_in};
+
+    /// An output that has taken nothing in.
+    pub(crate) fn new(alloc: Global) -> Result<Output, AllocError>
+        ensures gathered { IfOk result (λ output. gathered output ≡ []) }
+        ensures sent { IfOk result (λ output. taken_in output ≡ 0) }
+    {
+        Ok(Output {
+            gathered: Vec::with_capacity(alloc, ROOM)?,
+            sent: 0,
+        })
+    }
+
+    /// Takes a line in, and LF after it. Where room may be missing, what was gathered is sent
+    /// first, and a fault is one of that.
+    pub(crate) fn line<W: Write>(
+        &mut self,
+        sink: &mut Sink<W>,
+        line: &[u8],
+    ) -> Result<(), OutputFault>
+        requires short { length line.now ≤ 4096 }
+        requires countable { taken_in self.old < 2 ^ 63 }
+        ensures ok { OnOk result (Appends (promised (sink_contents W.contents sink.old) self.old)
+            (promised (sink_contents W.contents sink.new) self.new) (line.now ++ 10 ∷ [])) }
+        ensures count { OnOk result (taken_in self.new ≡ taken_in self.old + length line.now + 1) }
+        ensures fault { IfErr result (λ fault. (self.old.sent ≤ fault.sent)
+            × (fault.sent < taken_in self.old)) }
+        ensures part { IfErr result (λ fault. Appends (sink_contents W.contents sink.old)
+            (sink_contents W.contents sink.new)
+            (take (fault.sent - self.old.sent) (gathered self.old))) }
+        ensures failed { OnErr result (sink_failed sink.new ≡ true) }
+    {
+        if self.gathered.len() > ROOM - LONGEST_LINE {
+            self.flush(sink)?;
+        }
+        self.gather(line);
+        self.gather(b"\n");
+        Ok(())
+    }
+
+    /// Sends what was gathered. The sink is not asked where that is nothing.
+    pub(crate) fn flush<W: Write>(&mut self, sink: &mut Sink<W>) -> Result<(), OutputFault>
+        requires { taken_in self.old < 2 ^ 64 }
+        ensures empty { OnOk result (gathered self.new ≡ []) }
+        ensures ok { OnOk result (Appends (sink_contents W.contents sink.old)
+            (sink_contents W.contents sink.new) (gathered self.old)) }
+        ensures count { OnOk result (taken_in self.new ≡ taken_in self.old) }
+        ensures fault { IfErr result (λ fault. (self.old.sent ≤ fault.sent)
+            × (fault.sent < taken_in self.old)) }
+        ensures part { IfErr result (λ fault. Appends (sink_contents W.contents sink.old)
+            (sink_contents W.contents sink.new)
+            (take (fault.sent - self.old.sent) (gathered self.old))) }
+        ensures failed { OnErr result (sink_failed sink.new ≡ true) }
+    {
+        if self.gathered.is_empty() {
+            return Ok(());
+        }
+        match sink.write_all(&self.gathered) {
+            Ok(()) => {
+                self.sent += self.gathered.len() as u64;
+                self.gathered.clear();
+                Ok(())
+            }
+            Err(fault) => Err(OutputFault {
+                sent: self.sent + fault.sent as u64,
+            }),
+        }
+    }
+
+    // Takes bytes in that there is room for.
+    fn gather(&mut self, bytes: &[u8])
+        requires { length (gathered self.old) + length bytes.now ≤ 65536 }
+        ensures bytes { gathered self.new ≡ gathered self.old ++ bytes.now }
+        ensures sent { self.new.sent ≡ self.old.sent }
+    {
+        self.gathered.extend_from_slice(bytes).unwrap();
+    }
+}

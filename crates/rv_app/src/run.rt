@@ -1,0 +1,154 @@
+//! Runs the book over a whole input, and prints one body for each line.
+ghost use Rattle.std.specs.Prelude.{◌≡◌, ◌<◌, ◌≤◌, ℕ, List, [], true, take, length, vec_len, Err, IfErr, IfSome, OnOk, OnErr};
+ghost use Rattle.std.specs.Io.KnownBytes.{Appends, IsAtEnd};
+ghost use Rattle.rv_text.specs.Limits.{FitsIdentifier};
+ghost use Rattle.rv_frame.specs.Sink.{sink_contents, sink_failed};
+ghost use Rattle.rv_frame.specs.Source.{source_failed, source_remaining};
+ghost use Rattle.rv_app.specs.Output.{gathered, taken_in};
+ghost use Rattle.rv_app.specs.Faults.{fault_number};
+ghost use Rattle.rv_app.specs.Run.{Prints, opened_account};
+ghost use Rattle.rv_app.specs.declared.run.RunFault.TheVariants.{NoMemory, ReadFault, WriteFault};
+
+use crate::input::read_input;
+use crate::line::first_line;
+use crate::output::{Output, OutputFault};
+use crate::turn::answer_line;
+use rv_book::Book;
+use rv_frame::{ReadFault, Sink, Source};
+use std::alloc::{AllocError, Global};
+use std::io::{Read, Write};
+use thiserror::Error;
+
+/// Why a run ended before its output was whole.
+#[derive(Clone, Copy, Debug, PartialEq, Eq, Error)]
+pub enum RunFault {
+    /// 1: a read of the input failed. Nothing was printed.
+    #[error("run fault 1")]
+    ReadFault,
+    /// 2: a write of the output failed, after the bytes that the fault counts.
+    #[error("run fault 2")]
+    WriteFault(OutputFault),
+    /// 3: memory was refused before the first line was looked at. Nothing was printed.
+    #[error("run fault 3")]
+    NoMemory,
+    /// 4: the input has more than 536,870,912 bytes. Nothing was printed.
+    #[error("run fault 4")]
+    TooLong,
+}
+
+impl RunFault {
+    /// The fault's number, as the program prints it.
+    pub fn number(&self) -> u8
+        ensures { result ≡ fault_number self.now }
+    {
+        match self {
+            RunFault::ReadFault => 1,
+            RunFault::WriteFault(_) => 2,
+            RunFault::NoMemory => 3,
+            RunFault::TooLong => 4,
+        }
+    }
+}
+
+impl From<ReadFault> for RunFault {
+    ghost from_gives = { λ _ fault. fault ≡ ReadFault };
+
+    fn from(_fault: ReadFault) -> RunFault {
+        RunFault::ReadFault
+    }
+}
+
+impl From<OutputFault> for RunFault {
+    ghost from_gives = { λ cause fault. fault ≡ WriteFault cause };
+
+    fn from(fault: OutputFault) -> RunFault {
+        RunFault::WriteFault(fault)
+    }
+}
+
+impl From<AllocError> for RunFault {
+    ghost from_gives = { λ _ fault. fault ≡ NoMemory };
+
+    fn from(_error: AllocError) -> RunFault {
+        RunFault::NoMemory
+    }
+}
+
+/// Opens the book of this epoch at moment 0, hands it the source's lines, and writes one body and
+/// LF to the sink for each.
+///
+/// A line is a moment of 1 to 19 digits, one space and a message's body. It is answered by the
+/// body of the book's answer; a line of another form by that of refusal 1; and a line for which
+/// memory was refused by that of refusal 11, and the run goes on. Lines end by LF, which the last
+/// one may lack.
+///
+/// The whole input is read before the first line is looked at, and read faults, want of memory and
+/// too long an input are found before anything is written. Write faults may come at any line.
+pub fn book_run<R: Read, W: Write>(
+    alloc: Global,
+    source: &mut Source<R>,
+    sink: &mut Sink<W>,
+    epoch: u64,
+) -> Result<(), RunFault>
+    requires { FitsIdentifier epoch }
+
+    // All lines of an input that keeps the limit are answered, by one run of the book.
+    ensures end { OnOk result (IsAtEnd (source_remaining R.remaining source.new)) }
+    ensures within { OnOk result (IfSome (source_remaining R.remaining source.old)
+        (λ input. length input ≤ 536870912)) }
+    ensures output { OnOk result (IfSome (source_remaining R.remaining source.old)
+        (λ input. (output : List ℕ) × Prints (opened_account epoch 0) input output
+        × Appends (sink_contents W.contents sink.old) (sink_contents W.contents sink.new) output)) }
+
+    // After a write fault exactly the first `sent` bytes of such an output went out, and not all.
+    ensures write_fault { (fault : _) → result ≡ Err (RunFault.WriteFault fault) →
+        IfSome (source_remaining R.remaining source.old)
+        (λ input. (output : List ℕ) × Prints (opened_account epoch 0) input output
+        × (fault.sent < length output)
+        × Appends (sink_contents W.contents sink.old) (sink_contents W.contents sink.new)
+        (take fault.sent output)) }
+    ensures sink_failed { (fault : _) → result ≡ Err (RunFault.WriteFault fault)
+        → sink_failed sink.new ≡ true }
+
+    // The other faults write nothing.
+    ensures read_fault { result ≡ Err RunFault.ReadFault → source_failed source.new ≡ true }
+    ensures read_failed { source_failed source.new ≡ true → result ≡ Err RunFault.ReadFault }
+    ensures too_long { result ≡ Err RunFault.TooLong →
+        IfSome (source_remaining R.remaining source.old) (λ input. 536870912 < length input) }
+    ensures nothing_read { result ≡ Err RunFault.ReadFault → sink.new ≡ sink.old }
+    ensures nothing_long { result ≡ Err RunFault.TooLong → sink.new ≡ sink.old }
+    ensures nothing_opened { result ≡ Err RunFault.NoMemory → sink.new ≡ sink.old }
+{
+    let input = read_input(alloc, source)?;
+    let mut book = Book::open(alloc, epoch, 0)?;
+    let mut output = Output::new(alloc)?;
+    Ok(answer_lines(alloc, &mut book, &input, &mut output, sink)?)
+}
+
+// Answers each line of the input, and sends all that was gathered.
+fn answer_lines<W: Write>(
+    alloc: Global,
+    book: &mut Book,
+    input: &[u8],
+    output: &mut Output,
+    sink: &mut Sink<W>,
+) -> Result<(), OutputFault>
+    requires within { length input.now ≤ 536870912 }
+    requires nothing_gathered { gathered output.old ≡ [] }
+    requires nothing_sent { taken_in output.old ≡ 0 }
+    ensures all { OnOk result ((output : List ℕ) × Prints book.old input.now output
+        × Appends (sink_contents W.contents sink.old) (sink_contents W.contents sink.new) output) }
+    ensures part { IfErr result (λ fault. (output : List ℕ) × Prints book.old input.now output
+        × (fault.sent < length output)
+        × Appends (sink_contents W.contents sink.old) (sink_contents W.contents sink.new)
+        (take fault.sent output)) }
+    ensures failed { OnErr result (sink_failed sink.new ≡ true) }
+{
+    let mut rest = input;
+    while let Some((line, after)) = first_line(rest) {
+        let body = answer_line(alloc, book, line);
+        output.line(sink, body.as_bytes())?;
+        rest = after;
+    }
+    output.flush(sink)
+}

@@ -1,0 +1,78 @@
+//! The turn of one line: what it does to the book, and the body that answers it.
+ghost use Rattle.std.specs.Prelude.{◌≡◌, ◌≤◌, length, string_bytes, IsSome, IfOk, IfSome};
+ghost use Rattle.rv_text.specs.Bodies.{answer_text};
+ghost use Rattle.rv_book.specs.Verdicts.{says};
+ghost use Rattle.rv_text.specs.Limits.{FitsAnswer, FitsMessage};
+ghost use Rattle.rv_book.specs.Steps.{Next};
+ghost use Rattle.rv_app.specs.Body.{HasShortText, body_text};
+ghost use Rattle.rv_app.specs.Run.{AnswersLine, SaysNext};
+
+use crate::line::{LineFault, read_line};
+use rv_book::{Book, Verdict};
+use rv_text::{BAD_TEXT_BODY, Message, NO_MEMORY_BODY, NoMemory, encode_answer, laws};
+use std::alloc::Global;
+
+// The body that answers a line.
+#[derive(Drop)]
+pub(crate) enum Body {
+    // Of a line that says no message.
+    BadText,
+    // Of a line for which memory was refused.
+    NoMemory,
+    // The text of the book's answer.
+    Text(String),
+}
+
+impl Body {
+    /// The bytes of the body.
+    pub(crate) fn as_bytes(&self) -> &[u8]
+        requires { HasShortText self.now }
+        ensures text { result.now ≡ body_text self.now }
+        ensures short { length result.now ≤ 4096 }
+    {
+        laws::body_constants();
+        match self {
+            Body::BadText => BAD_TEXT_BODY.as_bytes(),
+            Body::NoMemory => NO_MEMORY_BODY.as_bytes(),
+            Body::Text(text) => text.as_bytes(),
+        }
+    }
+}
+
+/// Answers a line: its message is handed to the book at its moment. Where memory is refused, the
+/// book may have taken the message's step or not.
+pub(crate) fn answer_line(alloc: Global, book: &mut Book, line: &[u8]) -> Body
+    ensures answers { AnswersLine line.now book.old book.new (body_text result) }
+    ensures short { HasShortText result }
+{
+    match read_line(alloc, line) {
+        Ok((moment, message)) => answer_message(alloc, book, moment, message),
+        Err(LineFault::Bad) => Body::BadText,
+        Err(LineFault::NoMemory) => Body::NoMemory,
+    }
+}
+
+// Hands the message to the book.
+fn answer_message(alloc: Global, book: &mut Book, moment: u64, message: Message) -> Body
+    requires { FitsMessage message }
+    ensures says { SaysNext moment message book.old book.new (body_text result) }
+    ensures short { HasShortText result }
+{
+    let verdict = book.handle(moment, message);
+    match verdict_text(alloc, book, &verdict) {
+        Ok(text) => Body::Text(text),
+        Err(_) => Body::NoMemory,
+    }
+}
+
+// The text of the answer that the verdict says.
+fn verdict_text(alloc: Global, book: &Book, verdict: &Verdict) -> Result<String, NoMemory>
+    requires said { IsSome (says book.now verdict.now) }
+    requires fits { IfSome (says book.now verdict.now) FitsAnswer }
+    ensures text { IfOk result (λ s. IfSome (says book.now verdict.now)
+        (λ answer. string_bytes s ≡ answer_text answer)) }
+    ensures short { IfOk result (λ s. length (string_bytes s) ≤ 4096) }
+{
+    let answer = book.answer(alloc, verdict)?;
+    encode_answer(alloc, &answer)
+}

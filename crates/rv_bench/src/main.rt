@@ -1,0 +1,20 @@
+//! A plain loop for measurements: it reads the JSON of each line of standard input, and writes it back.
+#![tactic(auto)]
+
+use anyhow::Context;
+use serde_json::Value;
+use std::io::{self, BufWriter, Write};
+
+fn main(rt: HostRuntime) -> anyhow::Result<()> {
+    let alloc = rt.alloc();
+    let input = io::read_to_string(alloc, rt.stdin())?;
+    let mut output = BufWriter::new(alloc, rt.stdout())?;
+    for line in input.as_str().lines() {
+        let (_, body) = line.split_once(' ').context("a line has no space")?;
+        let value = Value::from_slice(alloc, body.as_bytes())?;
+        output.write_all(value.to_string(alloc)?.as_bytes())?;
+        output.write_all(b"\n")?;
+    }
+    output.flush()?;
+    Ok(())
+}
