@@ -16,3 +16,4 @@ pub mod OnePartner
 pub mod Leaving
 pub mod Deciding
 pub mod Entering
+pub mod OneStep

@@ -1,10 +1,12 @@
 -- The laws of accounts, replies and steps, over the definitions alone.
-use Rattle.std.specs.Prelude.{◌≡◌, ℕ, Some}
+use Rattle.std.specs.Prelude.{◌≡◌, ◌≢◌, ℕ, Some}
 use Rattle.rv_text.specs.declared.message.Key.{Key}
 use Rattle.rv_text.specs.declared.message.Call.{Call}
 use Rattle.rv_text.specs.declared.message.Message.{Message}
 use Rattle.rv_text.specs.declared.answer.Reply.{Reply}
 use Rattle.rv_text.specs.declared.answer.Answer.{Answer}
+use Rattle.rv_text.specs.declared.answer.Answer.TheVariants.{Refused}
+use Rattle.rv_text.specs.declared.answer.Refusal.TheVariants.{NoMemory}
 use Rattle.rv_book.specs.declared.account.Act.TheVariants.{Hello, Arrive}
 use Rattle.rv_book.specs.declared.verdict.Verdict.{Verdict}
 use Rattle.rv_book.specs.Account.{Account, Extends}
@@ -40,3 +42,8 @@ StepsExtend = (a b : Account) (now : ℕ) (m : Message) (x : Answer) → Next a 
 -- what a verdict says it says in every account that extends the one in which it was given
 abbrev pub VerdictsStay : Type 0
 VerdictsStay = (a b : Account) (verdict : Verdict) (x : Answer) → Extends a b → says a verdict ≡ Some x → says b verdict ≡ Some x
+
+-- a step leaves no choice, want of memory aside: one account after it and one answer
+abbrev pub OneNext : Type 0
+OneNext = (a b c : Account) (now : ℕ) (m : Message) (x y : Answer) → Next a now m b x → Next a now m c y
+    → x ≢ Refused NoMemory → y ≢ Refused NoMemory → (b ≡ c) × (x ≡ y)

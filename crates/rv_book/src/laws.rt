@@ -1,5 +1,5 @@
 //! Laws of accounts, replies and steps: each function is its contract, over the definitions alone.
-ghost use Rattle.rv_book.specs.Laws.{RepliesStay, RequestsCanEnter, HellosCanEnter, ItemsLeaveInOrder, StepsExtend, VerdictsStay};
+ghost use Rattle.rv_book.specs.Laws.{OneNext, RepliesStay, RequestsCanEnter, HellosCanEnter, ItemsLeaveInOrder, StepsExtend, VerdictsStay};
 
 /// A reply that stands in a legal account stands in every legal account that extends it, and the
 /// request has no other reply there.
@@ -32,4 +32,10 @@ pub fn steps_extend()
 /// What a verdict says, it says in every later account.
 pub fn verdicts_stay()
     ensures { VerdictsStay }
+{}
+
+/// A step leaves no choice, want of memory aside: from one account, by one moment and message, it leads
+/// to one account and one answer.
+pub fn one_next()
+    ensures { OneNext }
 {}
