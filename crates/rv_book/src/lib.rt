@@ -9,6 +9,8 @@ mod book;
 mod plain;
 mod state;
 mod tables;
+#[cfg(test)]
+mod tests;
 mod verdict;
 
 pub use account::{Account, Act, Entry, Place};

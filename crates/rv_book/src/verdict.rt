@@ -26,6 +26,7 @@ pub(crate) enum Said {
 
 /// What [`Book::handle`](crate::Book::handle) said to a message. It takes no memory;
 /// [`Book::answer`](crate::Book::answer) makes the answer of it.
+#[derive(Drop)]
 pub struct Verdict {
     pub(crate) said: Said,
 }
