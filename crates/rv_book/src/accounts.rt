@@ -1,33 +1,25 @@
-//! A short way to write accounts by hand, for tests.
+//! A short way to write accounts and messages by hand, for tests.
 use crate::account::{Account, Act, Entry, Place};
 use crate::plain::{Rule, first_fault, reply};
-use rv_text::{Call, Item, Key, NoMemory, Reply, Wait};
+use rv_text::{Answer, Call, Item, Key, Message, NoMemory, Refusal, Reply, Wait};
 use std::alloc::Global;
 use std::process::Abort;
 
-/// What an entry of an account written by hand records.
+/// What a line written by hand records or asks for.
 #[derive(Clone, Copy)]
-pub(crate) enum Does {
-    Hello {
-        client: u64,
-        incarnation: u64,
-    },
-    Put {
-        key: Key,
-        queue: u64,
-        text: &'static str,
-    },
-    Take {
-        key: Key,
-        queue: u64,
-    },
+enum Does {
+    Hello,
+    Put(&'static str),
+    Take,
 }
 
-/// One line of an account written by hand. It is of epoch 1 and queue 3, of incarnation 1, at
-/// moment 0 and without a partner, unless changed.
+/// One line written by hand: an entry of an account, or a message to a book. It is of epoch 1 and
+/// queue 3, of incarnation 1, at moment 0 and without a partner, unless changed.
 #[derive(Clone, Copy)]
 pub(crate) struct Line {
-    moment: u64,
+    pub(crate) moment: u64,
+    key: Key,
+    queue: u64,
     does: Does,
     partner: Option<Place>,
 }
@@ -42,31 +34,23 @@ pub(crate) fn key(client: u64, number: u64) -> Key {
 }
 
 pub(crate) fn hello(client: u64, incarnation: u64) -> Line {
-    Line::of(Does::Hello {
-        client,
-        incarnation,
-    })
+    Line::of(client, 0, Does::Hello).by(incarnation)
 }
 
 pub(crate) fn put(client: u64, number: u64, text: &'static str) -> Line {
-    Line::of(Does::Put {
-        key: key(client, number),
-        queue: 3,
-        text,
-    })
+    Line::of(client, number, Does::Put(text))
 }
 
 pub(crate) fn take(client: u64, number: u64) -> Line {
-    Line::of(Does::Take {
-        key: key(client, number),
-        queue: 3,
-    })
+    Line::of(client, number, Does::Take)
 }
 
 impl Line {
-    fn of(does: Does) -> Line {
+    fn of(client: u64, number: u64, does: Does) -> Line {
         Line {
             moment: 0,
+            key: key(client, number),
+            queue: 3,
             does,
             partner: None,
         }
@@ -84,68 +68,96 @@ impl Line {
         self
     }
 
-    /// The same line of another queue; a hello stays as it is.
-    pub(crate) fn on(mut self, other: u64) -> Line {
-        match &mut self.does {
-            Does::Put { queue, .. } | Does::Take { queue, .. } => *queue = other,
-            Does::Hello { .. } => {}
-        }
+    /// The same line of another queue.
+    pub(crate) fn on(mut self, queue: u64) -> Line {
+        self.queue = queue;
         self
     }
 
-    /// The same line of another epoch; a hello stays as it is.
+    /// The same line of another epoch.
     pub(crate) fn in_epoch(mut self, epoch: u64) -> Line {
-        match &mut self.does {
-            Does::Put { key, .. } | Does::Take { key, .. } => key.epoch = epoch,
-            Does::Hello { .. } => {}
-        }
+        self.key.epoch = epoch;
         self
     }
 
     /// The same line of another incarnation.
-    pub(crate) fn by(mut self, other: u64) -> Line {
-        match &mut self.does {
-            Does::Put { key, .. } | Does::Take { key, .. } => key.incarnation = other,
-            Does::Hello { incarnation, .. } => *incarnation = other,
-        }
+    pub(crate) fn by(mut self, incarnation: u64) -> Line {
+        self.key.incarnation = incarnation;
         self
     }
 
     /// The client that says or asks it.
     pub(crate) fn client(&self) -> u64 {
-        match self.does {
-            Does::Put { key, .. } | Does::Take { key, .. } => key.client,
-            Does::Hello { client, .. } => client,
-        }
+        self.key.client
+    }
+
+    fn call(self, alloc: Global) -> Result<Option<Call>, NoMemory> {
+        let queue = self.queue;
+        let call = match self.does {
+            Does::Hello => None,
+            Does::Put(text) => {
+                let item = Item::from_text(String::from_str(alloc, text)?);
+                Some(Call::Put { queue, item })
+            }
+            Does::Take => {
+                let wait = Wait::Now;
+                Some(Call::Take { queue, wait })
+            }
+        };
+        Ok(call)
     }
 
     fn act(self, alloc: Global) -> Result<Act, NoMemory> {
-        let act = match self.does {
-            Does::Hello {
-                client,
-                incarnation,
-            } => Act::Hello {
+        let Key {
+            client,
+            incarnation,
+            ..
+        } = self.key;
+        let act = match self.call(alloc)? {
+            None => Act::Hello {
                 client,
                 incarnation,
             },
-            Does::Put { key, queue, text } => {
-                let item = Item::from_text(String::from_str(alloc, text)?);
-                Act::Arrive {
-                    key,
-                    call: Call::Put { queue, item },
-                }
-            }
-            Does::Take { key, queue } => {
-                Act::Arrive {
-                    key,
-                    call: Call::Take {
-                        queue,
-                        wait: Wait::Now,
-                    },
-                }
-            }
+            Some(call) => Act::Arrive {
+                key: self.key,
+                call,
+            },
         };
         Ok(act)
+    }
+
+    /// The message that says or asks it.
+    pub(crate) fn message(self, alloc: Global) -> Result<Message, NoMemory> {
+        let message = match self.act(alloc)? {
+            Act::Hello {
+                client,
+                incarnation,
+            } => Message::Hello {
+                client,
+                incarnation,
+            },
+            Act::Arrive { key, call } => Message::Request { key, call },
+        };
+        Ok(message)
+    }
+
+    /// The answer by which a book of the line's epoch tells this.
+    pub(crate) fn answer(self, alloc: Global, told: Told) -> Result<Option<Answer>, NoMemory> {
+        let key = self.key;
+        let answer = match told {
+            Told::Welcome => Some(Answer::Welcome {
+                epoch: key.epoch,
+                client: key.client,
+                incarnation: key.incarnation,
+            }),
+            Told::Refused(refusal) => Some(Answer::Refused(refusal)),
+            reply => {
+                reply
+                    .reply(alloc)?
+                    .map(|reply| Answer::Replied { key, reply })
+            }
+        };
+        Ok(answer)
     }
 }
 
@@ -163,13 +175,15 @@ pub(crate) fn account_of(alloc: Global, opened: u64, lines: &[Line]) -> Result<A
     Ok(Account::of(1, opened, entries))
 }
 
-/// What the client of a key is told.
+/// What a client is told of a key, or of a message.
 #[derive(Clone, Copy)]
 pub(crate) enum Told {
     Done,
     Item(&'static str),
     Empty,
     Nothing,
+    Welcome,
+    Refused(Refusal),
 }
 
 impl Told {
@@ -178,7 +192,7 @@ impl Told {
             Told::Done => Some(Reply::Done),
             Told::Item(text) => Some(Reply::Item(Item::from_text(String::from_str(alloc, text)?))),
             Told::Empty => Some(Reply::Empty),
-            Told::Nothing => None,
+            Told::Nothing | Told::Welcome | Told::Refused(_) => None,
         };
         Ok(reply)
     }

@@ -10,6 +10,8 @@ pub mod laws;
 mod plain;
 mod state;
 mod tables;
+#[cfg(test)]
+mod tests;
 mod verdict;
 
 pub use account::{Account, Act, Entry, Place};
