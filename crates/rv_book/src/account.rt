@@ -156,9 +156,9 @@ impl Account {
         self.entries.push(entry).map_err(AllocError::from)
     }
 
-    // The account of these entries, legal or not.
-    #[cfg(test)]
-    pub(crate) fn of(epoch: u64, opened: u64, entries: Vec<Entry>) -> Account
+    /// The account of this epoch, opening moment and entries, legal or not. It takes no memory. A book's
+    /// account is always legal; this is for accounts that come from elsewhere.
+    pub fn from_entries(epoch: u64, opened: u64, entries: Vec<Entry>) -> Account
         ensures epoch { result.epoch ≡ epoch }
         ensures opened { result.opened ≡ opened }
         ensures entries { result.entries ≡ entries.items }

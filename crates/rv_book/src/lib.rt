@@ -2,16 +2,10 @@
 #![tactic(auto)]
 
 mod account;
-#[cfg(test)]
-mod accounts;
 mod book;
 pub mod laws;
-#[cfg(test)]
-mod plain;
 mod state;
 mod tables;
-#[cfg(test)]
-mod tests;
 mod verdict;
 
 pub use account::{Account, Act, Entry, Place};

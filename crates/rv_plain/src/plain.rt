@@ -8,7 +8,7 @@ ghost use Rattle.rv_book.specs.Waiting as waits;
 mod sequences;
 mod tests;
 
-use crate::account::{Account, Act, Entry, Place};
+use rv_book::{Account, Act, Entry, Place};
 use rv_text::{Call, Item, Key, NoMemory, Reply, Wait};
 use std::alloc::Global;
 

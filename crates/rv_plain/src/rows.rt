@@ -1,12 +1,8 @@
 //! Worked rows: what each message is told, then and later, and the plain reading of the account.
-ghost use Rattle.std.specs.Prelude.{IsTrue, IsSome};
-ghost use Rattle.rv_book.specs.Verdicts.{says};
-
 use crate::accounts::{Line, Told, hello, put, take};
 use crate::plain::{first_fault, reply};
-use crate::verdict::{Kept, Said};
-use crate::{Account, Act, Book, Entry, MAX_MOMENT, Verdict};
-use rv_text::{Answer, Call, NoMemory, Refusal};
+use rv_book::{Account, Book, MAX_MOMENT};
+use rv_text::{Answer, NoMemory, Refusal};
 use std::alloc::Global;
 use std::process::Abort;
 use std::test::Fail;
@@ -20,76 +16,47 @@ const LETTERS: &str = "xxxxxxxxxxxxxxxxxxxxxxxxxxxxxxxxxxxxxxxxxxxxxxxxxxxxxxxxx
     xxxxxxxxxxxxxxxxxxxxxxxxxxxxxxxxxxxxxxxxxxxxxxxxxxxxxxxxxxxxxxxx\
     xxxxxxxxxxxxxxxxxxxxxxxxxxxxxxxxxxxxxxxxxxxxxxxxxxxxxxxxxxxxxxxx";
 
-// The book's verdict on a line, whose answer is asserted to tell this.
+// Asserts that the book's answer to a line tells this.
 fn tells(
     rt: &impl Abort,
     alloc: Global,
     book: &mut Book,
     line: Line,
     told: Told,
-) -> Result<Verdict, NoMemory> {
+) -> Result<(), NoMemory> {
     let message = line.message(alloc)?;
     assert!(rt; message.fits());
     let verdict = book.handle(line.moment, message);
     let answer = book.answer(alloc, &verdict)?;
     assert_eq!(rt; Some(answer), line.answer(alloc, told)?);
-    Ok(verdict)
+    Ok(())
 }
 
-// Whether the account has the item that the verdict names, if it names one.
-fn has_item(account: &Account, verdict: &Verdict) -> bool
-    ensures { IsTrue result → IsSome (says account.now verdict.now) }
-{
-    match verdict.said {
-        Said::Replied {
-            kept: Kept::Item(place),
-            ..
-        } => {
-            matches!(
-                account.entry(place),
-                Some(Entry {
-                    act: Act::Arrive {
-                        call: Call::Put { .. },
-                        ..
-                    },
-                    ..
-                })
-            )
-        }
-        _ => true,
-    }
-}
-
-// Asserts that the account is legal, and that the verdict still tells what the plain reading does.
+// Asserts that the account is legal, and that the plain reading tells what the book did.
 fn still_tells(
     rt: &impl Abort,
     alloc: Global,
-    book: &Book,
-    verdict: &Verdict,
+    account: &Account,
     answer: Option<Answer>,
 ) -> Result<(), NoMemory> {
-    let account = book.account();
     assert_eq!(rt; first_fault(account), None);
-    assert!(rt; has_item(account, verdict));
-    assert_eq!(rt; Some(book.answer(alloc, verdict)?), answer);
     if let Some(Answer::Replied { key, reply: told }) = answer {
         assert_eq!(rt; reply(alloc, account, &key)?, Some(told));
     }
     Ok(())
 }
 
-// Asserts that the lines are told so, each at once and again after each further line.
+// Asserts that the lines are told so, each at once, and by the plain reading after each further line.
 fn runs(
     rt: &impl Abort,
     alloc: Global,
     book: &mut Book,
     row: &[(Line, Told)],
 ) -> Result<(), NoMemory> {
-    let mut verdicts = Vec::new(alloc);
-    for (line, told) in row {
-        verdicts.push(tells(rt, alloc, book, *line, *told)?)?;
-        for (verdict, (line, told)) in verdicts.iter().zip(row) {
-            still_tells(rt, alloc, book, verdict, line.answer(alloc, *told)?)?;
+    for (done, (line, told)) in row.iter().enumerate() {
+        tells(rt, alloc, book, *line, *told)?;
+        for (line, told) in row.iter().take(done).chain([(*line, *told)].iter()) {
+            still_tells(rt, alloc, book.account(), line.answer(alloc, *told)?)?;
         }
     }
     Ok(())

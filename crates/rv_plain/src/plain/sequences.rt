@@ -1,6 +1,6 @@
 //! All sequences of a few arrivals: each arrival has one legal partner, and it is the one that a queue gives.
-use crate::account::Place;
 use crate::accounts::{Line, fault_of, hello, put, take};
+use rv_book::Place;
 use rv_text::NoMemory;
 use std::alloc::Global;
 use std::process::Abort;

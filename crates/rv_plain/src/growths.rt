@@ -1,7 +1,7 @@
 //! What a refused growth leaves. With ample memory no growth is refused. Under `rt try --test --fail-alloc N` the Nth is.
-use crate::Book;
 use crate::accounts::{Line, Told, hello, put, take};
 use crate::plain::first_fault;
+use rv_book::Book;
 use rv_text::{Answer, NoMemory, Refusal};
 use std::alloc::Global;
 use std::process::Abort;

@@ -1,7 +1,7 @@
 //! Accounts written by hand from the rules, legal ones and broken ones, and what the plain reading says of them.
 use super::{Rule, first_fault, last_hello, last_number, met, open, stopped, waiting};
-use crate::account::{Account, Place};
 use crate::accounts::{Line, Told, account_of, fault_of, gives, hello, key, put, take};
+use rv_book::{Account, Place};
 use rv_text::NoMemory;
 use std::alloc::Global;
 use std::process::Abort;

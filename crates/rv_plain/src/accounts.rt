@@ -1,6 +1,6 @@
 //! A short way to write accounts and messages by hand, for tests.
-use crate::account::{Account, Act, Entry, Place};
 use crate::plain::{Rule, first_fault, reply};
+use rv_book::{Account, Act, Entry, Place};
 use rv_text::{Answer, Call, Item, Key, Message, NoMemory, Refusal, Reply, Wait};
 use std::alloc::Global;
 use std::process::Abort;
@@ -172,7 +172,7 @@ pub(crate) fn account_of(alloc: Global, opened: u64, lines: &[Line]) -> Result<A
         };
         entries.push(entry)?;
     }
-    Ok(Account::of(1, opened, entries))
+    Ok(Account::from_entries(1, opened, entries))
 }
 
 /// What a client is told of a key, or of a message.
