@@ -62,6 +62,7 @@ impl Output {
         ensures part { IfErr result (λ fault. Appends (sink_contents W.contents sink.old)
             (sink_contents W.contents sink.new)
             (take (fault.sent - self.old.sent) (gathered self.old))) }
+        ensures unfailed { OnOk result (sink_failed sink.new ≡ sink_failed sink.old) }
         ensures failed { OnErr result (sink_failed sink.new ≡ true) }
     {
         if self.gathered.len() > ROOM - LONGEST_LINE {
@@ -84,6 +85,7 @@ impl Output {
         ensures part { IfErr result (λ fault. Appends (sink_contents W.contents sink.old)
             (sink_contents W.contents sink.new)
             (take (fault.sent - self.old.sent) (gathered self.old))) }
+        ensures unfailed { OnOk result (sink_failed sink.new ≡ sink_failed sink.old) }
         ensures failed { OnErr result (sink_failed sink.new ≡ true) }
     {
         if self.gathered.is_empty() {

@@ -99,6 +99,7 @@ pub fn book_run<R: Read, W: Write>(
     ensures output { OnOk result (IfSome (source_remaining R.remaining source.old)
         (λ input. (output : List ℕ) × Prints (opened_account epoch 0) input output
         × Appends (sink_contents W.contents sink.old) (sink_contents W.contents sink.new) output)) }
+    ensures unfailed { OnOk result (sink_failed sink.new ≡ sink_failed sink.old) }
 
     // After a write fault exactly the first `sent` bytes of such an output went out, and not all.
     ensures write_fault { (fault : _) → result ≡ Err (RunFault.WriteFault fault) →
@@ -109,6 +110,10 @@ pub fn book_run<R: Read, W: Write>(
         (take fault.sent output)) }
     ensures sink_failed { (fault : _) → result ≡ Err (RunFault.WriteFault fault)
         → sink_failed sink.new ≡ true }
+    ensures whole_read { (fault : _) → result ≡ Err (RunFault.WriteFault fault)
+        → IsAtEnd (source_remaining R.remaining source.new) }
+    ensures within_limit { (fault : _) → result ≡ Err (RunFault.WriteFault fault) →
+        IfSome (source_remaining R.remaining source.old) (λ input. length input ≤ 536870912) }
 
     // The other faults write nothing.
     ensures read_fault { result ≡ Err RunFault.ReadFault → source_failed source.new ≡ true }
@@ -142,6 +147,7 @@ fn answer_lines<W: Write>(
         × (fault.sent < length output)
         × Appends (sink_contents W.contents sink.old) (sink_contents W.contents sink.new)
         (take fault.sent output)) }
+    ensures unfailed { OnOk result (sink_failed sink.new ≡ sink_failed sink.old) }
     ensures failed { OnErr result (sink_failed sink.new ≡ true) }
 {
     let mut rest = input;

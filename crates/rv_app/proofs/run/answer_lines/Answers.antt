@@ -1,5 +1,5 @@
 -- Each line that is answered moves the run on, and a fault leaves the front of what it prints.
-use Rattle.std.proofs.Common.{List, ℕ, refl, sym, subst}
+use Rattle.std.proofs.Common.{List, ℕ, refl, sym, subst, ◌∙◌}
 use Rattle.std.proofs.lemmas.Result.{err_from_is_err_and}
 use Rattle.rv_app.specs.Output.{gathered}
 use Rattle.rv_app.specs.Run.{AnswersLine}
@@ -7,25 +7,31 @@ use Rattle.rv_app.proofs.Progress.{progress_start, progress_more, progress_on_ok
 use Rattle.rv_app.proofs.run.answer_lines.Goals as goal
 
 pub loop-line-init : goal.loop-line-init
-loop-line-init g c = progress_start _ _ _ _ _ c.requires.nothing_gathered c.requires.nothing_sent
+loop-line-init g c = record { progress = progress_start _ _ _ _ _ c.requires.nothing_gathered c.requires.nothing_sent; unfailed = refl }
 
 pub loop-line-preserved-in_ok-line : goal.loop-line-preserved-in_ok-line
 loop-line-preserved-in_ok-line g c =
     let answers = subst (AnswersLine c.in-Some.line.now c.loop-line.book c.answer_line-body.new.book) (sym c.as_bytes.ensures.text) c.answer_line-body.ensures.answers in
-    progress_more c.loop-line.invariant _ _ _ _ _ c.as_bytes.result.now _ c.in-Some.ensures.some answers c.in_ok-line.ensures.ok c.in_ok-line.ensures.count c.as_bytes.ensures.short c.in-Some.ensures.shorter
+    record {
+      progress = progress_more c.loop-line.invariant.progress _ _ _ _ _ c.as_bytes.result.now _ c.in-Some.ensures.some answers c.in_ok-line.ensures.ok c.in_ok-line.ensures.count c.as_bytes.ensures.short c.in-Some.ensures.shorter;
+      unfailed = c.in_ok-line.ensures.unfailed ∙ c.loop-line.invariant.unfailed;
+    }
 
 pub loop-line-preserved : goal.loop-line-preserved
 loop-line-preserved g c =
     let answers = subst (AnswersLine c.in-Some.line.now c.loop-line.book c.answer_line-body.new.book) (sym c.as_bytes.ensures.text) c.answer_line-body.ensures.answers in
-    progress_more c.loop-line.invariant _ _ _ _ _ c.as_bytes.result.now _ c.in-Some.ensures.some answers c.in_ok-line.ensures.ok c.in_ok-line.ensures.count c.as_bytes.ensures.short c.in-Some.ensures.shorter
+    record {
+      progress = progress_more c.loop-line.invariant.progress _ _ _ _ _ c.as_bytes.result.now _ c.in-Some.ensures.some answers c.in_ok-line.ensures.ok c.in_ok-line.ensures.count c.as_bytes.ensures.short c.in-Some.ensures.shorter;
+      unfailed = c.in_ok-line.ensures.unfailed ∙ c.loop-line.invariant.unfailed;
+    }
 
 pub returns-in_err-line-clause-part : goal.returns-in_err-line-clause-part
 returns-in_err-line-clause-part g c =
     let exit = err_from_is_err_and c.from_residual.result c.from_residual.ensures.1 in
-    rw (exit.1, exit.2) (progress_fault c.loop-line.invariant _ _ c.in_err-line.ensures.fault.0 c.in_err-line.ensures.fault.1 c.in_err-line.ensures.part)
+    rw (exit.1, exit.2) (progress_fault c.loop-line.invariant.progress _ _ c.in_err-line.ensures.fault.0 c.in_err-line.ensures.fault.1 c.in_err-line.ensures.part)
 
 pub returns-clause-part : goal.returns-clause-part
-returns-clause-part g c = progress_if_err c.loop-line.invariant _ c.flush.result c.flush.ensures.fault c.flush.ensures.part
+returns-clause-part g c = progress_if_err c.loop-line.invariant.progress _ c.flush.result c.flush.ensures.fault c.flush.ensures.part
 
 pub returns-clause-all : goal.returns-clause-all
-returns-clause-all g c = progress_on_ok c.loop-line.invariant _ c.flush.result (c.in_default.ensures.none refl) c.flush.ensures.ok
+returns-clause-all g c = progress_on_ok c.loop-line.invariant.progress _ c.flush.result (c.in_default.ensures.none refl) c.flush.ensures.ok
