@@ -46,7 +46,7 @@ pub record IsNextNumber (entries : List Entry) (key : Key) : Type 0 where
 abbrev pub CountsUp : List Entry → Entry → Type 0
 CountsUp entries e = (key : Key) (call : Call) → e.act ≡ Arrive key call → IsNextNumber entries key
 
--- ---- pairs
+-- ---- pairs (Java SE 21, `TransferQueue`; the fair dual queue of Scherer, Lea and Scott, PPoPP 2006)
 
 -- only a call that may meet names a partner: an earlier place that is in no pair or swap yet
 pub record IsFreePartner (entries : List Entry) (e : Entry) (p : ℕ) : Type 0 where

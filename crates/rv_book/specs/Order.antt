@@ -1,4 +1,4 @@
--- Items leave each queue in their order of arrival.
+-- Items leave each queue in their order of arrival: first in first out, as in the fair dual queue of Scherer, Lea and Scott (PPoPP 2006) and Java SE 21's `LinkedTransferQueue`.
 use Rattle.std.specs.Prelude.{◌≡◌, ◌⊎◌, ◌<◌, ℕ, List, take, Some}
 use Rattle.rv_text.specs.declared.message.Call.{Call}
 use Rattle.rv_book.specs.declared.account.Entry.{Entry}

@@ -1,4 +1,4 @@
--- The reply of a request, as an account tells it: the first case that applies.
+-- The reply of a request, as an account tells it: the first case that applies (Java SE 21: `LinkedTransferQueue.put` and `poll`).
 use Rattle.std.specs.Prelude.{◌≡◌, ◌⊎◌, ℕ, List, Some}
 use Rattle.rv_text.specs.declared.message.Key.{Key}
 use Rattle.rv_text.specs.declared.message.Wait.{Wait}
