@@ -1,12 +1,12 @@
 -- What is cut at its first LF or space, and that there is one way to cut it.
-use Rattle.std.proofs.Common.{◌≡◌, ◌≢◌, ℕ, List, [], ◌∷◌, ◌++◌, refl, sym, ap, subst, ◌∙◌, length, arith, append-nil}
+use Rattle.std.proofs.Common.{◌≡◌, ◌≢◌, ℕ, List, [], ◌∷◌, ◌++◌, refl, sym, subst, ◌∙◌, arith}
 use Rattle.std.specs.List.{All}
 use Rattle.std.specs.Int.{IsInRange}
 use Rattle.std.proofs.lemmas.List.Elements.{All-head, All-tail}
 use Rattle.std.proofs.lemmas.Bool.{ne_eqb}
 use Rattle.rv_text.specs.declared.message.Message.{Message}
 use Rattle.rv_text.specs.Bodies.{IsMessageBody}
-use Rattle.rv_app.specs.Lines.{IsBadLine, ReadsLine, lines}
+use Rattle.rv_app.specs.Lines.{IsBadLine, lines}
 use Rattle.rv_app.specs.Number.{Writes}
 
 -- none of the bytes is this one

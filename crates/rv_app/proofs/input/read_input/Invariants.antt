@@ -1,5 +1,5 @@
 -- What was kept so far is what the source gave, and each turn keeps at least one byte.
-use Rattle.std.proofs.Common.{◌≡◌, ◌≤◌, ◌-◌, vec_len}
+use Rattle.std.proofs.Common.{◌≤◌, ◌-◌, vec_len}
 use Rattle.std.specs.Io.KnownBytes.{Consumes}
 use Rattle.rv_frame.specs.Source.{source_remaining}
 use Rattle.rv_app.proofs.input.read_input.Given as goal

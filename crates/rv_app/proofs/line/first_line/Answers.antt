@@ -1,5 +1,5 @@
 -- The first line ends at the first LF, or with the bytes.
-use Rattle.std.proofs.Common.{◌≡◌, ◌≢◌, ◌∷◌, ◌++◌, ℕ, List, [], ap, refl, sym, ◌∙◌, Bool, false, eqb, length}
+use Rattle.std.proofs.Common.{◌≡◌, ◌∷◌, ℕ, List, [], ap, refl, sym, ◌∙◌, false, eqb, length}
 use Rattle.rv_app.specs.Lines.{lines}
 use Rattle.rv_app.proofs.Cutting.{Lacks, lines_cut, lines_last}
 use Rattle.rv_app.proofs.line.first_line.Goals as goal

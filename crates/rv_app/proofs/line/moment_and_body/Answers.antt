@@ -1,5 +1,5 @@
 -- A moment and a body are found where the line has them.
-use Rattle.std.proofs.Common.{◌≡◌, ℕ, List, ◌∷◌, ◌++◌, None, refl, subst, sym, ◌∙◌}
+use Rattle.std.proofs.Common.{◌≡◌, ◌∷◌, ◌++◌, refl, subst, sym, ◌∙◌}
 use Rattle.std.proofs.lemmas.Bool.{false≢true}
 use Rattle.rv_app.specs.Number.{IsDigits}
 use Rattle.rv_app.proofs.Cutting.{Lacks, digits_lack_space, not_lacking, cut_once}

@@ -1,5 +1,5 @@
 -- A line is bad where it has no moment and body, and where the body is no message's.
-use Rattle.std.proofs.Common.{◌≡◌, ◌⊎◌, inl, inr, Some, Ok, Err, Result, refl, ap, ◌∙◌}
+use Rattle.std.proofs.Common.{◌≡◌, ◌⊎◌, inl, inr, Ok, Err, Result, ap, ◌∙◌}
 use Rattle.rv_text.specs.declared.fault.TextFault.{TextFault}
 use Rattle.rv_text.specs.declared.fault.TextFault.TheVariants.{NoMemory, NotJson, NotMessage}
 use Rattle.rv_text.specs.declared.message.Message.{Message}

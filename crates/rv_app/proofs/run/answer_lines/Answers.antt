@@ -1,7 +1,6 @@
 -- Each line that is answered moves the run on, and a fault leaves the front of what it prints.
-use Rattle.std.proofs.Common.{List, ℕ, refl, sym, subst, ◌∙◌}
+use Rattle.std.proofs.Common.{refl, sym, subst, ◌∙◌}
 use Rattle.std.proofs.lemmas.Result.{err_from_is_err_and}
-use Rattle.rv_app.specs.Output.{gathered}
 use Rattle.rv_app.specs.Run.{AnswersLine}
 use Rattle.rv_app.proofs.Progress.{progress_start, progress_more, progress_on_ok, progress_fault, progress_if_err}
 use Rattle.rv_app.proofs.run.answer_lines.Goals as goal

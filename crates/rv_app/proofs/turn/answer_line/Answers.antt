@@ -1,5 +1,5 @@
 -- A bad line is refused, and the account stays.
-use Rattle.std.proofs.Common.{refl, ap, Err, inl}
+use Rattle.std.proofs.Common.{refl, inl}
 use Rattle.rv_app.proofs.turn.answer_line.Goals as goal
 
 pub returns-in-Err-Bad-clause-answers : goal.returns-in-Err-Bad-clause-answers

@@ -1,5 +1,5 @@
 -- The constant bodies are the texts of their refusals.
-use Rattle.std.proofs.Common.{◌≡◌, ◌≤◌, length, ap, sym, subst, ◌∙◌, rules, lit≤}
+use Rattle.std.proofs.Common.{◌∙◌, rules}
 use Rattle.rv_app.specs.Run.{refused_text}
 use Rattle.rv_app.proofs.turn.Body.as_bytes.Goals as goal
 
