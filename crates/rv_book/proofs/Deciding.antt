@@ -3,8 +3,8 @@ use Rattle.std.proofs.Common.{◌≡◌, ◌⊎◌, inl, inr, ℕ, zero, suc, �
 use Rattle.std.proofs.lemmas.Bool.{cases_lt, cases_order}
 use Rattle.std.proofs.lemmas.Option.{none-some, same_Some}
 use Rattle.rv_text.specs.declared.message.Key.{Key}
-use Rattle.rv_text.specs.declared.message.Call.{Call}
-use Rattle.rv_text.specs.declared.message.Call.TheVariants.{Put, Take}
+use Rattle.rv_text.specs.declared.call.Call.{Call}
+use Rattle.rv_text.specs.declared.call.Call.TheVariants.{Put, Take}
 use Rattle.rv_book.specs.declared.account.Entry.{Entry}
 use Rattle.rv_book.specs.declared.account.Act.{Act}
 use Rattle.rv_book.specs.declared.account.Act.TheVariants.{Hello, Arrive}

@@ -2,10 +2,10 @@
 use Rattle.std.proofs.Common.{◌≡◌, inl, inr, ℕ, ◌+◌, ◌<◌, List, Option, Some, None, refl, sym, ap, subst, ◌∙◌, arith}
 use Rattle.std.proofs.lemmas.Option.{same_Some, none-some}
 use Rattle.rv_text.specs.declared.message.Key.{Key}
-use Rattle.rv_text.specs.declared.message.Wait.{Wait}
-use Rattle.rv_text.specs.declared.message.Wait.TheVariants.{Now}
-use Rattle.rv_text.specs.declared.message.Call.{Call}
-use Rattle.rv_text.specs.declared.message.Call.TheVariants.{Put, Take}
+use Rattle.rv_text.specs.declared.call.Wait.{Wait}
+use Rattle.rv_text.specs.declared.call.Wait.TheVariants.{Now}
+use Rattle.rv_text.specs.declared.call.Call.{Call}
+use Rattle.rv_text.specs.declared.call.Call.TheVariants.{Put, Take}
 use Rattle.rv_book.specs.declared.account.Entry.{Entry}
 use Rattle.rv_book.specs.declared.account.Act.{Act}
 use Rattle.rv_book.specs.declared.account.Act.TheVariants.{Hello, Arrive}

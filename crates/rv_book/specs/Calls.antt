@@ -1,9 +1,9 @@
 -- The kinds of calls: who gives, who takes, who stays until it is met (Java SE 21, `TransferQueue`).
 use Rattle.std.specs.Prelude.{◌≡◌, ◌⊎◌, ℕ, List, Option, Some, None}
-use Rattle.rv_text.specs.declared.message.Wait.{Wait}
-use Rattle.rv_text.specs.declared.message.Wait.TheVariants.{Now}
-use Rattle.rv_text.specs.declared.message.Call.{Call}
-use Rattle.rv_text.specs.declared.message.Call.TheVariants.{Put, Take}
+use Rattle.rv_text.specs.declared.call.Wait.{Wait}
+use Rattle.rv_text.specs.declared.call.Wait.TheVariants.{Now}
+use Rattle.rv_text.specs.declared.call.Call.{Call}
+use Rattle.rv_text.specs.declared.call.Call.TheVariants.{Put, Take}
 
 -- the queue that a giving call hands an item to
 abbrev pub gives_to : Call → Option ℕ

@@ -1,7 +1,7 @@
 -- Which entry may stand behind which entries, and so which accounts are legal.
 use Rattle.std.specs.Prelude.{◌≡◌, ◌⊎◌, ◌<◌, ◌≤◌, ◌+◌, ℕ, List, length, take, Some, None, slice_get}
 use Rattle.rv_text.specs.declared.message.Key.{Key}
-use Rattle.rv_text.specs.declared.message.Call.{Call}
+use Rattle.rv_text.specs.declared.call.Call.{Call}
 use Rattle.rv_book.specs.declared.account.Entry.{Entry}
 use Rattle.rv_book.specs.declared.account.Act.{Act}
 use Rattle.rv_book.specs.declared.account.Act.TheVariants.{Hello, Arrive}

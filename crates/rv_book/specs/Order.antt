@@ -1,6 +1,6 @@
 -- Items leave each queue in their order of arrival: first in first out, as in the fair dual queue of Scherer, Lea and Scott (PPoPP 2006) and Java SE 21's `LinkedTransferQueue`.
 use Rattle.std.specs.Prelude.{◌≡◌, ◌⊎◌, ◌<◌, ℕ, List, take, Some}
-use Rattle.rv_text.specs.declared.message.Call.{Call}
+use Rattle.rv_text.specs.declared.call.Call.{Call}
 use Rattle.rv_book.specs.declared.account.Entry.{Entry}
 use Rattle.rv_book.specs.Account.{call_at}
 use Rattle.rv_book.specs.Calls.{gives_to, takes_from}

@@ -74,7 +74,7 @@ struct Arrival {
 }
 
 impl State {
-    ghost use Rattle.rv_text.specs.declared.message.Call.TheVariants.{Put, Take};
+    ghost use Rattle.rv_text.specs.declared.call.Call.TheVariants.{Put, Take};
     ghost use Rattle.rv_book.specs.declared.account.Act.TheVariants.{Hello, Arrive};
     ghost use Rattle.rv_text.specs.declared.message.Message.TheVariants as message;
     ghost use Rattle.rv_text.specs.declared.message.Message.TheVariants.{Request};

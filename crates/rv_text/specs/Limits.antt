@@ -1,8 +1,8 @@
 -- The limits of what a body carries.
 use Rattle.std.specs.Prelude.{ℕ, ◌≤◌, List, length}
 use Rattle.rv_text.specs.declared.message.Key.{Key}
-use Rattle.rv_text.specs.declared.message.Call.{Call}
-use Rattle.rv_text.specs.declared.message.Call.TheVariants.{Put, Take}
+use Rattle.rv_text.specs.declared.call.Call.{Call}
+use Rattle.rv_text.specs.declared.call.Call.TheVariants.{Put, Take}
 use Rattle.rv_text.specs.declared.message.Message.{Message}
 use Rattle.rv_text.specs.declared.message.Message.TheVariants.{Hello, Request}
 use Rattle.rv_text.specs.declared.answer.Reply.{Reply}

@@ -2,6 +2,7 @@
 #![tactic(auto)]
 
 mod answer;
+mod call;
 mod decode;
 mod encode;
 mod fault;
@@ -11,11 +12,12 @@ mod members;
 mod message;
 
 pub use answer::{Answer, Refusal, Reply};
+pub use call::{Call, MAX_QUEUE, Side, Wait};
 pub use decode::{MAX_BODY_BYTES, decode_message};
 pub use encode::{BAD_TEXT_BODY, NO_MEMORY_BODY, encode_answer};
 pub use fault::{NoMemory, TextFault};
 pub use item::Item;
-pub use message::{Call, Key, Message, Wait};
+pub use message::{Key, MAX_IDENTIFIER, Message};
 
 #[cfg(test)]
 mod tests;

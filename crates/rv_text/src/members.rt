@@ -4,9 +4,10 @@ ghost use Rattle.serde_json.specs.Find.{get_member};
 ghost use Rattle.serde_json.specs.View.{view, members_view};
 ghost use Rattle.rv_text.specs.Reading.{Gives, GivesSeen, whole_in, text_in, identifier_in, queue_in, item_in, wait_in, key_in, call_in};
 
+use crate::call::{Call, MAX_QUEUE, Wait};
 use crate::fault::TextFault;
 use crate::item::{Item, MAX_ITEM_BYTES};
-use crate::message::{Call, Key, MAX_QUEUE, Wait, fits_identifier};
+use crate::message::{Key, fits_identifier};
 use serde_json::{Map, Value};
 use std::alloc::Global;
 

@@ -1,14 +1,11 @@
-//! What clients send: hellos, and requests with their keys and calls.
+//! What clients send: hellos, and requests with their keys.
 ghost use Rattle.std.specs.Prelude.{◌≡◌, IsTrue, ◌↔◌, length};
 ghost use Rattle.rv_text.specs.Limits.{FitsIdentifier};
 
-use crate::item::Item;
+use crate::call::Call;
 
 /// The greatest epoch, client, incarnation and request number: 2^53 - 1.
 pub const MAX_IDENTIFIER: u64 = 9_007_199_254_740_991;
-
-/// The greatest number of a queue; the least is 0.
-pub const MAX_QUEUE: u64 = 63;
 
 /// What names a request: no two requests of an epoch have the same key.
 #[derive(Clone, Copy, Debug, PartialEq, Eq)]
@@ -21,22 +18,6 @@ pub struct Key {
     pub incarnation: u64,
     /// The request's number in its session, from 1 on.
     pub number: u64,
-}
-
-/// How long a request may wait for its partner.
-#[derive(Clone, Copy, Debug, PartialEq, Eq)]
-pub enum Wait {
-    /// Not at all, as Java's untimed `poll`.
-    Now,
-}
-
-/// What a request asks of a queue.
-#[derive(Debug, PartialEq, Eq, Drop)]
-pub enum Call {
-    /// Appends the item at the queue's tail and never waits (Java's `TransferQueue.put`).
-    Put { queue: u64, item: Item },
-    /// Takes the queue's oldest item (Java's `poll`).
-    Take { queue: u64, wait: Wait },
 }
 
 /// What a client sends.
@@ -58,31 +39,6 @@ impl Key {
         [self.epoch, self.client, self.incarnation, self.number]
             .iter()
             .all(|number| fits_identifier(*number))
-    }
-}
-
-impl Call {
-    ghost use Rattle.rv_text.specs.Fields.{call_fields};
-    ghost use Rattle.rv_text.specs.Limits.{FitsCall};
-
-    // How many members the call has in a body.
-    pub(crate) fn member_count(&self) -> usize
-        ensures { result ≡ length (call_fields self.now) }
-    {
-        match self {
-            Call::Put { .. } => 3,
-            Call::Take { .. } => 3,
-        }
-    }
-
-    /// Whether the queue is 0 to 63 and the item has at most 512 bytes.
-    pub fn fits(&self) -> bool
-        ensures { IsTrue result ↔ FitsCall self.now }
-    {
-        match self {
-            Call::Put { queue, item } => *queue <= MAX_QUEUE && item.fits(),
-            Call::Take { queue, .. } => *queue <= MAX_QUEUE,
-        }
     }
 }
 

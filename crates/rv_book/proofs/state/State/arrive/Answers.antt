@@ -1,7 +1,7 @@
 -- What a recorded request is told.
 use Rattle.std.proofs.Common.{sym, subst}
 use Rattle.std.proofs.lemmas.Result.{IfOk-weaker}
-use Rattle.rv_text.specs.declared.message.Call.{Call}
+use Rattle.rv_text.specs.declared.call.Call.{Call}
 use Rattle.rv_book.specs.Verdicts.{IsTold}
 use Rattle.rv_book.proofs.Replying.{put_told, take_told}
 use Rattle.rv_book.proofs.state.State.arrive.Goals as goal

@@ -1,6 +1,6 @@
 -- After a put the account and its lists are sound.
 use Rattle.std.proofs.Common.{rules, ◌≡◌, [], ◌∷◌, ◌++◌, length, None}
-use Rattle.rv_text.specs.declared.message.Call.TheVariants.{Put}
+use Rattle.rv_text.specs.declared.call.Call.TheVariants.{Put}
 use Rattle.rv_book.specs.declared.account.Act.TheVariants.{Arrive}
 use Rattle.rv_book.specs.Account.{with_entry}
 use Rattle.rv_book.proofs.Following.{entry}

@@ -2,7 +2,7 @@
 use Rattle.std.proofs.Common.{rules, ◌≡◌, ◌<◌, length, Some, ap, ◌∙◌, arith}
 use Rattle.std.specs.List.{remove}
 use Rattle.std.proofs.lemmas.Option.{get_or_from_slice_get}
-use Rattle.rv_text.specs.declared.message.Call.TheVariants.{Take}
+use Rattle.rv_text.specs.declared.call.Call.TheVariants.{Take}
 use Rattle.rv_book.specs.declared.account.Act.TheVariants.{Arrive}
 use Rattle.rv_book.specs.declared.tables.WaitingItem.{WaitingItem}
 use Rattle.rv_book.specs.Account.{with_entry}

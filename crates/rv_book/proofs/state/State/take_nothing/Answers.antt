@@ -1,6 +1,6 @@
 -- After a take that found nothing the account and its lists are sound.
 use Rattle.std.proofs.Common.{rules, ◌≡◌, ◌<◌, length, None, arith}
-use Rattle.rv_text.specs.declared.message.Call.TheVariants.{Take}
+use Rattle.rv_text.specs.declared.call.Call.TheVariants.{Take}
 use Rattle.rv_book.specs.declared.account.Act.TheVariants.{Arrive}
 use Rattle.rv_book.specs.Account.{with_entry}
 use Rattle.rv_book.proofs.Places.{within}

@@ -1,0 +1,90 @@
+//! What a request asks for: its call, and what a call is.
+ghost use Rattle.std.specs.Prelude.{◌≡◌, ◌↔◌, IsTrue, length, option_map};
+
+use crate::item::Item;
+
+/// The greatest number of a queue; the least is 0.
+pub const MAX_QUEUE: u64 = 63;
+
+/// How long a request may wait for its partner.
+#[derive(Clone, Copy, Debug, PartialEq, Eq)]
+pub enum Wait {
+    /// Not at all, as Java's untimed `poll`.
+    Now,
+}
+
+/// What a request asks of a queue.
+#[derive(Debug, PartialEq, Eq, Drop)]
+pub enum Call {
+    /// Appends the item at the queue's tail and never waits (Java's `TransferQueue.put`).
+    Put { queue: u64, item: Item },
+    /// Takes the queue's oldest item (Java's `poll`).
+    Take { queue: u64, wait: Wait },
+}
+
+/// Where a call acts, and on which side of it: whom it may meet.
+#[derive(Clone, Copy, Debug, PartialEq, Eq)]
+pub enum Side {
+    /// It gives an item to this queue, and meets who takes from it.
+    Gives(u64),
+    /// It takes an item from this queue, and meets who gives to it.
+    Takes(u64),
+    /// It looks at this queue, and meets nobody.
+    Looks(u64),
+}
+
+impl Call {
+    ghost use Rattle.rv_text.specs.Calls.{side_of, wait_of, item_of};
+    ghost use Rattle.rv_text.specs.Fields.{call_fields};
+    ghost use Rattle.rv_text.specs.Limits.{FitsCall};
+
+    /// The call's side.
+    pub fn side(&self) -> Side
+        ensures { result ≡ side_of self.now }
+    {
+        match self {
+            Call::Put { queue, .. } => Side::Gives(*queue),
+            Call::Take { queue, .. } => Side::Takes(*queue),
+        }
+    }
+
+    /// How long the call may wait; none where its kind never waits.
+    pub fn wait(&self) -> Option<Wait>
+        ensures { result ≡ wait_of self.now }
+    {
+        match self {
+            Call::Take { wait, .. } => Some(*wait),
+            _ => None,
+        }
+    }
+
+    /// The item that the call hands over, if it does.
+    pub fn item(&self) -> Option<&Item>
+        ensures { option_map (λ i. i.now) result ≡ item_of self.now }
+    {
+        match self {
+            Call::Put { item, .. } => Some(item),
+            _ => None,
+        }
+    }
+
+    // How many members the call has in a body.
+    pub(crate) fn member_count(&self) -> usize
+        ensures { result ≡ length (call_fields self.now) }
+    {
+        match self {
+            Call::Put { .. } => 3,
+            Call::Take { .. } => 3,
+        }
+    }
+
+    /// Whether the queue is 0 to 63 and the item has at most 512 bytes.
+    pub fn fits(&self) -> bool
+        ensures { IsTrue result ↔ FitsCall self.now }
+    {
+        match self {
+            Call::Put { queue, item } => *queue <= MAX_QUEUE && item.fits(),
+            Call::Take { queue, .. } => *queue <= MAX_QUEUE,
+        }
+    }
+}
