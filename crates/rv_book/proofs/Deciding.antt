@@ -1,53 +1,28 @@
--- What any list of entries decides: a client's last hello and last number, who is met, and the oldest open item of a queue.
-use Rattle.std.proofs.Common.{◌≡◌, ◌⊎◌, inl, inr, ℕ, zero, suc, ◌<◌, ◌≤◌, List, length, Option, Some, None, refl, sym, ap, subst, ◌∙◌, arith}
-use Rattle.std.proofs.lemmas.Bool.{cases_lt, cases_order}
-use Rattle.std.proofs.lemmas.Option.{none-some, same_Some}
-use Rattle.rv_text.specs.declared.message.Key.{Key}
-use Rattle.rv_text.specs.declared.call.Call.{Call}
-use Rattle.rv_text.specs.declared.call.Call.TheVariants.{Put, Take}
-use Rattle.rv_book.specs.declared.account.Entry.{Entry}
+-- What any list of entries decides: a client's last hello and last number, who is met, and whom an arrival meets.
 use Rattle.rv_book.specs.declared.account.Act.{Act}
-use Rattle.rv_book.specs.declared.account.Act.TheVariants.{Hello, Arrive}
+use Rattle.rv_book.specs.declared.account.Act.TheVariants.{Arrive, Hello}
+use Rattle.std.proofs.Common.{Bool, List, None, Option, Some, ap, arith, false, inl, inr, length, refl, subst, suc, sym, true, zero, ℕ, ◌<◌, ◌∙◌, ◌≡◌, ◌≤◌, ◌⊎◌}
+use Rattle.rv_text.specs.declared.call.Call.{Call}
+use Rattle.rv_book.specs.declared.account.Entry.{Entry}
+use Rattle.rv_text.specs.declared.call.Side.TheVariants.{Gives, Looks, Takes}
+use Rattle.rv_book.specs.Sessions.{HasIncarnation, LastHello, LastNumber, NamesKey}
+use Rattle.rv_book.specs.Arriving.{IsOldest, MeetsOldest}
+use Rattle.rv_text.specs.declared.message.Key.{Key}
+use Rattle.rv_book.specs.Calls.{Lasts, MayMeet, Stays, opposite}
+use Rattle.rv_book.specs.Waiting.{Met, NamesPartner, OpenAt}
+use Rattle.rv_text.specs.declared.call.Wait.TheVariants.{Now}
+use Rattle.rv_text.specs.declared.call.Side.{Side}
+use Rattle.rv_text.specs.declared.call.Wait.{Wait}
 use Rattle.rv_book.specs.Account.{act_at, call_at, key_at, partner_at}
-use Rattle.rv_book.specs.Calls.{gives_to, MayMeet, Stays}
-use Rattle.rv_book.specs.Sessions.{LastHello, HasIncarnation, NamesKey, LastNumber}
-use Rattle.rv_book.specs.Waiting.{NamesPartner, Met, Open}
-use Rattle.rv_book.specs.Order.{GivesAt}
 use Rattle.rv_book.proofs.Growing.{act_read, call_read, reads_within}
-use Rattle.rv_book.proofs.Sessions.{key_read}
-use Rattle.rv_book.proofs.WaitingItems.{puts_unstopped}
-
--- ---- numbers
-
-same_or_not : (m n : ℕ) → (m ≡ n) ⊎ (m ≡ n → ⊥)
-same_or_not m n = elim (cases_order m n) [
-  | inl same ↦ inl same
-  | inr differ ↦ inr (λ same. elim differ [ inl less ↦ omega arith | inr more ↦ omega arith ])
-]
-
--- the least place below n with a property that is decided at each place, or that there is none
-pub first_below : (P : ℕ → Type 0) → ((r : ℕ) → P r ⊎ (P r → ⊥)) → (n : ℕ) → ((r : ℕ) × (r < n) × P r × ((s : ℕ) → s < r → P s → ⊥)) ⊎ ((s : ℕ) → s < n → P s → ⊥)
-first_below P decide zero = inr (λ s less holds. omega arith)
-first_below P decide (suc n) = elim (first_below P decide n) [
-  | inl found ↦ let less : found.0 < suc n = let below : found.0 < n = found.1 in omega arith in inl (found.0, less, found.2, found.3)
-  | inr none ↦ elim (decide n) [
-    | inl here ↦ inl (n, omega arith, here, none)
-    | inr not_here ↦ inr (λ s less holds. elim (cases_lt s n) [ inl below ↦ none s below holds | inr above ↦ let is : s ≡ n = omega arith in not_here (subst P is holds) ])
-  ]
-]
-
--- the greatest such place
-pub last_below : (P : ℕ → Type 0) → ((r : ℕ) → P r ⊎ (P r → ⊥)) → (n : ℕ) → ((r : ℕ) × (r < n) × P r × ((s : ℕ) → r < s → s < n → P s → ⊥)) ⊎ ((s : ℕ) → s < n → P s → ⊥)
-last_below P decide zero = inr (λ s less holds. omega arith)
-last_below P decide (suc n) = elim (decide n) [
-  | inl here ↦ inl (n, omega arith, here, λ s more less holds. omega arith)
-  | inr not_here ↦ elim (last_below P decide n) [
-    | inl found ↦
-        let less : found.0 < suc n = let below : found.0 < n = found.1 in omega arith in
-        inl (found.0, less, found.2, λ s more below holds. elim (cases_lt s n) [ inl within ↦ found.3 s more within holds | inr above ↦ let is : s ≡ n = omega arith in not_here (subst P is holds) ])
-    | inr none ↦ inr (λ s less holds. elim (cases_lt s n) [ inl below ↦ none s below holds | inr above ↦ let is : s ≡ n = omega arith in not_here (subst P is holds) ])
-  ]
-]
+use Rattle.rv_book.specs.Legal.{before}
+use Rattle.std.proofs.lemmas.Bool.{cases_lt}
+use Rattle.rv_book.proofs.Numbers.{first_below, last_below, same_or_not}
+use Rattle.std.specs.Prelude.{is_some}
+use Rattle.rv_book.proofs.SessionTable.{key_read}
+use Rattle.std.proofs.lemmas.Option.{none-some, same_Some}
+use Rattle.rv_text.specs.Calls.{side_of, wait_of}
+use Rattle.rv_book.proofs.NotYet.{unstopped}
 
 -- ---- sessions
 
@@ -155,14 +130,20 @@ find_last es c i h hello =
 
 -- ---- who is met, and who is open
 
-all_may_meet : (call : Call) → MayMeet call
-all_may_meet (Put queue item) = tt
-all_may_meet (Take queue wait) = tt
+some_or_none : (b : Bool) → (b ≡ true) ⊎ (b ≡ true → ⊥)
+some_or_none true = inl refl
+some_or_none false = inr (λ e. absurd (let no : ⊥ = cc in no))
+
+meets_or_not : (call : Call) → MayMeet call ⊎ (MayMeet call → ⊥)
+meets_or_not call = some_or_none (is_some (opposite (side_of call)))
 
 names_of : (es : List Entry) (p : ℕ) (c : Option Call) (o : Option ℕ) → call_at es p ≡ c → partner_at es p ≡ o → ((q : ℕ) × NamesPartner es p q) ⊎ ((q : ℕ) → NamesPartner es p q → ⊥)
 names_of es p None o calls named = inr (λ q names. none-some names.call (sym calls ∙ names.arrived))
 names_of es p (Some call) None calls named = inr (λ q names. none-some q (sym named ∙ names.named))
-names_of es p (Some call) (Some q) calls named = inl (q, record { call = call; arrived = calls; meets = all_may_meet call; named = named })
+names_of es p (Some call) (Some q) calls named = elim (meets_or_not call) [
+  | inl meets ↦ inl (q, record { call = call; arrived = calls; meets = meets; named = named })
+  | inr alone ↦ inr (λ r names. alone (subst MayMeet (same_Some _ _ (sym names.arrived ∙ calls)) names.meets))
+]
 
 -- the pair whose place is p has r
 abbrev pub PartAt : List Entry → ℕ → ℕ → Type 0
@@ -186,43 +167,72 @@ met_or_not es r = elim (first_below (PartAt es r) (part_at es r) (length es)) [
   | inr none ↦ inr (λ met. none met.later (reads_within call_read refl es met.later met.names.call met.names.arrived) (met.earlier, met.names, met.part))
 ]
 
--- an open giving arrival of the queue stands at r
-abbrev pub WaitsFor : List Entry → ℕ → ℕ → Type 0
-WaitsFor es queue r = GivesAt es queue r × Open es r
+-- ---- who is open on a side
 
-gives_of : (es : List Entry) (queue r : ℕ) (c : Option Call) → call_at es r ≡ c → GivesAt es queue r ⊎ (GivesAt es queue r → ⊥)
-gives_of es queue r None calls = inr (λ gives. none-some gives.call (sym calls ∙ gives.arrived))
-gives_of es queue r (Some (Put other item)) calls = elim (same_or_not other queue) [
-  | inl same ↦ inl (record { call = Put other item; arrived = calls; gives = ap Some same })
-  | inr apart ↦ inr (λ gives. apart (same_Some _ _ (ap gives_to (same_Some _ _ (sym calls ∙ gives.arrived)) ∙ gives.gives)))
+gives_apart : (p q : ℕ) → (p ≡ q → ⊥) → Gives p ≡ Gives q → ⊥
+gives_apart p q apart e = apart (cc)
+
+takes_apart : (p q : ℕ) → (p ≡ q → ⊥) → Takes p ≡ Takes q → ⊥
+takes_apart p q apart e = apart (cc)
+
+looks_apart : (p q : ℕ) → (p ≡ q → ⊥) → Looks p ≡ Looks q → ⊥
+looks_apart p q apart e = apart (cc)
+
+same_side : (s t : Side) → (s ≡ t) ⊎ (s ≡ t → ⊥)
+same_side (Gives p) (Gives q) = elim (same_or_not p q) [ inl same ↦ inl (ap Gives same) | inr apart ↦ inr (gives_apart p q apart) ]
+same_side (Gives p) (Takes q) = inr (λ e. let no : ⊥ = cc in no)
+same_side (Gives p) (Looks q) = inr (λ e. let no : ⊥ = cc in no)
+same_side (Takes p) (Gives q) = inr (λ e. let no : ⊥ = cc in no)
+same_side (Takes p) (Takes q) = elim (same_or_not p q) [ inl same ↦ inl (ap Takes same) | inr apart ↦ inr (takes_apart p q apart) ]
+same_side (Takes p) (Looks q) = inr (λ e. let no : ⊥ = cc in no)
+same_side (Looks p) (Gives q) = inr (λ e. let no : ⊥ = cc in no)
+same_side (Looks p) (Takes q) = inr (λ e. let no : ⊥ = cc in no)
+same_side (Looks p) (Looks q) = elim (same_or_not p q) [ inl same ↦ inl (ap Looks same) | inr apart ↦ inr (looks_apart p q apart) ]
+
+lasts_or_not : (wait : Option Wait) → Lasts wait ⊎ (Lasts wait → ⊥)
+lasts_or_not None = inl tt
+lasts_or_not (Some Now) = inr (λ lasts. lasts)
+
+stays_or_not : (call : Call) → Stays call ⊎ (Stays call → ⊥)
+stays_or_not call = elim (meets_or_not call) [
+  | inr alone ↦ inr (λ stays. alone stays.0)
+  | inl meets ↦ elim (lasts_or_not (wait_of call)) [ inl lasts ↦ inl (meets, lasts) | inr goes ↦ inr (λ stays. goes stays.1) ]
 ]
-gives_of es queue r (Some (Take other wait)) calls = inr (λ gives. none-some queue (ap gives_to (same_Some _ _ (sym calls ∙ gives.arrived)) ∙ gives.gives))
 
-givers_stay : (call : Call) (queue : ℕ) → gives_to call ≡ Some queue → Stays call
-givers_stay (Put other item) queue gives = tt
-givers_stay (Take other wait) queue gives = absurd (none-some queue gives)
-
-waits_for : (es : List Entry) (queue r : ℕ) → WaitsFor es queue r ⊎ (WaitsFor es queue r → ⊥)
-waits_for es queue r = elim (gives_of es queue r (call_at es r) refl) [
-  | inr none ↦ inr (λ waits. none waits.0)
-  | inl gives ↦ elim (met_or_not es r) [
-    | inl met ↦ inr (λ waits. waits.1.unmet met)
-    | inr unmet ↦ inl (
-      gives,
-      record {
-        call = gives.call;
-        arrived = gives.arrived;
-        stays = givers_stay gives.call queue gives.gives;
-        unmet = unmet;
-        unstopped = λ stopped. puts_unstopped es queue r stopped.0 gives stopped.1;
-      },
-    )
+-- an arrival of this call is open there or not
+open_of : (es : List Entry) (side : Side) (r : ℕ) (call : Call) → call_at es r ≡ Some call → side_of call ≡ side → OpenAt es side r ⊎ (OpenAt es side r → ⊥)
+open_of es side r call arrived is = elim (stays_or_not call) [
+  | inr goes ↦ inr (λ h. goes (subst Stays (same_Some _ _ (sym h.is_open.arrived ∙ arrived)) h.is_open.stays))
+  | inl stays ↦ elim (met_or_not es r) [
+    | inl met ↦ inr (λ h. h.is_open.unmet met)
+    | inr unmet ↦ inl (record {
+      of_side = record { call = call; arrived = arrived; is = is };
+      is_open = record { call = call; arrived = arrived; stays = stays; unmet = unmet; unstopped = λ stopped. unstopped es r stopped.0 call arrived stays stopped.1 };
+    })
   ]
 ]
 
--- the queue's oldest open item, or that there is none
-pub find_oldest : (es : List Entry) (queue : ℕ) → ((g : ℕ) × WaitsFor es queue g × ((r : ℕ) → r < g → WaitsFor es queue r → ⊥)) ⊎ ((r : ℕ) → WaitsFor es queue r → ⊥)
-find_oldest es queue = elim (first_below (WaitsFor es queue) (waits_for es queue) (length es)) [
-  | inl found ↦ inl (found.0, found.2, found.3)
-  | inr none ↦ inr (λ r waits. none r (reads_within call_read refl es r waits.0.call waits.0.arrived) waits)
+open_by : (es : List Entry) (side : Side) (r : ℕ) (c : Option Call) → call_at es r ≡ c → OpenAt es side r ⊎ (OpenAt es side r → ⊥)
+open_by es side r None calls = inr (λ h. none-some h.of_side.call (sym calls ∙ h.of_side.arrived))
+open_by es side r (Some call) calls = elim (same_side (side_of call) side) [
+  | inl same ↦ open_of es side r call calls same
+  | inr apart ↦ inr (λ h. apart (ap side_of (same_Some _ _ (sym calls ∙ h.of_side.arrived)) ∙ h.of_side.is))
 ]
+
+-- the side's oldest open arrival, or that there is none
+pub find_oldest : (es : List Entry) (side : Side) → ((p : ℕ) × IsOldest es side p) ⊎ ((r : ℕ) → OpenAt es side r → ⊥)
+find_oldest es side = elim (first_below (OpenAt es side) (λ r. open_by es side r (call_at es r) refl) (length es)) [
+  | inl found ↦ inl (found.0, record { there = found.2; oldest = found.3 })
+  | inr none ↦ inr (λ r opened. none r (reads_within call_read refl es r opened.of_side.call opened.of_side.arrived) opened)
+]
+
+partner_of : (es : List Entry) (side : Side) (o : Option Side) → opposite side ≡ o → (partner : Option ℕ) × MeetsOldest es side partner
+partner_of es side None opposes = (None, λ other r is opened. none-some other (sym opposes ∙ is))
+partner_of es side (Some other) opposes = elim (find_oldest es other) [
+  | inl found ↦ (Some found.0, (other, opposes, found.1))
+  | inr none ↦ (None, λ third r is opened. none r (subst (λ s. OpenAt es s r) (same_Some _ _ (sym is ∙ opposes)) opened))
+]
+
+-- whom an arrival of the side meets
+pub find_partner : (es : List Entry) (side : Side) → (partner : Option ℕ) × MeetsOldest es side partner
+find_partner es side = partner_of es side (opposite side) refl

@@ -1,34 +1,35 @@
 -- Where an own entry is due, a legal next account exists.
-use Rattle.std.proofs.Common.{◌≡◌, inl, inr, ℕ, ◌+◌, ◌-◌, ◌<◌, ◌≤◌, length, Option, Some, None, unwrap_or, option_map, refl, sym, ap, subst, ◌∙◌, arith}
-use Rattle.std.specs.List.{slice_get}
-use Rattle.std.proofs.lemmas.Bool.{cases_lt, cases_order}
-use Rattle.std.proofs.lemmas.Option.{none-some, same_Some, slice_get_cases}
-use Rattle.rv_text.specs.declared.message.Key.{Key}
-use Rattle.rv_text.specs.declared.call.Call.{Call}
-use Rattle.rv_text.specs.declared.call.Call.TheVariants.{Put, Take}
-use Rattle.rv_text.specs.declared.answer.Refusal.{Refusal}
-use Rattle.rv_text.specs.declared.answer.Refusal.TheVariants.{OldIncarnation, EpochFull}
-use Rattle.rv_text.specs.declared.answer.Answer.{Answer}
-use Rattle.rv_text.specs.declared.answer.Answer.TheVariants.{Replied}
-use Rattle.rv_book.specs.declared.account.Entry.{Entry}
-use Rattle.rv_book.specs.declared.account.Act.TheVariants.{Hello, Arrive}
-use Rattle.rv_book.specs.declared.verdict.Kept.{Kept}
 use Rattle.rv_book.specs.declared.verdict.Kept as kept
-use Rattle.rv_book.specs.Account.{Account, with_entry, act_at}
-use Rattle.rv_book.specs.Sessions.{HasIncarnation}
-use Rattle.rv_book.specs.Legal.{Legal, KeepsTime}
-use Rattle.rv_book.specs.Steps.{own_moment, step_moment, KeyLines, HelloLines, RefuseOr, EpochFullDue, Adds, Tells, max_entries, need_of}
-use Rattle.rv_book.specs.Verdicts.{IsTold, kept_for}
-use Rattle.rv_book.specs.Laws.{RequestsCanEnter, HellosCanEnter}
-use Rattle.rv_book.proofs.Growing.{moment_read, reads_within}
-use Rattle.rv_book.proofs.Histories.{hellos_at_most}
+use Rattle.rv_book.specs.declared.verdict.Kept as kept
+use Rattle.rv_text.specs.declared.call.Call.TheVariants.{Put, Take}
+use Rattle.rv_book.specs.Account.{Account, with_entry}
+use Rattle.rv_book.specs.Steps.{Adds, EpochFullDue, HelloLines, KeyLines, RefuseOr, max_entries, own_moment, step_moment}
+use Rattle.rv_book.specs.declared.account.Act.TheVariants.{Arrive, Hello}
+use Rattle.rv_text.specs.declared.call.Call.{Call}
+use Rattle.rv_book.specs.Laws.{CanEnter, HellosCanEnter, RequestsCanEnter}
+use Rattle.rv_book.specs.declared.account.Entry.{Entry}
+use Rattle.rv_text.specs.declared.answer.Refusal.TheVariants.{EpochFull}
+use Rattle.rv_book.specs.Sessions.{HasIncarnation, HasOnlyLower}
+use Rattle.rv_book.specs.Arriving.{IsNext, WillReply, entry}
+use Rattle.rv_book.specs.Legal.{KeepsTime, Legal, before}
+use Rattle.rv_book.specs.declared.verdict.Kept.{Kept}
+use Rattle.rv_text.specs.declared.message.Key.{Key}
 use Rattle.rv_book.proofs.Legality.{Legal-with_entry}
+use Rattle.std.proofs.Common.{None, Option, Some, ap, arith, inl, inr, length, option_map, refl, subst, sym, ℕ, ◌+◌, ◌-◌, ◌<◌, ◌∙◌, ◌≡◌, ◌≤◌}
+use Rattle.rv_text.specs.declared.answer.Answer.TheVariants.{Replied}
+use Rattle.rv_book.proofs.Following.{arrival_follows, hello_follows}
+use Rattle.std.proofs.lemmas.Bool.{cases_lt, cases_order}
+use Rattle.rv_book.proofs.Deciding.{find_hello, find_last, find_partner}
+use Rattle.rv_book.proofs.Histories.{hellos_at_most}
+use Rattle.rv_book.proofs.Lines.{line_again, line_gap, line_newer, line_next, line_no_session, line_old_hello, line_old_incarnation, line_old_number, line_other_epoch, no_room, room_left}
+use Rattle.rv_book.proofs.Growing.{moment_read, reads_within}
+use Rattle.rv_book.specs.Calls.{need_of}
+use Rattle.std.proofs.lemmas.Option.{none-some, same_Some, slice_get_cases}
+use Rattle.rv_book.proofs.Replying.{poll_replies, put_replies, recorded, take_replies}
 use Rattle.rv_book.proofs.Fronts.{read_front}
-use Rattle.rv_book.proofs.Following.{entry, IsNext, IsOldest, hello_follows, put_follows, poll_follows, take_follows}
-use Rattle.rv_book.proofs.Lines.{line_other_epoch, line_no_session, line_old_incarnation, line_old_number, line_gap, line_next, not_old_incarnation, room_left, no_room}
-use Rattle.rv_book.proofs.Replying.{put_told, take_told, need_is_one}
-use Rattle.rv_book.proofs.Greeting.{IsNewer, newer_than, newer_than_none}
-use Rattle.rv_book.proofs.Deciding.{find_hello, find_last, find_oldest}
+use Rattle.rv_text.specs.Calls.{side_of}
+use Rattle.std.specs.List.{slice_get}
+use Rattle.std.specs.Prelude.{unwrap_or}
 
 -- ---- the step's moment
 
@@ -44,7 +45,7 @@ own_by a legal None last = record {
       ];
 }
 own_by a legal (Some e) last =
-    let time = (legal (length a.entries - 1) e last).keeps_time in
+    let time = (legal (length a.entries - 1) e last).moments.keeps_time in
     record {
       opened = time.opened;
       since = λ r moment there.
@@ -58,7 +59,7 @@ own_by a legal (Some e) last =
           ];
     }
 
-step_keeps_time : (a : Account) (now : ℕ) → Legal a → KeepsTime a (step_moment a now)
+pub step_keeps_time : (a : Account) (now : ℕ) → Legal a → KeepsTime a (step_moment a now)
 step_keeps_time a now legal =
     let own = own_by a legal (slice_get a.entries (length a.entries - 1)) refl in
     let least : own_moment a ≤ step_moment a now = omega arith in
@@ -69,35 +70,26 @@ step_keeps_time a now legal =
 
 -- ---- requests
 
--- a legal account in which the request's entry stands, and the request's reply
-abbrev pub CanEnter : Account → ℕ → Key → Call → Type 0
-CanEnter a moment key call = (b : Account) × (x : Answer) × Adds a moment (Arrive key call) b × Tells b key x
-
-told : (a b : Account) (moment : ℕ) (key : Key) (call : Call) (said : Kept) → IsTold a b moment key call said → CanEnter a moment key call
-told a b moment key call said is = (b, Replied key is.reply, is.adds, is.tells)
+-- what is kept for a call that meets the oldest or finds nobody
+reply_for : (a : Account) (call : Call) (partner : Option ℕ) → (said : Kept) × WillReply a call partner said
+reply_for a (Put queue item) partner = (kept.TheVariants.Done, put_replies a queue item partner)
+reply_for a (Take queue wait) None = (kept.TheVariants.Empty, poll_replies a queue wait)
+reply_for a (Take queue wait) (Some place) = (kept.TheVariants.Item place, take_replies a queue wait place)
 
 enters : (a : Account) (moment : ℕ) (key : Key) (call : Call) → Legal a → KeepsTime a moment → IsNext a key → CanEnter a moment key call
-enters a moment key (Put queue item) legal time next =
-    let e = entry moment (Arrive key (Put queue item)) None in
-    let after = Legal-with_entry a e legal (put_follows a moment key queue item time next) in
-    told a (with_entry a e) moment key (Put queue item) _ (put_told a (with_entry a e) moment key queue item kept.TheVariants.Done after refl refl)
-enters a moment key (Take queue wait) legal time next = elim (find_oldest a.entries queue) [
-  | inl oldest ↦
-      let e = entry moment (Arrive key (Take queue wait)) (Some oldest.0) in
-      let first : IsOldest a.entries queue oldest.0 = record { gives = oldest.1.0; is_open = oldest.1.1; oldest = λ r less gives opened. oldest.2 r less (gives, opened) } in
-      let after = Legal-with_entry a e legal (take_follows a moment key queue wait oldest.0 time next first) in
-      told a (with_entry a e) moment key (Take queue wait) _ (take_told a (with_entry a e) moment key queue wait (Some oldest.0) (kept_for (Some oldest.0)) legal after refl refl)
-  | inr none ↦
-      let e = entry moment (Arrive key (Take queue wait)) None in
-      let after = Legal-with_entry a e legal (poll_follows a moment key queue wait time next (λ r gives opened. none r (gives, opened))) in
-      told a (with_entry a e) moment key (Take queue wait) _ (take_told a (with_entry a e) moment key queue wait None (kept_for None) legal after refl refl)
-]
+enters a moment key call legal time next =
+    let partner = find_partner a.entries (side_of call) in
+    let e = entry moment (Arrive key call) partner.0 in
+    let after = Legal-with_entry a e legal (arrival_follows a moment key call partner.0 time next partner.1) in
+    let reply = reply_for a call partner.0 in
+    let is = recorded a (with_entry a e) moment key call partner.0 reply.0 reply.1 legal after refl in
+    record { after = with_entry a e; answer = Replied key is.reply; adds = is.adds; replies = is.replies }
 
 -- where there is room, the entry; else the refusal
-room_or : (a : Account) (need : ℕ) (G : Type 0) → need ≡ 1 → G → RefuseOr (EpochFullDue a need) (λ refusal. Unit {0}) G
-room_or a need G one goes_on = elim (cases_lt (length a.entries) max_entries) [
-  | inl room ↦ inr (subst (λ n. (refusal : Refusal) → EpochFullDue a n refusal → ⊥) (sym one) (room_left a room), goes_on)
-  | inr full ↦ inl (EpochFull, subst (λ n. EpochFullDue a n EpochFull) (sym one) (no_room a full), tt)
+room_or : (a : Account) (need : ℕ) (G : Type 0) → G → RefuseOr (EpochFullDue a need) (λ refusal. Unit {0}) G
+room_or a need G goes_on = elim (cases_lt max_entries (length a.entries + need)) [
+  | inl full ↦ inl (record { refusal = EpochFull; is_due = no_room a need full; refuses_it = tt })
+  | inr room ↦ inr (room_left a need room, goes_on)
 ]
 
 -- the session of the key's client decides which line applies
@@ -131,30 +123,30 @@ requests_can_enter a now key call legal =
     let R : Type 0 = RefuseOr (EpochFullDue a (need_of call)) (λ refusal. Unit {0}) G in
     elim (cases_order key.epoch a.epoch) [
       | inl same ↦ by_session a key R legal same
-          (λ next. room_or a (need_of call) G (need_is_one call) (enters a (step_moment a now) key call legal (step_keeps_time a now legal) next))
+          (λ next. room_or a (need_of call) G (enters a (step_moment a now) key call legal (step_keeps_time a now legal) next))
       | inr differ ↦ line_other_epoch (λ refusal. Unit {0}) R a key (λ same. elim differ [ inl less ↦ omega arith | inr more ↦ omega arith ]) tt
     ]
 
 -- ---- hellos
 
-newer_enters : (a : Account) (now client incarnation : ℕ) → Legal a → IsNewer a client incarnation → ((r earlier : ℕ) → act_at a.entries r ≡ Some (Hello client earlier) → earlier < incarnation)
+newer_enters : (a : Account) (now client incarnation : ℕ) → Legal a → HasOnlyLower a.entries client incarnation
     → HelloLines a client incarnation (λ refusal. Unit {0}) (Unit {0}) ((b : Account) × Adds a (step_moment a now) (Hello client incarnation) b)
-newer_enters a now client incarnation legal newer raises =
+newer_enters a now client incarnation legal raises =
     let e = entry (step_moment a now) (Hello client incarnation) None in
     let after = Legal-with_entry a e legal (hello_follows a (step_moment a now) client incarnation (step_keeps_time a now legal) raises) in
     let added : Adds a (step_moment a now) (Hello client incarnation) (with_entry a e) = record { entry = e; moment_is = refl; act_is = refl; follows = refl; legal = after } in
-    inr (newer.not_old, inr (newer.not_current, room_or a 1 ((b : Account) × Adds a (step_moment a now) (Hello client incarnation) b) refl (with_entry a e, added)))
+    line_newer _ _ _ a client incarnation raises (room_or a 1 ((b : Account) × Adds a (step_moment a now) (Hello client incarnation) b) (with_entry a e, added))
 
 pub hellos_can_enter : HellosCanEnter
 hellos_can_enter a now client incarnation legal = elim (find_hello a.entries client) [
-  | inr none ↦ newer_enters a now client incarnation legal (newer_than_none a client incarnation none) (λ r earlier hello. absurd (none r earlier hello))
+  | inr none ↦ newer_enters a now client incarnation legal (λ r earlier hello. absurd (none r earlier hello))
   | inl found ↦ elim (cases_order found.0 incarnation) [
     | inl same ↦
         let has = subst (HasIncarnation a.entries client) same found.1 in
-        inr (not_old_incarnation a client incarnation incarnation has (omega arith), inl (has, tt))
+        line_again _ _ _ a client incarnation has tt
     | inr differ ↦ elim differ [
-      | inr higher ↦ inl (OldIncarnation found.0, (found.0, found.1, higher, refl), tt)
-      | inl lower ↦ newer_enters a now client incarnation legal (newer_than a client incarnation found.0 found.1 lower)
+      | inr higher ↦ line_old_hello _ _ _ a client incarnation found.0 found.1 higher tt
+      | inl lower ↦ newer_enters a now client incarnation legal
           (λ r earlier hello. let most : earlier ≤ found.0 = hellos_at_most a client found.0 r earlier legal found.1 hello in omega arith)
     ]
   ]

@@ -1,27 +1,33 @@
 -- What a step answers is within the limits, where its message and its account are.
-use Rattle.std.proofs.Common.{◌≡◌, inl, inr, ℕ, ◌≤◌, List, Option, Some, None, option_and_then, refl, sym, subst, arith}
-use Rattle.std.specs.List.{slice_get}
-use Rattle.std.proofs.lemmas.Option.{none-some, same_Some}
-use Rattle.rv_text.specs.declared.message.Key.{Key}
-use Rattle.rv_text.specs.declared.call.Call.{Call}
-use Rattle.rv_text.specs.declared.call.Call.TheVariants.{Put, Take}
-use Rattle.rv_text.specs.declared.call.Wait.TheVariants.{Now}
-use Rattle.rv_text.specs.declared.message.Message.{Message}
-use Rattle.rv_text.specs.declared.message.Message.TheVariants.{Hello, Request}
-use Rattle.rv_text.specs.declared.answer.Reply.{Reply}
-use Rattle.rv_text.specs.declared.answer.Refusal.{Refusal}
-use Rattle.rv_text.specs.declared.answer.Refusal.TheVariants.{NoMemory}
-use Rattle.rv_text.specs.declared.answer.Answer.{Answer}
-use Rattle.rv_text.specs.Limits.{FitsIdentifier, FitsItem, FitsKey, FitsCall, FitsLast, FitsMessage, FitsReply, FitsRefusal, FitsAnswer}
-use Rattle.rv_book.specs.declared.account.Act.{Act}
 use Rattle.rv_book.specs.declared.account.Act as act
+use Rattle.rv_text.specs.declared.message.Message.TheVariants.{Hello, Request}
+use Rattle.rv_text.specs.declared.call.Call.TheVariants.{Put, Take}
 use Rattle.rv_book.specs.Account.{Account, act_at, call_in, key_in}
-use Rattle.rv_book.specs.Calls.{item_of}
+use Rattle.rv_book.specs.declared.account.Act.{Act}
+use Rattle.rv_text.specs.declared.answer.Answer.{Answer}
+use Rattle.rv_text.specs.declared.call.Call.{Call}
+use Rattle.rv_text.specs.declared.answer.Reply.TheVariants.{Empty}
+use Rattle.rv_book.specs.Steps.{EntersOrNoMemory, EpochFullDue, GapDue, NextAt, NoSessionDue, OldIncarnationDue, OldNumberDue, OtherEpochDue, RefuseOr, Refuses, Replies}
+use Rattle.rv_book.specs.declared.account.Entry.{Entry}
+use Rattle.rv_book.specs.Limits.{FitsAccount, FitsAct}
+use Rattle.rv_text.specs.Limits.{FitsAnswer, FitsCall, FitsIdentifier, FitsItem, FitsKey, FitsLast, FitsMessage, FitsRefusal, FitsReply}
+use Rattle.rv_book.specs.Replies.{Gets, RepliesAt, RepliesUnmet}
 use Rattle.rv_book.specs.Sessions.{HasIncarnation, LastNumber}
-use Rattle.rv_book.specs.Replies.{Gets, RepliesAt}
-use Rattle.rv_book.specs.Steps.{NextAt, Tells, Refuses}
-use Rattle.rv_book.specs.Tables.{FitsAct, FitsAccount}
+use Rattle.rv_text.specs.declared.message.Key.{Key}
+use Rattle.std.proofs.Common.{List, None, Option, Some, arith, inl, inr, option_and_then, refl, subst, sym, ℕ, ◌≡◌, ◌≤◌}
+use Rattle.rv_text.specs.declared.message.Message.{Message}
+use Rattle.rv_text.specs.declared.call.Wait.TheVariants.{Now}
+use Rattle.rv_text.specs.declared.answer.Refusal.{Refusal}
+use Rattle.rv_book.proofs.Lines.{RefuseOr-elim, WhereElse-elim}
+use Rattle.rv_text.specs.declared.answer.Reply.{Reply}
+use Rattle.rv_text.specs.declared.call.Wait.{Wait}
+use Rattle.rv_text.specs.declared.answer.Answer.TheVariants.{Welcome}
 use Rattle.rv_book.proofs.Growing.{act_read, read_there}
+use Rattle.rv_book.specs.Legal.{before}
+use Rattle.rv_book.specs.Arriving.{entry}
+use Rattle.rv_text.specs.Calls.{item_of}
+use Rattle.std.proofs.lemmas.Option.{none-some, same_Some}
+use Rattle.std.specs.List.{slice_get}
 
 -- ---- what stands in an account fits
 
@@ -56,47 +62,73 @@ last_fits a client last fits is = elim is.reached [
       omega arith
 ]
 
-item_of_call : (call : Call) (item : List ℕ) → FitsCall call → item_of call ≡ Some item → FitsItem item
-item_of_call (Put queue other) item fits is = subst FitsItem (same_Some _ _ is) fits.1
-item_of_call (Take queue wait) item fits is = absurd (none-some item is)
+item_within : (call : Call) (item : List ℕ) → FitsCall call → item_of call ≡ Some item → FitsItem item
+item_within (Put queue other) item fits is = subst FitsItem (same_Some _ _ is) fits.1
+item_within (Take queue wait) item fits is = absurd (none-some item is)
 
 item_fits : (a : Account) (r : ℕ) (item : List ℕ) → FitsAccount a → Gets a.entries r item → FitsItem item
 item_fits a r item fits gets =
     let does = act_there call_in (act_at a.entries gets.giver) gets.call gets.arrived in
-    item_of_call gets.call item (call_of_act does.0 gets.call (act_fits a gets.giver does.0 fits does.1) does.2) gets.hands_over
+    item_within gets.call item (call_of_act does.0 gets.call (act_fits a gets.giver does.0 fits does.1) does.2) gets.hands_over
+
+unmet_fits : (wait : Wait) (es : List Entry) (r : ℕ) (reply : Reply) → RepliesUnmet es r wait Empty reply → FitsReply reply
+unmet_fits Now es r reply is = subst FitsReply (sym is) tt
 
 reply_fits : (a : Account) (r : ℕ) (call : Call) (reply : Reply) → FitsAccount a → RepliesAt a.entries r call reply → FitsReply reply
 reply_fits a r (Put queue item) reply fits is = subst FitsReply (sym is) tt
 reply_fits a r (Take queue wait) reply fits (inl gets) = subst FitsReply (sym gets.2) (item_fits a r gets.0 fits gets.1)
-reply_fits a r (Take queue Now) reply fits (inr unmet) = subst FitsReply (sym unmet.1) tt
+reply_fits a r (Take queue wait) reply fits (inr unmet) = unmet_fits wait a.entries r reply unmet.1
 
 -- ---- what a step answers fits
 
-told_fits : (b : Account) (key : Key) (x : Answer) → FitsAccount b → FitsKey key → Tells b key x → FitsAnswer x
-told_fits b key x fits key_fits told = subst FitsAnswer (sym told.2) (key_fits, reply_fits b told.1.place told.1.call told.0 fits told.1.replies)
+replied_fits : (b : Account) (key : Key) (x : Answer) → FitsAccount b → FitsKey key → Replies b key x → FitsAnswer x
+replied_fits b key x fits key_fits told = subst FitsAnswer (sym told.is) (key_fits, reply_fits b told.has.place told.has.call told.reply fits told.has.replies)
 
-refused_fits : (a b : Account) (x : Answer) (refusal : Refusal) → FitsRefusal refusal → Refuses a b x refusal → FitsAnswer x
-refused_fits a b x refusal fits refuses = subst FitsAnswer (sym refuses.1) fits
+entered_fits : (a b : Account) (moment : ℕ) (does : Act) (x : Answer) (G : Type 0) → (G → FitsAnswer x) → EntersOrNoMemory a moment does b x G → FitsAnswer x
+entered_fits a b moment does x G answers (inl refuses) = subst FitsAnswer (sym refuses.1) tt
+entered_fits a b moment does x G answers (inr added) = answers added.1
+
+-- a refusal that is due tells a number that stands in the account
+abbrev DueFits : (Refusal → Type 0) → Type 0
+DueFits D = (refusal : Refusal) → D refusal → FitsRefusal refusal
 
 refusal_is : (p q : Refusal) → q ≡ p → FitsRefusal p → FitsRefusal q
 refusal_is p q is fits = subst FitsRefusal (sym is) fits
 
+other_epoch_fits : (a : Account) (key : Key) → FitsAccount a → DueFits (OtherEpochDue a key)
+other_epoch_fits a key fits refusal due = refusal_is _ refusal due.1 fits.epoch
+
+no_session_fits : (a : Account) (key : Key) → DueFits (NoSessionDue a key)
+no_session_fits a key refusal due = refusal_is _ refusal due.1 tt
+
+old_incarnation_fits : (a : Account) (client incarnation : ℕ) → FitsAccount a → DueFits (OldIncarnationDue a client incarnation)
+old_incarnation_fits a client incarnation fits refusal due = refusal_is _ refusal due.is (incarnation_fits a client due.current fits due.has)
+
+old_number_fits : (a : Account) (key : Key) → FitsAccount a → DueFits (OldNumberDue a key)
+old_number_fits a key fits refusal due = refusal_is _ refusal due.is (last_fits a key.client due.last fits due.is_last)
+
+gap_fits : (a : Account) (key : Key) → FitsAccount a → DueFits (GapDue a key)
+gap_fits a key fits refusal due = refusal_is _ refusal due.is (last_fits a key.client due.last fits due.is_last)
+
+full_fits : (a : Account) (need : ℕ) → DueFits (EpochFullDue a need)
+full_fits a need refusal due = refusal_is _ refusal due.is tt
+
+-- a line that refuses says what fits
+line_fits : (D : Refusal → Type 0) (O : Type 0) (a b : Account) (x : Answer) → DueFits D → (O → FitsAnswer x) → RefuseOr D (Refuses a b x) O → FitsAnswer x
+line_fits D O a b x due goes_on = RefuseOr-elim D (Refuses a b x) O (FitsAnswer x) (λ refusal is refuses. subst FitsAnswer (sym refuses.1) (due refusal is)) goes_on
+
 pub step_fits : (a b : Account) (moment : ℕ) (m : Message) (x : Answer) → FitsAccount a → FitsAccount b → FitsMessage m → NextAt a moment m b x → FitsAnswer x
-step_fits a b moment (Hello client incarnation) x before after fits (inl (refusal, due, refuses)) =
-    refused_fits a b x refusal (refusal_is _ refusal due.3 (incarnation_fits a client due.0 before due.1)) refuses
-step_fits a b moment (Hello client incarnation) x before after fits (inr (n, inl (has, again))) = subst FitsAnswer (sym again.1) (before.epoch, fits.0, fits.1)
-step_fits a b moment (Hello client incarnation) x before after fits (inr (n, inr (o, inl (refusal, due, refuses)))) = refused_fits a b x refusal (refusal_is _ refusal due.3 tt) refuses
-step_fits a b moment (Hello client incarnation) x before after fits (inr (n, inr (o, inr (p, inl refuses)))) = refused_fits a b x NoMemory tt refuses
-step_fits a b moment (Hello client incarnation) x before after fits (inr (n, inr (o, inr (p, inr added)))) = subst FitsAnswer (sym added.1) (before.epoch, fits.0, fits.1)
-step_fits a b moment (Request key call) x before after fits (inl (refusal, due, refuses)) = refused_fits a b x refusal (refusal_is _ refusal due.1 before.epoch) refuses
-step_fits a b moment (Request key call) x before after fits (inr (n, inl (refusal, due, refuses))) = refused_fits a b x refusal (refusal_is _ refusal due.1 tt) refuses
-step_fits a b moment (Request key call) x before after fits (inr (n, inr (o, inl (refusal, due, refuses)))) =
-    refused_fits a b x refusal (refusal_is _ refusal due.3 (incarnation_fits a key.client due.0 before due.1)) refuses
-step_fits a b moment (Request key call) x before after fits (inr (n, inr (o, inr (p, inl (refusal, due, refuses))))) =
-    refused_fits a b x refusal (refusal_is _ refusal due.3 (last_fits a key.client due.0 before due.1)) refuses
-step_fits a b moment (Request key call) x before after fits (inr (n, inr (o, inr (p, inr (q, inl (refusal, due, refuses)))))) =
-    refused_fits a b x refusal (refusal_is _ refusal due.3 (last_fits a key.client due.0 before due.1)) refuses
-step_fits a b moment (Request key call) x before after fits (inr (n, inr (o, inr (p, inr (q, inr (r, inl (refusal, due, refuses))))))) =
-    refused_fits a b x refusal (refusal_is _ refusal due.3 tt) refuses
-step_fits a b moment (Request key call) x before after fits (inr (n, inr (o, inr (p, inr (q, inr (r, inr (s, inl refuses))))))) = refused_fits a b x NoMemory tt refuses
-step_fits a b moment (Request key call) x before after fits (inr (n, inr (o, inr (p, inr (q, inr (r, inr (s, inr added))))))) = told_fits b key x after fits.0 added.1
+step_fits a b moment (Hello client incarnation) x before after fits =
+    let welcome = λ (is : x ≡ Welcome a.epoch client incarnation). subst FitsAnswer (sym is) (before.epoch, fits.0, fits.1) in
+    line_fits _ _ a b x (old_incarnation_fits a client incarnation before)
+    (WhereElse-elim _ _ _ (FitsAnswer x) (λ has again. welcome again.1)
+    (line_fits _ _ a b x (full_fits a 1)
+    (entered_fits a b moment _ x _ welcome)))
+step_fits a b moment (Request key call) x before after fits =
+    line_fits _ _ a b x (other_epoch_fits a key before)
+    (line_fits _ _ a b x (no_session_fits a key)
+    (line_fits _ _ a b x (old_incarnation_fits a key.client key.incarnation before)
+    (line_fits _ _ a b x (old_number_fits a key before)
+    (line_fits _ _ a b x (gap_fits a key before)
+    (line_fits _ _ a b x (full_fits a _)
+    (entered_fits a b moment _ x _ (replied_fits b key x after fits.0)))))))

@@ -1,71 +1,39 @@
--- Which entries may stand behind an account: a hello, a put, a take that finds nothing and a take of the oldest item.
+-- Which entries may stand behind an account: a hello, and an arrival that meets the oldest; each by its moments, its numbers and its pairs.
 use Rattle.std.proofs.Common.{◌≡◌, inl, inr, ℕ, ◌+◌, ◌<◌, List, Option, Some, None, refl, sym, ap, subst, ◌∙◌, arith}
-use Rattle.std.proofs.lemmas.Option.{same_Some, none-some}
-use Rattle.rv_text.specs.declared.message.Key.{Key}
-use Rattle.rv_text.specs.declared.call.Wait.{Wait}
-use Rattle.rv_text.specs.declared.call.Wait.TheVariants.{Now}
-use Rattle.rv_text.specs.declared.call.Call.{Call}
-use Rattle.rv_text.specs.declared.call.Call.TheVariants.{Put, Take}
-use Rattle.rv_book.specs.declared.account.Entry.{Entry}
+use Rattle.rv_book.specs.Account.{Account, call_in}
 use Rattle.rv_book.specs.declared.account.Act.{Act}
-use Rattle.rv_book.specs.declared.account.Act.TheVariants.{Hello, Arrive}
-use Rattle.rv_book.specs.Account.{Account, act_at, call_at}
-use Rattle.rv_book.specs.Calls.{gives_to, takes_from, Stays, AreOpposite}
-use Rattle.rv_book.specs.Sessions.{HasIncarnation, LastNumber}
-use Rattle.rv_book.specs.Waiting.{Open}
-use Rattle.rv_book.specs.Legal.{KeepsTime, MayFollow, IsNextNumber, IsFreePartner, IsOpenOpposite}
-use Rattle.rv_book.specs.Order.{GivesAt}
+use Rattle.rv_book.specs.declared.account.Act.TheVariants.{Arrive, Hello}
+use Rattle.rv_text.specs.declared.call.Call.{Call}
+use Rattle.rv_book.specs.declared.account.Entry.{Entry}
+use Rattle.rv_text.specs.declared.message.Key.{Key}
+use Rattle.std.specs.Prelude.{is_some}
+use Rattle.std.proofs.lemmas.Option.{none-some, same_Some}
+use Rattle.rv_text.specs.Calls.{side_of}
+use Rattle.rv_book.specs.Sessions.{HasIncarnation, HasOnlyLower}
+use Rattle.rv_book.specs.Legal.{IsFreePartner, IsNextNumber, IsOpenOpposite, KeepsMoments, KeepsNumbers, KeepsPairs, KeepsTime, MayFollow}
+use Rattle.rv_book.specs.Arriving.{IsNext, MeetsOldest, entry}
+use Rattle.rv_book.specs.Calls.{MayMeet}
+use Rattle.rv_book.specs.Waiting.{OpenAt, SideAt}
 use Rattle.rv_book.proofs.Growing.{call_read, reads_within}
-use Rattle.rv_book.proofs.Legality.{nobody_waits}
+use Rattle.rv_book.proofs.NotYet.{keeps_limits, nobody, nobody_waits}
+use Rattle.rv_book.proofs.Sides.{one_side}
 
-abbrev pub entry : ℕ → Act → Option ℕ → Entry
-entry moment does partner = record { moment = moment; act = does; partner = partner }
+-- ---- moments
 
--- ---- sides
+keeps_moments : (a : Account) (moment : ℕ) (does : Act) → KeepsTime a moment → KeepsMoments a moment does
+keeps_moments a moment does time = record { keeps_time = time; keeps_limits = keeps_limits a.entries moment does }
 
-gives_or_takes : (call : Call) (p q : ℕ) → gives_to call ≡ Some p → takes_from call ≡ Some q → ⊥
-gives_or_takes (Put queue item) p q gives takes = none-some q takes
-gives_or_takes (Take queue wait) p q gives takes = none-some p gives
+-- ---- numbers
 
-takers_go : (call : Call) (queue : ℕ) → takes_from call ≡ Some queue → Stays call → ⊥
-takers_go (Put other item) queue takes stays = none-some queue takes
-takers_go (Take other Now) queue takes stays = stays
-
--- no taking arrival is open
-no_open_taker : (es : List Entry) (r : ℕ) (call : Call) (queue : ℕ) → call_at es r ≡ Some call → takes_from call ≡ Some queue → Open es r → ⊥
-no_open_taker es r call queue arrived takes opened =
-    let same : opened.call ≡ call = same_Some _ _ (sym opened.arrived ∙ arrived) in
-    takers_go call queue takes (subst Stays same opened.stays)
-
--- ---- hellos
-
-pub hello_follows : (a : Account) (moment client incarnation : ℕ) → KeepsTime a moment
-    → ((r earlier : ℕ) → act_at a.entries r ≡ Some (Hello client earlier) → earlier < incarnation)
-    → MayFollow a (entry moment (Hello client incarnation) None)
-hello_follows a moment client incarnation time raises = record {
-  keeps_time = time;
-  keeps_limits = λ r limit waits limited. absurd (nobody_waits a.entries r waits);
-  raises_incarnation = λ c i r earlier is hello.
+hello_numbers : (a : Account) (client incarnation : ℕ) → HasOnlyLower a.entries client incarnation → KeepsNumbers a (Hello client incarnation)
+hello_numbers a client incarnation lower = record {
+  raises_incarnation = λ c i is.
       let same_client : client ≡ c = cc in
       let same_incarnation : incarnation ≡ i = cc in
-      subst (λ n. earlier < n) same_incarnation (raises r earlier (hello ∙ ap (λ n. Some (Hello n earlier)) (sym same_client)));
+      subst (HasOnlyLower a.entries c) same_incarnation (subst (λ n. HasOnlyLower a.entries n incarnation) same_client lower);
   of_session = λ key is. absurd (none-some key is);
   counts_up = λ key call is. absurd (let no : ⊥ = cc in no);
-  names_free_partner = λ p is. absurd (none-some p is);
-  pairs_opposites = λ p call is calls of_queue. absurd (none-some p is);
-  pairs_oldest = λ p r call other earlier is calls of_queue there before at one_side opened. none-some p is;
-  pairs_where_possible = λ r call other is calls there opposite opened. none-some call calls;
 }
-
--- ---- arrivals
-
--- the key is of the session, with its next number
-pub record IsNext (a : Account) (key : Key) : Type 0 where
-  pub epoch : key.epoch ≡ a.epoch
-  pub incarnation : HasIncarnation a.entries key.client key.incarnation
-  pub last : ℕ
-  pub is_last : LastNumber a.entries key.client last
-  pub next : key.number ≡ last + 1
 
 next_number : (a : Account) (key : Key) → IsNext a key → IsNextNumber a.entries key
 next_number a key next = record { last = next.last; is_last = next.is_last; next = next.next; idle = λ r other waits names. nobody_waits a.entries r waits }
@@ -73,83 +41,70 @@ next_number a key next = record { last = next.last; is_last = next.is_last; next
 same_key : (key other : Key) (call more : Call) → Arrive key call ≡ Arrive other more → key ≡ other
 same_key key other call more e = cc
 
-pub put_follows : (a : Account) (moment : ℕ) (key : Key) (queue : ℕ) (item : List ℕ) → KeepsTime a moment → IsNext a key
-    → MayFollow a (entry moment (Arrive key (Put queue item)) None)
-put_follows a moment key queue item time next = record {
-  keeps_time = time;
-  keeps_limits = λ r limit waits limited. absurd (nobody_waits a.entries r waits);
-  raises_incarnation = λ c i r earlier is hello. absurd (let no : ⊥ = cc in no);
+arrival_numbers : (a : Account) (key : Key) (call : Call) → IsNext a key → KeepsNumbers a (Arrive key call)
+arrival_numbers a key call next = record {
+  raises_incarnation = λ c i is. absurd (let no : ⊥ = cc in no);
   of_session = λ other is. subst (λ (k : Key). (k.epoch ≡ a.epoch) × HasIncarnation a.entries k.client k.incarnation) (same_Some _ _ is) (next.epoch, next.incarnation);
-  counts_up = λ other call is. subst (IsNextNumber a.entries) (same_key _ _ _ _ is) (next_number a key next);
-  names_free_partner = λ p is. absurd (none-some p is);
-  pairs_opposites = λ p call is calls of_queue. absurd (none-some p is);
-  pairs_oldest = λ p r call other earlier is calls of_queue there before at one_side opened. none-some p is;
-  pairs_where_possible = λ r call other is calls there opposite opened.
-      let same : Put queue item ≡ call = same_Some _ _ calls in
-      let across : AreOpposite other (Put queue item) = subst (AreOpposite other) (sym same) opposite in
-      elim across.1 [
-        | inl sides ↦ none-some across.0 sides.1
-        | inr sides ↦ no_open_taker a.entries r other across.0 there sides.0 opened
-      ];
+  counts_up = λ other more is. subst (IsNextNumber a.entries) (same_key _ _ _ _ is) (next_number a key next);
 }
 
-one_queue : (p q : ℕ) → Some p ≡ Some q → p ≡ q
-one_queue p q e = cc
+-- ---- pairs
 
-pub poll_follows : (a : Account) (moment : ℕ) (key : Key) (queue : ℕ) (wait : Wait) → KeepsTime a moment → IsNext a key
-    → ((r : ℕ) → GivesAt a.entries queue r → Open a.entries r → ⊥)
-    → MayFollow a (entry moment (Arrive key (Take queue wait)) None)
-poll_follows a moment key queue wait time next none = record {
-  keeps_time = time;
-  keeps_limits = λ r limit waits limited. absurd (nobody_waits a.entries r waits);
-  raises_incarnation = λ c i r earlier is hello. absurd (let no : ⊥ = cc in no);
-  of_session = λ other is. subst (λ (k : Key). (k.epoch ≡ a.epoch) × HasIncarnation a.entries k.client k.incarnation) (same_Some _ _ is) (next.epoch, next.incarnation);
-  counts_up = λ other call is. subst (IsNextNumber a.entries) (same_key _ _ _ _ is) (next_number a key next);
-  names_free_partner = λ p is. absurd (none-some p is);
-  pairs_opposites = λ p call is calls of_queue. absurd (none-some p is);
-  pairs_oldest = λ p r call other earlier is calls of_queue there before at one_side opened. none-some p is;
-  pairs_where_possible = λ r call other is calls there opposite opened.
-      let same : Take queue wait ≡ call = same_Some _ _ calls in
-      let across : AreOpposite other (Take queue wait) = subst (AreOpposite other) (sym same) opposite in
-      elim across.1 [
-        | inl sides ↦ none r (record { call = other; arrived = there; gives = sides.0 ∙ sym sides.1 }) opened
-        | inr sides ↦ none-some across.0 sides.1
-      ];
+no_pairs : (es : List Entry) (e : Entry) → e.partner ≡ None → call_in e.act ≡ None → KeepsPairs es e
+no_pairs es e none no_call = record {
+  names_free_partner = λ p is. absurd (none-some p (sym none ∙ is));
+  pairs_opposites = λ p call is calls meets. absurd (none-some p (sym none ∙ is));
+  pairs_oldest = λ p r side is at less opened. none-some p (sym none ∙ is);
+  pairs_where_possible = λ r call is calls opposes. none-some call (sym no_call ∙ calls);
 }
 
--- the open giving arrival at g is the oldest of the queue
-pub record IsOldest (es : List Entry) (queue g : ℕ) : Type 0 where
-  pub gives : GivesAt es queue g
-  pub is_open : Open es g
-  pub oldest : (r : ℕ) → r < g → GivesAt es queue r → Open es r → ⊥
+one_place : (p q : ℕ) → Some p ≡ Some q → p ≡ q
+one_place p q e = cc
 
-pub take_follows : (a : Account) (moment : ℕ) (key : Key) (queue : ℕ) (wait : Wait) (g : ℕ) → KeepsTime a moment → IsNext a key
-    → IsOldest a.entries queue g
-    → MayFollow a (entry moment (Arrive key (Take queue wait)) (Some g))
-take_follows a moment key queue wait g time next first = record {
-  keeps_time = time;
-  keeps_limits = λ r limit waits limited. absurd (nobody_waits a.entries r waits);
-  raises_incarnation = λ c i r earlier is hello. absurd (let no : ⊥ = cc in no);
-  of_session = λ other is. subst (λ (k : Key). (k.epoch ≡ a.epoch) × HasIncarnation a.entries k.client k.incarnation) (same_Some _ _ is) (next.epoch, next.incarnation);
-  counts_up = λ other call is. subst (IsNextNumber a.entries) (same_key _ _ _ _ is) (next_number a key next);
-  names_free_partner = λ p is. subst (λ n. IsFreePartner a.entries (entry moment (Arrive key (Take queue wait)) (Some g)) n) (one_queue g p is) (record {
-    call = Take queue wait;
-    arrives = refl;
-    meets = tt;
-    earlier = reads_within call_read refl a.entries g first.gives.call first.gives.arrived;
-    unmet = first.is_open.unmet;
-  });
-  pairs_opposites = λ p call is calls of_queue.
-      let same : Take queue wait ≡ call = same_Some _ _ calls in
-      let partner : IsOpenOpposite a.entries (Take queue wait) g = record { other = first.gives.call; arrived = first.gives.arrived; opposite = (queue, inl (first.gives.gives, refl)); is_open = first.is_open } in
-      subst (λ c. IsOpenOpposite a.entries c p) same (subst (IsOpenOpposite a.entries (Take queue wait)) (one_queue g p is) partner);
-  pairs_oldest = λ p r call other earlier is calls of_queue there before at one_side opened.
-      let same : g ≡ p = one_queue g p is in
-      let giver : first.gives.call ≡ other = same_Some _ _ (sym first.gives.arrived ∙ ap (call_at a.entries) same ∙ there) in
-      let other_gives : gives_to other ≡ Some queue = ap gives_to (sym giver) ∙ first.gives.gives in
-      elim one_side.1 [
-        | inl sides ↦ first.oldest r (omega arith) (record { call = earlier; arrived = at; gives = sides.0 ∙ sym sides.1 ∙ other_gives }) opened
-        | inr sides ↦ gives_or_takes other queue one_side.0 other_gives sides.1
-      ];
-  pairs_where_possible = λ r call other is calls there opposite opened. none-some g (sym is);
+arrival_pairs : (es : List Entry) (moment : ℕ) (key : Key) (call : Call) (partner : Option ℕ) → MeetsOldest es (side_of call) partner → KeepsPairs es (entry moment (Arrive key call) partner)
+arrival_pairs es moment key call None nobody = record {
+  names_free_partner = λ p is. absurd (none-some p is);
+  pairs_opposites = λ p other is calls meets. absurd (none-some p is);
+  pairs_oldest = λ p r side is at less opened. none-some p is;
+  pairs_where_possible = λ r other is calls opposes.
+      let same : call ≡ other = same_Some _ _ calls in
+      let there = subst (λ c. IsOpenOpposite es c r) (sym same) opposes in
+      nobody there.side r there.opposes there.there;
+}
+arrival_pairs es moment key call (Some p) (side, opposes, oldest) =
+    let meets : MayMeet call = ap is_some opposes in
+    let there = oldest.there in
+    record {
+      names_free_partner = λ q is. subst (IsFreePartner es (entry moment (Arrive key call) (Some p))) (one_place p q is) (record {
+        call = call;
+        arrives = refl;
+        meets = meets;
+        earlier = reads_within call_read refl es p there.of_side.call there.of_side.arrived;
+        unmet = there.is_open.unmet;
+      });
+      pairs_opposites = λ q other is calls may.
+          let partner : IsOpenOpposite es call p = record { side = side; opposes = opposes; there = there } in
+          subst (λ c. IsOpenOpposite es c q) (same_Some _ _ calls) (subst (IsOpenOpposite es call) (one_place p q is) partner);
+      pairs_oldest = λ q r other is at less opened.
+          let same : p ≡ q = one_place p q is in
+          let sides : other ≡ side = one_side es other side q at (subst (SideAt es side) same there.of_side) in
+          oldest.oldest r (omega arith) (subst (λ s. OpenAt es s r) sides opened);
+      pairs_where_possible = λ r other is calls opposes. none-some p (sym is);
+    }
+
+-- ---- both kinds of entry
+
+pub hello_follows : (a : Account) (moment client incarnation : ℕ) → KeepsTime a moment → HasOnlyLower a.entries client incarnation → MayFollow a (entry moment (Hello client incarnation) None)
+hello_follows a moment client incarnation time lower = record {
+  moments = keeps_moments a moment (Hello client incarnation) time;
+  numbers = hello_numbers a client incarnation lower;
+  pairs = no_pairs a.entries (entry moment (Hello client incarnation) None) refl refl;
+}
+
+pub arrival_follows : (a : Account) (moment : ℕ) (key : Key) (call : Call) (partner : Option ℕ) → KeepsTime a moment → IsNext a key → MeetsOldest a.entries (side_of call) partner
+    → MayFollow a (entry moment (Arrive key call) partner)
+arrival_follows a moment key call partner time next meets = record {
+  moments = keeps_moments a moment (Arrive key call) time;
+  numbers = arrival_numbers a key call next;
+  pairs = arrival_pairs a.entries moment key call partner meets;
 }

@@ -36,7 +36,7 @@ hellos_at_most a c i r k legal has hello =
             let there = read_there act_read refl (slice_get a.entries has.0) (Hello c i) has.1.hello in
             let follows = legal has.0 there.0 there.1 in
             let earlier : act_at (take has.0 a.entries) r ≡ Some (Hello c k) = ap act_read (get-take a.entries has.0 r less) ∙ hello in
-            let below : k < i = follows.raises_incarnation c i r k (same_Some _ _ there.2) earlier in
+            let below : k < i = follows.numbers.raises_incarnation c i (same_Some _ _ there.2) r k earlier in
             omega arith
         | inr more ↦ absurd (has.1.last r k more hello)
       ]

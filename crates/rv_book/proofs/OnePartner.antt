@@ -1,53 +1,44 @@
 -- In a legal account each arrival is in one pair at most, a key arrives once, and nobody meets a request that does not stay.
-use Rattle.std.proofs.Common.{◌≡◌, inl, inr, ℕ, ◌+◌, ◌<◌, ◌≤◌, List, take, option_and_then, Some, refl, sym, ap, subst, ◌∙◌, arith}
-use Rattle.std.specs.List.{slice_get}
-use Rattle.std.proofs.lemmas.Bool.{cases_order}
-use Rattle.std.proofs.lemmas.Option.{same_Some}
-use Rattle.rv_text.specs.declared.message.Key.{Key}
-use Rattle.rv_text.specs.declared.call.Wait.{Wait}
-use Rattle.rv_text.specs.declared.call.Wait.TheVariants.{Now}
-use Rattle.rv_text.specs.declared.call.Call.{Call}
-use Rattle.rv_text.specs.declared.call.Call.TheVariants.{Put, Take}
-use Rattle.rv_book.specs.declared.account.Entry.{Entry}
-use Rattle.rv_book.specs.declared.account.Act.TheVariants.{Hello, Arrive}
 use Rattle.rv_book.specs.Account.{Account, act_at, call_at, call_in, key_in}
-use Rattle.rv_book.specs.Calls.{Stays}
+use Rattle.rv_book.specs.declared.account.Act.TheVariants.{Arrive, Hello}
+use Rattle.rv_text.specs.declared.call.Call.{Call}
+use Rattle.rv_book.specs.declared.account.Entry.{Entry}
 use Rattle.rv_book.specs.Sessions.{HasIncarnation}
-use Rattle.rv_book.specs.Waiting.{NamesPartner, Met}
-use Rattle.rv_book.specs.Legal.{Legal, IsOfQueue, IsOpenOpposite}
+use Rattle.rv_book.specs.Legal.{IsOpenOpposite, Legal, before}
+use Rattle.rv_text.specs.declared.message.Key.{Key}
+use Rattle.std.proofs.Common.{List, Some, ap, arith, inl, inr, option_and_then, refl, subst, sym, take, ℕ, ◌+◌, ◌<◌, ◌∙◌, ◌≡◌, ◌≤◌}
 use Rattle.rv_book.specs.Replies.{Meet}
+use Rattle.rv_book.specs.Waiting.{Met, NamesPartner}
+use Rattle.rv_book.specs.Calls.{Stays}
 use Rattle.rv_book.proofs.Growing.{act_read, call_read, read_there}
+use Rattle.std.proofs.lemmas.Bool.{cases_order}
+use Rattle.rv_book.specs.Arriving.{entry}
+use Rattle.rv_book.proofs.SessionTable.{key_read}
+use Rattle.rv_book.proofs.Fronts.{names_in_front, naming, read_front, read_whole}
 use Rattle.rv_book.proofs.Histories.{one_last_hello}
-use Rattle.rv_book.proofs.Sessions.{key_read}
-use Rattle.rv_book.proofs.WaitingItems.{partner_before}
-use Rattle.rv_book.proofs.Fronts.{naming, names_in_front, read_front, read_whole}
+use Rattle.rv_book.proofs.Sides.{partner_before}
+use Rattle.std.proofs.lemmas.Option.{same_Some}
+use Rattle.std.specs.List.{slice_get}
+use Rattle.rv_text.specs.Fields.{whole}
 
 -- ---- partners
-
-pub of_queue : (call : Call) → IsOfQueue call
-of_queue (Put queue item) = (queue, inl refl)
-of_queue (Take queue wait) = (queue, inr refl)
-
-goes_at_once : (wait : Wait) (queue : ℕ) → Stays (Take queue wait) → ⊥
-goes_at_once Now queue stays = stays
 
 -- the partner that an arrival names, as it stands before that arrival
 pub partner_open : (a : Account) (p q : ℕ) → Legal a → (names : NamesPartner a.entries p q) → IsOpenOpposite (take p a.entries) names.call q
 partner_open a p q legal names =
     let at = naming a p q legal names in
     let call : call_in at.entry.act ≡ Some names.call = ap call_read (sym at.there) ∙ names.arrived in
-    at.follows.pairs_opposites q names.call at.named call (of_queue names.call)
+    at.follows.pairs.pairs_opposites q names.call at.named call names.meets
 
 pub partner_unmet : (a : Account) (p q : ℕ) → Legal a → NamesPartner a.entries p q → Met (take p a.entries) q → ⊥
-partner_unmet a p q legal names met = let at = naming a p q legal names in (at.follows.names_free_partner q at.named).unmet met
+partner_unmet a p q legal names met = let at = naming a p q legal names in (at.follows.pairs.names_free_partner q at.named).unmet met
 
--- nobody names a take that does not wait
-pub takes_unnamed : (a : Account) (p r queue : ℕ) (wait : Wait) → Legal a → call_at a.entries r ≡ Some (Take queue wait) → NamesPartner a.entries p r → ⊥
-takes_unnamed a p r queue wait legal arrived names =
-    let partner = partner_open a p r legal names in
-    let whole = read_whole call_read refl a.entries p r partner.is_open.call partner.is_open.arrived in
-    let same : partner.is_open.call ≡ Take queue wait = same_Some _ _ (sym whole.1 ∙ arrived) in
-    goes_at_once wait queue (subst Stays same partner.is_open.stays)
+-- nobody names an arrival that does not stay
+pub goes_unnamed : (a : Account) (p r : ℕ) (call : Call) → Legal a → call_at a.entries r ≡ Some call → (Stays call → ⊥) → NamesPartner a.entries p r → ⊥
+goes_unnamed a p r call legal arrived goes names =
+    let opened = (partner_open a p r legal names).there.is_open in
+    let whole = read_whole call_read refl a.entries p r opened.call opened.arrived in
+    goes (subst Stays (same_Some _ _ (sym whole.1 ∙ arrived)) opened.stays)
 
 names_one : (es : List Entry) (r s t : ℕ) → NamesPartner es r s → NamesPartner es r t → s ≡ t
 names_one es r s t first second = same_Some _ _ (sym first.named ∙ second.named)
@@ -85,12 +76,12 @@ of_session : (a : Account) (q : ℕ) (key : Key) (call : Call) → Legal a → a
 of_session a q key call legal arrived =
     let at = read_there act_read refl (slice_get a.entries q) (Arrive key call) arrived in
     let names : key_in at.0.act ≡ Some key = ap key_in (same_Some _ _ at.2) in
-    ((legal q at.0 at.1).of_session key names).1
+    ((legal q at.0 at.1).numbers.of_session key names).1
 
 arrives_later : (a : Account) (p q : ℕ) (key : Key) (c d : Call) → Legal a → act_at a.entries p ≡ Some (Arrive key c) → act_at a.entries q ≡ Some (Arrive key d) → p < q → ⊥
 arrives_later a p q key c d legal first second less =
     let at = read_there act_read refl (slice_get a.entries q) (Arrive key d) second in
-    let next = (legal q at.0 at.1).counts_up key d (same_Some _ _ at.2) in
+    let next = (legal q at.0 at.1).numbers.counts_up key d (same_Some _ _ at.2) in
     let has = of_session a q key d legal second in
     let same : next.is_last.h ≡ has.0 = one_last_hello (take q a.entries) key.client next.is_last.incarnation key.incarnation next.is_last.h has.0 next.is_last.hello has.1 in
     elim (cases_order p has.0) [
@@ -104,7 +95,7 @@ arrives_later a p q key c d legal first second less =
             let there = read_whole act_read refl a.entries p earlier.0 _ earlier.1.hello in
             let below : earlier.0 < has.0 = omega arith in
             let entry = read_there act_read refl (slice_get a.entries has.0) (Hello key.client key.incarnation) hello in
-            let raises = (legal has.0 entry.0 entry.1).raises_incarnation key.client key.incarnation earlier.0 key.incarnation (same_Some _ _ entry.2) (read_front act_read a.entries has.0 earlier.0 _ below there.1) in
+            let raises = (legal has.0 entry.0 entry.1).numbers.raises_incarnation key.client key.incarnation (same_Some _ _ entry.2) earlier.0 key.incarnation (read_front act_read a.entries has.0 earlier.0 _ below there.1) in
             omega arith
         | inr after ↦
             let named = read_front key_read a.entries q p key less (ap (option_and_then key_in) first) in

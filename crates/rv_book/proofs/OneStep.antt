@@ -1,39 +1,36 @@
 -- A step leaves no choice, want of memory aside.
-use Rattle.std.proofs.Common.{◌≡◌, ◌≢◌, ◌⊎◌, inl, inr, ℕ, ◌<◌, List, [], ◌∷◌, length, Option, Some, None, refl, sym, ap, subst, ◌∙◌, arith}
-use Rattle.std.proofs.lemmas.Bool.{cases_order}
-use Rattle.std.proofs.lemmas.Option.{none-some, same_Some}
-use Rattle.rv_text.specs.declared.message.Key.{Key}
-use Rattle.rv_text.specs.declared.call.Call.{Call}
-use Rattle.rv_text.specs.declared.call.Call.TheVariants.{Put, Take}
-use Rattle.rv_text.specs.declared.message.Message.{Message}
-use Rattle.rv_text.specs.declared.message.Message.TheVariants.{Hello, Request}
-use Rattle.rv_text.specs.declared.answer.Refusal.{Refusal}
-use Rattle.rv_text.specs.declared.answer.Refusal.TheVariants.{OldIncarnation, OldNumber, Gap, NoMemory}
-use Rattle.rv_text.specs.declared.answer.Answer.{Answer}
-use Rattle.rv_text.specs.declared.answer.Answer.TheVariants.{Replied, Refused}
-use Rattle.rv_book.specs.declared.account.Entry.{Entry}
-use Rattle.rv_book.specs.declared.account.Act.{Act}
 use Rattle.rv_book.specs.declared.account.Act as act
-use Rattle.rv_book.specs.Account.{Account, with_entry, call_at, call_in}
-use Rattle.rv_book.specs.Calls.{gives_to, takes_from, AreOpposite, AreOneSide}
-use Rattle.rv_book.specs.Legal.{Legal, MayFollow, IsOpenOpposite}
-use Rattle.rv_book.specs.Steps.{OtherEpochDue, NoSessionDue, OldIncarnationDue, OldNumberDue, GapDue, EpochFullDue, RefuseOr, WhereElse, Refuses, Adds, Tells, EntersOrNoMemory, NextAt, Next, step_moment}
-use Rattle.rv_book.specs.Laws.{OneNext}
-use Rattle.rv_book.proofs.Places.{get-append_end}
-use Rattle.rv_book.proofs.Growing.{call_read}
-use Rattle.rv_book.proofs.Histories.{one_incarnation, one_last_number}
-use Rattle.rv_book.proofs.OnePartner.{of_queue}
-use Rattle.rv_book.proofs.Staying.{one_reply}
-use Rattle.std.proofs.Math.Seq.{take-append_seam}
+use Rattle.rv_text.specs.declared.message.Message.TheVariants.{Hello, Request}
+use Rattle.rv_book.specs.Account.{Account, call_in, with_entry}
+use Rattle.rv_book.specs.declared.account.Act.{Act}
+use Rattle.rv_book.specs.Steps.{Adds, EntersOrNoMemory, EpochFullDue, GapDue, NextAt, NoSessionDue, OldIncarnationDue, OldNumberDue, OtherEpochDue, RefuseOr, Refuses, Replies, WhereElse, step_moment}
+use Rattle.rv_text.specs.declared.answer.Answer.{Answer}
+use Rattle.rv_text.specs.declared.call.Call.{Call}
+use Rattle.rv_book.specs.declared.account.Entry.{Entry}
+use Rattle.rv_text.specs.declared.answer.Refusal.TheVariants.{Gap, NoMemory, OldIncarnation, OldNumber}
 use Rattle.rv_book.specs.Replies.{HasReply}
+use Rattle.rv_book.specs.Legal.{IsOpenOpposite, Legal, MayFollow}
+use Rattle.rv_text.specs.declared.message.Key.{Key}
+use Rattle.rv_book.specs.Calls.{MayMeet}
+use Rattle.rv_text.specs.declared.message.Message.{Message}
+use Rattle.std.proofs.Common.{None, Option, Some, ap, inl, inr, refl, subst, sym, ℕ, ◌<◌, ◌∙◌, ◌≡◌, ◌≢◌}
+use Rattle.rv_book.specs.Laws.{OneNext}
+use Rattle.rv_book.specs.Waiting.{OpenAt}
+use Rattle.rv_text.specs.declared.answer.Refusal.{Refusal}
+use Rattle.rv_text.specs.declared.answer.Answer.TheVariants.{Refused, Replied}
+use Rattle.std.proofs.lemmas.Bool.{cases_order}
+use Rattle.rv_book.proofs.Legality.{follows_itself}
+use Rattle.rv_book.proofs.Histories.{one_incarnation, one_last_number}
+use Rattle.rv_book.proofs.Staying.{one_reply}
+use Rattle.std.proofs.lemmas.Option.{same_Some}
 
 -- ---- the lines
 
 -- of a refusal that is due in one way alone, and of what follows, two readings agree
 both_refuse : (D R S : Refusal → Type 0) (O P G : Type 0) → ((p q : Refusal) → D p → D q → p ≡ q) → ((p : Refusal) → R p → S p → G) → (O → P → G) → RefuseOr D R O → RefuseOr D S P → G
-both_refuse D R S O P G one refused goes_on (inl h) (inl k) = refused k.0 (subst R (one h.0 k.0 h.1 k.1) h.2) k.2
-both_refuse D R S O P G one refused goes_on (inl h) (inr k) = absurd (k.0 h.0 h.1)
-both_refuse D R S O P G one refused goes_on (inr h) (inl k) = absurd (h.0 k.0 k.1)
+both_refuse D R S O P G one refused goes_on (inl h) (inl k) = refused k.refusal (subst R (one h.refusal k.refusal h.is_due k.is_due) h.refuses_it) k.refuses_it
+both_refuse D R S O P G one refused goes_on (inl h) (inr k) = absurd (k.0 h.refusal h.is_due)
+both_refuse D R S O P G one refused goes_on (inr h) (inl k) = absurd (h.0 k.refusal k.is_due)
 both_refuse D R S O P G one refused goes_on (inr h) (inr k) = goes_on h.1 k.1
 
 both_where : (C T U O P G : Type 0) → (T → U → G) → (O → P → G) → WhereElse C T O → WhereElse C U P → G
@@ -50,62 +47,47 @@ one_no_session a key p q first second = first.1 ∙ sym second.1
 
 one_old_incarnation : (a : Account) (client incarnation : ℕ) (p q : Refusal) → OldIncarnationDue a client incarnation p → OldIncarnationDue a client incarnation q → p ≡ q
 one_old_incarnation a client incarnation p q first second =
-    first.3 ∙ ap OldIncarnation (one_incarnation a.entries client first.0 second.0 first.1 second.1) ∙ sym second.3
+    first.is ∙ ap OldIncarnation (one_incarnation a.entries client first.current second.current first.has second.has) ∙ sym second.is
 
 one_old_number : (a : Account) (key : Key) (p q : Refusal) → OldNumberDue a key p → OldNumberDue a key q → p ≡ q
-one_old_number a key p q first second = first.3 ∙ ap OldNumber (one_last_number a.entries key.client first.0 second.0 first.1 second.1) ∙ sym second.3
+one_old_number a key p q first second = first.is ∙ ap OldNumber (one_last_number a.entries key.client first.last second.last first.is_last second.is_last) ∙ sym second.is
 
 one_gap : (a : Account) (key : Key) (p q : Refusal) → GapDue a key p → GapDue a key q → p ≡ q
-one_gap a key p q first second = first.3 ∙ ap Gap (one_last_number a.entries key.client first.0 second.0 first.1 second.1) ∙ sym second.3
+one_gap a key p q first second = first.is ∙ ap Gap (one_last_number a.entries key.client first.last second.last first.is_last second.is_last) ∙ sym second.is
 
 one_full : (a : Account) (need : ℕ) (p q : Refusal) → EpochFullDue a need p → EpochFullDue a need q → p ≡ q
-one_full a need p q first second = first.3 ∙ sym second.3
+one_full a need p q first second = first.is ∙ sym second.is
 
 -- ---- the entry
 
--- that an entry is behind the account's own entries, as its place shows
-follows_itself : (a : Account) (e : Entry) → Legal (with_entry a e) → MayFollow a e
-follows_itself a e legal =
-    let P : List Entry → Type 0 = λ es. MayFollow (record { epoch = a.epoch; opened = a.opened; entries = es }) e in
-    subst P (take-append_seam a.entries (e ∷ [])) (legal (length a.entries) e (get-append_end a.entries e))
-
-gives_and_takes : (call : Call) (p q : ℕ) → gives_to call ≡ Some p → takes_from call ≡ Some q → ⊥
-gives_and_takes (Put queue item) p q gives takes = none-some q takes
-gives_and_takes (Take queue wait) p q gives takes = none-some p gives
-
--- the opposites of one call are of one side
-one_side : (c d call : Call) → AreOpposite c call → AreOpposite d call → AreOneSide c d
-one_side c d call (p, inl h) (q, inl k) = (p, inl (h.0, k.0 ∙ sym k.1 ∙ h.1))
-one_side c d call (p, inl h) (q, inr k) = absurd (gives_and_takes call q p k.1 h.1)
-one_side c d call (p, inr h) (q, inl k) = absurd (gives_and_takes call p q h.1 k.1)
-one_side c d call (p, inr h) (q, inr k) = (p, inr (h.0, k.0 ∙ sym k.1 ∙ h.1))
-
-partner_first : (a : Account) (e : Entry) (p q : ℕ) (call : Call) → MayFollow a e → e.partner ≡ Some q → call_in e.act ≡ Some call → IsOpenOpposite a.entries call p → p < q → ⊥
-partner_first a e p q call follows named calls partner less =
-    let later = follows.pairs_opposites q call named calls (of_queue call) in
-    follows.pairs_oldest q p call later.other partner.other named calls (of_queue call) later.arrived less partner.arrived (one_side partner.other later.other call partner.opposite later.opposite) partner.is_open
+partner_first : (a : Account) (e : Entry) (p q : ℕ) (call : Call) → MayFollow a e → e.partner ≡ Some q → call_in e.act ≡ Some call → MayMeet call → IsOpenOpposite a.entries call p
+    → p < q → ⊥
+partner_first a e p q call follows named calls meets partner less =
+    let later = follows.pairs.pairs_opposites q call named calls meets in
+    let sides : partner.side ≡ later.side = same_Some _ _ (sym partner.opposes ∙ later.opposes) in
+    follows.pairs.pairs_oldest q p later.side named later.there.of_side less (subst (λ s. OpenAt a.entries s p) sides partner.there)
 
 -- two entries of one act that may follow name the same partner
 one_partner : (a : Account) (e f : Entry) (p q : Option ℕ) → MayFollow a e → MayFollow a f → e.act ≡ f.act → e.partner ≡ p → f.partner ≡ q → p ≡ q
 one_partner a e f None None first second same is also = refl
 one_partner a e f None (Some q) first second same is also =
-    let free = second.names_free_partner q also in
-    let partner = second.pairs_opposites q free.call also free.arrives (of_queue free.call) in
-    absurd (first.pairs_where_possible q free.call partner.other is (ap call_in same ∙ free.arrives) partner.arrived partner.opposite partner.is_open)
+    let free = second.pairs.names_free_partner q also in
+    let partner = second.pairs.pairs_opposites q free.call also free.arrives free.meets in
+    absurd (first.pairs.pairs_where_possible q free.call is (ap call_in same ∙ free.arrives) partner)
 one_partner a e f (Some p) None first second same is also =
-    let free = first.names_free_partner p is in
-    let partner = first.pairs_opposites p free.call is free.arrives (of_queue free.call) in
-    absurd (second.pairs_where_possible p free.call partner.other also (ap call_in (sym same) ∙ free.arrives) partner.arrived partner.opposite partner.is_open)
+    let free = first.pairs.names_free_partner p is in
+    let partner = first.pairs.pairs_opposites p free.call is free.arrives free.meets in
+    absurd (second.pairs.pairs_where_possible p free.call also (ap call_in (sym same) ∙ free.arrives) partner)
 one_partner a e f (Some p) (Some q) first second same is also =
-    let free = first.names_free_partner p is in
+    let free = first.pairs.names_free_partner p is in
     let calls : call_in f.act ≡ Some free.call = ap call_in (sym same) ∙ free.arrives in
-    let one = first.pairs_opposites p free.call is free.arrives (of_queue free.call) in
-    let two = second.pairs_opposites q free.call also calls (of_queue free.call) in
+    let one = first.pairs.pairs_opposites p free.call is free.arrives free.meets in
+    let two = second.pairs.pairs_opposites q free.call also calls free.meets in
     elim (cases_order p q) [
       | inl equal ↦ ap Some equal
       | inr differ ↦ elim differ [
-        | inl less ↦ absurd (partner_first a f p q free.call second also calls one less)
-        | inr more ↦ absurd (partner_first a e q p free.call first is free.arrives two more)
+        | inl less ↦ absurd (partner_first a f p q free.call second also calls free.meets one less)
+        | inr more ↦ absurd (partner_first a e q p free.call first is free.arrives free.meets two more)
       ]
     ]
 
@@ -133,10 +115,10 @@ Same b c x y = (b ≡ c) × (x ≡ y)
 one_refused : (a b c : Account) (x y : Answer) (refusal : Refusal) → Refuses a b x refusal → Refuses a c y refusal → Same b c x y
 one_refused a b c x y refusal first second = (first.0 ∙ sym second.0, first.1 ∙ sym second.1)
 
-one_told : (b c : Account) (key : Key) (x y : Answer) → Legal c → b ≡ c → Tells b key x → Tells c key y → x ≡ y
-one_told b c key x y legal same first second =
-    let there = subst (λ (d : Account). HasReply d.entries key first.0) same first.1 in
-    first.2 ∙ ap (Replied key) (one_reply c key second.0 first.0 legal second.1 there) ∙ sym second.2
+one_answer : (b c : Account) (key : Key) (x y : Answer) → Legal c → b ≡ c → Replies b key x → Replies c key y → x ≡ y
+one_answer b c key x y legal same first second =
+    let there = subst (λ (d : Account). HasReply d.entries key first.reply) same first.has in
+    first.is ∙ ap (Replied key) (one_reply c key second.reply first.reply legal second.has there) ∙ sym second.is
 
 one_welcome : (a b c : Account) (moment client incarnation : ℕ) (x y w : Answer) → x ≢ Refused NoMemory → y ≢ Refused NoMemory
     → EntersOrNoMemory a moment (act.TheVariants.Hello client incarnation) b x (x ≡ w) → EntersOrNoMemory a moment (act.TheVariants.Hello client incarnation) c y (y ≡ w) → Same b c x y
@@ -144,13 +126,13 @@ one_welcome a b c moment client incarnation x y w ample enough (inl h) k = absur
 one_welcome a b c moment client incarnation x y w ample enough (inr h) (inl k) = absurd (enough k.1)
 one_welcome a b c moment client incarnation x y w ample enough (inr h) (inr k) = (one_added a b c moment _ h.0 k.0, h.1 ∙ sym k.1)
 
-one_reply_told : (a b c : Account) (moment : ℕ) (key : Key) (call : Call) (x y : Answer) → x ≢ Refused NoMemory → y ≢ Refused NoMemory
-    → EntersOrNoMemory a moment (act.TheVariants.Arrive key call) b x (Tells b key x) → EntersOrNoMemory a moment (act.TheVariants.Arrive key call) c y (Tells c key y) → Same b c x y
-one_reply_told a b c moment key call x y ample enough (inl h) k = absurd (ample h.1)
-one_reply_told a b c moment key call x y ample enough (inr h) (inl k) = absurd (enough k.1)
-one_reply_told a b c moment key call x y ample enough (inr h) (inr k) =
+one_replied : (a b c : Account) (moment : ℕ) (key : Key) (call : Call) (x y : Answer) → x ≢ Refused NoMemory → y ≢ Refused NoMemory
+    → EntersOrNoMemory a moment (act.TheVariants.Arrive key call) b x (Replies b key x) → EntersOrNoMemory a moment (act.TheVariants.Arrive key call) c y (Replies c key y) → Same b c x y
+one_replied a b c moment key call x y ample enough (inl h) k = absurd (ample h.1)
+one_replied a b c moment key call x y ample enough (inr h) (inl k) = absurd (enough k.1)
+one_replied a b c moment key call x y ample enough (inr h) (inr k) =
     let same = one_added a b c moment _ h.0 k.0 in
-    (same, one_told b c key x y k.0.legal same h.1 k.1)
+    (same, one_answer b c key x y k.0.legal same h.1 k.1)
 
 one_next_at : (a b c : Account) (moment : ℕ) (m : Message) (x y : Answer) → NextAt a moment m b x → NextAt a moment m c y → x ≢ Refused NoMemory → y ≢ Refused NoMemory → Same b c x y
 one_next_at a b c moment (Hello client incarnation) x y first second ample enough =
@@ -166,12 +148,12 @@ one_next_at a b c moment (Request key call) x y first second ample enough =
     (both_refuse _ _ _ _ _ (Same b c x y) (one_old_number a key) (λ p. one_refused a b c x y p)
     (both_refuse _ _ _ _ _ (Same b c x y) (one_gap a key) (λ p. one_refused a b c x y p)
     (both_refuse _ _ _ _ _ (Same b c x y) (one_full a _) (λ p. one_refused a b c x y p)
-    (one_reply_told a b c moment key call x y ample enough))))))
+    (one_replied a b c moment key call x y ample enough))))))
     first second
 
 pub one_next : OneNext
 one_next a b c now m x y first second ample enough =
     one_next_at a b c (step_moment a now) m x y
-    (subst (λ (d : Account). NextAt d (step_moment a now) m b x) first.1 first.2)
-    (subst (λ (d : Account). NextAt d (step_moment a now) m c y) second.1 second.2)
+    (subst (λ (d : Account). NextAt d (step_moment a now) m b x) first.ticks first.steps)
+    (subst (λ (d : Account). NextAt d (step_moment a now) m c y) second.ticks second.steps)
     ample enough

@@ -1,36 +1,40 @@
 -- Replies and verdicts stay where an account is extended, and a key has one reply.
-use Rattle.std.proofs.Common.{◌≡◌, inl, inr, ℕ, ◌<◌, List, [], ◌∷◌, ◌++◌, length, Option, Some, None, option_map, option_and_then, refl, sym, ap, subst, ◌∙◌, append-nil}
-use Rattle.std.specs.List.{slice_get}
-use Rattle.std.proofs.lemmas.Option.{none-some, same_Some}
-use Rattle.rv_text.specs.declared.message.Key.{Key}
-use Rattle.rv_text.specs.declared.call.Wait.{Wait}
-use Rattle.rv_text.specs.declared.call.Wait.TheVariants.{Now}
-use Rattle.rv_text.specs.declared.call.Call.{Call}
-use Rattle.rv_text.specs.declared.call.Call.TheVariants.{Put, Take}
-use Rattle.rv_text.specs.declared.message.Message.{Message}
-use Rattle.rv_text.specs.declared.message.Message.TheVariants.{Hello, Request}
-use Rattle.rv_text.specs.declared.answer.Reply.{Reply}
 use Rattle.rv_text.specs.declared.answer.Reply as reply
-use Rattle.rv_text.specs.declared.answer.Answer.{Answer}
 use Rattle.rv_text.specs.declared.answer.Answer as answer
-use Rattle.rv_book.specs.declared.account.Entry.{Entry}
-use Rattle.rv_book.specs.declared.account.Act.{Act}
 use Rattle.rv_book.specs.declared.account.Act as act
-use Rattle.rv_book.specs.declared.verdict.Kept.{Kept}
 use Rattle.rv_book.specs.declared.verdict.Kept as kept
-use Rattle.rv_book.specs.declared.verdict.Said.{Said}
 use Rattle.rv_book.specs.declared.verdict.Said as said
-use Rattle.rv_book.specs.Account.{Account, Extends, act_at, call_in, call_at}
-use Rattle.rv_book.specs.Calls.{item_of}
-use Rattle.rv_book.specs.Waiting.{NamesPartner, Met}
+use Rattle.rv_text.specs.declared.message.Message.TheVariants.{Hello, Request}
+use Rattle.rv_text.specs.declared.call.Call.TheVariants.{Put, Take}
+use Rattle.rv_book.specs.Account.{Account, Extends, act_at, call_at, call_in}
+use Rattle.rv_book.specs.declared.account.Act.{Act}
+use Rattle.rv_book.specs.Steps.{Adds, EntersOrNoMemory, NextAt, Refuses, Replies}
+use Rattle.rv_text.specs.declared.answer.Answer.{Answer}
+use Rattle.rv_text.specs.declared.call.Call.{Call}
+use Rattle.rv_book.specs.declared.account.Entry.{Entry}
+use Rattle.rv_book.specs.Replies.{Gets, HasReply, Meet, RepliesAt, RepliesUnmet}
+use Rattle.rv_book.specs.declared.verdict.Kept.{Kept}
+use Rattle.rv_text.specs.declared.message.Key.{Key}
 use Rattle.rv_book.specs.Legal.{Legal, before}
-use Rattle.rv_book.specs.Replies.{Meet, Gets, RepliesAt, HasReply}
-use Rattle.rv_book.specs.Steps.{NextAt, Adds}
+use Rattle.std.proofs.Common.{List, None, Option, Some, [], ap, append-nil, inl, inr, length, option_and_then, option_map, refl, subst, sym, ℕ, ◌++◌, ◌<◌, ◌∙◌, ◌∷◌, ◌≡◌}
+use Rattle.rv_text.specs.declared.message.Message.{Message}
+use Rattle.rv_book.specs.Waiting.{Met, NamesPartner}
+use Rattle.rv_book.proofs.Growing.{NamesPartner-on, act_read, call_read, partner_read, reads_on, reads_within}
+use Rattle.rv_text.specs.declared.call.Wait.TheVariants.{Now}
+use Rattle.rv_text.specs.declared.answer.Refusal.{Refusal}
+use Rattle.rv_book.proofs.Lines.{RefuseOr-elim, WhereElse-elim}
 use Rattle.rv_book.specs.Laws.{RepliesStay, StepsExtend, VerdictsStay}
-use Rattle.rv_book.specs.Verdicts.{item_at, reply_of, answer_of}
+use Rattle.rv_text.specs.declared.answer.Reply.{Reply}
+use Rattle.rv_book.specs.declared.verdict.Said.{Said}
+use Rattle.rv_book.specs.Calls.{Stays}
+use Rattle.rv_text.specs.declared.call.Wait.{Wait}
+use Rattle.rv_book.specs.Verdicts.{answer_of, item_at, reply_of}
+use Rattle.rv_book.proofs.OnePartner.{arrives_once, goes_unnamed, meets_one}
 use Rattle.rv_book.proofs.Places.{get-append_within}
-use Rattle.rv_book.proofs.Growing.{act_read, call_read, partner_read, reads_on, reads_within, NamesPartner-on}
-use Rattle.rv_book.proofs.OnePartner.{arrives_once, meets_one, takes_unnamed}
+use Rattle.rv_text.specs.Calls.{item_of}
+use Rattle.std.proofs.lemmas.Option.{none-some, same_Some}
+use Rattle.std.specs.List.{slice_get}
+use Rattle.rv_text.specs.Fields.{whole}
 
 -- ---- a step only adds
 
@@ -43,23 +47,31 @@ same_extends a b same = subst (Extends a) (sym same) (extends_itself a)
 added_extends : (a b : Account) (moment : ℕ) (does : Act) → Adds a moment does b → Extends a b
 added_extends a b moment does added = subst (Extends a) (sym added.follows) (record { epoch = refl; opened = refl; more = added.entry ∷ []; entries = refl })
 
+entered_extends : (a b : Account) (moment : ℕ) (does : Act) (x : Answer) (G : Type 0) → EntersOrNoMemory a moment does b x G → Extends a b
+entered_extends a b moment does x G (inl refuses) = same_extends a b refuses.0
+entered_extends a b moment does x G (inr added) = added_extends a b moment does added.0
+
 step_extends : (a b : Account) (moment : ℕ) (m : Message) (x : Answer) → NextAt a moment m b x → Extends a b
-step_extends a b moment (Hello client incarnation) x (inl (refusal, due, refuses)) = same_extends a b refuses.0
-step_extends a b moment (Hello client incarnation) x (inr (n, inl (has, again))) = same_extends a b again.0
-step_extends a b moment (Hello client incarnation) x (inr (n, inr (o, inl (refusal, due, refuses)))) = same_extends a b refuses.0
-step_extends a b moment (Hello client incarnation) x (inr (n, inr (o, inr (p, inl refuses)))) = same_extends a b refuses.0
-step_extends a b moment (Hello client incarnation) x (inr (n, inr (o, inr (p, inr added)))) = added_extends a b moment _ added.0
-step_extends a b moment (Request key call) x (inl (refusal, due, refuses)) = same_extends a b refuses.0
-step_extends a b moment (Request key call) x (inr (n, inl (refusal, due, refuses))) = same_extends a b refuses.0
-step_extends a b moment (Request key call) x (inr (n, inr (o, inl (refusal, due, refuses)))) = same_extends a b refuses.0
-step_extends a b moment (Request key call) x (inr (n, inr (o, inr (p, inl (refusal, due, refuses))))) = same_extends a b refuses.0
-step_extends a b moment (Request key call) x (inr (n, inr (o, inr (p, inr (q, inl (refusal, due, refuses)))))) = same_extends a b refuses.0
-step_extends a b moment (Request key call) x (inr (n, inr (o, inr (p, inr (q, inr (r, inl (refusal, due, refuses))))))) = same_extends a b refuses.0
-step_extends a b moment (Request key call) x (inr (n, inr (o, inr (p, inr (q, inr (r, inr (s, inl refuses))))))) = same_extends a b refuses.0
-step_extends a b moment (Request key call) x (inr (n, inr (o, inr (p, inr (q, inr (r, inr (s, inr added))))))) = added_extends a b moment _ added.0
+step_extends a b moment (Hello client incarnation) x next =
+    let refused = λ (D : Refusal → Type 0) (refusal : Refusal) (due : D refusal) (refuses : Refuses a b x refusal). same_extends a b refuses.0 in
+    let entered = λ (h : EntersOrNoMemory a moment (act.TheVariants.Hello client incarnation) b x (x ≡ answer.TheVariants.Welcome a.epoch client incarnation)). entered_extends a b moment _ x _ h in
+    RefuseOr-elim _ _ _ (Extends a b) (refused _)
+    (WhereElse-elim _ _ _ (Extends a b) (λ has again. same_extends a b again.0)
+    (RefuseOr-elim _ _ _ (Extends a b) (refused _)
+    entered)) next
+step_extends a b moment (Request key call) x next =
+    let refused = λ (D : Refusal → Type 0) (refusal : Refusal) (due : D refusal) (refuses : Refuses a b x refusal). same_extends a b refuses.0 in
+    let entered = λ (h : EntersOrNoMemory a moment (act.TheVariants.Arrive key call) b x (Replies b key x)). entered_extends a b moment _ x _ h in
+    RefuseOr-elim _ _ _ (Extends a b) (refused _)
+    (RefuseOr-elim _ _ _ (Extends a b) (refused _)
+    (RefuseOr-elim _ _ _ (Extends a b) (refused _)
+    (RefuseOr-elim _ _ _ (Extends a b) (refused _)
+    (RefuseOr-elim _ _ _ (Extends a b) (refused _)
+    (RefuseOr-elim _ _ _ (Extends a b) (refused _)
+    entered))))) next
 
 pub steps_extend : StepsExtend
-steps_extend a b now m x next = step_extends a b _ m x (subst (λ (c : Account). NextAt c _ m b x) next.1 next.2)
+steps_extend a b now m x next = step_extends a b _ m x (subst (λ (c : Account). NextAt c _ m b x) next.ticks next.steps)
 
 -- ---- a verdict stays
 
@@ -109,18 +121,18 @@ gets_met es r item gets = elim gets.meet [
   | inr names ↦ record { later = r; earlier = gets.giver; names = names; part = inl refl }
 ]
 
--- a take that was not met is not met in any legal account that goes on
-still_unmet : (es more : List Entry) (epoch opened r queue : ℕ) (wait : Wait) → Legal (record { epoch = epoch; opened = opened; entries = es ++ more }) → call_at es r ≡ Some (Take queue wait)
-    → (Met es r → ⊥) → Met (es ++ more) r → ⊥
-still_unmet es more epoch opened r queue wait legal arrived unmet met =
+-- an arrival that does not stay and was not met is not met in any legal account that goes on
+still_unmet : (es more : List Entry) (epoch opened r : ℕ) (call : Call) → Legal (record { epoch = epoch; opened = opened; entries = es ++ more }) → call_at es r ≡ Some call
+    → (Stays call → ⊥) → (Met es r → ⊥) → Met (es ++ more) r → ⊥
+still_unmet es more epoch opened r call legal arrived goes unmet met =
     let b : Account = record { epoch = epoch; opened = opened; entries = es ++ more } in
     elim met.part [
       | inr named ↦
           let names = subst (NamesPartner (es ++ more) met.later) (sym named) met.names in
-          takes_unnamed b met.later r queue wait legal (reads_on call_read refl es more r (Take queue wait) arrived) names
+          goes_unnamed b met.later r call legal (reads_on call_read refl es more r call arrived) goes names
       | inl own ↦
           let names = subst (λ p. NamesPartner (es ++ more) p met.earlier) (sym own) met.names in
-          let inside : r < length es = reads_within call_read refl es r (Take queue wait) arrived in
+          let inside : r < length es = reads_within call_read refl es r call arrived in
           let same : slice_get (es ++ more) r ≡ slice_get es r = get-append_within es more r inside in
           unmet (record {
             later = r;
@@ -130,11 +142,21 @@ still_unmet es more epoch opened r queue wait legal arrived unmet met =
           })
     ]
 
+-- what is told at once is told of a call that does not stay
+at_once : (queue : ℕ) (wait : Wait) (es more : List Entry) (r : ℕ) (reply other : Reply) → RepliesUnmet es r wait reply other → Stays (Take queue wait) → ⊥
+at_once queue Now es more r reply other unmet stays = stays.1
+
+unmet_on : (wait : Wait) (es more : List Entry) (r : ℕ) (reply other : Reply) → RepliesUnmet es r wait reply other → RepliesUnmet (es ++ more) r wait reply other
+unmet_on Now es more r reply other unmet = unmet
+
 replies_on : (es more : List Entry) (epoch opened r : ℕ) (call : Call) (reply : Reply) → Legal (record { epoch = epoch; opened = opened; entries = es ++ more }) → call_at es r ≡ Some call
     → RepliesAt es r call reply → RepliesAt (es ++ more) r call reply
 replies_on es more epoch opened r (Put queue item) reply legal arrived is = is
 replies_on es more epoch opened r (Take queue wait) reply legal arrived (inl gets) = inl (gets.0, gets_on es more r gets.0 gets.1, gets.2)
-replies_on es more epoch opened r (Take queue Now) reply legal arrived (inr unmet) = inr (still_unmet es more epoch opened r queue Now legal arrived unmet.0, unmet.1)
+replies_on es more epoch opened r (Take queue wait) reply legal arrived (inr unmet) = inr (
+  still_unmet es more epoch opened r (Take queue wait) legal arrived (at_once queue wait es more r _ reply unmet.1) unmet.0,
+  unmet_on wait es more r _ reply unmet.1,
+)
 
 one_item : (b : Account) (r : ℕ) (x y : List ℕ) → Legal b → Gets b.entries r x → Gets b.entries r y → x ≡ y
 one_item b r x y legal first second =
@@ -142,12 +164,15 @@ one_item b r x y legal first second =
     let call : first.call ≡ second.call = same_Some _ _ (sym first.arrived ∙ ap (call_at b.entries) giver ∙ second.arrived) in
     same_Some _ _ (sym first.hands_over ∙ ap item_of call ∙ second.hands_over)
 
+one_unmet : (wait : Wait) (es : List Entry) (r : ℕ) (at_once x y : Reply) → RepliesUnmet es r wait at_once x → RepliesUnmet es r wait at_once y → y ≡ x
+one_unmet Now es r at_once x y first second = second ∙ sym first
+
 one_reply_at : (b : Account) (r : ℕ) (call : Call) (x y : Reply) → Legal b → RepliesAt b.entries r call x → RepliesAt b.entries r call y → y ≡ x
 one_reply_at b r (Put queue item) x y legal first second = second ∙ sym first
 one_reply_at b r (Take queue wait) x y legal (inl first) (inl second) = second.2 ∙ ap reply.TheVariants.Item (one_item b r second.0 first.0 legal second.1 first.1) ∙ sym first.2
 one_reply_at b r (Take queue wait) x y legal (inl first) (inr second) = absurd (second.0 (gets_met b.entries r first.0 first.1))
 one_reply_at b r (Take queue wait) x y legal (inr first) (inl second) = absurd (first.0 (gets_met b.entries r second.0 second.1))
-one_reply_at b r (Take queue Now) x y legal (inr first) (inr second) = second.1 ∙ sym first.1
+one_reply_at b r (Take queue wait) x y legal (inr first) (inr second) = one_unmet wait b.entries r reply.TheVariants.Empty x y first.1 second.1
 
 one_call : (key : Key) (c d : Call) → Some (act.TheVariants.Arrive key c) ≡ Some (act.TheVariants.Arrive key d) → c ≡ d
 one_call key c d e = cc

@@ -1,42 +1,34 @@
--- The kinds of calls: who gives, who takes, who stays until it is met (Java SE 21, `TransferQueue`).
-use Rattle.std.specs.Prelude.{◌≡◌, ◌⊎◌, ℕ, List, Option, Some, None}
+-- What is said of a call by its side and its wait: whom it meets and how long it stays (Java SE 21, `TransferQueue`).
+use Rattle.std.specs.Prelude.{◌≡◌, ℕ, Option, Some, None, IsSome, option_and_then}
 use Rattle.rv_text.specs.declared.call.Wait.{Wait}
 use Rattle.rv_text.specs.declared.call.Wait.TheVariants.{Now}
+use Rattle.rv_text.specs.declared.call.Side.{Side}
+use Rattle.rv_text.specs.declared.call.Side.TheVariants.{Gives, Takes, Looks}
 use Rattle.rv_text.specs.declared.call.Call.{Call}
-use Rattle.rv_text.specs.declared.call.Call.TheVariants.{Put, Take}
+use Rattle.rv_text.specs.Calls.{side_of, wait_of}
 
--- the queue that a giving call hands an item to
-abbrev pub gives_to : Call → Option ℕ
-gives_to (Put queue item) = Some queue
-gives_to (Take queue wait) = None
+-- the side whose arrivals an arrival of this side meets
+abbrev pub opposite : Side → Option Side
+opposite (Gives queue) = Some (Takes queue)
+opposite (Takes queue) = Some (Gives queue)
+opposite (Looks queue) = None
 
--- the queue that a taking call takes an item from
-abbrev pub takes_from : Call → Option ℕ
-takes_from (Put queue item) = None
-takes_from (Take queue wait) = Some queue
-
--- the item that a call hands over
-abbrev pub item_of : Call → Option (List ℕ)
-item_of (Put queue item) = Some item
-item_of (Take queue wait) = None
-
--- the call may name a partner: it gives, takes or exchanges
+-- the call may name a partner: it gives or takes
 abbrev pub MayMeet : Call → Type 0
-MayMeet (Put queue item) = Unit {0}
-MayMeet (Take queue wait) = Unit {0}
+MayMeet call = IsSome (opposite (side_of call))
 
-abbrev pub IsPut : Call → Type 0
-IsPut (Put queue item) = Unit {0}
-IsPut (Take queue wait) = ⊥
-
--- such a wait goes on past the moment of arrival
-abbrev pub Lasts : Wait → Type 0
-Lasts Now = ⊥
+-- such a wait goes on past the moment of arrival; what never waits and may meet is an item, which lies until it is taken
+abbrev pub Lasts : Option Wait → Type 0
+Lasts None = Unit {0}
+Lasts (Some Now) = ⊥
 
 -- where no partner is there, the call stays until it is met or stopped
 abbrev pub Stays : Call → Type 0
-Stays (Put queue item) = Unit {0}
-Stays (Take queue wait) = Lasts wait
+Stays call = MayMeet call × Lasts (wait_of call)
+
+-- it may meet, and its kind never waits
+abbrev pub IsPut : Call → Type 0
+IsPut call = MayMeet call × (wait_of call ≡ None)
 
 -- the moment at which a wait that began at a moment has elapsed
 abbrev pub limit_after : ℕ → Wait → Option ℕ
@@ -44,13 +36,12 @@ limit_after moment Now = None
 
 -- the limit of a call that arrived at a moment
 abbrev pub limit_of : ℕ → Call → Option ℕ
-limit_of moment (Put queue item) = None
-limit_of moment (Take queue wait) = limit_after moment wait
+limit_of moment call = option_and_then (limit_after moment) (wait_of call)
 
--- one gives to the queue that the other takes from
-abbrev pub AreOpposite : Call → Call → Type 0
-AreOpposite c d = (queue : ℕ) × (((gives_to c ≡ Some queue) × (takes_from d ≡ Some queue)) ⊎ ((takes_from c ≡ Some queue) × (gives_to d ≡ Some queue)))
+-- how many entries a call may come to need: its own, and one that ends its wait
+abbrev pub need_by : Option Wait → ℕ
+need_by None = 1
+need_by (Some Now) = 1
 
--- both give to one queue, or both take from one
-abbrev pub AreOneSide : Call → Call → Type 0
-AreOneSide c d = (queue : ℕ) × (((gives_to c ≡ Some queue) × (gives_to d ≡ Some queue)) ⊎ ((takes_from c ≡ Some queue) × (takes_from d ≡ Some queue)))
+abbrev pub need_of : Call → ℕ
+need_of call = need_by (wait_of call)

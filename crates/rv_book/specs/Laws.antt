@@ -12,24 +12,33 @@ use Rattle.rv_book.specs.declared.verdict.Verdict.{Verdict}
 use Rattle.rv_book.specs.Account.{Account, Extends}
 use Rattle.rv_book.specs.Legal.{Legal}
 use Rattle.rv_book.specs.Replies.{HasReply}
-use Rattle.rv_book.specs.Steps.{HelloLines, RequestLines, Adds, Tells, Next, step_moment}
+use Rattle.rv_book.specs.Steps.{HelloLines, RequestLines, Adds, Replies, Next, step_moment}
 use Rattle.rv_book.specs.Order.{InOrder}
 use Rattle.rv_book.specs.Verdicts.{says}
 
 -- a reply that stands in a legal account stands in every legal account that extends it, and no other reply does
 abbrev pub RepliesStay : Type 0
-RepliesStay = (a b : Account) (key : Key) (reply : Reply) → Legal a → Legal b → Extends a b → HasReply a.entries key reply
+RepliesStay = (a b : Account) (key : Key) (reply : Reply) → Legal a → Legal b → Extends a b
+    → HasReply a.entries key reply
     → HasReply b.entries key reply × ((other : Reply) → HasReply b.entries key other → other ≡ reply)
+
+-- a legal account exists in which the request's entry stands, and with it the request's reply
+pub record CanEnter (a : Account) (moment : ℕ) (key : Key) (call : Call) : Type 0 where
+  pub after : Account
+  pub answer : Answer
+  pub adds : Adds a moment (Arrive key call) after
+  pub replies : Replies after key answer
 
 -- where no refusal of a request is due, a legal account with its entry and its reply exists
 abbrev pub RequestsCanEnter : Type 0
 RequestsCanEnter = (a : Account) (now : ℕ) (key : Key) (call : Call) → Legal a
-    → RequestLines a key call (λ refusal. Unit {0}) ((b : Account) × (x : Answer) × Adds a (step_moment a now) (Arrive key call) b × Tells b key x)
+    → RequestLines a key call (λ refusal. Unit {0}) (CanEnter a (step_moment a now) key call)
 
 -- where no refusal of a hello is due and it is no repeat, a legal account with its entry exists
 abbrev pub HellosCanEnter : Type 0
 HellosCanEnter = (a : Account) (now client incarnation : ℕ) → Legal a
-    → HelloLines a client incarnation (λ refusal. Unit {0}) (Unit {0}) ((b : Account) × Adds a (step_moment a now) (Hello client incarnation) b)
+    → HelloLines a client incarnation (λ refusal. Unit {0}) (Unit {0})
+    ((b : Account) × Adds a (step_moment a now) (Hello client incarnation) b)
 
 -- in a legal account the items of each queue leave in their order of arrival
 abbrev pub ItemsLeaveInOrder : Type 0

@@ -1,14 +1,16 @@
 -- Which entry may stand behind which entries, and so which accounts are legal.
-use Rattle.std.specs.Prelude.{◌≡◌, ◌⊎◌, ◌<◌, ◌≤◌, ◌+◌, ℕ, List, length, take, Some, None, slice_get}
+use Rattle.std.specs.Prelude.{◌≡◌, ◌<◌, ◌≤◌, ◌+◌, ℕ, List, length, take, Some, None, slice_get}
 use Rattle.rv_text.specs.declared.message.Key.{Key}
 use Rattle.rv_text.specs.declared.call.Call.{Call}
+use Rattle.rv_text.specs.declared.call.Side.{Side}
+use Rattle.rv_text.specs.Calls.{side_of}
 use Rattle.rv_book.specs.declared.account.Entry.{Entry}
 use Rattle.rv_book.specs.declared.account.Act.{Act}
 use Rattle.rv_book.specs.declared.account.Act.TheVariants.{Hello, Arrive}
 use Rattle.rv_book.specs.Account.{Account, act_at, moment_at, call_in, key_in, call_at}
-use Rattle.rv_book.specs.Calls.{gives_to, takes_from, MayMeet, AreOpposite, AreOneSide}
-use Rattle.rv_book.specs.Sessions.{HasIncarnation, LastNumber, NamesKey}
-use Rattle.rv_book.specs.Waiting.{limit_at, Met, Open, Waiting}
+use Rattle.rv_book.specs.Calls.{MayMeet, opposite}
+use Rattle.rv_book.specs.Sessions.{HasIncarnation, HasOnlyLower, LastNumber, NamesKey}
+use Rattle.rv_book.specs.Waiting.{limit_at, Met, SideAt, OpenAt, Waiting}
 
 -- ---- moments
 
@@ -26,15 +28,21 @@ abbrev pub KeepsLimits : List Entry → ℕ → Act → Type 0
 KeepsLimits entries moment (Hello client incarnation) = NothingDue entries moment
 KeepsLimits entries moment (Arrive key call) = NothingDue entries moment
 
+-- what an entry of this moment and act keeps of the moments
+pub record KeepsMoments (a : Account) (moment : ℕ) (does : Act) : Type 0 where
+  pub keeps_time : KeepsTime a moment
+  pub keeps_limits : KeepsLimits a.entries moment does
+
 -- ---- numbers
 
 -- a hello's incarnation is above those of all earlier hellos of its client
-abbrev pub RaisesIncarnation : List Entry → Entry → Type 0
-RaisesIncarnation entries e = (client incarnation r earlier : ℕ) → e.act ≡ Hello client incarnation → act_at entries r ≡ Some (Hello client earlier) → earlier < incarnation
+abbrev pub RaisesIncarnation : List Entry → Act → Type 0
+RaisesIncarnation entries does = (client incarnation : ℕ) → does ≡ Hello client incarnation → HasOnlyLower entries client incarnation
 
--- the key that an entry names has the account's epoch and its client's incarnation
-abbrev pub IsOfSession : Account → Entry → Type 0
-IsOfSession a e = (key : Key) → key_in e.act ≡ Some key → (key.epoch ≡ a.epoch) × HasIncarnation a.entries key.client key.incarnation
+-- the key that an act names has the account's epoch and its client's incarnation
+abbrev pub IsOfSession : Account → Act → Type 0
+IsOfSession a does = (key : Key) → key_in does ≡ Some key
+    → (key.epoch ≡ a.epoch) × HasIncarnation a.entries key.client key.incarnation
 
 -- an arrival has its session's next number, and nothing of that session waits
 pub record IsNextNumber (entries : List Entry) (key : Key) : Type 0 where
@@ -43,8 +51,14 @@ pub record IsNextNumber (entries : List Entry) (key : Key) : Type 0 where
   pub next : key.number ≡ last + 1
   pub idle : (r : ℕ) (other : Key) → Waiting entries r → NamesKey entries key.client r other → ⊥
 
-abbrev pub CountsUp : List Entry → Entry → Type 0
-CountsUp entries e = (key : Key) (call : Call) → e.act ≡ Arrive key call → IsNextNumber entries key
+abbrev pub CountsUp : List Entry → Act → Type 0
+CountsUp entries does = (key : Key) (call : Call) → does ≡ Arrive key call → IsNextNumber entries key
+
+-- what an entry of this act keeps of the numbers
+pub record KeepsNumbers (a : Account) (does : Act) : Type 0 where
+  pub raises_incarnation : RaisesIncarnation a.entries does
+  pub of_session : IsOfSession a does
+  pub counts_up : CountsUp a.entries does
 
 -- ---- pairs (Java SE 21, `TransferQueue`; the fair dual queue of Scherer, Lea and Scott, PPoPP 2006)
 
@@ -59,43 +73,39 @@ pub record IsFreePartner (entries : List Entry) (e : Entry) (p : ℕ) : Type 0 w
 abbrev pub NamesFreePartner : List Entry → Entry → Type 0
 NamesFreePartner entries e = (p : ℕ) → e.partner ≡ Some p → IsFreePartner entries e p
 
--- the call gives or takes
-abbrev pub IsOfQueue : Call → Type 0
-IsOfQueue call = (queue : ℕ) × ((gives_to call ≡ Some queue) ⊎ (takes_from call ≡ Some queue))
-
--- the partner is an open arrival of the other side of the same queue
+-- at p stands an open arrival of the other side of the call's queue
 pub record IsOpenOpposite (entries : List Entry) (call : Call) (p : ℕ) : Type 0 where
-  pub other : Call
-  pub arrived : call_at entries p ≡ Some other
-  pub opposite : AreOpposite other call
-  pub is_open : Open entries p
+  pub side : Side
+  pub opposes : opposite (side_of call) ≡ Some side
+  pub there : OpenAt entries side p
 
+-- the partner of a call that gives or takes is an open arrival of the other side of the same queue
 abbrev pub PairsOpposites : List Entry → Entry → Type 0
-PairsOpposites entries e = (p : ℕ) (call : Call) → e.partner ≡ Some p → call_in e.act ≡ Some call → IsOfQueue call → IsOpenOpposite entries call p
+PairsOpposites entries e = (p : ℕ) (call : Call) → e.partner ≡ Some p → call_in e.act ≡ Some call → MayMeet call
+    → IsOpenOpposite entries call p
 
 -- no open arrival of the partner's side and queue stands before the partner
 abbrev pub PairsOldest : List Entry → Entry → Type 0
-PairsOldest entries e = (p r : ℕ) (call other earlier : Call) → e.partner ≡ Some p → call_in e.act ≡ Some call → IsOfQueue call
-    → call_at entries p ≡ Some other → r < p → call_at entries r ≡ Some earlier → AreOneSide earlier other → Open entries r → ⊥
+PairsOldest entries e = (p r : ℕ) (side : Side) → e.partner ≡ Some p → SideAt entries side p → r < p → OpenAt entries side r → ⊥
 
 -- an arrival without a partner finds no open arrival of the other side of its queue
 abbrev pub PairsWherePossible : List Entry → Entry → Type 0
-PairsWherePossible entries e = (r : ℕ) (call other : Call) → e.partner ≡ None → call_in e.act ≡ Some call → call_at entries r ≡ Some other
-    → AreOpposite other call → Open entries r → ⊥
+PairsWherePossible entries e = (r : ℕ) (call : Call) → e.partner ≡ None → call_in e.act ≡ Some call → IsOpenOpposite entries call r → ⊥
+
+-- what an entry keeps of the pairs
+pub record KeepsPairs (entries : List Entry) (e : Entry) : Type 0 where
+  pub names_free_partner : NamesFreePartner entries e
+  pub pairs_opposites : PairsOpposites entries e
+  pub pairs_oldest : PairsOldest entries e
+  pub pairs_where_possible : PairsWherePossible entries e
 
 -- ---- legal accounts
 
 -- the entry may stand behind those of the account
 pub record MayFollow (a : Account) (e : Entry) : Type 0 where
-  pub keeps_time : KeepsTime a e.moment
-  pub keeps_limits : KeepsLimits a.entries e.moment e.act
-  pub raises_incarnation : RaisesIncarnation a.entries e
-  pub of_session : IsOfSession a e
-  pub counts_up : CountsUp a.entries e
-  pub names_free_partner : NamesFreePartner a.entries e
-  pub pairs_opposites : PairsOpposites a.entries e
-  pub pairs_oldest : PairsOldest a.entries e
-  pub pairs_where_possible : PairsWherePossible a.entries e
+  pub moments : KeepsMoments a e.moment e.act
+  pub numbers : KeepsNumbers a e.act
+  pub pairs : KeepsPairs a.entries e
 
 -- the account with its entries before the place alone
 abbrev pub before : Account → ℕ → Account

@@ -1,3 +1,4 @@
+-- What a reader must agree with: all that the public contracts and the laws cite.
 pub mod Account
 pub mod Calls
 pub mod Waiting
@@ -5,7 +6,14 @@ pub mod Sessions
 pub mod Legal
 pub mod Replies
 pub mod Steps
-pub mod Order
-pub mod Tables
+pub mod Limits
 pub mod Verdicts
+pub mod Order
 pub mod Laws
+
+-- What only private clauses and proofs cite.
+pub mod Views
+pub mod Known
+pub mod Meeting
+pub mod Arriving
+pub mod Tables

@@ -1,30 +1,17 @@
 -- Items leave each queue in their order of arrival: first in first out, as in the fair dual queue of Scherer, Lea and Scott (PPoPP 2006) and Java SE 21's `LinkedTransferQueue`.
-use Rattle.std.specs.Prelude.{◌≡◌, ◌⊎◌, ◌<◌, ℕ, List, take, Some}
-use Rattle.rv_text.specs.declared.call.Call.{Call}
+use Rattle.std.specs.Prelude.{◌≡◌, ◌⊎◌, ◌<◌, ℕ, List, take}
+use Rattle.rv_text.specs.declared.call.Side.TheVariants.{Gives, Takes}
 use Rattle.rv_book.specs.declared.account.Entry.{Entry}
-use Rattle.rv_book.specs.Account.{call_at}
-use Rattle.rv_book.specs.Calls.{gives_to, takes_from}
-use Rattle.rv_book.specs.Waiting.{NamesPartner, Open}
-
--- the arrival at r gives to the queue
-pub record GivesAt (entries : List Entry) (queue r : ℕ) : Type 0 where
-  pub call : Call
-  pub arrived : call_at entries r ≡ Some call
-  pub gives : gives_to call ≡ Some queue
-
--- the arrival at r takes from the queue
-pub record TakesAt (entries : List Entry) (queue r : ℕ) : Type 0 where
-  pub call : Call
-  pub arrived : call_at entries r ≡ Some call
-  pub takes : takes_from call ≡ Some queue
+use Rattle.rv_book.specs.Waiting.{NamesPartner, SideAt, OpenAt}
 
 -- the giving arrival at g and the taking arrival at t of the queue are a pair, whose place is p
 pub record PairAt (entries : List Entry) (queue p g t : ℕ) : Type 0 where
-  pub gives : GivesAt entries queue g
-  pub takes : TakesAt entries queue t
+  pub gives : SideAt entries (Gives queue) g
+  pub takes : SideAt entries (Takes queue) t
   pub names : ((p ≡ g) × NamesPartner entries g t) ⊎ ((p ≡ t) × NamesPartner entries t g)
 
 -- items leave in their order of arrival, and none is passed over
 pub record InOrder (entries : List Entry) : Type 0 where
-  pub in_turn : (queue p1 g1 t1 p2 g2 t2 : ℕ) → PairAt entries queue p1 g1 t1 → PairAt entries queue p2 g2 t2 → g1 < g2 → (t1 < t2) × (p1 < p2)
-  pub none_passed : (queue p g t r : ℕ) → PairAt entries queue p g t → r < g → GivesAt entries queue r → Open (take p entries) r → ⊥
+  pub in_turn : (queue p1 g1 t1 p2 g2 t2 : ℕ) → PairAt entries queue p1 g1 t1 → PairAt entries queue p2 g2 t2
+      → g1 < g2 → (t1 < t2) × (p1 < p2)
+  pub none_passed : (queue p g t r : ℕ) → PairAt entries queue p g t → r < g → OpenAt (take p entries) (Gives queue) r → ⊥

@@ -10,7 +10,7 @@ use Rattle.rv_text.specs.declared.answer.Reply.TheVariants.{Done, Item, Empty}
 use Rattle.rv_book.specs.declared.account.Entry.{Entry}
 use Rattle.rv_book.specs.declared.account.Act.TheVariants.{Arrive}
 use Rattle.rv_book.specs.Account.{act_at, call_at}
-use Rattle.rv_book.specs.Calls.{item_of}
+use Rattle.rv_text.specs.Calls.{item_of}
 use Rattle.rv_book.specs.Waiting.{NamesPartner, Met}
 
 -- the arrivals at r and at s are in one pair or swap
@@ -32,7 +32,8 @@ RepliesUnmet entries r Now at_once reply = reply ≡ at_once
 -- the reply of the request with this call that arrived at r
 abbrev pub RepliesAt : List Entry → ℕ → Call → Reply → Type 0
 RepliesAt entries r (Put queue item) reply = reply ≡ Done
-RepliesAt entries r (Take queue wait) reply = ((item : List ℕ) × Gets entries r item × (reply ≡ Item item)) ⊎ ((¬ Met entries r) × RepliesUnmet entries r wait Empty reply)
+RepliesAt entries r (Take queue wait) reply =
+    ((item : List ℕ) × Gets entries r item × (reply ≡ Item item)) ⊎ ((¬ Met entries r) × RepliesUnmet entries r wait Empty reply)
 
 -- the request with this key arrived, and it has this reply
 pub record RepliesToArrival (entries : List Entry) (key : Key) (reply : Reply) : Type 0 where

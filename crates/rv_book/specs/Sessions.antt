@@ -14,6 +14,10 @@ pub record LastHello (entries : List Entry) (client incarnation h : ℕ) : Type 
 abbrev pub HasIncarnation : List Entry → ℕ → ℕ → Type 0
 HasIncarnation entries client incarnation = (h : ℕ) × LastHello entries client incarnation h
 
+-- the client said no hello, or only hellos of lower incarnations
+abbrev pub HasOnlyLower : List Entry → ℕ → ℕ → Type 0
+HasOnlyLower entries client incarnation = (r earlier : ℕ) → act_at entries r ≡ Some (Hello client earlier) → earlier < incarnation
+
 -- the entry at r names a key of the client
 pub record NamesKey (entries : List Entry) (client r : ℕ) (key : Key) : Type 0 where
   pub named : key_at entries r ≡ Some key

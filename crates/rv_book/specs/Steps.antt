@@ -2,9 +2,7 @@
 use Rattle.std.specs.Prelude.{◌≡◌, ◌≢◌, ◌⊎◌, ◌<◌, ◌≤◌, ◌+◌, ◌-◌, ◌^◌, ◌↔◌, ℕ, List, length, Contains, Some, min, max, unwrap_or}
 use Rattle.std.specs.List.Sorted.{IsStrictlyIncreasing}
 use Rattle.rv_text.specs.declared.message.Key.{Key}
-use Rattle.rv_text.specs.declared.call.Wait.TheVariants.{Now}
 use Rattle.rv_text.specs.declared.call.Call.{Call}
-use Rattle.rv_text.specs.declared.call.Call.TheVariants.{Put, Take}
 use Rattle.rv_text.specs.declared.message.Message.{Message}
 use Rattle.rv_text.specs.declared.message.Message.TheVariants.{Hello, Request}
 use Rattle.rv_text.specs.declared.answer.Reply.{Reply}
@@ -16,16 +14,21 @@ use Rattle.rv_book.specs.declared.account.Entry.{Entry}
 use Rattle.rv_book.specs.declared.account.Act.{Act}
 use Rattle.rv_book.specs.declared.account.Act as act
 use Rattle.rv_book.specs.Account.{Account, act_at, moment_at, with_entry}
-use Rattle.rv_book.specs.Sessions.{HasIncarnation, LastNumber}
+use Rattle.rv_book.specs.Calls.{need_of}
+use Rattle.rv_book.specs.Sessions.{HasIncarnation, HasOnlyLower, LastNumber}
 use Rattle.rv_book.specs.Waiting.{Waiting}
 use Rattle.rv_book.specs.Legal.{Legal}
 use Rattle.rv_book.specs.Replies.{HasReply}
 
 -- ---- the step's moment
 
--- a moment above 2 ^ 62 counts as 2 ^ 62
+-- the greatest moment
+abbrev pub max_moment : ℕ
+max_moment = 2 ^ 62
+
+-- a greater moment counts as that
 abbrev pub capped : ℕ → ℕ
-capped now = min now (2 ^ 62)
+capped now = min now max_moment
 
 -- the moment of the last entry, or the opening moment while there is none
 abbrev pub own_moment : Account → ℕ
@@ -43,42 +46,58 @@ OtherEpochDue a key refusal = (key.epoch ≢ a.epoch) × (refusal ≡ OtherEpoch
 
 -- the client said no hello in this epoch, or only hellos of lower incarnations
 abbrev pub NoSessionDue : Account → Key → Refusal → Type 0
-NoSessionDue a key refusal = ((r incarnation : ℕ) → act_at a.entries r ≡ Some (act.TheVariants.Hello key.client incarnation) → incarnation < key.incarnation) × (refusal ≡ NoSession)
+NoSessionDue a key refusal = HasOnlyLower a.entries key.client key.incarnation × (refusal ≡ NoSession)
 
 -- the session has a greater incarnation
-abbrev pub OldIncarnationDue : Account → ℕ → ℕ → Refusal → Type 0
-OldIncarnationDue a client incarnation refusal = (current : ℕ) × HasIncarnation a.entries client current × (incarnation < current) × (refusal ≡ OldIncarnation current)
+pub record OldIncarnationDue (a : Account) (client incarnation : ℕ) (refusal : Refusal) : Type 0 where
+  pub current : ℕ
+  pub has : HasIncarnation a.entries client current
+  pub lower : incarnation < current
+  pub is : refusal ≡ OldIncarnation current
 
 -- the number is at or below the session's last
-abbrev pub OldNumberDue : Account → Key → Refusal → Type 0
-OldNumberDue a key refusal = (last : ℕ) × LastNumber a.entries key.client last × (key.number ≤ last) × (refusal ≡ OldNumber last)
+pub record OldNumberDue (a : Account) (key : Key) (refusal : Refusal) : Type 0 where
+  pub last : ℕ
+  pub is_last : LastNumber a.entries key.client last
+  pub old : key.number ≤ last
+  pub is : refusal ≡ OldNumber last
 
 -- the number is above the last plus one
-abbrev pub GapDue : Account → Key → Refusal → Type 0
-GapDue a key refusal = (last : ℕ) × LastNumber a.entries key.client last × (last + 1 < key.number) × (refusal ≡ Gap last)
+pub record GapDue (a : Account) (key : Key) (refusal : Refusal) : Type 0 where
+  pub last : ℕ
+  pub is_last : LastNumber a.entries key.client last
+  pub above : last + 1 < key.number
+  pub is : refusal ≡ Gap last
 
 -- the most entries of an epoch
 abbrev pub max_entries : ℕ
 max_entries = 100000
 
 -- the places with a property, and no others, number n
-abbrev pub NumberOf : (ℕ → Type 0) → ℕ → Type 0
-NumberOf P n = (places : List ℕ) × IsStrictlyIncreasing places × ((r : ℕ) → Contains places r ↔ P r) × (n ≡ length places)
-
--- how many entries a call may come to need: its own, and one that ends its wait
-abbrev pub need_of : Call → ℕ
-need_of (Put queue item) = 1
-need_of (Take queue Now) = 1
+pub record NumberOf (P : ℕ → Type 0) (n : ℕ) : Type 0 where
+  pub places : List ℕ
+  pub rising : IsStrictlyIncreasing places
+  pub are : (r : ℕ) → Contains places r ↔ P r
+  pub is : n ≡ length places
 
 -- the entries, those that the waiting requests may come to need and those that are needed now are more than 100,000
-abbrev pub EpochFullDue : Account → ℕ → Refusal → Type 0
-EpochFullDue a need refusal = (waiting : ℕ) × NumberOf (Waiting a.entries) waiting × (max_entries < length a.entries + waiting + need) × (refusal ≡ EpochFull)
+pub record EpochFullDue (a : Account) (need : ℕ) (refusal : Refusal) : Type 0 where
+  pub waiting : ℕ
+  pub count : NumberOf (Waiting a.entries) waiting
+  pub full : max_entries < length a.entries + waiting + need
+  pub is : refusal ≡ EpochFull
 
 -- ---- the lines of a step, of which the first that applies decides
 
+-- a refusal is due, and it refuses
+pub record RefusesDue (due refuses : Refusal → Type 0) : Type 0 where
+  pub refusal : Refusal
+  pub is_due : due refusal
+  pub refuses_it : refuses refusal
+
 -- a refusal that is due refuses; else the step goes on
 abbrev pub RefuseOr : (Refusal → Type 0) → (Refusal → Type 0) → Type 0 → Type 0
-RefuseOr due refuses otherwise = ((refusal : Refusal) × due refusal × refuses refusal) ⊎ (((refusal : Refusal) → ¬ due refusal) × otherwise)
+RefuseOr due refuses otherwise = RefusesDue due refuses ⊎ (((refusal : Refusal) → ¬ due refusal) × otherwise)
 
 -- where the condition holds, this; else that
 abbrev pub WhereElse : Type 0 → Type 0 → Type 0 → Type 0
@@ -96,7 +115,10 @@ KeyLines a key refuses goes_on =
 
 -- the lines for a request
 abbrev pub RequestLines : Account → Key → Call → (Refusal → Type 0) → Type 0 → Type 0
-RequestLines a key call refuses enters = KeyLines a key refuses (RefuseOr (EpochFullDue a (need_of call)) refuses enters)
+RequestLines a key call refuses enters =
+    KeyLines a key refuses
+    (RefuseOr (EpochFullDue a (need_of call)) refuses
+    enters)
 
 -- the lines for a hello: also what happens where it is a repeat
 abbrev pub HelloLines : Account → ℕ → ℕ → (Refusal → Type 0) → Type 0 → Type 0 → Type 0
@@ -120,28 +142,34 @@ pub record Adds (a : Account) (moment : ℕ) (does : Act) (b : Account) : Type 0
   pub follows : b ≡ with_entry a entry
   pub legal : Legal b
 
--- what the request with this key is told: its reply
-abbrev pub Tells : Account → Key → Answer → Type 0
-Tells b key answer = (reply : Reply) × HasReply b.entries key reply × (answer ≡ Replied key reply)
+-- the answer is the reply of the request with this key
+pub record Replies (b : Account) (key : Key) (answer : Answer) : Type 0 where
+  pub reply : Reply
+  pub has : HasReply b.entries key reply
+  pub is : answer ≡ Replied key reply
 
 -- where a growth was refused the account stays; else it gets the message's own entry
 abbrev pub EntersOrNoMemory : Account → ℕ → Act → Account → Answer → Type 0 → Type 0
-EntersOrNoMemory a moment does b answer told = Refuses a b answer NoMemory ⊎ (Adds a moment does b × told)
+EntersOrNoMemory a moment does b answer answers = Refuses a b answer NoMemory ⊎ (Adds a moment does b × answers)
 
 -- the step of a message at a moment: the accounts before and after, and the answer
 abbrev pub NextAt : Account → ℕ → Message → Account → Answer → Type 0
 NextAt a moment (Hello client incarnation) b answer =
     HelloLines a client incarnation (Refuses a b answer)
     ((b ≡ a) × (answer ≡ Welcome a.epoch client incarnation))
-    (EntersOrNoMemory a moment (act.TheVariants.Hello client incarnation) b answer (answer ≡ Welcome a.epoch client incarnation))
+    (EntersOrNoMemory a moment (act.TheVariants.Hello client incarnation) b answer
+    (answer ≡ Welcome a.epoch client incarnation))
 NextAt a moment (Request key call) b answer =
     RequestLines a key call (Refuses a b answer)
-    (EntersOrNoMemory a moment (act.TheVariants.Arrive key call) b answer (Tells b key answer))
+    (EntersOrNoMemory a moment (act.TheVariants.Arrive key call) b answer
+    (Replies b key answer))
 
 -- the account after the time-outs of a step: the same, where nothing can be due
 abbrev pub Ticks : Account → ℕ → Account → Type 0
 Ticks a moment b = b ≡ a
 
 -- one step: the account before, the moment that is handed in, the message, the account after and the answer
-abbrev pub Next : Account → ℕ → Message → Account → Answer → Type 0
-Next a now m b answer = (ticked : Account) × Ticks a (step_moment a now) ticked × NextAt ticked (step_moment a now) m b answer
+pub record Next (a : Account) (now : ℕ) (m : Message) (b : Account) (answer : Answer) : Type 0 where
+  pub ticked : Account
+  pub ticks : Ticks a (step_moment a now) ticked
+  pub steps : NextAt ticked (step_moment a now) m b answer

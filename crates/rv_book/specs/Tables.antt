@@ -1,122 +1,90 @@
--- What the book's private lists say of its account.
-use Rattle.std.specs.Prelude.{◌≡◌, ◌≢◌, ◌<◌, ◌≤◌, ◌+◌, ◌^◌, ℕ, List, length, Some, option_map, unwrap_or, slice_get}
-use Rattle.rv_text.specs.declared.message.Key.{Key}
-use Rattle.rv_text.specs.declared.call.Call.{Call}
-use Rattle.rv_text.specs.Limits.{FitsIdentifier, FitsKey, FitsCall}
+-- What the book's private tables say of its account.
+use Rattle.std.specs.Prelude.{◌≡◌, ◌⊎◌, ◌<◌, ◌≤◌, ◌+◌, ℕ, List, length, Option, Some, slice_get}
+use Rattle.rv_text.specs.declared.call.Side.{Side}
+use Rattle.rv_text.specs.declared.message.Message.{Message}
+use Rattle.rv_text.specs.declared.answer.Answer.{Answer}
+use Rattle.rv_text.specs.declared.answer.Refusal.{Refusal}
+use Rattle.rv_text.specs.declared.answer.Refusal.TheVariants.{NoMemory}
+use Rattle.rv_text.specs.Calls.{side_of}
 use Rattle.rv_book.specs.declared.account.Entry.{Entry}
 use Rattle.rv_book.specs.declared.account.Act.{Act}
 use Rattle.rv_book.specs.declared.account.Act.TheVariants.{Hello, Arrive}
-use Rattle.rv_book.specs.declared.tables.Session.{Session}
-use Rattle.rv_book.specs.declared.tables.WaitingItem.{WaitingItem}
+use Rattle.rv_book.specs.declared.sessions.Session.{Session}
 use Rattle.rv_book.specs.declared.state.State.{State}
-use Rattle.rv_book.specs.Account.{Account, act_at}
-use Rattle.rv_book.specs.Order.{GivesAt}
+use Rattle.rv_book.specs.declared.verdict.Said.{Said}
+use Rattle.rv_book.specs.Account.{Account, act_at, with_entry}
+use Rattle.rv_book.specs.Arriving.{entry, need_for}
+use Rattle.rv_book.specs.Known.{IsKnownAs}
 use Rattle.rv_book.specs.Legal.{Legal, KeepsTime}
-use Rattle.rv_book.specs.Steps.{NumberOf, max_entries}
+use Rattle.rv_book.specs.Limits.{FitsAccount, FitsAct}
+use Rattle.rv_book.specs.Meeting.{HasRoomOn, waiting_on}
 use Rattle.rv_book.specs.Sessions.{HasIncarnation, LastNumber}
-use Rattle.rv_book.specs.Waiting.{Open, Waiting}
+use Rattle.rv_book.specs.Steps.{EpochFullDue, NextAt, max_entries, max_moment}
+use Rattle.rv_book.specs.Verdicts.{answer_of}
+use Rattle.rv_book.specs.Views.{QueueLine, places_of}
+use Rattle.rv_book.specs.Waiting.{OpenAt}
 
--- ---- limits
-
-abbrev pub FitsAct : Act → Type 0
-FitsAct (Hello client incarnation) = FitsIdentifier client × FitsIdentifier incarnation
-FitsAct (Arrive key call) = FitsKey key × FitsCall call
-
-abbrev pub FitsEntry : Entry → Type 0
-FitsEntry e = (e.moment ≤ 2 ^ 62) × FitsAct e.act
-
--- the account's numbers, moments and items are within their limits, and its entries and waiting requests number at most 100,000
-pub record FitsAccount (a : Account) : Type 0 where
-  pub epoch : FitsIdentifier a.epoch
-  pub opened : a.opened ≤ 2 ^ 62
-  pub entries : (r : ℕ) (e : Entry) → slice_get a.entries r ≡ Some e → FitsEntry e
-  pub room : (waiting : ℕ) → NumberOf (Waiting a.entries) waiting → length a.entries + waiting ≤ max_entries
-
--- ---- the lists
-
--- the first item of the queue in the list
-pub record IsFirstOf (waiting : List WaitingItem) (queue i : ℕ) : Type 0 where
-  pub item : WaitingItem
-  pub there : slice_get waiting i ≡ Some item
-  pub of_queue : item.queue ≡ queue
-  pub first : (j : ℕ) (other : WaitingItem) → j < i → slice_get waiting j ≡ Some other → other.queue ≢ queue
+-- the session's incarnation and last number are what the entries say of its client
+pub record IsSession (entries : List Entry) (s : Session) : Type 0 where
+  pub incarnation : HasIncarnation entries s.client s.incarnation
+  pub number : LastNumber entries s.client s.last
 
 -- each client that said a hello has one session, with its incarnation and its last number
 pub record AreSessions (entries : List Entry) (sessions : List Session) : Type 0 where
-  pub incarnations : (i : ℕ) (s : Session) → slice_get sessions i ≡ Some s → HasIncarnation entries s.client s.incarnation
-  pub numbers : (i : ℕ) (s : Session) → slice_get sessions i ≡ Some s → LastNumber entries s.client s.last
-  pub each : (r client incarnation : ℕ) → act_at entries r ≡ Some (Hello client incarnation) → (i : ℕ) × (s : Session) × (slice_get sessions i ≡ Some s) × (s.client ≡ client)
-  pub distinct : (i j : ℕ) (s t : Session) → slice_get sessions i ≡ Some s → slice_get sessions j ≡ Some t → s.client ≡ t.client → i ≡ j
+  pub are : (i : ℕ) (s : Session) → slice_get sessions i ≡ Some s → IsSession entries s
+  pub each : (r client incarnation : ℕ) → act_at entries r ≡ Some (Hello client incarnation)
+      → (s : Session) × IsKnownAs sessions client s
 
--- the open giving arrivals, each with its queue, in the order of their places
-pub record AreWaitingItems (entries : List Entry) (waiting : List WaitingItem) : Type 0 where
-  pub gives : (i : ℕ) (w : WaitingItem) → slice_get waiting i ≡ Some w → GivesAt entries w.queue w.place
-  pub are_open : (i : ℕ) (w : WaitingItem) → slice_get waiting i ≡ Some w → Open entries w.place
-  pub each : (r queue : ℕ) → GivesAt entries queue r → Open entries r → (i : ℕ) × (w : WaitingItem) × (slice_get waiting i ≡ Some w) × (w.place ≡ r)
-  pub rising : (i j : ℕ) (v w : WaitingItem) → i < j → slice_get waiting i ≡ Some v → slice_get waiting j ≡ Some w → v.place < w.place
+-- the places are those of a side's open arrivals, the oldest first
+pub record IsLine (entries : List Entry) (side : Side) (places : List ℕ) : Type 0 where
+  pub are : (i r : ℕ) → slice_get places i ≡ Some r → OpenAt entries side r
+  pub each : (r : ℕ) → OpenAt entries side r → (i : ℕ) × (slice_get places i ≡ Some r)
+  pub rising : (i j p q : ℕ) → i < j → slice_get places i ≡ Some p → slice_get places j ≡ Some q → p < q
 
--- the account is legal and within the limits, and each list is what the account says
-pub record IsSound (a : Account) (sessions : List Session) (waiting : List WaitingItem) : Type 0 where
-  pub legal : Legal a
-  pub fits : FitsAccount a
-  pub sessions_are : AreSessions a.entries sessions
-  pub waiting_are : AreWaitingItems a.entries waiting
+-- the table has each side's open arrivals
+abbrev pub AreQueues : List Entry → List QueueLine → Type 0
+AreQueues entries lines = (side : Side) → IsLine entries side (waiting_on lines side)
 
--- the session at i is the key's, and the key has its next number
-pub record IsNextIn (a : Account) (sessions : List Session) (key : Key) (i : ℕ) : Type 0 where
-  pub session : Session
-  pub there : slice_get sessions i ≡ Some session
-  pub epoch : key.epoch ≡ a.epoch
-  pub client : session.client ≡ key.client
-  pub incarnation : session.incarnation ≡ key.incarnation
-  pub next : key.number ≡ session.last + 1
+-- the account is legal and within the limits, and each table is what the account says
+pub record IsSound (state : State) : Type 0 where
+  pub legal : Legal state.account
+  pub fits : FitsAccount state.account
+  pub sessions_are : AreSessions state.account.entries state.sessions.listed
+  pub queues_are : AreQueues state.account.entries state.queues
 
--- what a request brings: its session, its moment, its limits and room for its entry
-pub record Arrives (a : Account) (sessions : List Session) (waiting : List WaitingItem) (i moment : ℕ) (key : Key) (call : Call) : Type 0 where
-  pub sound : IsSound a sessions waiting
-  pub next : IsNextIn a sessions key i
-  pub time : KeepsTime a moment
-  pub moment_fits : moment ≤ 2 ^ 62
-  pub key_fits : FitsKey key
-  pub call_fits : FitsCall call
-  pub room : length a.entries < max_entries
-
--- what a hello brings: its moment, its limits and room for its entry
-pub record Greets (a : Account) (sessions : List Session) (waiting : List WaitingItem) (moment client incarnation : ℕ) : Type 0 where
-  pub sound : IsSound a sessions waiting
-  pub time : KeepsTime a moment
-  pub moment_fits : moment ≤ 2 ^ 62
-  pub client_fits : FitsIdentifier client
-  pub incarnation_fits : FitsIdentifier incarnation
-  pub room : length a.entries < max_entries
-
-abbrev pub IsSoundState : State → Type 0
-IsSoundState state = IsSound state.account state.sessions.items state.waiting.items
-
--- what any request brings: its moment and its limits
-pub record Asks (state : State) (moment : ℕ) (key : Key) (call : Call) : Type 0 where
-  pub sound : IsSoundState state
+-- an act comes to a sound state: at a moment that keeps time, and within the limits
+pub record Comes (state : State) (moment : ℕ) (does : Act) : Type 0 where
+  pub sound : IsSound state
   pub time : KeepsTime state.account moment
-  pub moment_fits : moment ≤ 2 ^ 62
-  pub key_fits : FitsKey key
-  pub call_fits : FitsCall call
+  pub moment_fits : moment ≤ max_moment
+  pub act_fits : FitsAct does
 
--- what any hello brings: its moment and its limits
-pub record AsksAnew (state : State) (moment client incarnation : ℕ) : Type 0 where
-  pub sound : IsSoundState state
-  pub time : KeepsTime state.account moment
-  pub moment_fits : moment ≤ 2 ^ 62
-  pub client_fits : FitsIdentifier client
-  pub incarnation_fits : FitsIdentifier incarnation
+-- what the act adds to the tables has room
+abbrev pub HasRoomFor : State → Act → Type 0
+HasRoomFor state (Hello client incarnation) = 0 < state.sessions.spare
+HasRoomFor state (Arrive key call) = HasRoomOn state.queues (side_of call)
 
--- the client's session stands at i
-abbrev pub IsKnown : List Session → ℕ → ℕ → Type 0
-IsKnown sessions client i = (session : Session) × (slice_get sessions i ≡ Some session) × (session.client ≡ client)
+-- the account and what the tables hold are as they were; their room may be another
+pub record IsSame (old new : State) : Type 0 where
+  pub account : new.account ≡ old.account
+  pub sessions : new.sessions.listed ≡ old.sessions.listed
+  pub queues : (queue : ℕ) → places_of new.queues queue ≡ places_of old.queues queue
 
--- the client has no session
-abbrev pub IsUnknown : List Session → ℕ → Type 0
-IsUnknown sessions client = (i : ℕ) (session : Session) → slice_get sessions i ≡ Some session → session.client ≢ client
+-- the account has the act's entry more, the tables are as they were, and what the act adds to them has room
+pub record IsEntered (old new : State) (moment : ℕ) (does : Act) (partner : Option ℕ) : Type 0 where
+  pub account : new.account ≡ with_entry old.account (entry moment does partner)
+  pub sessions : new.sessions.listed ≡ old.sessions.listed
+  pub queues : (queue : ℕ) → places_of new.queues queue ≡ places_of old.queues queue
+  pub room : HasRoomFor new does
+  pub space : length old.account.entries + need_for does ≤ max_entries
 
--- the incarnation of the session at i; 0 where none stands there
-abbrev pub known_incarnation : List Session → ℕ → ℕ
-known_incarnation sessions i = unwrap_or (option_map (λ s. s.incarnation) (slice_get sessions i)) 0
+-- why an entry that needs so many places was refused: the epoch is full; or it is not, and memory was refused
+abbrev pub NoEntryDue : Account → ℕ → Refusal → Type 0
+NoEntryDue a need refusal = EpochFullDue a need refusal
+    ⊎ (((other : Refusal) → ¬ EpochFullDue a need other) × (refusal ≡ NoMemory))
+
+-- what became of a message: this answer, by one step from the one account to the other
+pub record Becomes (a : Account) (moment : ℕ) (m : Message) (b : Account) (said : Said) : Type 0 where
+  pub answer : Answer
+  pub is : answer_of b.entries said ≡ Some answer
+  pub step : NextAt a moment m b answer

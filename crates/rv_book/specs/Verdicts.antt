@@ -1,7 +1,5 @@
 -- The answer that a verdict stands for, in an account that has the places which the verdict keeps.
-use Rattle.std.specs.Prelude.{◌≡◌, ℕ, List, Option, Some, None, option_map, option_and_then}
-use Rattle.rv_text.specs.declared.message.Key.{Key}
-use Rattle.rv_text.specs.declared.call.Call.{Call}
+use Rattle.std.specs.Prelude.{ℕ, List, Option, Some, option_map, option_and_then}
 use Rattle.rv_text.specs.declared.answer.Reply.{Reply}
 use Rattle.rv_text.specs.declared.answer.Reply as reply
 use Rattle.rv_text.specs.declared.answer.Answer.{Answer}
@@ -12,10 +10,8 @@ use Rattle.rv_book.specs.declared.verdict.Said.{Said}
 use Rattle.rv_book.specs.declared.verdict.Said.TheVariants.{Welcome, Replied, Refused}
 use Rattle.rv_book.specs.declared.verdict.Verdict.{Verdict}
 use Rattle.rv_book.specs.declared.account.Entry.{Entry}
-use Rattle.rv_book.specs.declared.account.Act.TheVariants.{Arrive}
-use Rattle.rv_book.specs.Steps.{Adds, Tells}
 use Rattle.rv_book.specs.Account.{Account, call_at}
-use Rattle.rv_book.specs.Calls.{item_of}
+use Rattle.rv_text.specs.Calls.{item_of}
 
 -- the item that the arrival at a place hands over
 abbrev pub item_at : List Entry → ℕ → Option (List ℕ)
@@ -34,15 +30,3 @@ answer_of entries (Refused refusal) = Some (answer.TheVariants.Refused refusal)
 -- what the verdict says in the account
 abbrev pub says : Account → Verdict → Option Answer
 says a verdict = answer_of a.entries verdict.said
-
--- what is kept for a take, by the partner that it found
-abbrev pub kept_for : Option ℕ → Kept
-kept_for None = Empty
-kept_for (Some place) = Item place
-
--- the request was recorded, and what is kept for it is its reply
-pub record IsTold (a b : Account) (moment : ℕ) (key : Key) (call : Call) (kept : Kept) : Type 0 where
-  pub reply : Reply
-  pub is : reply_of b.entries kept ≡ Some reply
-  pub adds : Adds a moment (Arrive key call) b
-  pub tells : Tells b key (answer.TheVariants.Replied key reply)

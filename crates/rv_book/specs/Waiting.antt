@@ -2,6 +2,8 @@
 use Rattle.std.specs.Prelude.{◌≡◌, ◌⊎◌, ◌<◌, ℕ, List, Option, Some, option_and_then, slice_get}
 use Rattle.rv_text.specs.declared.message.Key.{Key}
 use Rattle.rv_text.specs.declared.call.Call.{Call}
+use Rattle.rv_text.specs.declared.call.Side.{Side}
+use Rattle.rv_text.specs.Calls.{side_of}
 use Rattle.rv_book.specs.declared.account.Entry.{Entry}
 use Rattle.rv_book.specs.declared.account.Act.{Act}
 use Rattle.rv_book.specs.declared.account.Act.TheVariants.{Hello, Arrive}
@@ -55,6 +57,17 @@ pub record Open (entries : List Entry) (r : ℕ) : Type 0 where
   pub stays : Stays call
   pub unmet : ¬ Met entries r
   pub unstopped : ¬ Stopped entries r
+
+-- the arrival at r is of this side
+pub record SideAt (entries : List Entry) (side : Side) (r : ℕ) : Type 0 where
+  pub call : Call
+  pub arrived : call_at entries r ≡ Some call
+  pub is : side_of call ≡ side
+
+-- an open arrival of this side stands at r
+pub record OpenAt (entries : List Entry) (side : Side) (r : ℕ) : Type 0 where
+  pub of_side : SideAt entries side r
+  pub is_open : Open entries r
 
 -- an open request other than a put
 pub record Waiting (entries : List Entry) (r : ℕ) : Type 0 where

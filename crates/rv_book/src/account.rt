@@ -3,7 +3,7 @@ ghost use Rattle.std.specs.Prelude.{◌≡◌, ◌==◌, [], length, slice_get, 
 ghost use Rattle.std.specs.Option.{option_copied};
 ghost use Rattle.rv_book.specs.Account.{with_entry};
 
-use rv_text::{Call, Item, Key, NoMemory};
+use rv_text::{Call, Item, Key, NoMemory, Wait};
 use std::alloc::{AllocError, Global};
 use std::marker::Model;
 
@@ -47,26 +47,28 @@ impl Model for Account {
     ghost view = { λ a. record { epoch = a.epoch; opened = a.opened; entries = a.entries.items } };
 }
 
-impl Entry {
-    ghost use Rattle.rv_book.specs.declared.account.Act.TheVariants.{Hello};
-    ghost use Rattle.std.specs.Prelude.{None};
+impl Act {
+    ghost use Rattle.std.specs.Prelude.{◌≤◌};
+    ghost use Rattle.rv_book.specs.Arriving.{need_for};
 
-    // A hello's entry.
-    pub(crate) fn hello(moment: u64, client: u64, incarnation: u64) -> Entry
-        ensures { result ≡ record { moment = moment; act = Hello client incarnation; partner = None } }
+    // How many entries the act may come to need: its own, and one that ends its wait.
+    pub(crate) fn need(&self) -> usize
+        ensures exact { result ≡ need_for self.now }
+        ensures small { result ≤ 2 }
     {
-        Entry {
-            moment,
-            act: Act::Hello {
-                client,
-                incarnation,
+        match self {
+            Act::Hello { .. } => 1,
+            Act::Arrive { call, .. } => match call.wait() {
+                None => 1,
+                Some(Wait::Now) => 1,
             },
-            partner: None,
         }
     }
 }
 
 impl Account {
+    ghost use Rattle.std.specs.Prelude.{option_map};
+    ghost use Rattle.rv_book.specs.Account.{call_at};
     ghost use Rattle.rv_book.specs.Steps.{own_moment};
     ghost use Rattle.rv_book.specs.Verdicts.{item_at};
     ghost use Rattle.std.specs.Prelude.{Some, IsSome};
@@ -106,23 +108,22 @@ impl Account {
         self.entries.get(place)
     }
 
+    // The call of the arrival at a place, if one stands there.
+    fn call(&self, place: Place) -> Option<&Call>
+        ensures { option_map (λ c. c.now) result ≡ call_at self.now.entries place }
+    {
+        match &self.entry(place)?.act {
+            Act::Arrive { call, .. } => Some(call),
+            Act::Hello { .. } => None,
+        }
+    }
+
     // The item that the arrival at a place hands over.
     pub(crate) fn item(&self, place: Place) -> &Item
         requires { IsSome (item_at self.now.entries place) }
         ensures { item_at self.now.entries place ≡ Some result.now }
     {
-        match self.entry(place) {
-            Some(
-                Entry {
-                    act: Act::Arrive {
-                        call: Call::Put { item, .. },
-                        ..
-                    },
-                    ..
-                },
-            ) => item,
-            _ => unreachable!(),
-        }
+        self.call(place).and_then(Call::item).unwrap()
     }
 
     // The moment of the last entry, or the opening moment while there is none.

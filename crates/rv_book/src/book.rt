@@ -27,15 +27,15 @@ impl Model for Book {
 
     ghost Value = { Account };
 
-    ghost use Rattle.rv_book.specs.Tables.{IsSoundState};
+    ghost use Rattle.rv_book.specs.Tables.{IsSound};
 
     ghost view = { λ b. b.state.account };
 
-    ghost invariant = { λ b. IsSoundState b.state };
+    ghost invariant = { λ b. IsSound b.state };
 }
 
 impl Book {
-    ghost use Rattle.rv_book.specs.Tables.{FitsAccount};
+    ghost use Rattle.rv_book.specs.Limits.{FitsAccount};
 
     /// The book's account, as it stands.
     pub fn account(&self) -> &Account
@@ -43,7 +43,7 @@ impl Book {
         ensures legal { Legal self.now }
         ensures fits { FitsAccount self.now }
     {
-        &self.state.account
+        self.state.account()
     }
 
     /// Opens a book with an empty account of an epoch, 1 to 2^53 - 1, at a moment in milliseconds; one
@@ -54,28 +54,23 @@ impl Book {
         ensures opened { IfOk result (λ book. book.opened ≡ min now (2 ^ 62)) }
         ensures empty { IfOk result (λ book. book.entries ≡ []) }
     {
-        Ok(Book {
-            state: State {
-                account: Account::empty(alloc, epoch, now.min(MAX_MOMENT)),
-                sessions: Vec::new(alloc),
-                waiting: Vec::new(alloc),
-            },
-        })
+        let state = State::open(alloc, epoch, now.min(MAX_MOMENT))?;
+        Ok(Book { state })
     }
 
     /// Takes one step with a message that came at a moment in milliseconds: refuses it and leaves the
     /// account, or records it. It always gives a verdict; where a growth was refused the verdict is
     /// refusal 11, and nothing changed. A moment before the book's own counts as the book's own.
     ///
-    /// The cost grows with the clients and with the items that wait, and not with the entries.
+    /// The cost grows with the clients, and not with the entries nor with the items that wait.
     pub fn handle(&mut self, now: u64, message: Message) -> Verdict
         requires { FitsMessage message }
         ensures step { (answer : Answer) × (says self.new result ≡ Some answer) × Next self.old now message self.new answer }
         ensures fits { IfSome (says self.new result) FitsAnswer }
     {
-        let moment = self.state.moment_at(now);
-        let said = self.state.step(moment, message);
-        Verdict { said }
+        Verdict {
+            said: self.state.step(now, message),
+        }
     }
 
     /// The answer that a verdict of this book stands for, in the state that gave it and in every later
@@ -95,7 +90,7 @@ impl Book {
                 incarnation,
             }),
             Said::Replied { key, kept } => {
-                let reply = reply_of(alloc, &self.state.account, kept)?;
+                let reply = reply_of(alloc, self.state.account(), kept)?;
                 Ok(Answer::Replied { key, reply })
             }
             Said::Refused(refusal) => Ok(Answer::Refused(refusal)),

@@ -4,8 +4,9 @@
 mod account;
 mod book;
 pub mod laws;
+mod queues;
+mod sessions;
 mod state;
-mod tables;
 mod verdict;
 
 pub use account::{Account, Act, Entry, Place};

@@ -1,15 +1,14 @@
-//! The account with the lists that answer for it, and the steps that change them together.
-ghost use Rattle.std.specs.Prelude.{◌≡◌, ◌≢◌, ◌<◌, ◌≤◌, ◌^◌, ℕ, Option, Some, None, length, OnOk, OnErr, IfOk, IfErr, IsErrOf, slice_get};
-ghost use Rattle.rv_text.specs.Limits.{FitsIdentifier, FitsKey, FitsItem, FitsQueue, FitsCall};
-ghost use Rattle.rv_book.specs.Account.{with_entry};
-ghost use Rattle.rv_book.specs.Legal.{KeepsTime, Legal};
-ghost use Rattle.rv_book.specs.Steps.{KeyLines};
-ghost use Rattle.rv_book.specs.Tables.{IsSound, IsNextIn, AreSessions};
+//! The account with the tables that answer for it, and the steps that change them together.
+ghost use Rattle.std.specs.Prelude.{◌≡◌, ◌≤◌, ◌+◌, [], length, Ok, Err, OnOk, OnErr, IfOk, IfErr, IsOk, true, false};
+ghost use Rattle.rv_text.specs.Limits.{FitsIdentifier};
+ghost use Rattle.rv_book.specs.Arriving.{IsNext, IsRecorded, WillReply, need_for};
 
 use crate::account::{Account, Act, Entry, Place};
-use crate::tables::{Session, WaitingItem, append, oldest_of, session_of};
+use crate::queues::Queues;
+use crate::sessions::{Session, Sessions};
 use crate::verdict::{Kept, Said};
-use rv_text::{Call, Item, Key, Message, NoMemory, Refusal, Wait};
+use rv_text::{Call, Key, Message, NoMemory, Refusal};
+use std::alloc::Global;
 
 /// The most entries of an epoch.
 pub(crate) const MAX_ENTRIES: usize = 100_000;
@@ -19,295 +18,239 @@ pub const MAX_MOMENT: u64 = 4_611_686_018_427_387_904;
 
 #[derive(Drop)]
 pub(crate) struct State {
-    pub(crate) account: Account,
-    pub(crate) sessions: Vec<Session>,
-    pub(crate) waiting: Vec<WaitingItem>,
-}
-
-// The refusal of a growth.
-fn no_memory(_refused: NoMemory) -> Refusal
-    ensures { result ≡ Refusal.NoMemory }
-{
-    Refusal::NoMemory
-}
-
-// The index of the key's session, where the key has its next number; else the refusal.
-pub(crate) fn next_session(
-    account: &Account,
-    sessions: &[Session],
-    key: &Key,
-) -> Result<usize, Refusal>
-    requires legal { Legal account.now }
-    requires are { AreSessions account.now.entries sessions.now }
-    ensures lines { KeyLines account.now key.now (λ refusal. result ≡ Err refusal)
-        ((i : ℕ) × (result ≡ Ok i) × IsNextIn account.now sessions.now key.now i) }
-{
-    if key.epoch != account.epoch() {
-        return Err(Refusal::OtherEpoch(account.epoch()));
-    }
-    let Some(index) = session_of(sessions, key.client) else {
-        return Err(Refusal::NoSession);
-    };
-    let session = sessions[index];
-    if session.incarnation < key.incarnation {
-        return Err(Refusal::NoSession);
-    }
-    if key.incarnation < session.incarnation {
-        return Err(Refusal::OldIncarnation(session.incarnation));
-    }
-    if key.number <= session.last {
-        return Err(Refusal::OldNumber(session.last));
-    }
-    if key.number - session.last > 1 {
-        return Err(Refusal::Gap(session.last));
-    }
-    Ok(index)
-}
-
-// A request that has its session's next number.
-#[derive(Clone, Copy)]
-struct Arrival {
-    // The index of its session.
-    session: usize,
-    moment: u64,
-    key: Key,
+    account: Account,
+    sessions: Sessions,
+    queues: Queues,
 }
 
 impl State {
-    ghost use Rattle.rv_text.specs.declared.call.Call.TheVariants.{Put, Take};
-    ghost use Rattle.rv_book.specs.declared.account.Act.TheVariants.{Hello, Arrive};
     ghost use Rattle.rv_text.specs.declared.message.Message.TheVariants as message;
     ghost use Rattle.rv_text.specs.declared.message.Message.TheVariants.{Request};
-    ghost use Rattle.rv_text.specs.declared.answer.Reply.{Reply};
-    ghost use Rattle.rv_text.specs.declared.answer.Answer.{Answer};
+    ghost use Rattle.rv_text.specs.declared.answer.Answer.TheVariants.{Welcome};
     ghost use Rattle.rv_text.specs.Limits.{FitsMessage};
-    ghost use Rattle.rv_text.specs.declared.answer.Answer.TheVariants.{Welcome, Replied, Refused};
-    ghost use Rattle.rv_book.specs.Steps.{NextAt, step_moment};
-    ghost use Rattle.rv_book.specs.Tables.{Arrives, Asks, AsksAnew, Greets, IsFirstOf, IsKnown, IsUnknown, IsSoundState, known_incarnation};
-    ghost use Rattle.rv_book.specs.Verdicts.{IsTold, answer_of, kept_for, reply_of};
+    ghost use Rattle.rv_book.specs.declared.account.Act.TheVariants.{Hello, Arrive};
+    ghost use Rattle.rv_book.specs.Calls.{need_of};
+    ghost use Rattle.rv_book.specs.Limits.{FitsAct};
+    ghost use Rattle.rv_book.specs.Legal.{KeepsTime};
+    ghost use Rattle.rv_book.specs.Sessions.{HasIncarnation, HasOnlyLower};
+    ghost use Rattle.rv_book.specs.Steps.{Adds, KeyLines, NextAt, OldIncarnationDue, RefuseOr, WhereElse, max_entries, max_moment, step_moment};
+    ghost use Rattle.rv_book.specs.Tables.{Becomes, Comes, HasRoomFor, IsEntered, IsSame, IsSound, NoEntryDue};
+    ghost use Rattle.rv_book.specs.declared.verdict.Said.TheVariants as said;
 
-    // Records a put, whose item waits from then on.
-    fn put(&mut self, at: Arrival, queue: u64, item: Item) -> Result<Kept, Refusal>
-        requires { Arrives self.old.account self.old.sessions.items self.old.waiting.items at.session at.moment at.key (Put queue item) }
-        ensures sound { IsSoundState self.new }
-        ensures ok { IfOk result (λ kept. (kept ≡ Kept.Done) × (self.new.account
-            ≡ with_entry self.old.account (record { moment = at.moment; act = Arrive at.key (Put queue item); partner = None }))) }
-        ensures err { IfErr result (λ refusal. (refusal ≡ Refusal.NoMemory) × (self.new.account ≡ self.old.account)) }
+    /// An empty account of an epoch, opened at a moment, and tables with nothing in them.
+    pub(crate) fn open(alloc: Global, epoch: u64, opened: u64) -> Result<State, NoMemory>
+        requires epoch { FitsIdentifier epoch }
+        requires opened { opened ≤ max_moment }
+        ensures sound { IfOk result IsSound }
+        ensures account { IfOk result (λ state. state.account
+            ≡ record { epoch = epoch; opened = opened; entries = [] }) }
     {
-        self.waiting.reserve(1).map_err(no_memory)?;
-        let place = self.account.len();
-        let call = Call::Put { queue, item };
-        self.account.enter(at.entry(call, None)).map_err(no_memory)?;
-        append(&mut self.waiting, WaitingItem { queue, place });
-        self.sessions[at.session] = Session::after(&at.key);
-        Ok(Kept::Done)
+        Ok(State {
+            account: Account::empty(alloc, epoch, opened),
+            sessions: Sessions::empty(alloc),
+            queues: Queues::empty(alloc)?,
+        })
     }
 
-    // Records a take that finds no item.
-    fn take_nothing(&mut self, at: Arrival, queue: u64, wait: Wait) -> Result<Kept, Refusal>
-        requires arrives { Arrives self.old.account self.old.sessions.items self.old.waiting.items at.session at.moment at.key (Take queue wait) }
-        requires none { (i : ℕ) (item : WaitingItem) → slice_get self.old.waiting.items i ≡ Some item → item.queue ≢ queue }
-        ensures sound { IsSoundState self.new }
-        ensures ok { IfOk result (λ kept. (kept ≡ Kept.Empty) × (self.new.account
-            ≡ with_entry self.old.account (record { moment = at.moment; act = Arrive at.key (Take queue wait); partner = None }))) }
-        ensures err { IfErr result (λ refusal. (refusal ≡ Refusal.NoMemory) × (self.new.account ≡ self.old.account)) }
+    /// The account, as it stands.
+    pub(crate) fn account(&self) -> &Account
+        ensures { result.now ≡ self.now.account }
     {
-        let call = Call::Take { queue, wait };
-        self.account.enter(at.entry(call, None)).map_err(no_memory)?;
-        self.sessions[at.session] = Session::after(&at.key);
-        Ok(Kept::Empty)
+        &self.account
     }
 
-    // Records a take of the item at an index of the waiting ones, the first of its queue.
-    fn take_item(
-        &mut self,
-        at: Arrival,
-        queue: u64,
-        wait: Wait,
-        index: usize,
-    ) -> Result<Kept, Refusal>
-        requires arrives { Arrives self.old.account self.old.sessions.items self.old.waiting.items at.session at.moment at.key (Take queue wait) }
-        requires first { IsFirstOf self.old.waiting.items queue index }
-        ensures sound { IsSoundState self.new }
-        ensures ok { IfOk result (λ kept. (place : ℕ) × (kept ≡ Kept.Item place) × (self.new.account
-            ≡ with_entry self.old.account (record { moment = at.moment; act = Arrive at.key (Take queue wait); partner = Some place }))) }
-        ensures err { IfErr result (λ refusal. (refusal ≡ Refusal.NoMemory) × (self.new.account ≡ self.old.account)) }
+    // The refusal that is due for a key, if its session has not just come to its number.
+    fn stands(&self, key: &Key) -> Result<(), Refusal>
+        requires { IsSound self.now }
+        ensures { KeyLines self.now.account key.now (λ refusal. result ≡ Err refusal)
+            (IsOk result × IsNext self.now.account key.now) }
     {
-        let place = self.waiting[index].place;
-        let call = Call::Take { queue, wait };
-        self.account
-            .enter(at.entry(call, Some(place)))
-            .map_err(no_memory)?;
-        self.waiting.remove(index);
-        self.sessions[at.session] = Session::after(&at.key);
-        Ok(Kept::Item(place))
-    }
-
-    // Records a take, which gets the oldest item of its queue if one waits.
-    fn take(&mut self, at: Arrival, queue: u64, wait: Wait) -> Result<Kept, Refusal>
-        requires { Arrives self.old.account self.old.sessions.items self.old.waiting.items at.session at.moment at.key (Take queue wait) }
-        ensures sound { IsSoundState self.new }
-        ensures ok { IfOk result (λ kept. (partner : Option ℕ) × (kept ≡ kept_for partner) × (self.new.account
-            ≡ with_entry self.old.account (record { moment = at.moment; act = Arrive at.key (Take queue wait); partner = partner }))) }
-        ensures err { IfErr result (λ refusal. (refusal ≡ Refusal.NoMemory) × (self.new.account ≡ self.old.account)) }
-    {
-        match oldest_of(&self.waiting, queue) {
-            Some(index) => self.take_item(at, queue, wait, index),
-            None => self.take_nothing(at, queue, wait),
+        if key.epoch != self.account.epoch() {
+            return Err(Refusal::OtherEpoch(self.account.epoch()));
         }
+        let Some(session) = self.sessions.find(key.client) else {
+            return Err(Refusal::NoSession);
+        };
+        if session.incarnation < key.incarnation {
+            return Err(Refusal::NoSession);
+        }
+        if key.incarnation < session.incarnation {
+            return Err(Refusal::OldIncarnation(session.incarnation));
+        }
+        if key.number <= session.last {
+            return Err(Refusal::OldNumber(session.last));
+        }
+        if key.number - session.last > 1 {
+            return Err(Refusal::Gap(session.last));
+        }
+        Ok(())
     }
 
-    // Answers a request that is next in its session and has room, and records it.
-    fn arrive(&mut self, at: Arrival, call: Call) -> Result<Kept, Refusal>
-        requires { Arrives self.old.account self.old.sessions.items self.old.waiting.items at.session at.moment at.key call }
-        ensures sound { IsSoundState self.new }
-        ensures ok { IfOk result (λ kept. IsTold self.old.account self.new.account at.moment at.key call kept) }
-        ensures err { IfErr result (λ refusal. (refusal ≡ Refusal.NoMemory) × (self.new.account ≡ self.old.account)) }
+    // Whether a hello is above all that its client said; it is refused where it is below the last.
+    fn is_newer(&self, client: u64, incarnation: u64) -> Result<bool, Refusal>
+        requires { IsSound self.now }
+        ensures { RefuseOr (OldIncarnationDue self.now.account client incarnation) (λ refusal. result ≡ Err refusal)
+            (WhereElse (HasIncarnation self.now.account.entries client incarnation) (result ≡ Ok false)
+            ((result ≡ Ok true) × HasOnlyLower self.now.account.entries client incarnation)) }
+    {
+        let Some(session) = self.sessions.find(client) else {
+            return Ok(true);
+        };
+        if incarnation < session.incarnation {
+            return Err(Refusal::OldIncarnation(session.incarnation));
+        }
+        if incarnation == session.incarnation {
+            return Ok(false);
+        }
+        Ok(true)
+    }
+
+    // What is kept as the reply of a call that arrives with this partner.
+    fn reply_to(&self, call: &Call, partner: Option<Place>) -> Kept
+        ensures { WillReply self.now.account call.now partner result }
     {
         match call {
-            Call::Put { queue, item } => self.put(at, queue, item),
-            Call::Take { queue, wait } => self.take(at, queue, wait),
+            Call::Put { .. } => Kept::Done,
+            Call::Take { .. } => match partner {
+                Some(place) => Kept::Item(place),
+                None => Kept::Empty,
+            },
         }
+    }
+
+    // Makes room in the tables for what an act adds to them. Where a growth is refused nothing changes.
+    fn reserve(&mut self, does: &Act) -> Result<(), NoMemory>
+        requires { FitsAct does.now }
+        ensures same { IsSame self.old self.new }
+        ensures room { OnOk result (HasRoomFor self.new does.now) }
+    {
+        match does {
+            Act::Hello { .. } => self.sessions.reserve(),
+            Act::Arrive { call, .. } => self.queues.reserve(call.side()),
+        }
+    }
+
+    // Tests the epoch's room for an act, and makes room in the tables.
+    fn make_room(&mut self, does: &Act) -> Result<(), Refusal>
+        requires sound { IsSound self.old }
+        requires fits { FitsAct does.now }
+        ensures same { IsSame self.old self.new }
+        ensures room { OnOk result (HasRoomFor self.new does.now) }
+        ensures space { OnOk result (length self.old.account.entries + need_for does.now ≤ max_entries) }
+        ensures err { IfErr result (NoEntryDue self.old.account (need_for does.now)) }
+    {
+        if self.account.len() + does.need() > MAX_ENTRIES {
+            return Err(Refusal::EpochFull);
+        }
+        self.reserve(does)?;
+        Ok(())
+    }
+
+    // Records an act, behind all growths that its step needs. It is the first call of a step that changes
+    // anything and the only one that can fail; where it fails the account and what the tables hold stay.
+    fn enter(&mut self, moment: u64, does: Act, partner: Option<Place>) -> Result<(), Refusal>
+        requires sound { IsSound self.old }
+        requires fits { FitsAct does }
+        ensures ok { OnOk result (IsEntered self.old self.new moment does partner) }
+        ensures same { OnErr result (IsSame self.old self.new) }
+        ensures err { IfErr result (NoEntryDue self.old.account (need_for does)) }
+    {
+        self.make_room(&does)?;
+        self.account.enter(Entry {
+            moment,
+            act: does,
+            partner,
+        })?;
+        Ok(())
+    }
+
+    // Records a request that has its session's next number, and says its reply.
+    fn arrive(&mut self, moment: u64, key: Key, call: Call) -> Result<Kept, Refusal>
+        requires comes { Comes self.old moment (Arrive key call) }
+        requires next { IsNext self.old.account key }
+        ensures sound { IsSound self.new }
+        ensures ok { IfOk result (IsRecorded self.old.account self.new.account moment key call) }
+        ensures space { OnOk result (length self.old.account.entries + need_of call ≤ max_entries) }
+        ensures same { OnErr result (self.new.account ≡ self.old.account) }
+        ensures err { IfErr result (NoEntryDue self.old.account (need_of call)) }
+    {
+        let side = call.side();
+        let place = self.account.len();
+        let partner = self.queues.partner(side);
+        let kept = self.reply_to(&call, partner);
+        self.enter(moment, Act::Arrive { key, call }, partner)?;
+        self.queues.arrive(side, place);
+        self.sessions.put(Session::after(&key));
+        Ok(kept)
     }
 
     // Answers a request, and records it where no refusal is due.
-    pub(crate) fn request(&mut self, moment: u64, key: Key, call: Call) -> Result<Kept, Refusal>
-        requires { Asks self.old moment key call }
-        ensures sound { IsSoundState self.new }
-        ensures ok { IfOk result (λ kept. (reply : Reply) × (reply_of self.new.account.entries kept ≡ Some reply)
-            × NextAt self.old.account moment (Request key call) self.new.account (Replied key reply)) }
-        ensures err { IfErr result (λ refusal. NextAt self.old.account moment (Request key call) self.new.account (Refused refusal)) }
+    fn request(&mut self, moment: u64, key: Key, call: Call) -> Result<Kept, Refusal>
+        requires { Comes self.old moment (Arrive key call) }
+        ensures sound { IsSound self.new }
+        ensures ok { IfOk result (λ kept. Becomes self.old.account moment (Request key call)
+            self.new.account (said.Replied key kept)) }
+        ensures err { IfErr result (λ refusal. Becomes self.old.account moment (Request key call)
+            self.new.account (said.Refused refusal)) }
     {
-        let session = next_session(&self.account, &self.sessions, &key)?;
-        if self.account.len() >= MAX_ENTRIES {
-            return Err(Refusal::EpochFull);
-        }
-        let at = Arrival {
-            session,
-            moment,
-            key,
-        };
-        self.arrive(at, call)
+        self.stands(&key)?;
+        self.arrive(moment, key, call)
     }
 
-    // Records the first hello of a client.
-    fn open_session(&mut self, moment: u64, client: u64, incarnation: u64) -> Result<(), Refusal>
-        requires greets { Greets self.old.account self.old.sessions.items self.old.waiting.items moment client incarnation }
-        requires none { IsUnknown self.old.sessions.items client }
-        ensures sound { IsSoundState self.new }
-        ensures ok { OnOk result (self.new.account
-            ≡ with_entry self.old.account (record { moment = moment; act = Hello client incarnation; partner = None })) }
-        ensures err { IfErr result (λ refusal. (refusal ≡ Refusal.NoMemory) × (self.new.account ≡ self.old.account)) }
-    {
-        self.sessions.reserve(1).map_err(no_memory)?;
-        let entry = Entry::hello(moment, client, incarnation);
-        self.account.enter(entry).map_err(no_memory)?;
-        append(&mut self.sessions, Session::fresh(client, incarnation));
-        Ok(())
-    }
-
-    // Records the hello of a greater incarnation of the client whose session stands at an index.
-    fn renew_session(
-        &mut self,
-        index: usize,
-        moment: u64,
-        client: u64,
-        incarnation: u64,
-    ) -> Result<(), Refusal>
-        requires greets { Greets self.old.account self.old.sessions.items self.old.waiting.items moment client incarnation }
-        requires known { IsKnown self.old.sessions.items client index }
-        requires newer { known_incarnation self.old.sessions.items index < incarnation }
-        ensures sound { IsSoundState self.new }
-        ensures ok { OnOk result (self.new.account
-            ≡ with_entry self.old.account (record { moment = moment; act = Hello client incarnation; partner = None })) }
-        ensures err { IfErr result (λ refusal. (refusal ≡ Refusal.NoMemory) × (self.new.account ≡ self.old.account)) }
-    {
-        let entry = Entry::hello(moment, client, incarnation);
-        self.account.enter(entry).map_err(no_memory)?;
-        self.sessions[index] = Session::fresh(client, incarnation);
-        Ok(())
-    }
-
-    // Answers the hello of a client that has no session.
+    // Records the hello of a client that said none before, or only lower ones.
     fn admit(&mut self, moment: u64, client: u64, incarnation: u64) -> Result<(), Refusal>
-        requires asks { AsksAnew self.old moment client incarnation }
-        requires none { IsUnknown self.old.sessions.items client }
-        ensures sound { IsSoundState self.new }
-        ensures ok { OnOk result (NextAt self.old.account moment (message.Hello client incarnation) self.new.account (Welcome self.old.account.epoch client incarnation)) }
-        ensures err { IfErr result (λ refusal. NextAt self.old.account moment (message.Hello client incarnation) self.new.account (Refused refusal)) }
+        requires comes { Comes self.old moment (Hello client incarnation) }
+        requires lower { HasOnlyLower self.old.account.entries client incarnation }
+        ensures sound { IsSound self.new }
+        ensures ok { OnOk result (Adds self.old.account moment (Hello client incarnation) self.new.account) }
+        ensures space { OnOk result (length self.old.account.entries + 1 ≤ max_entries) }
+        ensures same { OnErr result (self.new.account ≡ self.old.account) }
+        ensures err { IfErr result (NoEntryDue self.old.account 1) }
     {
-        if self.account.len() >= MAX_ENTRIES {
-            return Err(Refusal::EpochFull);
-        }
-        self.open_session(moment, client, incarnation)
-    }
-
-    // Answers the hello of a client whose session stands at an index.
-    fn renew(
-        &mut self,
-        index: usize,
-        moment: u64,
-        client: u64,
-        incarnation: u64,
-    ) -> Result<(), Refusal>
-        requires asks { AsksAnew self.old moment client incarnation }
-        requires known { IsKnown self.old.sessions.items client index }
-        ensures sound { IsSoundState self.new }
-        ensures ok { OnOk result (NextAt self.old.account moment (message.Hello client incarnation) self.new.account (Welcome self.old.account.epoch client incarnation)) }
-        ensures err { IfErr result (λ refusal. NextAt self.old.account moment (message.Hello client incarnation) self.new.account (Refused refusal)) }
-    {
-        let current = self.sessions[index].incarnation;
-        if incarnation < current {
-            return Err(Refusal::OldIncarnation(current));
-        }
-        if incarnation == current {
-            return Ok(());
-        }
-        if self.account.len() >= MAX_ENTRIES {
-            return Err(Refusal::EpochFull);
-        }
-        self.renew_session(index, moment, client, incarnation)
+        let hello = Act::Hello {
+            client,
+            incarnation,
+        };
+        self.enter(moment, hello, None)?;
+        self.sessions.put(Session::fresh(client, incarnation));
+        Ok(())
     }
 
     // Answers a hello, and records it where it is no repeat and no refusal is due.
-    pub(crate) fn greet(
-        &mut self,
-        moment: u64,
-        client: u64,
-        incarnation: u64,
-    ) -> Result<(), Refusal>
-        requires { AsksAnew self.old moment client incarnation }
-        ensures sound { IsSoundState self.new }
-        ensures ok { OnOk result (NextAt self.old.account moment (message.Hello client incarnation) self.new.account (Welcome self.old.account.epoch client incarnation)) }
-        ensures err { IfErr result (λ refusal. NextAt self.old.account moment (message.Hello client incarnation) self.new.account (Refused refusal)) }
+    fn greet(&mut self, moment: u64, client: u64, incarnation: u64) -> Result<(), Refusal>
+        requires { Comes self.old moment (Hello client incarnation) }
+        ensures sound { IsSound self.new }
+        ensures ok { OnOk result (NextAt self.old.account moment (message.Hello client incarnation)
+            self.new.account (Welcome self.old.account.epoch client incarnation)) }
+        ensures err { IfErr result (λ refusal. Becomes self.old.account moment (message.Hello client incarnation)
+            self.new.account (said.Refused refusal)) }
     {
-        match session_of(&self.sessions, client) {
-            Some(index) => self.renew(index, moment, client, incarnation),
-            None => self.admit(moment, client, incarnation),
+        if self.is_newer(client, incarnation)? {
+            self.admit(moment, client, incarnation)
+        } else {
+            Ok(())
         }
     }
 
     // The moment of a step: the book's own where that is later than the one handed in.
-    pub(crate) fn moment_at(&self, now: u64) -> u64
-        requires { IsSoundState self.now }
+    fn moment_at(&self, now: u64) -> u64
+        requires { IsSound self.now }
         ensures exact { result ≡ step_moment self.now.account now }
         ensures time { KeepsTime self.now.account result }
-        ensures fits { result ≤ 2 ^ 62 }
+        ensures fits { result ≤ max_moment }
     {
         self.account.own_moment().max(now.min(MAX_MOMENT))
     }
 
-    // Takes one step with a message of a moment, and says what became of it.
-    pub(crate) fn step(&mut self, moment: u64, message: Message) -> Said
-        requires sound { IsSoundState self.old }
-        requires time { KeepsTime self.old.account moment }
-        requires moment_fits { moment ≤ 2 ^ 62 }
-        requires message_fits { FitsMessage message }
-        ensures sound { IsSoundState self.new }
-        ensures step { (answer : Answer) × (answer_of self.new.account.entries result ≡ Some answer)
-            × NextAt self.old.account moment message self.new.account answer }
+    /// Takes one step with a message that came at a moment, and says what became of it.
+    pub(crate) fn step(&mut self, now: u64, message: Message) -> Said
+        requires sound { IsSound self.old }
+        requires fits { FitsMessage message }
+        ensures sound { IsSound self.new }
+        ensures step { Becomes self.old.account (step_moment self.old.account now) message self.new.account result }
     {
         let epoch = self.account.epoch();
+        let moment = self.moment_at(now);
         match message {
             Message::Hello {
                 client,
@@ -324,24 +267,6 @@ impl State {
                 Ok(kept) => Said::Replied { key, kept },
                 Err(refusal) => Said::Refused(refusal),
             },
-        }
-    }
-}
-
-impl Arrival {
-    ghost use Rattle.rv_book.specs.declared.account.Act.TheVariants.{Arrive};
-
-    // The entry of the arrival with this call and partner.
-    fn entry(&self, call: Call, partner: Option<Place>) -> Entry
-        ensures { result ≡ record { moment = self.now.moment; act = Arrive self.now.key call; partner = partner } }
-    {
-        Entry {
-            moment: self.moment,
-            act: Act::Arrive {
-                key: self.key,
-                call,
-            },
-            partner,
         }
     }
 }

@@ -1,4 +1,5 @@
 //! What the server answers: welcomes, replies and refusals.
+use crate::fault::NoMemory;
 use crate::item::Item;
 use crate::message::Key;
 use thiserror::Error;
@@ -92,4 +93,15 @@ pub enum Answer {
     },
     /// The message was refused.
     Refused(Refusal),
+}
+
+impl From<NoMemory> for Refusal {
+    ghost use Rattle.std.specs.Prelude.{◌≡◌};
+    ghost use Rattle.rv_text.specs.declared.answer.Refusal.TheVariants as refusals;
+
+    ghost from_gives = { λ _ refusal. refusal ≡ refusals.NoMemory };
+
+    fn from(_refused: NoMemory) -> Refusal {
+        Refusal::NoMemory
+    }
 }

@@ -1,31 +1,28 @@
--- Which line of the step decides for a client's first hello.
-use Rattle.std.proofs.Common.{◌<◌, length, arith}
-use Rattle.std.proofs.lemmas.Result.{IfErr-weaker, on_ok_weaker}
-use Rattle.rv_book.specs.Steps.{max_entries}
-use Rattle.rv_book.proofs.Greeting.{newer_than_none, full_hello, refused_hello_as, entered_hello}
-use Rattle.rv_book.proofs.Lines.{said_no_hello}
+-- After a hello that was recorded the account and its tables are sound.
+use Rattle.std.proofs.Common.{None, refl, subst}
+use Rattle.rv_book.specs.declared.account.Act.TheVariants.{Hello}
+use Rattle.rv_book.specs.declared.state.State.{State}
+use Rattle.rv_book.specs.Arriving.{entry}
+use Rattle.rv_book.specs.Known.{Replaces}
+use Rattle.rv_book.proofs.Keeping.{sound_same, sound_hello}
 use Rattle.rv_book.proofs.state.State.admit.Goals as goal
 
-pub returns-then-len-ge-MAX_ENTRIES-clause-err : goal.returns-then-len-ge-MAX_ENTRIES-clause-err
-returns-then-len-ge-MAX_ENTRIES-clause-err c =
-    let a = c.args.self.now.account in
-    let none = said_no_hello a.entries c.args.self.now.sessions.items c.args.client c.requires.asks.sound.sessions_are c.requires.none in
-    full_hello a c.args.moment c.args.client c.args.incarnation (newer_than_none a c.args.client c.args.incarnation none) (omega arith)
+pub returns-in_err-enter-clause-sound : goal.returns-in_err-enter-clause-sound
+returns-in_err-enter-clause-sound c = sound_same c.args.self.now c.enter.new.self c.requires.comes.sound c.in_err-enter.ensures.same
+
+pub returns-clause-sound : goal.returns-clause-sound
+returns-clause-sound c =
+    let old = c.args.self.now in
+    let mid = c.enter.new.self in
+    let new : State = record { account = mid.account; sessions = c.put.new.self; queues = mid.queues } in
+    let replaces = subst (Replaces mid.sessions.listed c.put.new.self.listed) c.fresh.ensures c.put.ensures in
+    sound_hello old mid new c.args.moment refl c.args.client c.args.incarnation c.requires.comes c.requires.lower c.in_ok-enter.ensures.ok refl replaces
 
 pub returns-clause-ok : goal.returns-clause-ok
-returns-clause-ok c =
-    let a = c.args.self.now.account in
-    let none = said_no_hello a.entries c.args.self.now.sessions.items c.args.client c.requires.asks.sound.sessions_are c.requires.none in
-    let room : length a.entries < max_entries = omega arith in
-    on_ok_weaker c.open_session.result
-    (λ follows. entered_hello a c.open_session.new.self.account c.args.moment c.args.client c.args.incarnation (newer_than_none a c.args.client c.args.incarnation none) room follows c.open_session.ensures.sound.legal)
-    c.open_session.ensures.ok
-
-pub returns-clause-err : goal.returns-clause-err
-returns-clause-err c =
-    let a = c.args.self.now.account in
-    let none = said_no_hello a.entries c.args.self.now.sessions.items c.args.client c.requires.asks.sound.sessions_are c.requires.none in
-    let room : length a.entries < max_entries = omega arith in
-    IfErr-weaker c.open_session.result _ _
-    (λ refusal h. refused_hello_as a c.open_session.new.self.account c.args.moment c.args.client c.args.incarnation refusal (newer_than_none a c.args.client c.args.incarnation none) room h.0 h.1)
-    c.open_session.ensures.err
+returns-clause-ok c = record {
+  entry = entry c.args.moment (Hello c.args.client c.args.incarnation) None;
+  moment_is = refl;
+  act_is = refl;
+  follows = c.in_ok-enter.ensures.ok.account;
+  legal = (returns-clause-sound c).legal;
+}

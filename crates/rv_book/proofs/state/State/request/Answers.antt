@@ -1,34 +1,40 @@
 -- Which line of the step decides for a request.
-use Rattle.std.proofs.Common.{◌<◌, inl, inr, length, refl, ap, arith}
-use Rattle.std.proofs.lemmas.Result.{IfOk-weaker, IfErr-weaker}
-use Rattle.rv_text.specs.declared.answer.Answer.TheVariants.{Refused}
-use Rattle.rv_book.specs.Steps.{max_entries}
-use Rattle.rv_book.proofs.Replying.{full_step, entered_step}
+use Rattle.std.proofs.Common.{sym, ap, ◌∙◌, option_map}
+use Rattle.std.specs.Prelude.{Err}
+use Rattle.rv_text.specs.declared.message.Message.TheVariants.{Request}
+use Rattle.rv_text.specs.declared.answer.Answer.TheVariants.{Replied, Refused}
+use Rattle.rv_book.specs.declared.account.Act.TheVariants.{Arrive}
+use Rattle.rv_book.specs.Calls.{need_of}
+use Rattle.rv_book.proofs.Stepping.{becomes_refused, entered, err_both, err_gives, is_ok_of, next_request, ok_both, refused_request, request_step, unentered}
 use Rattle.rv_book.proofs.state.State.request.Goals as goal
 
-pub returns-then-len-ge-MAX_ENTRIES-clause-err : goal.returns-then-len-ge-MAX_ENTRIES-clause-err
-returns-then-len-ge-MAX_ENTRIES-clause-err c =
+pub returns-in_err-stands-clause-err : goal.returns-in_err-stands-clause-err
+returns-in_err-stands-clause-err c =
     let a = c.args.self.now.account in
-    full_step a a c.deref.result.now c.args.moment c.args.key c.args.call c.next_session.result c.in_ok-session.session c.next_session.ensures.lines c.in_ok-session.was refl (omega arith)
+    err_gives c.from_residual.result _ _ c.from_residual.ensures.1
+    (λ refusal is. becomes_refused a a c.args.moment (Request c.args.key c.args.call) refusal
+    (refused_request a c.args.moment c.args.key c.args.call c.stands.result refusal c.stands.ensures (c.in_err-stands.was ∙ ap Err (sym is))))
+
+pub arrive-requires-clause-next : goal.arrive-requires-clause-next
+arrive-requires-clause-next c = next_request c.args.self.now.account c.args.key c.stands.result c.stands.ensures (is_ok_of c.stands.result _ c.in_ok-stands.was)
 
 pub returns-clause-ok : goal.returns-clause-ok
 returns-clause-ok c =
     let a = c.args.self.now.account in
-    let room : length a.entries < max_entries = omega arith in
-    IfOk-weaker c.arrive.result _ _
-    (λ kept told. (
-      told.reply,
-      told.is,
-      entered_step a c.arrive.new.self.account c.deref.result.now c.args.moment c.args.key c.args.call c.next_session.result c.in_ok-session.session _
-          c.next_session.ensures.lines c.in_ok-session.was room (inr (told.adds, told.tells)),
-    ))
-    c.arrive.ensures.ok
+    let b = c.arrive.new.self.account in
+    ok_both c.arrive.result _ _ _ c.arrive.ensures.ok c.arrive.ensures.space
+    (λ kept told room. record {
+      answer = Replied c.args.key told.reply;
+      is = ap (option_map (Replied c.args.key)) told.is;
+      step = request_step a b c.args.moment c.args.key c.args.call c.stands.result (Replied c.args.key told.reply) c.stands.ensures (is_ok_of c.stands.result _ c.in_ok-stands.was)
+          (entered a b c.args.moment (need_of c.args.call) (Arrive c.args.key c.args.call) _ _ room told.adds told.replies);
+    })
 
 pub returns-clause-err : goal.returns-clause-err
 returns-clause-err c =
     let a = c.args.self.now.account in
-    let room : length a.entries < max_entries = omega arith in
-    IfErr-weaker c.arrive.result _ _
-    (λ refusal h. entered_step a c.arrive.new.self.account c.deref.result.now c.args.moment c.args.key c.args.call c.next_session.result c.in_ok-session.session (Refused refusal)
-    c.next_session.ensures.lines c.in_ok-session.was room (inl (h.1, ap Refused h.0)))
-    c.arrive.ensures.err
+    let b = c.arrive.new.self.account in
+    err_both c.arrive.result _ _ _ c.arrive.ensures.err c.arrive.ensures.same
+    (λ refusal due same. becomes_refused a b c.args.moment (Request c.args.key c.args.call) refusal
+    (request_step a b c.args.moment c.args.key c.args.call c.stands.result (Refused refusal) c.stands.ensures (is_ok_of c.stands.result _ c.in_ok-stands.was)
+    (unentered a b c.args.moment (need_of c.args.call) (Arrive c.args.key c.args.call) refusal _ due same)))

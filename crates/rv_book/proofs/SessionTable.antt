@@ -1,20 +1,23 @@
--- The list of sessions stays what the account says: after an arrival, a new client's hello and a known client's hello.
-use Rattle.std.proofs.Common.{◌≡◌, ◌⊎◌, inl, inr, ℕ, ◌<◌, ◌≤◌, List, [], ◌∷◌, ◌++◌, length, Option, Some, option_and_then, refl, sym, ap, subst, ◌∙◌, arith}
-use Rattle.std.specs.List.{slice_get}
-use Rattle.std.proofs.Math.ListN.{set}
-use Rattle.std.proofs.lemmas.Bool.{cases_order}
-use Rattle.std.proofs.lemmas.Option.{same_Some, none-some}
-use Rattle.rv_text.specs.declared.message.Key.{Key}
+-- The table of sessions stays what the account says: after an arrival and after a hello.
+use Rattle.rv_book.specs.Account.{Account, act_at, key_at, key_in}
+use Rattle.rv_book.specs.declared.account.Act.{Act}
+use Rattle.rv_book.specs.Known.{AreDistinct, IsKnownAs, IsUnknown, Replaces}
+use Rattle.rv_book.specs.Tables.{AreSessions, IsSession}
+use Rattle.rv_book.specs.declared.account.Act.TheVariants.{Arrive, Hello}
 use Rattle.rv_text.specs.declared.call.Call.{Call}
 use Rattle.rv_book.specs.declared.account.Entry.{Entry}
-use Rattle.rv_book.specs.declared.account.Act.{Act}
-use Rattle.rv_book.specs.declared.account.Act.TheVariants.{Hello, Arrive}
-use Rattle.rv_book.specs.declared.tables.Session.{Session}
-use Rattle.rv_book.specs.Account.{act_at, key_at, key_in}
-use Rattle.rv_book.specs.Sessions.{LastHello, HasIncarnation, NamesKey, LastNumber}
-use Rattle.rv_book.specs.Tables.{AreSessions}
-use Rattle.rv_book.proofs.Places.{get-append, get-append_end, get-append_cases, get-set_same, get-set_other, within}
-use Rattle.rv_book.proofs.Growing.{act_read, reads_on, reads_back, reads_within}
+use Rattle.rv_book.specs.Sessions.{HasIncarnation, LastHello, LastNumber, NamesKey}
+use Rattle.rv_book.specs.Arriving.{IsNext}
+use Rattle.rv_text.specs.declared.message.Key.{Key}
+use Rattle.std.proofs.Common.{List, Option, Some, [], ap, arith, inl, length, option_and_then, refl, subst, sym, ℕ, ◌++◌, ◌+◌, ◌<◌, ◌∙◌, ◌∷◌, ◌≡◌, ◌≤◌, ◌⊎◌, inr}
+use Rattle.rv_book.specs.declared.sessions.Session.{Session}
+use Rattle.rv_book.proofs.Growing.{act_read, reads_back, reads_on, reads_within}
+use Rattle.rv_book.specs.Legal.{before}
+use Rattle.std.proofs.lemmas.Bool.{cases_order}
+use Rattle.rv_book.proofs.Places.{get-append, get-append_cases, get-append_end, get-set_other, get-set_same, within}
+use Rattle.std.proofs.lemmas.Option.{none-some, same_Some}
+use Rattle.std.proofs.Math.ListN.{set}
+use Rattle.std.specs.List.{slice_get}
 
 abbrev pub key_read : Option Entry → Option Key
 key_read o = option_and_then key_in (act_read o)
@@ -23,11 +26,6 @@ key_read o = option_and_then key_in (act_read o)
 abbrev pub client_of : Act → ℕ
 client_of (Hello client incarnation) = client
 client_of (Arrive key call) = key.client
-
--- the session's incarnation and last number are what the entries say
-pub record IsSession (es : List Entry) (s : Session) : Type 0 where
-  pub incarnation : HasIncarnation es s.client s.incarnation
-  pub number : LastNumber es s.client s.last
 
 -- ---- one more entry
 
@@ -129,36 +127,34 @@ greeted_session es e c i is =
 
 -- ---- the list
 
--- the second list has the session, and else the other clients' sessions of the first
-pub record Replaces (old new : List Session) (s : Session) : Type 0 where
-  pub has : (k : ℕ) × (slice_get new k ≡ Some s)
-  pub others : (k : ℕ) (t : Session) → slice_get new k ≡ Some t → (t ≡ s) ⊎ ((slice_get old k ≡ Some t) × (t.client ≡ s.client → ⊥))
-  pub keeps : (k : ℕ) (t : Session) → slice_get old k ≡ Some t → (t.client ≡ s.client → ⊥) → slice_get new k ≡ Some t
-  pub distinct : (i j : ℕ) (t u : Session) → slice_get new i ≡ Some t → slice_get new j ≡ Some u → t.client ≡ u.client → i ≡ j
-
 pub AreSessions-next : (es : List Entry) (e : Entry) (old new : List Session) (s : Session) → AreSessions es old → Replaces old new s → client_of e.act ≡ s.client
     → IsSession (es ++ e ∷ []) s → AreSessions (es ++ e ∷ []) new
-AreSessions-next es e old new s are replaces own session =
-    let each = λ (k : ℕ) (t : Session) (there : slice_get new k ≡ Some t).
-    let P : Session → Type 0 = λ u. IsSession (es ++ e ∷ []) u in
-    let found : P t = elim (replaces.others k t there) [
-      | inl same ↦ subst P (sym same) session
-      | inr other ↦ IsSession-on es e t (λ is. other.1 (sym is ∙ own)) (record { incarnation = are.incarnations k t other.0; number = are.numbers k t other.0 })
-    ] in found in
-    record {
-      incarnations = λ k t there. (each k t there).incarnation;
-      numbers = λ k t there. (each k t there).number;
-      each = λ r c i hello. elim (reads_back act_read refl es e r (Hello c i) hello) [
-        | inl inside ↦
-            let old_one = are.each r c i inside.1 in
-            elim (cases_order old_one.1.client s.client) [
-              | inl same ↦ (replaces.has.0, s, replaces.has.1, sym same ∙ old_one.3)
-              | inr differ ↦ (old_one.0, old_one.1, replaces.keeps old_one.0 old_one.1 old_one.2 (λ is. elim differ [ inl less ↦ omega arith | inr more ↦ omega arith ]), old_one.3)
-            ]
-        | inr last ↦ (replaces.has.0, s, replaces.has.1, sym own ∙ hello_is_own e.act c i last.1)
-      ];
-      distinct = replaces.distinct;
-    }
+AreSessions-next es e old new s are replaces own session = record {
+  are = λ k t there.
+      let P : Session → Type 0 = λ u. IsSession (es ++ e ∷ []) u in
+      let found : P t = elim (replaces.others k t there) [
+        | inl same ↦ subst P (sym same) session
+        | inr other ↦ IsSession-on es e t (λ is. other.1 (sym is ∙ own)) (are.are k t other.0)
+      ] in found;
+  each = λ r c i hello. elim (reads_back act_read refl es e r (Hello c i) hello) [
+    | inl inside ↦
+        let old_one = are.each r c i inside.1 in
+        elim (cases_order old_one.0.client s.client) [
+          | inl same ↦ (s, record { index = replaces.has.0; there = replaces.has.1; of_client = sym same ∙ old_one.1.of_client })
+          | inr differ ↦ (
+            old_one.0,
+            record {
+              index = old_one.1.index;
+              there = replaces.keeps old_one.1.index old_one.0 old_one.1.there (λ is. elim differ [ inl less ↦ omega arith | inr more ↦ omega arith ]);
+              of_client = old_one.1.of_client;
+            },
+          )
+        ]
+    | inr last ↦ (s, record { index = replaces.has.0; there = replaces.has.1; of_client = sym own ∙ hello_is_own e.act c i last.1 })
+  ];
+}
+
+-- ---- one session put into the list
 
 apart_from : (j k : ℕ) → (j < k) ⊎ (k < j) → (j ≡ k) → ⊥
 apart_from j k (inl less) e = omega arith
@@ -172,7 +168,7 @@ client_at old k t s there same j u is =
       | inr differ ↦ (u, sym (get-set_other old k j s (apart_from j k differ)) ∙ is, refl)
     ]
 
-pub Replaces-set : (old : List Session) (k : ℕ) (t s : Session) → ((i j : ℕ) (u v : Session) → slice_get old i ≡ Some u → slice_get old j ≡ Some v → u.client ≡ v.client → i ≡ j)
+pub Replaces-set : (old : List Session) (k : ℕ) (t s : Session) → AreDistinct old
     → slice_get old k ≡ Some t → t.client ≡ s.client → Replaces old (set old k s) s
 Replaces-set old k t s distinct there same =
     let changed : slice_get (set old k s) k ≡ Some s = get-set_same old k s (within old k t there) in
@@ -192,8 +188,8 @@ Replaces-set old k t s distinct there same =
           distinct i j first.0 second.0 first.1 second.1 (first.2 ∙ e ∙ sym second.2);
     }
 
-pub Replaces-push : (old : List Session) (s : Session) → ((i j : ℕ) (u v : Session) → slice_get old i ≡ Some u → slice_get old j ≡ Some v → u.client ≡ v.client → i ≡ j)
-    → ((i : ℕ) (t : Session) → slice_get old i ≡ Some t → t.client ≡ s.client → ⊥) → Replaces old (old ++ s ∷ []) s
+pub Replaces-push : (old : List Session) (s : Session) → AreDistinct old
+    → IsUnknown old s.client → Replaces old (old ++ s ∷ []) s
 Replaces-push old s distinct fresh = record {
   has = (length old, get-append_end old s);
   others = λ k t is. elim (get-append_cases old s t k is) [
@@ -211,4 +207,48 @@ Replaces-push old s distinct fresh = record {
       | inr also ↦ last.0 ∙ sym also.0
     ]
   ];
+}
+
+-- ---- what the table says of a client
+
+pub session_found : (es : List Entry) (sessions : List Session) (client : ℕ) (s : Session) → AreSessions es sessions → IsKnownAs sessions client s
+    → HasIncarnation es client s.incarnation × LastNumber es client s.last
+session_found es sessions client s are known =
+    let is = are.are known.index s known.there in
+    (subst (λ c. HasIncarnation es c s.incarnation) known.of_client is.incarnation, subst (λ c. LastNumber es c s.last) known.of_client is.number)
+
+pub said_no_hello : (es : List Entry) (sessions : List Session) (client : ℕ) → AreSessions es sessions → IsUnknown sessions client
+    → (r incarnation : ℕ) → act_at es r ≡ Some (Hello client incarnation) → ⊥
+said_no_hello es sessions client are none r incarnation hello =
+    let one = are.each r client incarnation hello in
+    none one.1.index one.0 one.1.there one.1.of_client
+
+-- ---- after an entry
+
+abbrev pub session_after : Key → Session
+session_after key = record { client = key.client; incarnation = key.incarnation; last = key.number }
+
+abbrev pub session_fresh : ℕ → ℕ → Session
+session_fresh client incarnation = record { client = client; incarnation = incarnation; last = 0 }
+
+-- an arrival of the next number leaves its session with that number
+pub sessions_arrived : (a : Account) (old new : List Session) (e : Entry) (key : Key) (call : Call) → AreSessions a.entries old → IsNext a key → e.act ≡ Arrive key call
+    → Replaces old new (session_after key) → AreSessions (a.entries ++ e ∷ []) new
+sessions_arrived a old new e key call are next is replaces =
+    let before : Session = record { client = key.client; incarnation = key.incarnation; last = next.last } in
+    let session : IsSession a.entries before = record { incarnation = next.incarnation; number = next.is_last } in
+    let above : key.number ≡ next.last + 1 = next.next in
+    let after = arrived_session a.entries e key call before is session refl (omega arith) in
+    AreSessions-next a.entries e old new (session_after key) are replaces (ap client_of is) after
+
+-- a hello leaves its session fresh
+pub sessions_greeted : (es : List Entry) (old new : List Session) (e : Entry) (client incarnation : ℕ) → AreSessions es old → e.act ≡ Hello client incarnation
+    → Replaces old new (session_fresh client incarnation) → AreSessions (es ++ e ∷ []) new
+sessions_greeted es old new e client incarnation are is replaces =
+    AreSessions-next es e old new (session_fresh client incarnation) are replaces (ap client_of is) (greeted_session es e client incarnation is)
+
+pub no_sessions : (es : List Entry) (sessions : List Session) → es ≡ [] → sessions ≡ [] → AreSessions es sessions
+no_sessions es sessions none empty = record {
+  are = λ i s there. absurd (none-some s (sym (ap (λ (l : List Session). slice_get l i) empty) ∙ there));
+  each = λ r client incarnation hello. absurd (none-some _ (sym (ap (λ (l : List Entry). act_at l r) none) ∙ hello));
 }

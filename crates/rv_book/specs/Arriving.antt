@@ -1,0 +1,63 @@
+-- What an arrival brings: whom it meets, and what is kept as its reply.
+use Rattle.std.specs.Prelude.{◌≡◌, ◌<◌, ◌+◌, ℕ, List, length, Option, Some, None}
+use Rattle.rv_text.specs.declared.message.Key.{Key}
+use Rattle.rv_text.specs.declared.call.Side.{Side}
+use Rattle.rv_text.specs.declared.call.Call.{Call}
+use Rattle.rv_text.specs.declared.answer.Reply.{Reply}
+use Rattle.rv_text.specs.declared.answer.Answer as answer
+use Rattle.rv_book.specs.declared.account.Entry.{Entry}
+use Rattle.rv_book.specs.declared.account.Act.{Act}
+use Rattle.rv_book.specs.declared.account.Act.TheVariants.{Hello, Arrive}
+use Rattle.rv_book.specs.declared.verdict.Kept.{Kept}
+use Rattle.rv_book.specs.Account.{Account, with_entry}
+use Rattle.rv_book.specs.Calls.{opposite, need_of}
+use Rattle.rv_book.specs.Waiting.{OpenAt}
+use Rattle.rv_book.specs.Sessions.{HasIncarnation, LastNumber}
+use Rattle.rv_book.specs.Legal.{Legal}
+use Rattle.rv_book.specs.Replies.{RepliesAt}
+use Rattle.rv_book.specs.Steps.{Adds, Replies}
+use Rattle.rv_book.specs.Verdicts.{reply_of}
+
+abbrev pub entry : ℕ → Act → Option ℕ → Entry
+entry moment does partner = record { moment = moment; act = does; partner = partner }
+
+-- how many entries an act may come to need: its own, and one that ends its wait
+abbrev pub need_for : Act → ℕ
+need_for (Hello client incarnation) = 1
+need_for (Arrive key call) = need_of call
+
+-- the key is of its client's session in this epoch, with the next number
+pub record IsNext (a : Account) (key : Key) : Type 0 where
+  pub epoch : key.epoch ≡ a.epoch
+  pub incarnation : HasIncarnation a.entries key.client key.incarnation
+  pub last : ℕ
+  pub is_last : LastNumber a.entries key.client last
+  pub next : key.number ≡ last + 1
+
+-- the oldest open arrival of a side stands at p
+pub record IsOldest (entries : List Entry) (side : Side) (p : ℕ) : Type 0 where
+  pub there : OpenAt entries side p
+  pub oldest : (r : ℕ) → r < p → ¬ OpenAt entries side r
+
+-- the partner is the oldest open arrival of the side that a call of this side meets; none where none is open
+abbrev pub MeetsOldest : List Entry → Side → Option ℕ → Type 0
+MeetsOldest entries side None = (other : Side) (r : ℕ) → opposite side ≡ Some other → ¬ OpenAt entries other r
+MeetsOldest entries side (Some p) = (other : Side) × (opposite side ≡ Some other) × IsOldest entries other p
+
+-- what is kept is the reply of the request with this call that arrived at r
+pub record IsKept (entries : List Entry) (r : ℕ) (call : Call) (kept : Kept) : Type 0 where
+  pub reply : Reply
+  pub is : reply_of entries kept ≡ Some reply
+  pub replies : RepliesAt entries r call reply
+
+-- what is kept will be the reply, where the call arrives behind the account with this partner
+abbrev pub WillReply : Account → Call → Option ℕ → Kept → Type 0
+WillReply a call partner kept = (moment : ℕ) (key : Key) → Legal a → Legal (with_entry a (entry moment (Arrive key call) partner))
+    → IsKept (with_entry a (entry moment (Arrive key call) partner)).entries (length a.entries) call kept
+
+-- the request was recorded, and what is kept for it is its reply
+pub record IsRecorded (a b : Account) (moment : ℕ) (key : Key) (call : Call) (kept : Kept) : Type 0 where
+  pub reply : Reply
+  pub is : reply_of b.entries kept ≡ Some reply
+  pub adds : Adds a moment (Arrive key call) b
+  pub replies : Replies b key (answer.TheVariants.Replied key reply)

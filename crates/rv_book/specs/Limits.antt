@@ -1,0 +1,23 @@
+-- The limits of an account.
+use Rattle.std.specs.Prelude.{◌≡◌, ◌≤◌, ◌+◌, ◌^◌, ℕ, length, Some, slice_get}
+use Rattle.rv_text.specs.Limits.{FitsIdentifier, FitsKey, FitsCall}
+use Rattle.rv_book.specs.declared.account.Entry.{Entry}
+use Rattle.rv_book.specs.declared.account.Act.{Act}
+use Rattle.rv_book.specs.declared.account.Act.TheVariants.{Hello, Arrive}
+use Rattle.rv_book.specs.Account.{Account}
+use Rattle.rv_book.specs.Steps.{NumberOf, max_entries, max_moment}
+use Rattle.rv_book.specs.Waiting.{Waiting}
+
+abbrev pub FitsAct : Act → Type 0
+FitsAct (Hello client incarnation) = FitsIdentifier client × FitsIdentifier incarnation
+FitsAct (Arrive key call) = FitsKey key × FitsCall call
+
+abbrev pub FitsEntry : Entry → Type 0
+FitsEntry e = (e.moment ≤ max_moment) × FitsAct e.act
+
+-- the account's numbers, moments and items are within their limits, and its entries and waiting requests number at most 100,000
+pub record FitsAccount (a : Account) : Type 0 where
+  pub epoch : FitsIdentifier a.epoch
+  pub opened : a.opened ≤ max_moment
+  pub entries : (r : ℕ) (e : Entry) → slice_get a.entries r ≡ Some e → FitsEntry e
+  pub room : (waiting : ℕ) → NumberOf (Waiting a.entries) waiting → length a.entries + waiting ≤ max_entries
