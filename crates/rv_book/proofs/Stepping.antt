@@ -9,7 +9,7 @@ use Rattle.rv_book.specs.declared.account.Act.{Act}
 use Rattle.rv_book.specs.Steps.{Adds, EntersOrNoMemory, EpochFullDue, KeyLines, NextAt, OldIncarnationDue, RefuseOr, Refuses, Replies, WhereElse}
 use Rattle.rv_text.specs.declared.answer.Answer.{Answer}
 use Rattle.rv_book.specs.declared.account.Act.TheVariants.{Arrive}
-use Rattle.rv_book.specs.Tables.{Becomes, NoEntryDue}
+use Rattle.rv_book.specs.Tables.{Becomes, NoEntryDue, Heard, Looked}
 use Rattle.std.proofs.Common.{IsErrAnd, IfErr, IfOk, OnOk, OnErr, subst, Bool, ap, false, inl, inr, length, refl, sym, true, ℕ, ◌+◌, ◌∙◌, ◌≡◌, ◌≤◌}
 use Rattle.rv_text.specs.declared.call.Call.{Call}
 use Rattle.rv_book.specs.Sessions.{HasIncarnation, HasOnlyLower}
@@ -52,17 +52,6 @@ on_ok_both (Err refusal) P Q R h k f = tt
 
 pub is_ok_of : {X : Type 0} (result : Result X Refusal) (x : X) → result ≡ Ok x → IsOk result
 is_ok_of result x is = subst IsOk (sym is) refl
-
--- ---- looks
-
--- what the look at the sessions gave: a refusal, or that the key is next
-abbrev pub Looked : Account → Key → Result (Unit {0}) Refusal → Type 0
-Looked a key result = KeyLines a key (λ refusal. result ≡ Err refusal) (IsOk result × IsNext a key)
-
--- what the look at the client's hellos gave
-abbrev pub Heard : Account → ℕ → ℕ → Result Bool Refusal → Type 0
-Heard a client incarnation result = RefuseOr (OldIncarnationDue a client incarnation) (λ refusal. result ≡ Err refusal)
-    (WhereElse (HasIncarnation a.entries client incarnation) (result ≡ Ok false) ((result ≡ Ok true) × HasOnlyLower a.entries client incarnation))
 
 -- ---- requests
 

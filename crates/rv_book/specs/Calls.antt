@@ -1,4 +1,5 @@
--- What is said of a call by its side and its wait: whom it meets and how long it stays (Java SE 21, `TransferQueue`).
+-- What is said of a call by its side and its wait: whom it meets and how long it stays
+-- (Java SE 21, `TransferQueue`).
 use Rattle.std.specs.Prelude.{◌≡◌, ℕ, Option, Some, None, IsSome, option_and_then}
 use Rattle.rv_text.specs.declared.call.Wait.{Wait}
 use Rattle.rv_text.specs.declared.call.Wait.TheVariants.{Now}
@@ -17,7 +18,8 @@ opposite (Looks queue) = None
 abbrev pub MayMeet : Call → Type 0
 MayMeet call = IsSome (opposite (side_of call))
 
--- such a wait goes on past the moment of arrival; what never waits and may meet is an item, which lies until it is taken
+-- such a wait goes on past the moment of arrival; what never waits and may meet is an item, which lies there
+-- until it is taken
 abbrev pub Lasts : Option Wait → Type 0
 Lasts None = Unit {0}
 Lasts (Some Now) = ⊥

@@ -16,7 +16,7 @@ use Rattle.rv_book.specs.Steps.{HelloLines, RequestLines, Adds, Replies, Next, s
 use Rattle.rv_book.specs.Order.{InOrder}
 use Rattle.rv_book.specs.Verdicts.{says}
 
--- a reply that stands in a legal account stands in every legal account that extends it, and no other reply does
+-- a reply that stands in a legal account stands in every legal account that extends it, and no other does
 abbrev pub RepliesStay : Type 0
 RepliesStay = (a b : Account) (key : Key) (reply : Reply) → Legal a → Legal b → Extends a b
     → HasReply a.entries key reply
@@ -50,7 +50,8 @@ StepsExtend = (a b : Account) (now : ℕ) (m : Message) (x : Answer) → Next a 
 
 -- what a verdict says it says in every account that extends the one in which it was given
 abbrev pub VerdictsStay : Type 0
-VerdictsStay = (a b : Account) (verdict : Verdict) (x : Answer) → Extends a b → says a verdict ≡ Some x → says b verdict ≡ Some x
+VerdictsStay = (a b : Account) (verdict : Verdict) (x : Answer) → Extends a b
+    → says a verdict ≡ Some x → says b verdict ≡ Some x
 
 -- a step leaves no choice, want of memory aside: one account after it and one answer
 abbrev pub OneNext : Type 0

@@ -21,7 +21,8 @@ pub record KeepsTime (a : Account) (moment : ℕ) : Type 0 where
 
 -- no waiting request has a limit at or below the moment
 abbrev pub NothingDue : List Entry → ℕ → Type 0
-NothingDue entries moment = (r limit : ℕ) → Waiting entries r → limit_at entries r ≡ Some limit → moment < limit
+NothingDue entries moment = (r limit : ℕ) → Waiting entries r → limit_at entries r ≡ Some limit
+    → moment < limit
 
 -- at an act other than a time-out, no waiting request has a limit at or below its moment
 abbrev pub KeepsLimits : List Entry → ℕ → Act → Type 0
@@ -37,7 +38,8 @@ pub record KeepsMoments (a : Account) (moment : ℕ) (does : Act) : Type 0 where
 
 -- a hello's incarnation is above those of all earlier hellos of its client
 abbrev pub RaisesIncarnation : List Entry → Act → Type 0
-RaisesIncarnation entries does = (client incarnation : ℕ) → does ≡ Hello client incarnation → HasOnlyLower entries client incarnation
+RaisesIncarnation entries does = (client incarnation : ℕ) → does ≡ Hello client incarnation
+    → HasOnlyLower entries client incarnation
 
 -- the key that an act names has the account's epoch and its client's incarnation
 abbrev pub IsOfSession : Account → Act → Type 0
@@ -81,16 +83,18 @@ pub record IsOpenOpposite (entries : List Entry) (call : Call) (p : ℕ) : Type 
 
 -- the partner of a call that gives or takes is an open arrival of the other side of the same queue
 abbrev pub PairsOpposites : List Entry → Entry → Type 0
-PairsOpposites entries e = (p : ℕ) (call : Call) → e.partner ≡ Some p → call_in e.act ≡ Some call → MayMeet call
-    → IsOpenOpposite entries call p
+PairsOpposites entries e = (p : ℕ) (call : Call) → e.partner ≡ Some p → call_in e.act ≡ Some call
+    → MayMeet call → IsOpenOpposite entries call p
 
 -- no open arrival of the partner's side and queue stands before the partner
 abbrev pub PairsOldest : List Entry → Entry → Type 0
-PairsOldest entries e = (p r : ℕ) (side : Side) → e.partner ≡ Some p → SideAt entries side p → r < p → OpenAt entries side r → ⊥
+PairsOldest entries e = (p r : ℕ) (side : Side) → e.partner ≡ Some p → SideAt entries side p → r < p
+    → ¬ OpenAt entries side r
 
 -- an arrival without a partner finds no open arrival of the other side of its queue
 abbrev pub PairsWherePossible : List Entry → Entry → Type 0
-PairsWherePossible entries e = (r : ℕ) (call : Call) → e.partner ≡ None → call_in e.act ≡ Some call → IsOpenOpposite entries call r → ⊥
+PairsWherePossible entries e = (r : ℕ) (call : Call) → e.partner ≡ None → call_in e.act ≡ Some call
+    → ¬ IsOpenOpposite entries call r
 
 -- what an entry keeps of the pairs
 pub record KeepsPairs (entries : List Entry) (e : Entry) : Type 0 where

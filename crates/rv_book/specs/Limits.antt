@@ -15,7 +15,8 @@ FitsAct (Arrive key call) = FitsKey key × FitsCall call
 abbrev pub FitsEntry : Entry → Type 0
 FitsEntry e = (e.moment ≤ max_moment) × FitsAct e.act
 
--- the account's numbers, moments and items are within their limits, and its entries and waiting requests number at most 100,000
+-- the account's numbers, moments and items are within their limits, and its entries and waiting requests
+-- number at most 100,000
 pub record FitsAccount (a : Account) : Type 0 where
   pub epoch : FitsIdentifier a.epoch
   pub opened : a.opened ≤ max_moment

@@ -1,4 +1,5 @@
--- Items leave each queue in their order of arrival: first in first out, as in the fair dual queue of Scherer, Lea and Scott (PPoPP 2006) and Java SE 21's `LinkedTransferQueue`.
+-- Items leave each queue in their order of arrival: first in first out, as in the fair dual queue of Scherer,
+-- Lea and Scott (PPoPP 2006) and Java SE 21's `LinkedTransferQueue`.
 use Rattle.std.specs.Prelude.{◌≡◌, ◌⊎◌, ◌<◌, ℕ, List, take}
 use Rattle.rv_text.specs.declared.call.Side.TheVariants.{Gives, Takes}
 use Rattle.rv_book.specs.declared.account.Entry.{Entry}
@@ -12,6 +13,7 @@ pub record PairAt (entries : List Entry) (queue p g t : ℕ) : Type 0 where
 
 -- items leave in their order of arrival, and none is passed over
 pub record InOrder (entries : List Entry) : Type 0 where
-  pub in_turn : (queue p1 g1 t1 p2 g2 t2 : ℕ) → PairAt entries queue p1 g1 t1 → PairAt entries queue p2 g2 t2
-      → g1 < g2 → (t1 < t2) × (p1 < p2)
-  pub none_passed : (queue p g t r : ℕ) → PairAt entries queue p g t → r < g → OpenAt (take p entries) (Gives queue) r → ⊥
+  pub in_turn : (queue p1 g1 t1 p2 g2 t2 : ℕ) → PairAt entries queue p1 g1 t1
+      → PairAt entries queue p2 g2 t2 → g1 < g2 → (t1 < t2) × (p1 < p2)
+  pub none_passed : (queue p g t r : ℕ) → PairAt entries queue p g t → r < g
+      → ¬ OpenAt (take p entries) (Gives queue) r

@@ -1,4 +1,5 @@
--- The reply of a request, as an account tells it: the first case that applies (Java SE 21: `LinkedTransferQueue.put` and `poll`).
+-- The reply of a request, as an account tells it: the first case that applies (Java SE 21:
+-- `LinkedTransferQueue.put` and `poll`).
 use Rattle.std.specs.Prelude.{◌≡◌, ◌⊎◌, ℕ, List, Some}
 use Rattle.rv_text.specs.declared.message.Key.{Key}
 use Rattle.rv_text.specs.declared.call.Wait.{Wait}
@@ -33,7 +34,8 @@ RepliesUnmet entries r Now at_once reply = reply ≡ at_once
 abbrev pub RepliesAt : List Entry → ℕ → Call → Reply → Type 0
 RepliesAt entries r (Put queue item) reply = reply ≡ Done
 RepliesAt entries r (Take queue wait) reply =
-    ((item : List ℕ) × Gets entries r item × (reply ≡ Item item)) ⊎ ((¬ Met entries r) × RepliesUnmet entries r wait Empty reply)
+    ((item : List ℕ) × Gets entries r item × (reply ≡ Item item))
+    ⊎ ((¬ Met entries r) × RepliesUnmet entries r wait Empty reply)
 
 -- the request with this key arrived, and it has this reply
 pub record RepliesToArrival (entries : List Entry) (key : Key) (reply : Reply) : Type 0 where

@@ -16,7 +16,8 @@ HasIncarnation entries client incarnation = (h : ℕ) × LastHello entries clien
 
 -- the client said no hello, or only hellos of lower incarnations
 abbrev pub HasOnlyLower : List Entry → ℕ → ℕ → Type 0
-HasOnlyLower entries client incarnation = (r earlier : ℕ) → act_at entries r ≡ Some (Hello client earlier) → earlier < incarnation
+HasOnlyLower entries client incarnation = (r earlier : ℕ) → act_at entries r ≡ Some (Hello client earlier)
+    → earlier < incarnation
 
 -- the entry at r names a key of the client
 pub record NamesKey (entries : List Entry) (client r : ℕ) (key : Key) : Type 0 where

@@ -80,7 +80,8 @@ pub record NumberOf (P : ℕ → Type 0) (n : ℕ) : Type 0 where
   pub are : (r : ℕ) → Contains places r ↔ P r
   pub is : n ≡ length places
 
--- the entries, those that the waiting requests may come to need and those that are needed now are more than 100,000
+-- the entries, those that the waiting requests may come to need and those that are needed now are more than
+-- 100,000
 pub record EpochFullDue (a : Account) (need : ℕ) (refusal : Refusal) : Type 0 where
   pub waiting : ℕ
   pub count : NumberOf (Waiting a.entries) waiting
@@ -150,7 +151,8 @@ pub record Replies (b : Account) (key : Key) (answer : Answer) : Type 0 where
 
 -- where a growth was refused the account stays; else it gets the message's own entry
 abbrev pub EntersOrNoMemory : Account → ℕ → Act → Account → Answer → Type 0 → Type 0
-EntersOrNoMemory a moment does b answer answers = Refuses a b answer NoMemory ⊎ (Adds a moment does b × answers)
+EntersOrNoMemory a moment does b answer answers =
+    Refuses a b answer NoMemory ⊎ (Adds a moment does b × answers)
 
 -- the step of a message at a moment: the accounts before and after, and the answer
 abbrev pub NextAt : Account → ℕ → Message → Account → Answer → Type 0

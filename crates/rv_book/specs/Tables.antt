@@ -1,5 +1,5 @@
 -- What the book's private tables say of its account.
-use Rattle.std.specs.Prelude.{◌≡◌, ◌⊎◌, ◌<◌, ◌≤◌, ◌+◌, ℕ, List, length, Option, Some, slice_get}
+use Rattle.std.specs.Prelude.{◌≡◌, ◌⊎◌, ◌<◌, ◌≤◌, ◌+◌, ℕ, Bool, true, false, List, length, Option, Some, Result, Ok, Err, IsOk, slice_get}
 use Rattle.rv_text.specs.declared.call.Side.{Side}
 use Rattle.rv_text.specs.declared.message.Message.{Message}
 use Rattle.rv_text.specs.declared.answer.Answer.{Answer}
@@ -12,14 +12,16 @@ use Rattle.rv_book.specs.declared.account.Act.TheVariants.{Hello, Arrive}
 use Rattle.rv_book.specs.declared.sessions.Session.{Session}
 use Rattle.rv_book.specs.declared.state.State.{State}
 use Rattle.rv_book.specs.declared.verdict.Said.{Said}
+use Rattle.rv_book.specs.declared.verdict.Said.TheVariants.{Refused}
+use Rattle.rv_text.specs.declared.message.Key.{Key}
 use Rattle.rv_book.specs.Account.{Account, act_at, with_entry}
-use Rattle.rv_book.specs.Arriving.{entry, need_for}
+use Rattle.rv_book.specs.Arriving.{IsNext, entry, need_for}
 use Rattle.rv_book.specs.Known.{IsKnownAs}
 use Rattle.rv_book.specs.Legal.{Legal, KeepsTime}
 use Rattle.rv_book.specs.Limits.{FitsAccount, FitsAct}
 use Rattle.rv_book.specs.Meeting.{HasRoomOn, waiting_on}
-use Rattle.rv_book.specs.Sessions.{HasIncarnation, LastNumber}
-use Rattle.rv_book.specs.Steps.{EpochFullDue, NextAt, max_entries, max_moment}
+use Rattle.rv_book.specs.Sessions.{HasIncarnation, HasOnlyLower, LastNumber}
+use Rattle.rv_book.specs.Steps.{EpochFullDue, KeyLines, NextAt, OldIncarnationDue, RefuseOr, WhereElse, max_entries, max_moment}
 use Rattle.rv_book.specs.Verdicts.{answer_of}
 use Rattle.rv_book.specs.Views.{QueueLine, places_of}
 use Rattle.rv_book.specs.Waiting.{OpenAt}
@@ -88,3 +90,18 @@ pub record Becomes (a : Account) (moment : ℕ) (m : Message) (b : Account) (sai
   pub answer : Answer
   pub is : answer_of b.entries said ≡ Some answer
   pub step : NextAt a moment m b answer
+
+-- the message was refused so
+abbrev pub IsRefused : Account → ℕ → Message → Account → Refusal → Type 0
+IsRefused a moment m b refusal = Becomes a moment m b (Refused refusal)
+
+-- what a look at the sessions says of a key: a refusal that is due, or that the key is next
+abbrev pub Looked : Account → Key → Result (Unit {0}) Refusal → Type 0
+Looked a key result = KeyLines a key (λ refusal. result ≡ Err refusal) (IsOk result × IsNext a key)
+
+-- what a look at a client's hellos says of a hello: a refusal that is due, that it is a repeat, or that it is newer
+abbrev pub Heard : Account → ℕ → ℕ → Result Bool Refusal → Type 0
+Heard a client incarnation result =
+    RefuseOr (OldIncarnationDue a client incarnation) (λ refusal. result ≡ Err refusal)
+    (WhereElse (HasIncarnation a.entries client incarnation) (result ≡ Ok false)
+    ((result ≡ Ok true) × HasOnlyLower a.entries client incarnation))

@@ -1,5 +1,5 @@
 -- The answer that a verdict stands for, in an account that has the places which the verdict keeps.
-use Rattle.std.specs.Prelude.{ℕ, List, Option, Some, option_map, option_and_then}
+use Rattle.std.specs.Prelude.{◌≡◌, ℕ, List, Option, Some, option_map, option_and_then}
 use Rattle.rv_text.specs.declared.answer.Reply.{Reply}
 use Rattle.rv_text.specs.declared.answer.Reply as reply
 use Rattle.rv_text.specs.declared.answer.Answer.{Answer}
@@ -10,7 +10,9 @@ use Rattle.rv_book.specs.declared.verdict.Said.{Said}
 use Rattle.rv_book.specs.declared.verdict.Said.TheVariants.{Welcome, Replied, Refused}
 use Rattle.rv_book.specs.declared.verdict.Verdict.{Verdict}
 use Rattle.rv_book.specs.declared.account.Entry.{Entry}
+use Rattle.rv_text.specs.declared.message.Message.{Message}
 use Rattle.rv_book.specs.Account.{Account, call_at}
+use Rattle.rv_book.specs.Steps.{Next}
 use Rattle.rv_text.specs.Calls.{item_of}
 
 -- the item that the arrival at a place hands over
@@ -23,10 +25,17 @@ reply_of entries (Item place) = option_map reply.TheVariants.Item (item_at entri
 reply_of entries Empty = Some reply.TheVariants.Empty
 
 abbrev pub answer_of : List Entry → Said → Option Answer
-answer_of entries (Welcome epoch client incarnation) = Some (answer.TheVariants.Welcome epoch client incarnation)
+answer_of entries (Welcome epoch client incarnation) =
+    Some (answer.TheVariants.Welcome epoch client incarnation)
 answer_of entries (Replied key kept) = option_map (answer.TheVariants.Replied key) (reply_of entries kept)
 answer_of entries (Refused refusal) = Some (answer.TheVariants.Refused refusal)
 
 -- what the verdict says in the account
 abbrev pub says : Account → Verdict → Option Answer
 says a verdict = answer_of a.entries verdict.said
+
+-- the verdict says the answer of one step from the one account to the other
+pub record IsStep (a : Account) (now : ℕ) (m : Message) (b : Account) (verdict : Verdict) : Type 0 where
+  pub answer : Answer
+  pub is : says b verdict ≡ Some answer
+  pub next : Next a now m b answer

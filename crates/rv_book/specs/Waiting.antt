@@ -1,4 +1,5 @@
--- Which arrivals of a list of entries were met, were stopped, and are still open: the nodes of a dual queue (Scherer, Lea and Scott, PPoPP 2006) that are matched, cancelled, or neither.
+-- Which arrivals of a list of entries were met, were stopped, and are still open: the nodes of a dual queue
+-- (Scherer, Lea and Scott, PPoPP 2006) that are matched, cancelled, or neither.
 use Rattle.std.specs.Prelude.{◌≡◌, ◌⊎◌, ◌<◌, ℕ, List, Option, Some, option_and_then, slice_get}
 use Rattle.rv_text.specs.declared.message.Key.{Key}
 use Rattle.rv_text.specs.declared.call.Call.{Call}

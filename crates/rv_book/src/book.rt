@@ -1,10 +1,8 @@
 //! The book of one epoch: it takes messages one by one and says what becomes of each.
 ghost use Rattle.std.specs.Prelude.{◌≡◌, ◌≤◌, ◌^◌, [], Some, IsSome, IfSome, IfOk, min};
-ghost use Rattle.rv_text.specs.declared.answer.Answer.{Answer};
 ghost use Rattle.rv_text.specs.Limits.{FitsAnswer, FitsIdentifier, FitsMessage};
 ghost use Rattle.rv_book.specs.Legal.{Legal};
-ghost use Rattle.rv_book.specs.Steps.{Next};
-ghost use Rattle.rv_book.specs.Verdicts.{says, reply_of as kept_reply};
+ghost use Rattle.rv_book.specs.Verdicts.{IsStep, says, reply_of as kept_reply};
 
 use crate::account::Account;
 use crate::state::{MAX_MOMENT, State};
@@ -65,7 +63,7 @@ impl Book {
     /// The cost grows with the clients, and not with the entries nor with the items that wait.
     pub fn handle(&mut self, now: u64, message: Message) -> Verdict
         requires { FitsMessage message }
-        ensures step { (answer : Answer) × (says self.new result ≡ Some answer) × Next self.old now message self.new answer }
+        ensures step { IsStep self.old now message self.new result }
         ensures fits { IfSome (says self.new result) FitsAnswer }
     {
         Verdict {

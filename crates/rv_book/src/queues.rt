@@ -22,7 +22,8 @@ impl Model for Queue {
 
     ghost Value = { QueueLine };
 
-    ghost view = { λ q. record { places = q.places.items; spare = deque_capacity q.places - deque_len q.places } };
+    ghost view = { λ q. record {
+        places = q.places.items; spare = deque_capacity q.places - deque_len q.places } };
 }
 
 impl Queue {
@@ -118,8 +119,8 @@ impl Queues {
         }
     }
 
-    /// The arrival of this side that stands at a place meets the oldest of the other side, which leaves its queue,
-    /// or, if it gives and nobody is there, waits behind the others of its side.
+    /// The arrival of this side that stands at a place meets the oldest of the other side, which leaves its
+    /// queue, or, if it gives and nobody is there, waits behind the others of its side.
     pub(crate) fn arrive(&mut self, side: Side, place: Place)
         requires queue { IsAtQueue side }
         requires room { HasRoomOn self.old side }

@@ -32,9 +32,9 @@ impl State {
     ghost use Rattle.rv_book.specs.Calls.{need_of};
     ghost use Rattle.rv_book.specs.Limits.{FitsAct};
     ghost use Rattle.rv_book.specs.Legal.{KeepsTime};
-    ghost use Rattle.rv_book.specs.Sessions.{HasIncarnation, HasOnlyLower};
-    ghost use Rattle.rv_book.specs.Steps.{Adds, KeyLines, NextAt, OldIncarnationDue, RefuseOr, WhereElse, max_entries, max_moment, step_moment};
-    ghost use Rattle.rv_book.specs.Tables.{Becomes, Comes, HasRoomFor, IsEntered, IsSame, IsSound, NoEntryDue};
+    ghost use Rattle.rv_book.specs.Sessions.{HasOnlyLower};
+    ghost use Rattle.rv_book.specs.Steps.{Adds, NextAt, max_entries, max_moment, step_moment};
+    ghost use Rattle.rv_book.specs.Tables.{Becomes, Heard, IsRefused, Looked, Comes, HasRoomFor, IsEntered, IsSame, IsSound, NoEntryDue};
     ghost use Rattle.rv_book.specs.declared.verdict.Said.TheVariants as said;
 
     /// An empty account of an epoch, opened at a moment, and tables with nothing in them.
@@ -62,8 +62,7 @@ impl State {
     // The refusal that is due for a key, if its session has not just come to its number.
     fn stands(&self, key: &Key) -> Result<(), Refusal>
         requires { IsSound self.now }
-        ensures { KeyLines self.now.account key.now (λ refusal. result ≡ Err refusal)
-            (IsOk result × IsNext self.now.account key.now) }
+        ensures { Looked self.now.account key.now result }
     {
         if key.epoch != self.account.epoch() {
             return Err(Refusal::OtherEpoch(self.account.epoch()));
@@ -89,9 +88,7 @@ impl State {
     // Whether a hello is above all that its client said; it is refused where it is below the last.
     fn is_newer(&self, client: u64, incarnation: u64) -> Result<bool, Refusal>
         requires { IsSound self.now }
-        ensures { RefuseOr (OldIncarnationDue self.now.account client incarnation) (λ refusal. result ≡ Err refusal)
-            (WhereElse (HasIncarnation self.now.account.entries client incarnation) (result ≡ Ok false)
-            ((result ≡ Ok true) × HasOnlyLower self.now.account.entries client incarnation)) }
+        ensures { Heard self.now.account client incarnation result }
     {
         let Some(session) = self.sessions.find(client) else {
             return Ok(true);
@@ -190,8 +187,7 @@ impl State {
         ensures sound { IsSound self.new }
         ensures ok { IfOk result (λ kept. Becomes self.old.account moment (Request key call)
             self.new.account (said.Replied key kept)) }
-        ensures err { IfErr result (λ refusal. Becomes self.old.account moment (Request key call)
-            self.new.account (said.Refused refusal)) }
+        ensures err { IfErr result (IsRefused self.old.account moment (Request key call) self.new.account) }
     {
         self.stands(&key)?;
         self.arrive(moment, key, call)
@@ -222,8 +218,8 @@ impl State {
         ensures sound { IsSound self.new }
         ensures ok { OnOk result (NextAt self.old.account moment (message.Hello client incarnation)
             self.new.account (Welcome self.old.account.epoch client incarnation)) }
-        ensures err { IfErr result (λ refusal. Becomes self.old.account moment (message.Hello client incarnation)
-            self.new.account (said.Refused refusal)) }
+        ensures err { IfErr result (IsRefused self.old.account moment (message.Hello client incarnation)
+            self.new.account) }
     {
         if self.is_newer(client, incarnation)? {
             self.admit(moment, client, incarnation)
@@ -247,7 +243,8 @@ impl State {
         requires sound { IsSound self.old }
         requires fits { FitsMessage message }
         ensures sound { IsSound self.new }
-        ensures step { Becomes self.old.account (step_moment self.old.account now) message self.new.account result }
+        ensures step { Becomes self.old.account (step_moment self.old.account now) message
+            self.new.account result }
     {
         let epoch = self.account.epoch();
         let moment = self.moment_at(now);
