@@ -16,7 +16,7 @@ use Rattle.serde_json.specs.Find.{get_member}
 use Rattle.serde_json.specs.View.{members_view}
 use Rattle.serde_json.specs.declared.value.Value.{Value}
 use Rattle.serde_json.proofs.Views.{get_member-put, get_member-put_other}
-use Rattle.rv_text.specs.Fields.{Field, with_fields}
+use Rattle.rv_text.specs.Members.{Field, with_fields}
 
 -- each of these members is found
 abbrev pub HasFields : List Field → Members → Type 0
@@ -200,10 +200,6 @@ members_len-with_fields fs apart = members_len-with_fields_from fs no_members ap
 abbrev pub AllFields : (List ℕ → Data → Type 0) → List Field → Type 0
 AllFields P [] = Unit {0}
 AllFields P (f ∷ fs) = P f.0 f.1 × AllFields P fs
-
-pub AllFields-append : (P : List ℕ → Data → Type 0) (fs gs : List Field) → AllFields P fs → AllFields P gs → AllFields P (fs ++ gs)
-AllFields-append P [] gs h k = k
-AllFields-append P (f ∷ fs) gs h k = (h.0, AllFields-append P fs gs h.1 k)
 
 abbrev pub AllMembers : (List ℕ → Data → Type 0) → Members → Type 0
 AllMembers P no_members = Unit {0}

@@ -1,6 +1,12 @@
+-- ---- what a reader must agree with: all that public contracts and laws cite, in the order in which it is read
+
 pub mod Calls
+pub mod Members
+pub mod Rows
 pub mod Limits
-pub mod Fields
 pub mod Bodies
-pub mod Reading
 pub mod Laws
+
+-- ---- private to proofs: what a reader finds among the members of an object
+
+pub mod Reading
