@@ -2,7 +2,7 @@
 use Rattle.std.proofs.Common.{◌≡◌, ℕ, List, Option, Some, None, subst}
 use Rattle.std.proofs.lemmas.Option.{none-some, same_Some}
 use Rattle.rv_text.specs.declared.call.Call.{Call}
-use Rattle.rv_text.specs.declared.answer.Reply as reply
+use Rattle.rv_text.specs.declared.answer.Reply.TheVariants as reply
 use Rattle.rv_text.specs.Calls.{nature_of, item_of}
 use Rattle.rv_text.specs.Members.{IsWithin}
 use Rattle.rv_text.specs.Rows.{wait_row, item_row, call_row}
@@ -20,12 +20,12 @@ item_fits call item fits is =
     item_alone n.item item is (Each-parts IsWithin (wait_row n.wait) (item_row n.item) (each_within (call_row call) fits).1.1).1
 
 -- a reply of an item that fits fits
-pub item_reply_fits : (item : List ℕ) → FitsItem item → FitsReply (reply.TheVariants.Item item)
+pub item_reply_fits : (item : List ℕ) → FitsItem item → FitsReply (reply.Item item)
 item_reply_fits item fits = fits
 
 -- replies of a word alone fit
-pub done_fits : FitsReply reply.TheVariants.Done
+pub done_fits : FitsReply reply.Done
 done_fits = tt
 
-pub empty_fits : FitsReply reply.TheVariants.Empty
+pub empty_fits : FitsReply reply.Empty
 empty_fits = tt

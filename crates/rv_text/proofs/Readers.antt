@@ -13,30 +13,31 @@ use Rattle.serde_json.proofs.Views.{members_len-members_view}
 use Rattle.serde_json.specs.Events.{members_len}
 use Rattle.serde_json.specs.Find.{get_member, as_number, as_u64, as_str}
 use Rattle.rv_text.specs.declared.message.Key.{Key}
-use Rattle.rv_text.specs.declared.message.Message as message
-use Rattle.rv_text.specs.declared.call.Wait as wait
-use Rattle.rv_text.specs.declared.call.Call as call
+use Rattle.rv_text.specs.declared.message.Message.{Message}
+use Rattle.rv_text.specs.declared.message.Message.TheVariants as message
+use Rattle.rv_text.specs.declared.call.Wait.{Wait}
+use Rattle.rv_text.specs.declared.call.Wait.TheVariants as wait
+use Rattle.rv_text.specs.declared.call.Call.{Call}
+use Rattle.rv_text.specs.declared.call.Call.TheVariants as call
 use Rattle.rv_text.specs.Members.{Member, Field, field_of, with_fields, members_of, object_of}
 use Rattle.rv_text.specs.Rows.{key_row, wait_row, call_row, message_row}
 use Rattle.rv_text.specs.Limits.{FitsMessage}
-use Rattle.rv_text.specs.Reading.{◌>>=◌, of_two, Line, by_word, among, whole_among, text_among, queue_among, item_among, wait_lines, wait_among}
-use Rattle.rv_text.specs.Reading.{key_among, call_lines, call_among, message_lines, message_among, IsAlone}
+use Rattle.rv_text.specs.Reading.{◌>>=◌, Line, by_word, among, whole_among, text_among, queue_among, item_among, wait_lines, wait_among}
+use Rattle.rv_text.specs.Reading.{key_among, hello_among, request_among, call_lines, call_among, message_lines, message_among, IsAlone}
 use Rattle.rv_text.proofs.Objects.{HasFields, IsSorted, IsSorted-entries, with_fields-found, found-with_fields, members_len-with_fields}
 use Rattle.rv_text.proofs.Sound.{message_sound}
 
 -- ---- the steps of a reader
 
-bind_some : {A B : Type 0} (o : Option A) (next : A → Option B) (y : B) → (o >>= next) ≡ Some y → (x : A) × (o ≡ Some x) × (next x ≡ Some y)
-bind_some None next y e = absurd (cc)
-bind_some (Some x) next y e = (x, refl, e)
+-- a step that finds x goes on from it
+step_found : {A B : Type 0} (P : B → Type 0) (o : Option A) (next : A → Option B)
+    → ((x : A) → o ≡ Some x → (y : B) → next x ≡ Some y → P y) → (y : B) → (o >>= next) ≡ Some y → P y
+step_found P None next each y e = absurd (cc)
+step_found P (Some x) next each y e = each x refl y e
 
--- what is made of two members has what each of them has
-two_found : {A B C : Type 0} (made : A → B → C) (P : C → Type 0) (first : Option A) (second : Option B)
-    → ((a : A) (b : B) → first ≡ Some a → second ≡ Some b → P (made a b)) → (c : C) → of_two made first second ≡ Some c → P c
-two_found made P first second each c e =
-    let a = bind_some first _ c e in
-    let b = bind_some second _ c a.2 in
-    subst P (same_Some _ _ b.2) (each a.0 b.0 a.1 b.1)
+-- the last step is the value
+last_found : {B : Type 0} (P : B → Type 0) (x : B) → P x → (y : B) → Some x ≡ Some y → P y
+last_found P x h y e = subst P (same_Some _ _ e) h
 
 -- which of two ways a test went
 chosen : {A : Type 0} (b : Bool) (x y : Option A) (z : A) → cond b x y ≡ Some z → ((b ≡ true) × (x ≡ Some z)) ⊎ (y ≡ Some z)
@@ -101,68 +102,85 @@ module _ (ms : Members) where
   ]
 
   among_found : {A : Type 0} (P : A → Type 0) (name : List ℕ) (lines : List (Line A)) → AreLines P name lines → (x : A) → among name lines ms ≡ Some x → P x
-  among_found P name lines are x e =
-      let s = bind_some (text_among name ms) _ x e in
-      line_found P name lines are s.0 s.1 x s.2
+  among_found P name lines are = step_found P (text_among name ms) _ (λ s read. line_found P name lines are s read)
 
   -- ---- keys and calls
 
-  key_found : (key : Key) → key_among ms ≡ Some key → HasRow (key_row key)
-  key_found key e =
-      let epoch = bind_some (whole_among (codes "epoch") ms) _ key e in
-      let client = bind_some (whole_among (codes "client") ms) _ key epoch.2 in
-      let incarnation = bind_some (whole_among (codes "incarnation") ms) _ key client.2 in
-      let number = bind_some (whole_among (codes "number") ms) _ key incarnation.2 in
-      subst (λ (k : Key). HasRow (key_row k)) (same_Some _ _ number.2)
-      (
-        whole_found (codes "epoch") epoch.0 epoch.1,
-        (whole_found (codes "client") client.0 client.1, (whole_found (codes "incarnation") incarnation.0 incarnation.1, (whole_found (codes "number") number.0 number.1, tt))))
+  abbrev HasKey : Key → Type 0
+  HasKey key = HasRow (key_row key)
 
-  find_key : (key : Key) → HasRow (key_row key) → key_among ms ≡ Some key
+  key_found : (key : Key) → key_among ms ≡ Some key → HasKey key
+  key_found =
+      step_found HasKey (whole_among (codes "epoch") ms) _ (λ epoch e.
+      step_found HasKey (whole_among (codes "client") ms) _ (λ client c.
+      step_found HasKey (whole_among (codes "incarnation") ms) _ (λ incarnation i.
+      step_found HasKey (whole_among (codes "number") ms) _ (λ number n.
+      last_found HasKey (record { epoch = epoch; client = client; incarnation = incarnation; number = number })
+      (whole_found (codes "epoch") epoch e, (whole_found (codes "client") client c, (whole_found (codes "incarnation") incarnation i, (whole_found (codes "number") number n, tt))))))))
+
+  find_key : (key : Key) → HasKey key → key_among ms ≡ Some key
   find_key key has = rw (has.0, has.1.0, has.1.1.0, has.1.1.1.0) refl
 
-  wait_found : (w : wait.Wait) → wait_among ms ≡ Some w → HasRow (wait_row (Some w))
+  wait_found : (w : Wait) → wait_among ms ≡ Some w → HasRow (wait_row (Some w))
   wait_found = among_found (λ w. HasRow (wait_row (Some w))) (codes "wait") wait_lines (
-    (λ word w e. subst (λ (w : wait.Wait). HasRow (wait_row (Some w))) (same_Some _ _ e) (word, tt)),
+    (λ word. last_found (λ w. HasRow (wait_row (Some w))) wait.Now (word, tt)),
     tt)
 
-  abbrev HasCall : call.Call → Type 0
+  abbrev HasCall : Call → Type 0
   HasCall call = HasRow (call_row call)
 
-  call_found : (call : call.Call) → call_among ms ≡ Some call → HasCall call
-  call_found = among_found HasCall (codes "call") call_lines (
-    (λ word. two_found call.TheVariants.Put HasCall (queue_among ms) (item_among ms) (λ queue item q i. (word, (whole_found (codes "queue") queue q, (text_found (codes "item") item i, tt))))),
-    ((λ word. two_found call.TheVariants.Take HasCall (queue_among ms) (wait_among ms) (λ queue w q is. (word, (whole_found (codes "queue") queue q, wait_alone w (wait_found w is))))),
-    tt))
-    where
-      wait_alone : (w : wait.Wait) → HasRow (wait_row (Some w)) → HasRow (wait_row (Some w) ++ [])
-      wait_alone wait.TheVariants.Now has = has
+  -- a wait is the last of a call's members
+  wait_last : (w : Wait) → wait_among ms ≡ Some w → HasRow (wait_row (Some w) ++ [])
+  wait_last wait.Now e = wait_found wait.Now e
 
-  find_call : (call : call.Call) → HasCall call → call_among ms ≡ Some call
-  find_call (call.TheVariants.Put queue item) has = rw (has.0, has.1.0, has.1.1.0) refl
-  find_call (call.TheVariants.Take queue wait.TheVariants.Now) has = rw (has.0, has.1.0, has.1.1.0) refl
+  queue_step : (next : ℕ → Option Call) → ((queue : ℕ) → Has (codes "queue", number (unsigned queue)) → (call : Call) → next queue ≡ Some call → HasCall call)
+      → (call : Call) → (queue_among ms >>= next) ≡ Some call → HasCall call
+  queue_step next each = step_found HasCall (queue_among ms) next (λ queue q. each queue (whole_found (codes "queue") queue q))
+
+  item_step : (next : List ℕ → Option Call) → ((item : List ℕ) → Has (codes "item", string item) → (call : Call) → next item ≡ Some call → HasCall call)
+      → (call : Call) → (item_among ms >>= next) ≡ Some call → HasCall call
+  item_step next each = step_found HasCall (item_among ms) next (λ item i. each item (text_found (codes "item") item i))
+
+  call_found : (call : Call) → call_among ms ≡ Some call → HasCall call
+  call_found = among_found HasCall (codes "call") call_lines (
+    (λ word. queue_step _ (λ queue q. item_step _ (λ item i. last_found HasCall (call.Put queue item) (word, (q, (i, tt)))))),
+    ((λ word. queue_step _ (λ queue q. step_found HasCall (wait_among ms) _ (λ w is. last_found HasCall (call.Take queue w) (word, (q, wait_last w is))))),
+    tt))
+
+  find_call : (call : Call) → HasCall call → call_among ms ≡ Some call
+  find_call (call.Put queue item) has = rw (has.0, has.1.0, has.1.1.0) refl
+  find_call (call.Take queue wait.Now) has = rw (has.0, has.1.0, has.1.1.0) refl
 
   -- ---- messages
 
-  abbrev HasMessage : message.Message → Type 0
+  abbrev HasMessage : Message → Type 0
   HasMessage message = HasRow (message_row message)
 
-  message_found : (message : message.Message) → message_among ms ≡ Some message → HasMessage message
-  message_found = among_found HasMessage (codes "kind") message_lines (
-    (λ word. two_found message.TheVariants.Hello HasMessage (whole_among (codes "client") ms) (whole_among (codes "incarnation") ms) (λ client incarnation c i. (word, (whole_found (codes "client") client c, (whole_found (codes "incarnation") incarnation i, tt))))),
-    ((λ word. two_found message.TheVariants.Request HasMessage (key_among ms) (call_among ms) (λ key call k c.
-        let has = key_found key k in
-        (word, (has.0, (has.1.0, (has.1.1.0, (has.1.1.1.0, call_found call c))))))),
-    tt))
+  hello_found : Has (codes "kind", string (codes "hello")) → (message : Message) → hello_among ms ≡ Some message → HasMessage message
+  hello_found word =
+      step_found HasMessage (whole_among (codes "client") ms) _ (λ client c.
+      step_found HasMessage (whole_among (codes "incarnation") ms) _ (λ incarnation i.
+      last_found HasMessage (message.Hello client incarnation)
+      (word, (whole_found (codes "client") client c, (whole_found (codes "incarnation") incarnation i, tt)))))
 
-  find_message : (message : message.Message) → HasMessage message → message_among ms ≡ Some message
-  find_message (message.TheVariants.Hello client incarnation) has = rw (has.0, has.1.0, has.1.1.0) refl
-  find_message (message.TheVariants.Request key call) has =
+  request_found : Has (codes "kind", string (codes "request")) → (message : Message) → request_among ms ≡ Some message → HasMessage message
+  request_found word =
+      step_found HasMessage (key_among ms) _ (λ key k.
+      step_found HasMessage (call_among ms) _ (λ call c.
+      last_found HasMessage (message.Request key call)
+      (let has = key_found key k in (word, (has.0, (has.1.0, (has.1.1.0, (has.1.1.1.0, call_found call c))))))))
+
+  message_found : (message : Message) → message_among ms ≡ Some message → HasMessage message
+  message_found = among_found HasMessage (codes "kind") message_lines (hello_found, (request_found, tt))
+
+  find_message : (message : Message) → HasMessage message → message_among ms ≡ Some message
+  find_message (message.Hello client incarnation) has = rw (has.0, has.1.0, has.1.1.0) refl
+  find_message (message.Request key call) has =
       let of_key = find_key key (has.1.0, (has.1.1.0, (has.1.1.1.0, (has.1.1.1.1.0, tt)))) in
       rw (has.0, of_key, find_call call has.1.1.1.1.1) refl
 
 -- in the object with the message's row the message is alone
-pub is_alone : (message : message.Message) → FitsMessage message → IsAlone (members_of (message_row message)) message
+pub is_alone : (message : Message) → FitsMessage message → IsAlone (members_of (message_row message)) message
 is_alone message fits =
     let fields = map field_of (message_row message) in
     let distinct = (message_sound message).distinct in
@@ -177,7 +195,7 @@ pub members_counted : (es : List (String Global × Value)) → members_len (memb
 members_counted = members_len-members_view
 
 -- where a message is alone, the object is that of its row
-pub alone_body : (m : BTreeMap (String Global) Value) (message : message.Message) → IsOrdered string_cmp m → IsAlone (members_view m.entries) message
+pub alone_body : (m : BTreeMap (String Global) Value) (message : Message) → IsOrdered string_cmp m → IsAlone (members_view m.entries) message
     → object (members_view m.entries) ≡ object_of (message_row message)
 alone_body m message ordered alone =
     let row = message_row message in

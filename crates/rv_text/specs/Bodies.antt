@@ -4,7 +4,8 @@ use Rattle.std.specs.Prelude.{◌≡◌, ℕ, ◌≤◌, List, length, Some, IfS
 use Rattle.serde_json.specs.Data.{Data}
 use Rattle.serde_json.specs.Read.{read}
 use Rattle.serde_json.specs.Written.{compact_text}
-use Rattle.rv_text.specs.declared.message.Message as message
+use Rattle.rv_text.specs.declared.message.Message.{Message}
+use Rattle.rv_text.specs.declared.message.Message.TheVariants as message
 use Rattle.rv_text.specs.declared.answer.Answer.{Answer}
 use Rattle.rv_text.specs.Calls.{item_of}
 use Rattle.rv_text.specs.Members.{object_of}
@@ -25,17 +26,17 @@ IsNotJson bytes = (value : Data) → ¬ Reads bytes value
 
 -- the bytes are a body of the message: they have a body's length, they read as the object with exactly the
 -- message's members, and the message is within the limits
-abbrev pub IsMessageBody : List ℕ → message.Message → Type 0
+abbrev pub IsMessageBody : List ℕ → Message → Type 0
 IsMessageBody bytes message =
     HasBodyLength bytes × Reads bytes (object_of (message_row message)) × FitsMessage message
 
 -- the item is text; every `Item` is, and a variable of a law ranges over all lists of numbers
-abbrev pub HasUtf8 : message.Message → Type 0
-HasUtf8 (message.TheVariants.Hello client incarnation) = Unit {0}
-HasUtf8 (message.TheVariants.Request key call) = IfSome (item_of call) IsUtf8
+abbrev pub HasUtf8 : Message → Type 0
+HasUtf8 (message.Hello client incarnation) = Unit {0}
+HasUtf8 (message.Request key call) = IfSome (item_of call) IsUtf8
 
 -- the body that is written for a message
-abbrev pub message_text : message.Message → List ℕ
+abbrev pub message_text : Message → List ℕ
 message_text message = compact_text (object_of (message_row message))
 
 -- the body that is written for an answer

@@ -1,36 +1,39 @@
--- What a call is: its word, its side, its wait and its item. All else that is said of a call is said of these.
+-- What a call is: its word, its side, its wait and its item. All else that is said of a call is said of
+-- these.
 use Rattle.std.specs.Prelude.{ℕ, List, codes, Option, Some, None}
 use Rattle.rv_text.specs.declared.call.Wait.{Wait}
-use Rattle.rv_text.specs.declared.call.Side as side
-use Rattle.rv_text.specs.declared.call.Call as call
+use Rattle.rv_text.specs.declared.call.Side.{Side}
+use Rattle.rv_text.specs.declared.call.Side.TheVariants as side
+use Rattle.rv_text.specs.declared.call.Call.{Call}
+use Rattle.rv_text.specs.declared.call.Call.TheVariants as call
 
 pub record Nature : Type 0 where
   -- the word that names it in a body
   pub word : List ℕ
   -- where it acts, and on which side
-  pub side : side.Side
+  pub side : Side
   -- how long it may wait; none where its kind never waits
   pub wait : Option Wait
   -- what it hands over
   pub item : Option (List ℕ)
 
-abbrev pub nature_of : call.Call → Nature
-nature_of (call.TheVariants.Put queue item) =
-    record { word = codes "put"; side = side.TheVariants.Gives queue; wait = None; item = Some item }
-nature_of (call.TheVariants.Take queue wait) =
-    record { word = codes "take"; side = side.TheVariants.Takes queue; wait = Some wait; item = None }
+abbrev pub nature_of : Call → Nature
+nature_of (call.Put queue item) =
+    record { word = codes "put"; side = side.Gives queue; wait = None; item = Some item }
+nature_of (call.Take queue wait) =
+    record { word = codes "take"; side = side.Takes queue; wait = Some wait; item = None }
 
-abbrev pub side_of : call.Call → side.Side
+abbrev pub side_of : Call → Side
 side_of call = (nature_of call).side
 
 -- the queue at which it acts
-abbrev pub queue_of : side.Side → ℕ
-queue_of (side.TheVariants.Gives queue) = queue
-queue_of (side.TheVariants.Takes queue) = queue
-queue_of (side.TheVariants.Looks queue) = queue
+abbrev pub queue_of : Side → ℕ
+queue_of (side.Gives queue) = queue
+queue_of (side.Takes queue) = queue
+queue_of (side.Looks queue) = queue
 
-abbrev pub wait_of : call.Call → Option Wait
+abbrev pub wait_of : Call → Option Wait
 wait_of call = (nature_of call).wait
 
-abbrev pub item_of : call.Call → Option (List ℕ)
+abbrev pub item_of : Call → Option (List ℕ)
 item_of call = (nature_of call).item

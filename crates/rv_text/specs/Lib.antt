@@ -1,4 +1,4 @@
--- ---- what a reader must agree with: all that public contracts and laws cite, in the order in which it is read
+-- ---- what a reader must agree with: all that public contracts and laws cite, in the order of reading
 
 pub mod Calls
 pub mod Members
@@ -7,6 +7,6 @@ pub mod Limits
 pub mod Bodies
 pub mod Laws
 
--- ---- private to proofs: what a reader finds among the members of an object
+-- ---- private to proofs: what the decoder finds among the members of an object, what the encoder puts there
 
 pub mod Reading

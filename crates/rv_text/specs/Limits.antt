@@ -1,11 +1,13 @@
 -- When the numbers and items of a value are within their limits: where the members of its row are.
 use Rattle.std.specs.Prelude.{ℕ, List}
 use Rattle.rv_text.specs.declared.message.Key.{Key}
-use Rattle.rv_text.specs.declared.message.Message as message
-use Rattle.rv_text.specs.declared.call.Call as call
-use Rattle.rv_text.specs.declared.answer.Reply as reply
-use Rattle.rv_text.specs.declared.answer.Refusal as refusal
-use Rattle.rv_text.specs.declared.answer.Answer as answer
+use Rattle.rv_text.specs.declared.message.Message.{Message}
+use Rattle.rv_text.specs.declared.message.Message.TheVariants as message
+use Rattle.rv_text.specs.declared.call.Call.{Call}
+use Rattle.rv_text.specs.declared.answer.Reply.{Reply}
+use Rattle.rv_text.specs.declared.answer.Refusal.{Refusal}
+use Rattle.rv_text.specs.declared.answer.Answer.{Answer}
+use Rattle.rv_text.specs.declared.answer.Answer.TheVariants as answer
 use Rattle.rv_text.specs.Members as members
 use Rattle.rv_text.specs.Rows.{call_row, reply_row, detail_row}
 
@@ -28,21 +30,22 @@ FitsKey key =
     FitsIdentifier key.incarnation ×
     FitsIdentifier key.number
 
-abbrev pub FitsCall : call.Call → Type 0
+abbrev pub FitsCall : Call → Type 0
 FitsCall call = members.AllWithin (call_row call)
 
-abbrev pub FitsMessage : message.Message → Type 0
-FitsMessage (message.TheVariants.Hello client incarnation) = FitsIdentifier client × FitsIdentifier incarnation
-FitsMessage (message.TheVariants.Request key call) = FitsKey key × FitsCall call
+abbrev pub FitsMessage : Message → Type 0
+FitsMessage (message.Hello client incarnation) =
+    FitsIdentifier client × FitsIdentifier incarnation
+FitsMessage (message.Request key call) = FitsKey key × FitsCall call
 
-abbrev pub FitsReply : reply.Reply → Type 0
+abbrev pub FitsReply : Reply → Type 0
 FitsReply reply = members.AllWithin (reply_row reply)
 
-abbrev pub FitsRefusal : refusal.Refusal → Type 0
+abbrev pub FitsRefusal : Refusal → Type 0
 FitsRefusal refusal = members.AllWithin (detail_row refusal)
 
-abbrev pub FitsAnswer : answer.Answer → Type 0
-FitsAnswer (answer.TheVariants.Welcome epoch client incarnation) =
+abbrev pub FitsAnswer : Answer → Type 0
+FitsAnswer (answer.Welcome epoch client incarnation) =
     FitsIdentifier epoch × FitsIdentifier client × FitsIdentifier incarnation
-FitsAnswer (answer.TheVariants.Replied key reply) = FitsKey key × FitsReply reply
-FitsAnswer (answer.TheVariants.Refused refusal) = FitsRefusal refusal
+FitsAnswer (answer.Replied key reply) = FitsKey key × FitsReply reply
+FitsAnswer (answer.Refused refusal) = FitsRefusal refusal

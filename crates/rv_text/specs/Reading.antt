@@ -1,5 +1,5 @@
--- For private clauses: what the decoder looks for among the members of an object, each member by its name, and
--- what the encoder puts there.
+-- For private clauses: what the decoder looks for among the members of an object, each by its name, and what
+-- the encoder puts there.
 use Rattle.std.specs.Prelude.{◌≡◌, ℕ, List, [], ◌∷◌, length, map, codes, if◌then◌else◌, Option, Some, None}
 use Rattle.std.specs.Prelude.{option_and_then, Result, Ok, Err, String}
 use Rattle.std.specs.declared.alloc.Global.{Global}
@@ -10,11 +10,15 @@ use Rattle.serde_json.specs.Events.{members_len}
 use Rattle.serde_json.specs.View.{members_view}
 use Rattle.serde_json.specs.declared.value.Value.{Value}
 use Rattle.serde_json.specs.Find.{get_member, as_number, as_u64, as_str}
-use Rattle.rv_text.specs.declared.fault.TextFault as fault
+use Rattle.rv_text.specs.declared.fault.TextFault.{TextFault}
+use Rattle.rv_text.specs.declared.fault.TextFault.TheVariants as fault
 use Rattle.rv_text.specs.declared.message.Key.{Key}
-use Rattle.rv_text.specs.declared.message.Message as message
-use Rattle.rv_text.specs.declared.call.Wait as wait
-use Rattle.rv_text.specs.declared.call.Call as call
+use Rattle.rv_text.specs.declared.message.Message.{Message}
+use Rattle.rv_text.specs.declared.message.Message.TheVariants as message
+use Rattle.rv_text.specs.declared.call.Wait.{Wait}
+use Rattle.rv_text.specs.declared.call.Wait.TheVariants as wait
+use Rattle.rv_text.specs.declared.call.Call.{Call}
+use Rattle.rv_text.specs.declared.call.Call.TheVariants as call
 use Rattle.rv_text.specs.Members.{Member, Field, field_of, with_fields}
 use Rattle.rv_text.specs.Rows.{message_row}
 use Rattle.rv_text.specs.Limits.{FitsMessage}
@@ -26,24 +30,25 @@ Map = BTreeMap (String Global) Value
 -- ---- what a reader answers
 
 -- the fault that a reader answers where this is to be found
-abbrev pub Fails : {A : Type 0} → fault.TextFault → Option A → Type 0
-Fails fault.TheVariants.NotJson found = ⊥
-Fails fault.TheVariants.NotMessage found = found ≡ None
-Fails fault.TheVariants.NoMemory found = Unit {0}
+abbrev pub Fails : {A : Type 0} → TextFault → Option A → Type 0
+Fails fault.NotJson found = ⊥
+Fails fault.NotMessage found = found ≡ None
+Fails fault.NoMemory found = Unit {0}
 
 -- a reader's answer, seen by view, is what is to be found, unless memory ran out
-abbrev pub FindsSeen : {A B : Type 0} → (A → B) → Result A fault.TextFault → Option B → Type 0
+abbrev pub FindsSeen : {A B : Type 0} → (A → B) → Result A TextFault → Option B → Type 0
 FindsSeen view (Ok x) found = found ≡ Some (view x)
 FindsSeen view (Err fault) found = Fails fault found
 
-abbrev pub Finds : {A : Type 0} → Result A fault.TextFault → Option A → Type 0
+abbrev pub Finds : {A : Type 0} → Result A TextFault → Option A → Type 0
 Finds answer found = FindsSeen (λ x. x) answer found
 
 -- the same of what is to be found among the members of a map
-abbrev pub FindsAmong : {A : Type 0} → Map → Result A fault.TextFault → (Members → Option A) → Type 0
+abbrev pub FindsAmong : {A : Type 0} → Map → Result A TextFault → (Members → Option A) → Type 0
 FindsAmong object answer found = Finds answer (found (members_view object.entries))
 
-abbrev pub FindsSeenAmong : {A B : Type 0} → Map → (A → B) → Result A fault.TextFault → (Members → Option B) → Type 0
+abbrev pub FindsSeenAmong : {A B : Type 0}
+    → Map → (A → B) → Result A TextFault → (Members → Option B) → Type 0
 FindsSeenAmong object view answer found = FindsSeen view answer (found (members_view object.entries))
 
 -- ---- one member
@@ -60,13 +65,6 @@ infixl 10 ◌>>=◌
 abbrev pub ◌>>=◌ : {A B : Type 0} → Option A → (A → Option B) → Option B
 None >>= next = None
 (Some x) >>= next = next x
-
--- what is made of two members
-abbrev pub of_two : {A B C : Type 0} → (A → B → C) → Option A → Option B → Option C
-of_two made first second = do
-  a ← first
-  b ← second
-  Some (made a b)
 
 -- what is found under a word, as its line says
 abbrev pub Line : Type 0 → Type 0
@@ -90,10 +88,10 @@ queue_among = whole_among (codes "queue")
 abbrev pub item_among : Members → Option (List ℕ)
 item_among = text_among (codes "item")
 
-abbrev pub wait_lines : List (Line wait.Wait)
-wait_lines = (codes "now", λ ms. Some wait.TheVariants.Now) ∷ []
+abbrev pub wait_lines : List (Line Wait)
+wait_lines = (codes "now", λ ms. Some wait.Now) ∷ []
 
-abbrev pub wait_among : Members → Option wait.Wait
+abbrev pub wait_among : Members → Option Wait
 wait_among members = among (codes "wait") wait_lines members
 
 abbrev pub key_among : Members → Option Key
@@ -104,40 +102,46 @@ key_among members = do
   number ← whole_among (codes "number") members
   Some (record { epoch = epoch; client = client; incarnation = incarnation; number = number })
 
-abbrev pub call_lines : List (Line call.Call)
+abbrev pub call_lines : List (Line Call)
 call_lines =
-    (codes "put", λ ms. of_two call.TheVariants.Put (queue_among ms) (item_among ms)) ∷
-    (codes "take", λ ms. of_two call.TheVariants.Take (queue_among ms) (wait_among ms)) ∷
+    (codes "put", λ ms. queue_among ms >>= λ queue. item_among ms >>= λ item. Some (call.Put queue item)) ∷
+    (codes "take", λ ms. queue_among ms >>= λ queue. wait_among ms >>= λ wait. Some (call.Take queue wait)) ∷
     []
 
-abbrev pub call_among : Members → Option call.Call
+abbrev pub call_among : Members → Option Call
 call_among members = among (codes "call") call_lines members
 
-abbrev pub hello_among : Members → Option message.Message
-hello_among ms = of_two message.TheVariants.Hello (whole_among (codes "client") ms) (whole_among (codes "incarnation") ms)
+abbrev pub hello_among : Members → Option Message
+hello_among members = do
+  client ← whole_among (codes "client") members
+  incarnation ← whole_among (codes "incarnation") members
+  Some (message.Hello client incarnation)
 
-abbrev pub message_lines : List (Line message.Message)
-message_lines =
-    (codes "hello", hello_among) ∷
-    (codes "request", λ ms. of_two message.TheVariants.Request (key_among ms) (call_among ms)) ∷
-    []
+abbrev pub request_among : Members → Option Message
+request_among members = do
+  key ← key_among members
+  call ← call_among members
+  Some (message.Request key call)
+
+abbrev pub message_lines : List (Line Message)
+message_lines = (codes "hello", hello_among) ∷ (codes "request", request_among) ∷ []
 
 -- whatever other members stand beside the message's, and whatever the limits
-abbrev pub message_among : Members → Option message.Message
+abbrev pub message_among : Members → Option Message
 message_among members = among (codes "kind") message_lines members
 
 -- the message is found, with no other members and within the limits
-pub record IsAlone (members : Members) (message : message.Message) : Type 0 where
+pub record IsAlone (members : Members) (message : Message) : Type 0 where
   pub found : message_among members ≡ Some message
   pub counted : members_len members ≡ length (message_row message)
   pub fits : FitsMessage message
 
 -- a reader answers that message exactly where there is one, unless memory ran out
-abbrev pub FindsAlone : Result message.Message fault.TextFault → Members → Type 0
+abbrev pub FindsAlone : Result Message TextFault → Members → Type 0
 FindsAlone (Ok message) object = IsAlone object message
-FindsAlone (Err fault.TheVariants.NotJson) object = ⊥
-FindsAlone (Err fault.TheVariants.NotMessage) object = (message : message.Message) → ¬ IsAlone object message
-FindsAlone (Err fault.TheVariants.NoMemory) object = Unit {0}
+FindsAlone (Err fault.NotJson) object = ⊥
+FindsAlone (Err fault.NotMessage) object = (message : Message) → ¬ IsAlone object message
+FindsAlone (Err fault.NoMemory) object = Unit {0}
 
 -- ---- what a writer puts
 
