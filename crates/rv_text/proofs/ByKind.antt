@@ -4,7 +4,7 @@ use Rattle.std.proofs.lemmas.Bool.{and_parts, leb-true, ltb-true}
 use Rattle.std.specs.Prelude.{nat_le, nat_lt}
 use Rattle.json.proofs.Printed.Utf8.{are_ascii, IsUtf8-are_ascii}
 use Rattle.serde_json.specs.Written.{has_float}
-use Rattle.rv_text.specs.Members.{Limit, up_to, from_one_to, Keeps, Field, Member, word, whole, item_text, field_of, IsWithin, limited, WithinFrom, WithinEach, AllWithin}
+use Rattle.rv_text.specs.Members.{Limit, up_to, from_one_to, Keeps, Member, word, whole, item_text, field_of, IsWithin, limited, WithinFrom, WithinEach, AllWithin}
 use Rattle.rv_text.proofs.Objects.{AllFields}
 use Rattle.rv_text.proofs.Sizes.{field_size, fields_size, IsFlat, IsFlatMember}
 use Rattle.rv_text.proofs.Texts.{IsTextMember}

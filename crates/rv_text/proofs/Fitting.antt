@@ -1,5 +1,5 @@
 -- What fits is written in a body's length.
-use Rattle.std.proofs.Common.{◌≡◌, ℕ, List, map, arith}
+use Rattle.std.proofs.Common.{List, map, arith}
 use Rattle.serde_json.specs.Written.{compact_text}
 use Rattle.rv_text.specs.declared.message.Message.{Message}
 use Rattle.rv_text.specs.declared.answer.Answer.{Answer}

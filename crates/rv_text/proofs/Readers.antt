@@ -19,12 +19,12 @@ use Rattle.rv_text.specs.declared.call.Wait.{Wait}
 use Rattle.rv_text.specs.declared.call.Wait.TheVariants as wait
 use Rattle.rv_text.specs.declared.call.Call.{Call}
 use Rattle.rv_text.specs.declared.call.Call.TheVariants as call
-use Rattle.rv_text.specs.Members.{Member, Field, field_of, with_fields, members_of, object_of}
+use Rattle.rv_text.specs.Members.{Member, Field, field_of, members_of, object_of}
 use Rattle.rv_text.specs.Rows.{key_row, wait_row, call_row, message_row}
 use Rattle.rv_text.specs.Limits.{FitsMessage}
 use Rattle.rv_text.specs.Reading.{◌>>=◌, Line, by_word, among, whole_among, text_among, queue_among, item_among, wait_lines, wait_among}
 use Rattle.rv_text.specs.Reading.{key_among, hello_among, request_among, call_lines, call_among, message_lines, message_among, IsAlone}
-use Rattle.rv_text.proofs.Objects.{HasFields, IsSorted, IsSorted-entries, with_fields-found, found-with_fields, members_len-with_fields}
+use Rattle.rv_text.proofs.Objects.{HasFields, IsSorted-entries, with_fields-found, found-with_fields, members_len-with_fields}
 use Rattle.rv_text.proofs.Sound.{message_sound}
 
 -- ---- the steps of a reader
@@ -124,7 +124,8 @@ module _ (ms : Members) where
   wait_found : (w : Wait) → wait_among ms ≡ Some w → HasRow (wait_row (Some w))
   wait_found = among_found (λ w. HasRow (wait_row (Some w))) (codes "wait") wait_lines (
     (λ word. last_found (λ w. HasRow (wait_row (Some w))) wait.Now (word, tt)),
-    tt)
+    tt,
+  )
 
   abbrev HasCall : Call → Type 0
   HasCall call = HasRow (call_row call)
@@ -144,8 +145,11 @@ module _ (ms : Members) where
   call_found : (call : Call) → call_among ms ≡ Some call → HasCall call
   call_found = among_found HasCall (codes "call") call_lines (
     (λ word. queue_step _ (λ queue q. item_step _ (λ item i. last_found HasCall (call.Put queue item) (word, (q, (i, tt)))))),
-    ((λ word. queue_step _ (λ queue q. step_found HasCall (wait_among ms) _ (λ w is. last_found HasCall (call.Take queue w) (word, (q, wait_last w is))))),
-    tt))
+    (
+      (λ word. queue_step _ (λ queue q. step_found HasCall (wait_among ms) _ (λ w is. last_found HasCall (call.Take queue w) (word, (q, wait_last w is))))),
+      tt,
+    ),
+  )
 
   find_call : (call : Call) → HasCall call → call_among ms ≡ Some call
   find_call (call.Put queue item) has = rw (has.0, has.1.0, has.1.1.0) refl
@@ -200,4 +204,4 @@ pub alone_body : (m : BTreeMap (String Global) Value) (message : Message) → Is
 alone_body m message ordered alone =
     let row = message_row message in
     ap object (with_fields-found (map field_of row) (members_view m.entries) (IsSorted-entries m.entries ordered) (message_sound message).distinct
-      (message_found (members_view m.entries) message alone.found) (alone.counted ∙ sym (length-map row field_of)))
+    (message_found (members_view m.entries) message alone.found) (alone.counted ∙ sym (length-map row field_of)))

@@ -1,5 +1,5 @@
 -- What holds of the row of each message and answer: no name stands twice, all is plain, and there is room for it.
-use Rattle.std.proofs.Common.{◌≡◌, ℕ, ◌≤◌, List, [], ◌∷◌, ◌++◌, map, codes, true, Option, Some, None, IfSome, IsUtf8, refl, arith}
+use Rattle.std.proofs.Common.{◌≡◌, ℕ, ◌≤◌, List, ◌∷◌, ◌++◌, map, codes, true, Option, Some, None, IfSome, IsUtf8, refl, arith}
 use Rattle.rv_text.specs.declared.message.Key.{Key}
 use Rattle.rv_text.specs.declared.message.Message.{Message}
 use Rattle.rv_text.specs.declared.message.Message.TheVariants as message

@@ -17,8 +17,7 @@ written_body message fits utf8 =
     let plain = sound.plain in
     let within = message_within message fits in
     let text = row_is_text row plain within (message_has_text message utf8) in
-    let flat = AllMembers-with_fields IsFlatMember (map field_of row) (row_is_flat row plain within) in
-    (
+    let flat = AllMembers-with_fields IsFlatMember (map field_of row) (row_is_flat row plain within) in (
       HasBodyLength-message_text message fits,
       (IsUtf8-compact_text (members_of row) (AllMembers-with_fields IsTextMember (map field_of row) text), read-compact_text (members_of row) flat sound.in_order),
       fits,

@@ -6,7 +6,6 @@ pub mod Rows
 pub mod Limits
 pub mod Bodies
 pub mod Laws
-
 -- ---- private to proofs: what the decoder finds among the members of an object, what the encoder puts there
 
 pub mod Reading

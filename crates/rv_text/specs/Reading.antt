@@ -36,20 +36,17 @@ Fails fault.NotMessage found = found ≡ None
 Fails fault.NoMemory found = Unit {0}
 
 -- a reader's answer, seen by view, is what is to be found, unless memory ran out
-abbrev pub FindsSeen : {A B : Type 0} → (A → B) → Result A TextFault → Option B → Type 0
-FindsSeen view (Ok x) found = found ≡ Some (view x)
-FindsSeen view (Err fault) found = Fails fault found
-
-abbrev pub Finds : {A : Type 0} → Result A TextFault → Option A → Type 0
-Finds answer found = FindsSeen (λ x. x) answer found
+abbrev pub Finds : {A B : Type 0} → (A → B) → Result A TextFault → Option B → Type 0
+Finds view (Ok x) found = found ≡ Some (view x)
+Finds view (Err fault) found = Fails fault found
 
 -- the same of what is to be found among the members of a map
-abbrev pub FindsAmong : {A : Type 0} → Map → Result A TextFault → (Members → Option A) → Type 0
-FindsAmong object answer found = Finds answer (found (members_view object.entries))
-
 abbrev pub FindsSeenAmong : {A B : Type 0}
     → Map → (A → B) → Result A TextFault → (Members → Option B) → Type 0
-FindsSeenAmong object view answer found = FindsSeen view answer (found (members_view object.entries))
+FindsSeenAmong object view answer found = Finds view answer (found (members_view object.entries))
+
+abbrev pub FindsAmong : {A : Type 0} → Map → Result A TextFault → (Members → Option A) → Type 0
+FindsAmong object answer found = FindsSeenAmong object (λ x. x) answer found
 
 -- ---- one member
 
