@@ -16,7 +16,7 @@ use Rattle.rv_text.specs.Members.{members_of, object_of}
 use Rattle.rv_text.specs.Rows.{message_row}
 use Rattle.rv_text.specs.Laws.{OneMessage}
 use Rattle.rv_text.specs.Reading.{message_among, IsAlone, FindsAlone}
-use Rattle.rv_text.proofs.Readers.{alone_body, is_alone}
+use Rattle.rv_text.proofs.Readers.{alone_body, IsAlone-members_of}
 
 pub as_object_is : (d : Data) (ms : Members) → as_object d ≡ Some ms → d ≡ object ms
 as_object_is (object ms) ns e = ap object (cc)
@@ -37,7 +37,7 @@ module _ (bytes : List ℕ) (value : Data) (m : BTreeMap (String Global) Value) 
   decodes answer alone message body =
       let same : Some (object (members_view m.entries)) ≡ Some (object_of (message_row message)) = ap Some (sym is) ∙ sym reads.1 ∙ body.1.1 in
       let members : members_of (message_row message) ≡ members_view m.entries = cc in
-      one_alone answer message (subst (λ ms. IsAlone ms message) members (is_alone message body.2)) alone
+      one_alone answer message (subst (λ ms. IsAlone ms message) members (IsAlone-members_of message body.2)) alone
     where
       one_alone : (answer : Result Message TextFault) (message : Message) → IsAlone (members_view m.entries) message → FindsAlone answer (members_view m.entries) → (answer ≡ Ok message) ⊎ (answer ≡ Err NoMemory)
       one_alone (Ok other) message body alone = inl (ap Ok (same_Some _ _ (sym alone.found ∙ body.found)))
@@ -50,5 +50,5 @@ pub one_body : OneMessage
 one_body bytes m n p q =
     let same : Some (object_of (message_row m)) ≡ Some (object_of (message_row n)) = sym p.1.1 ∙ q.1.1 in
     let members : members_of (message_row m) ≡ members_of (message_row n) = cc in
-    let found : Some m ≡ Some n = sym (is_alone m p.2).found ∙ ap message_among members ∙ (is_alone n q.2).found in
+    let found : Some m ≡ Some n = sym (IsAlone-members_of m p.2).found ∙ ap message_among members ∙ (IsAlone-members_of n q.2).found in
     cc

@@ -184,8 +184,8 @@ module _ (ms : Members) where
       rw (has.0, of_key, find_call call has.1.1.1.1.1) refl
 
 -- in the object with the message's row the message is alone
-pub is_alone : (message : Message) → FitsMessage message → IsAlone (members_of (message_row message)) message
-is_alone message fits =
+pub IsAlone-members_of : (message : Message) → FitsMessage message → IsAlone (members_of (message_row message)) message
+IsAlone-members_of message fits =
     let fields = map field_of (message_row message) in
     let distinct = (message_sound message).distinct in
     record {

@@ -1,5 +1,5 @@
 -- When the numbers and items of a value are within their limits: where the members of its row are.
-use Rattle.std.specs.Prelude.{ℕ, List}
+use Rattle.std.specs.Prelude.{ℕ}
 use Rattle.rv_text.specs.declared.message.Key.{Key}
 use Rattle.rv_text.specs.declared.message.Message.{Message}
 use Rattle.rv_text.specs.declared.message.Message.TheVariants as message
@@ -9,6 +9,7 @@ use Rattle.rv_text.specs.declared.answer.Refusal.{Refusal}
 use Rattle.rv_text.specs.declared.answer.Answer.{Answer}
 use Rattle.rv_text.specs.declared.answer.Answer.TheVariants as answer
 use Rattle.rv_text.specs.Members as members
+pub use Rattle.rv_text.specs.Members.{FitsItem}
 use Rattle.rv_text.specs.Rows.{call_row, reply_row, detail_row}
 
 abbrev pub FitsIdentifier : ℕ → Type 0
@@ -19,9 +20,6 @@ FitsLast last = members.Keeps members.last_numbers last
 
 abbrev pub FitsQueue : ℕ → Type 0
 FitsQueue queue = members.Keeps members.queue_numbers queue
-
-abbrev pub FitsItem : List ℕ → Type 0
-FitsItem item = members.FitsItem item
 
 abbrev pub FitsKey : Key → Type 0
 FitsKey key =

@@ -65,7 +65,7 @@ IsWithin (item_text name bytes) = FitsItem bytes
 
 -- ---- rows of members
 
--- a row's members that have a limit
+-- a row's members that have a limit: all but words
 abbrev pub limited : List Member → List Member
 limited [] = []
 limited (word name bytes ∷ row) = limited row
@@ -80,7 +80,7 @@ abbrev pub WithinEach : List Member → Type 0
 WithinEach [] = Unit {0}
 WithinEach (member ∷ row) = WithinFrom member row
 
--- each member that has a limit is within it
+-- each member that has a limit is within it: a product with one factor for each of them
 abbrev pub AllWithin : List Member → Type 0
 AllWithin row = WithinEach (limited row)
 
