@@ -5,6 +5,5 @@ pub mod Rows
 pub mod Limits
 pub mod Bodies
 pub mod Laws
-
 -- Private to proofs, what the decoder finds among the members of an object and what the encoder puts there:
 pub mod Reading
