@@ -1,8 +1,11 @@
 pub mod Objects
+pub mod Sizes
+pub mod Texts
+pub mod ByKind
+pub mod Sound
+pub mod Kept
 pub mod Readers
 pub mod Decoding
 pub mod Floats
-pub mod Sizes
 pub mod Fitting
-pub mod Texts
 pub mod Written

@@ -1,5 +1,5 @@
 -- An object in which each of these members is found, and which has no more of them, is the object with these members.
-use Rattle.std.proofs.Common.{◌≡◌, ℕ, suc, ◌+◌, ◌≤◌, List, [], ◌∷◌, ◌++◌, length, Bool, true, ◌&&◌, not, Some, None, String, Global, Ordering, Less, Equal, Greater, string_bytes, string_cmp, nat_cmp, is_eq, bytes_eq, refl, sym, ap, ◌∙◌, subst, inl, inr, arith}
+use Rattle.std.proofs.Common.{◌≡◌, ℕ, suc, ◌+◌, ◌≤◌, List, [], ◌∷◌, length, Bool, true, ◌&&◌, not, Some, None, String, Global, Ordering, Less, Equal, Greater, string_bytes, string_cmp, nat_cmp, is_eq, bytes_eq, refl, sym, ap, ◌∙◌, subst, inl, inr, arith}
 use Rattle.std.proofs.lemmas.Bool.{and_parts, not-true, both_ways}
 use Rattle.std.proofs.lemmas.Cmp.{nat_list_cmp_total}
 use Rattle.std.proofs.lemmas.Map.Text.{is_eq-slice_cmp}
@@ -16,7 +16,7 @@ use Rattle.serde_json.specs.Find.{get_member}
 use Rattle.serde_json.specs.View.{members_view}
 use Rattle.serde_json.specs.declared.value.Value.{Value}
 use Rattle.serde_json.proofs.Views.{get_member-put, get_member-put_other}
-use Rattle.rv_text.specs.Fields.{Field, with_fields}
+use Rattle.rv_text.specs.Members.{Field, with_fields}
 
 -- each of these members is found
 abbrev pub HasFields : List Field → Members → Type 0
@@ -200,10 +200,6 @@ members_len-with_fields fs apart = members_len-with_fields_from fs no_members ap
 abbrev pub AllFields : (List ℕ → Data → Type 0) → List Field → Type 0
 AllFields P [] = Unit {0}
 AllFields P (f ∷ fs) = P f.0 f.1 × AllFields P fs
-
-pub AllFields-append : (P : List ℕ → Data → Type 0) (fs gs : List Field) → AllFields P fs → AllFields P gs → AllFields P (fs ++ gs)
-AllFields-append P [] gs h k = k
-AllFields-append P (f ∷ fs) gs h k = (h.0, AllFields-append P fs gs h.1 k)
 
 abbrev pub AllMembers : (List ℕ → Data → Type 0) → Members → Type 0
 AllMembers P no_members = Unit {0}

@@ -1,5 +1,5 @@
 -- How long the text of an object is, whose members are whole numbers and texts.
-use Rattle.std.proofs.Common.{◌≡◌, ℕ, ◌+◌, ◌*◌, ◌/◌, ◌%◌, ◌^◌, ◌<◌, ◌≤◌, Bool, true, false, cond, List, [], ◌∷◌, ◌++◌, length, Ordering, Less, Equal, Greater, nat_cmp, arith, length-append}
+use Rattle.std.proofs.Common.{ℕ, ◌+◌, ◌*◌, ◌/◌, ◌%◌, ◌^◌, ◌<◌, ◌≤◌, Bool, true, false, cond, List, [], ◌∷◌, ◌++◌, length, Ordering, Less, Equal, Greater, nat_cmp, arith, length-append}
 use Rattle.std.proofs.lemmas.Fmt.{length-decimal-le}
 use Rattle.std.specs.Char.{digit_char}
 use Rattle.std.specs.Prelude.{nat_lt}
@@ -8,7 +8,7 @@ use Rattle.std.specs.Ordering.{match_ordering}
 use Rattle.json.specs.Print.{escape_letter, escape_byte, escape, quoted}
 use Rattle.serde_json.specs.Data.{unsigned, negative, float, Data, null, boolean, number, string, array, object, Members, no_members, member, put}
 use Rattle.serde_json.specs.Written.{comma_if, compact_text, members_text}
-use Rattle.rv_text.specs.Fields.{Field, with_fields, object_of}
+use Rattle.rv_text.specs.Members.{Field, with_fields}
 use Rattle.rv_text.proofs.Objects.{AllFields, AllMembers, AllMembers-with_fields}
 
 cond_length : (b : Bool) (xs ys : List ℕ) (n : ℕ) → length xs ≤ n → length ys ≤ n → length (cond b xs ys) ≤ n
@@ -45,10 +45,6 @@ field_size f = 6 * length f.0 + 4 + value_size f.1
 abbrev pub fields_size : List Field → ℕ
 fields_size [] = 0
 fields_size (f ∷ fs) = field_size f + fields_size fs
-
-pub fields_size-append : (fs gs : List Field) → fields_size (fs ++ gs) ≡ fields_size fs + fields_size gs
-fields_size-append [] gs = omega arith
-fields_size-append (f ∷ fs) gs = omega (arith, fields_size-append fs gs)
 
 -- a whole number of 64 bits, or a text
 abbrev pub IsFlat : Data → Type 0
@@ -113,6 +109,6 @@ members_size-with_fields [] ms = omega arith
 members_size-with_fields (f ∷ fs) ms = omega (arith, members_size-with_fields fs (put f.0 f.1 ms), members_size-put f.0 f.1 ms)
 
 -- the text of an object takes no more than its fields
-pub length-object_of : (fs : List Field) → AllFields IsFlatMember fs → length (compact_text (object_of fs)) ≤ fields_size fs + 2
-length-object_of fs h =
+pub length-object : (fs : List Field) → AllFields IsFlatMember fs → length (compact_text (object (with_fields fs no_members))) ≤ fields_size fs + 2
+length-object fs h =
     omega (arith, length-members_text false (with_fields fs no_members) (AllMembers-with_fields IsFlatMember fs h), members_size-with_fields fs no_members)

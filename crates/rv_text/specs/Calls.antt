@@ -1,10 +1,11 @@
--- What a call is: its word, its side, its wait and its item. All else that is said of a call is said of these.
+-- What a call is: its word, its side, its wait and its item. All else that is said of a call is said of
+-- these.
 use Rattle.std.specs.Prelude.{ℕ, List, codes, Option, Some, None}
 use Rattle.rv_text.specs.declared.call.Wait.{Wait}
 use Rattle.rv_text.specs.declared.call.Side.{Side}
-use Rattle.rv_text.specs.declared.call.Side.TheVariants.{Gives, Takes}
+use Rattle.rv_text.specs.declared.call.Side.TheVariants as side
 use Rattle.rv_text.specs.declared.call.Call.{Call}
-use Rattle.rv_text.specs.declared.call.Call.TheVariants.{Put, Take}
+use Rattle.rv_text.specs.declared.call.Call.TheVariants as call
 
 pub record Nature : Type 0 where
   -- the word that names it in a body
@@ -17,11 +18,19 @@ pub record Nature : Type 0 where
   pub item : Option (List ℕ)
 
 abbrev pub nature_of : Call → Nature
-nature_of (Put queue item) = record { word = codes "put"; side = Gives queue; wait = None; item = Some item }
-nature_of (Take queue wait) = record { word = codes "take"; side = Takes queue; wait = Some wait; item = None }
+nature_of (call.Put queue item) =
+    record { word = codes "put"; side = side.Gives queue; wait = None; item = Some item }
+nature_of (call.Take queue wait) =
+    record { word = codes "take"; side = side.Takes queue; wait = Some wait; item = None }
 
 abbrev pub side_of : Call → Side
 side_of call = (nature_of call).side
+
+-- the queue at which it acts
+abbrev pub queue_of : Side → ℕ
+queue_of (side.Gives queue) = queue
+queue_of (side.Takes queue) = queue
+queue_of (side.Looks queue) = queue
 
 abbrev pub wait_of : Call → Option Wait
 wait_of call = (nature_of call).wait

@@ -1,6 +1,9 @@
+-- What a reader must agree with, all that public contracts and laws cite, in the order of reading:
 pub mod Calls
+pub mod Members
+pub mod Rows
 pub mod Limits
-pub mod Fields
 pub mod Bodies
-pub mod Reading
 pub mod Laws
+-- Private to proofs, what the decoder finds among the members of an object and what the encoder puts there:
+pub mod Reading

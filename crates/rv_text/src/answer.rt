@@ -55,7 +55,7 @@ pub enum Refusal {
 
 impl Refusal {
     ghost use Rattle.std.specs.Prelude.{◌≡◌};
-    ghost use Rattle.rv_text.specs.Fields.{code_of};
+    ghost use Rattle.rv_text.specs.Rows.{code_of};
 
     /// The refusal's number, 1 to 11: the place of its test among those that a message meets.
     pub fn code(&self) -> u64

@@ -33,9 +33,23 @@ pub enum Side {
     Looks(u64),
 }
 
+impl Side {
+    ghost use Rattle.rv_text.specs.Members.{AllWithin};
+    ghost use Rattle.rv_text.specs.Rows.{side_row};
+
+    // Whether the number of its queue is 0 to 63.
+    fn fits(&self) -> bool
+        ensures { IsTrue result ↔ AllWithin (side_row self.now) }
+    {
+        match self {
+            Side::Gives(queue) | Side::Takes(queue) | Side::Looks(queue) => *queue <= MAX_QUEUE,
+        }
+    }
+}
+
 impl Call {
     ghost use Rattle.rv_text.specs.Calls.{side_of, wait_of, item_of};
-    ghost use Rattle.rv_text.specs.Fields.{call_fields};
+    ghost use Rattle.rv_text.specs.Rows.{call_row};
     ghost use Rattle.rv_text.specs.Limits.{FitsCall};
 
     /// The call's side.
@@ -68,23 +82,17 @@ impl Call {
         }
     }
 
-    // How many members the call has in a body.
+    // How many members the call has in a body: its word and its place, its wait and its item.
     pub(crate) fn member_count(&self) -> usize
-        ensures { result ≡ length (call_fields self.now) }
+        ensures { result ≡ length (call_row self.now) }
     {
-        match self {
-            Call::Put { .. } => 3,
-            Call::Take { .. } => 3,
-        }
+        2 + usize::from(self.wait().is_some()) + usize::from(self.item().is_some())
     }
 
     /// Whether the queue is 0 to 63 and the item has at most 512 bytes.
     pub fn fits(&self) -> bool
         ensures { IsTrue result ↔ FitsCall self.now }
     {
-        match self {
-            Call::Put { queue, item } => *queue <= MAX_QUEUE && item.fits(),
-            Call::Take { queue, .. } => *queue <= MAX_QUEUE,
-        }
+        self.side().fits() && self.item().is_none_or(Item::fits)
     }
 }

@@ -4,12 +4,13 @@ ghost use Rattle.std.specs.BTreeMap.{IsOrdered};
 ghost use Rattle.serde_json.specs.Events.{members_len};
 ghost use Rattle.serde_json.specs.View.{view, members_view};
 ghost use Rattle.rv_text.specs.Bodies.{HasBodyLength, Reads, IsNotJson, IsMessageBody};
-ghost use Rattle.rv_text.specs.Fields.{message_fields};
-ghost use Rattle.rv_text.specs.Reading.{Gives, kind_in, message_in};
+ghost use Rattle.rv_text.specs.Limits.{FitsMessage};
+ghost use Rattle.rv_text.specs.Rows.{message_row};
+ghost use Rattle.rv_text.specs.Reading.{FindsAmong, FindsAlone, message_among};
 ghost use Rattle.rv_text.specs.declared.message.Message.{Message};
 
 use crate::fault::TextFault;
-use crate::members::{read_call, read_identifier, read_key, read_text};
+use crate::members::{read_call, read_key, read_text, read_whole};
 use crate::message::Message;
 use serde_json::{Map, Value};
 use std::alloc::Global;
@@ -68,33 +69,33 @@ fn read_json(alloc: Global, bytes: &[u8]) -> Result<Value, TextFault>
 }
 
 fn read_message(alloc: Global, members: &Map<String, Value>) -> Result<Message, TextFault>
-    ensures exact { Gives result (message_in (members_view members.now.entries)) }
+    ensures alone { FindsAlone result (members_view members.now.entries) }
     ensures ordered { OnOk result (IsOrdered string_cmp members.now) }
 {
     let message = read_kind(alloc, members)?;
-    if !is_whole(members, &message) {
+    if !is_alone(members, &message) {
         return Err(TextFault::NotMessage);
     }
     Ok(message)
 }
 
-// Whether an object that has the message's members has no others.
+// Whether an object that has the message's members has no others, and the message is within its limits.
 #[tactic(auto, using(crate::proofs::Readers::members_counted))]
-fn is_whole(members: &Map<String, Value>, message: &Message) -> bool
-    ensures count { IsTrue result ↔ (members_len (members_view members.now.entries)
-        ≡ length (message_fields message.now)) }
+fn is_alone(members: &Map<String, Value>, message: &Message) -> bool
+    ensures alone { IsTrue result ↔ ((members_len (members_view members.now.entries)
+        ≡ length (message_row message.now)) × FitsMessage message.now) }
     ensures ordered { IsOrdered string_cmp members.now }
 {
-    members.len() == message.member_count()
+    members.len() == message.member_count() && message.fits()
 }
 
 fn read_kind(alloc: Global, members: &Map<String, Value>) -> Result<Message, TextFault>
-    ensures { Gives result (kind_in (members_view members.now.entries)) }
+    ensures { FindsAmong members.now result message_among }
 {
     match read_text(members, "kind")? {
         "hello" => Ok(Message::Hello {
-            client: read_identifier(members, "client")?,
-            incarnation: read_identifier(members, "incarnation")?,
+            client: read_whole(members, "client")?,
+            incarnation: read_whole(members, "incarnation")?,
         }),
         "request" => Ok(Message::Request {
             key: read_key(members)?,

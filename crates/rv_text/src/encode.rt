@@ -1,7 +1,8 @@
 //! The one text that is written for an answer.
 ghost use Rattle.std.specs.Prelude.{◌≡◌, [], ◌∷◌, OnOk, IfOk, string_bytes};
-ghost use Rattle.serde_json.specs.View.{members_view};
-ghost use Rattle.rv_text.specs.Fields.{with_fields, whole, text, key_fields, reply_fields, detail_fields, answer_fields};
+ghost use Rattle.serde_json.specs.Data.{string, number, unsigned};
+ghost use Rattle.rv_text.specs.Rows.{key_row, reply_row, detail_row, answer_row};
+ghost use Rattle.rv_text.specs.Reading.{Puts, PutsRow};
 ghost use Rattle.rv_text.specs.Bodies.{HasBodyLength, answer_text};
 ghost use Rattle.rv_text.specs.Limits.{FitsAnswer};
 
@@ -34,8 +35,7 @@ fn put_answer(
     alloc: Global,
     answer: &Answer,
 ) -> Result<(), NoMemory>
-    ensures { OnOk result (members_view members.new.entries
-        ≡ with_fields (answer_fields answer.now) (members_view members.old.entries)) }
+    ensures { OnOk result (PutsRow (answer_row answer.now) members.old members.new) }
 {
     match answer {
         Answer::Welcome {
@@ -62,8 +62,7 @@ fn put_answer(
 }
 
 fn put_key(members: &mut Map<String, Value>, alloc: Global, key: &Key) -> Result<(), NoMemory>
-    ensures { OnOk result (members_view members.new.entries
-        ≡ with_fields (key_fields key.now) (members_view members.old.entries)) }
+    ensures { OnOk result (PutsRow (key_row key.now) members.old members.new) }
 {
     put_whole(members, alloc, "epoch", key.epoch)?;
     put_whole(members, alloc, "client", key.client)?;
@@ -72,8 +71,7 @@ fn put_key(members: &mut Map<String, Value>, alloc: Global, key: &Key) -> Result
 }
 
 fn put_reply(members: &mut Map<String, Value>, alloc: Global, reply: &Reply) -> Result<(), NoMemory>
-    ensures { OnOk result (members_view members.new.entries
-        ≡ with_fields (reply_fields reply.now) (members_view members.old.entries)) }
+    ensures { OnOk result (PutsRow (reply_row reply.now) members.old members.new) }
 {
     match reply {
         Reply::Done => put_text(members, alloc, "reply", "done"),
@@ -91,8 +89,7 @@ fn put_detail(
     alloc: Global,
     refusal: Refusal,
 ) -> Result<(), NoMemory>
-    ensures { OnOk result (members_view members.new.entries
-        ≡ with_fields (detail_fields refusal) (members_view members.old.entries)) }
+    ensures { OnOk result (PutsRow (detail_row refusal) members.old members.new) }
 {
     match refusal {
         Refusal::OtherEpoch(current) => put_whole(members, alloc, "current", current),
@@ -115,8 +112,7 @@ fn put_text(
     name: &str,
     value: &str,
 ) -> Result<(), NoMemory>
-    ensures { OnOk result (members_view members.new.entries
-        ≡ with_fields (text name.now value.now ∷ []) (members_view members.old.entries)) }
+    ensures { OnOk result (Puts ((name.now, string value.now) ∷ []) members.old members.new) }
 {
     serde_json::put(members, alloc, name, Value::try_from_str(alloc, value)?)
 }
@@ -127,8 +123,7 @@ fn put_whole(
     name: &str,
     value: u64,
 ) -> Result<(), NoMemory>
-    ensures { OnOk result (members_view members.new.entries
-        ≡ with_fields (whole name.now value ∷ []) (members_view members.old.entries)) }
+    ensures { OnOk result (Puts ((name.now, number (unsigned value)) ∷ []) members.old members.new) }
 {
     serde_json::put(members, alloc, name, Value::from(value))
 }

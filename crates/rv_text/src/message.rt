@@ -43,12 +43,12 @@ impl Key {
 }
 
 impl Message {
-    ghost use Rattle.rv_text.specs.Fields.{message_fields};
+    ghost use Rattle.rv_text.specs.Rows.{message_row};
     ghost use Rattle.rv_text.specs.Limits.{FitsMessage};
 
     // How many members the message has in its body.
     pub(crate) fn member_count(&self) -> usize
-        ensures { result ≡ length (message_fields self.now) }
+        ensures { result ≡ length (message_row self.now) }
     {
         match self {
             Message::Hello { .. } => 3,

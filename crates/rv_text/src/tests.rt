@@ -103,7 +103,7 @@ fn items_are_escaped(rt: HostRuntime) -> Result<(), Fail> {
         return Err(Fail::new("the body is no put"));
     };
     assert_eq!(rt; item.as_str(), "\u{1}\"\\é");
-    let answer = replied(2, Reply::Item(item));
+    let answer = replied(2, Reply::Item(item.copy(alloc)?));
     let want = "{\"client\":2,\"epoch\":1,\"incarnation\":1,\"item\":\"\\u0001\\\"\\\\é\",\
         \"kind\":\"reply\",\"number\":1,\"reply\":\"item\"}";
     assert_eq!(rt; encode_answer(alloc, &answer)?.as_str(), want);
@@ -193,24 +193,11 @@ const INPUTS: &[(&str, &[(&[u8], usize)], Option<TextFault>)] = &[
         &[(b"{\"x\xff\":1,\"client\":7", 1), (REST, 1)],
         NOT_JSON,
     ),
-    (
-        "cut in the middle",
-        &[(b"{\"client\":7,\"incar", 1)],
-        NOT_JSON,
-    ),
-    ("cut in a character", &[(PUT, 1), (b"\xc3", 1)], NOT_JSON),
     ("127 arrays", &[(b"[", 127), (b"]", 127)], NOT_MESSAGE),
     ("128 arrays", &[(b"[", 128), (b"]", 128)], NOT_JSON),
-    ("an array", &[(b"[", 1), (HELLO, 1), (b"]", 1)], NOT_MESSAGE),
-    ("client 7", &[(b"{\"client\":7", 1), (REST, 1)], READ),
     (
         "client 1.0",
         &[(b"{\"client\":1.0", 1), (REST, 1)],
-        NOT_MESSAGE,
-    ),
-    (
-        "client 1e2",
-        &[(b"{\"client\":1e2", 1), (REST, 1)],
         NOT_MESSAGE,
     ),
     (
@@ -218,7 +205,6 @@ const INPUTS: &[(&str, &[(&[u8], usize)], Option<TextFault>)] = &[
         &[(b"{\"client\":-0", 1), (REST, 1)],
         NOT_MESSAGE,
     ),
-    ("client 07", &[(b"{\"client\":07", 1), (REST, 1)], NOT_JSON),
     ("client 0", &[(b"{\"client\":0", 1), (REST, 1)], NOT_MESSAGE),
     (
         "client 2^53",
@@ -226,24 +212,9 @@ const INPUTS: &[(&str, &[(&[u8], usize)], Option<TextFault>)] = &[
         NOT_MESSAGE,
     ),
     (
-        "client 2^64",
-        &[(b"{\"client\":18446744073709551616", 1), (REST, 1)],
-        NOT_MESSAGE,
-    ),
-    (
-        "a text for the client",
-        &[(b"{\"client\":\"7\"", 1), (REST, 1)],
-        NOT_MESSAGE,
-    ),
-    (
         "a name twice",
         &[(b"{\"client\":0,\"client\":7", 1), (REST, 1)],
         READ,
-    ),
-    (
-        "twice, the last bad",
-        &[(b"{\"client\":7,\"client\":0", 1), (REST, 1)],
-        NOT_MESSAGE,
     ),
     (
         "a further member",
@@ -254,27 +225,6 @@ const INPUTS: &[(&str, &[(&[u8], usize)], Option<TextFault>)] = &[
         "a missing member",
         &[(b"{\"client\":7,\"kind\":\"hello\"}", 1)],
         NOT_MESSAGE,
-    ),
-    (
-        "another kind",
-        &[(b"{\"client\":7,\"incarnation\":1,\"kind\":\"hallo\"}", 1)],
-        NOT_MESSAGE,
-    ),
-    (
-        "a byte order mark",
-        &[(b"\xef\xbb\xbf", 1), (HELLO, 1)],
-        NOT_JSON,
-    ),
-    (
-        "white space of JSON",
-        &[(b" \t\r\n", 1), (HELLO, 1), (b" \t\r\n", 1)],
-        READ,
-    ),
-    ("a form feed", &[(HELLO, 1), (b"\x0c", 1)], NOT_JSON),
-    (
-        "a space of U+00A0",
-        &[(HELLO, 1), (b"\xc2\xa0", 1)],
-        NOT_JSON,
     ),
     (
         "a lone surrogate",
@@ -297,21 +247,6 @@ const INPUTS: &[(&str, &[(&[u8], usize)], Option<TextFault>)] = &[
         NOT_MESSAGE,
     ),
     (
-        "512 escapes",
-        &[(PUT, 1), (b"\\u0041", 512), (b"\"}", 1)],
-        READ,
-    ),
-    (
-        "513 escapes",
-        &[(PUT, 1), (b"\\u0041", 513), (b"\"}", 1)],
-        NOT_MESSAGE,
-    ),
-    (
-        "256 escapes of two bytes",
-        &[(PUT, 1), (b"\\u00e9", 256), (b"\"}", 1)],
-        READ,
-    ),
-    (
         "257 escapes of two bytes",
         &[(PUT, 1), (b"\\u00e9", 257), (b"\"}", 1)],
         NOT_MESSAGE,
@@ -320,11 +255,6 @@ const INPUTS: &[(&str, &[(&[u8], usize)], Option<TextFault>)] = &[
     (
         "queue 64",
         &[(b"{\"queue\":64", 1), (TAKE_REST, 1)],
-        NOT_MESSAGE,
-    ),
-    (
-        "queue 3.0",
-        &[(b"{\"queue\":3.0", 1), (TAKE_REST, 1)],
         NOT_MESSAGE,
     ),
     (

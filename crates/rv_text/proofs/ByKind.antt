@@ -1,0 +1,122 @@
+-- What holds of a member by its kind, said once for each: no float, its limit, how long its text is, that it is text.
+use Rattle.std.proofs.Common.{◌≡◌, ℕ, ◌+◌, ◌*◌, ◌^◌, ◌<◌, ◌≤◌, Bool, true, false, ◌&&◌, List, [], ◌∷◌, ◌++◌, length, map, IsUtf8, refl, arith}
+use Rattle.std.proofs.lemmas.Bool.{and_parts, leb-true, ltb-true}
+use Rattle.std.specs.Prelude.{nat_le, nat_lt}
+use Rattle.json.proofs.Printed.Utf8.{are_ascii, IsUtf8-are_ascii}
+use Rattle.serde_json.specs.Written.{has_float}
+use Rattle.rv_text.specs.Members.{Limit, up_to, from_one_to, Keeps, Member, word, whole, item_text, field_of, IsWithin, limited, WithinFrom, WithinEach, AllWithin}
+use Rattle.rv_text.proofs.Objects.{AllFields}
+use Rattle.rv_text.proofs.Sizes.{field_size, fields_size, IsFlat, IsFlatMember}
+use Rattle.rv_text.proofs.Texts.{IsTextMember}
+
+-- ---- what holds of each member
+
+abbrev pub Each : (Member → Type 0) → List Member → Type 0
+Each P [] = Unit {0}
+Each P (m ∷ row) = P m × Each P row
+
+pub Each-append : (P : Member → Type 0) (a b : List Member) → Each P a → Each P b → Each P (a ++ b)
+Each-append P [] b h k = k
+Each-append P (m ∷ a) b h k = (h.0, Each-append P a b h.1 k)
+
+pub Each-parts : (P : Member → Type 0) (a b : List Member) → Each P (a ++ b) → Each P a × Each P b
+Each-parts P [] b h = (tt, h)
+Each-parts P (m ∷ a) b h = let rest = Each-parts P a b h.1 in ((h.0, rest.0), rest.1)
+
+within_parts : (m : Member) (row : List Member) → WithinFrom m row → IsWithin m × WithinEach row
+within_parts m [] h = (h, tt)
+within_parts m (n ∷ row) h = h
+
+pub each_within : (row : List Member) → AllWithin row → Each IsWithin row
+each_within [] h = tt
+each_within (word name bytes ∷ row) h = (tt, each_within row h)
+each_within (whole name limit n ∷ row) h = let p = within_parts (whole name limit n) (limited row) h in (p.0, each_within row p.1)
+each_within (item_text name bytes ∷ row) h = let p = within_parts (item_text name bytes) (limited row) h in (p.0, each_within row p.1)
+
+-- ---- no float
+
+no_float : (m : Member) → has_float (field_of m).1 ≡ false
+no_float (word name bytes) = refl
+no_float (whole name limit n) = refl
+no_float (item_text name bytes) = refl
+
+pub row_has_no_float : (row : List Member) → AllFields (λ name value. has_float value ≡ false) (map field_of row)
+row_has_no_float [] = tt
+row_has_no_float (m ∷ row) = (no_float m, row_has_no_float row)
+
+-- ---- names and words are short and plain, and limits are below 2 ^ 64
+
+abbrev greatest : Limit → ℕ
+greatest (up_to most) = most
+greatest (from_one_to most) = most
+
+below_greatest : (limit : Limit) (n : ℕ) → Keeps limit n → n ≤ greatest limit
+below_greatest (up_to most) n h = h
+below_greatest (from_one_to most) n h = h.1
+
+abbrev pub is_plain_word : List ℕ → Bool
+is_plain_word bytes = are_ascii bytes && nat_le (length bytes) 16
+
+abbrev pub is_plain : Member → Bool
+is_plain (word name bytes) = are_ascii name && is_plain_word bytes
+is_plain (whole name limit n) = are_ascii name && nat_lt (greatest limit) (2 ^ 64)
+is_plain (item_text name bytes) = are_ascii name
+
+abbrev pub are_plain : List Member → Bool
+are_plain [] = true
+are_plain (m ∷ row) = is_plain m && are_plain row
+
+is_flat : (m : Member) → is_plain m ≡ true → IsWithin m → IsFlat (field_of m).1
+is_flat (word name bytes) plain h = tt
+is_flat (whole name limit n) plain h =
+    let small : greatest limit < 2 ^ 64 = ltb-true (greatest limit) (2 ^ 64) (and_parts (are_ascii name) _ plain).1 in
+    omega (arith, small, below_greatest limit n h)
+is_flat (item_text name bytes) plain h = tt
+
+pub row_is_flat : (row : List Member) → are_plain row ≡ true → Each IsWithin row → AllFields IsFlatMember (map field_of row)
+row_is_flat [] plain h = tt
+row_is_flat (m ∷ row) plain h = let each = and_parts _ _ plain in (is_flat m each.0 h.0, row_is_flat row each.1 h.1)
+
+-- ---- how long the text of a member is at most
+
+abbrev pub room : Member → ℕ
+room (word name bytes) = 6 * length name + 102
+room (whole name limit n) = 6 * length name + 24
+room (item_text name bytes) = 6 * length name + 3078
+
+abbrev pub rooms : List Member → ℕ
+rooms [] = 0
+rooms (m ∷ row) = room m + rooms row
+
+size_within : (m : Member) → is_plain m ≡ true → IsWithin m → field_size (field_of m) ≤ room m
+size_within (word name bytes) plain h =
+    omega (arith, leb-true (length bytes) 16 (and_parts _ _ (and_parts (are_ascii name) _ plain).1).1)
+size_within (whole name limit n) plain h = omega arith
+size_within (item_text name bytes) plain h = omega arith
+
+pub row_size : (row : List Member) → are_plain row ≡ true → Each IsWithin row → fields_size (map field_of row) ≤ rooms row
+row_size [] plain h = omega arith
+row_size (m ∷ row) plain h =
+    let each = and_parts (is_plain m) (are_plain row) plain in
+    omega (arith, size_within m each.0 h.0, row_size row each.1 h.1)
+
+-- ---- UTF-8
+
+-- the item is text
+abbrev pub IsText : Member → Type 0
+IsText (word name bytes) = Unit {0}
+IsText (whole name limit n) = Unit {0}
+IsText (item_text name bytes) = IsUtf8 bytes
+
+is_text : (m : Member) → is_plain m ≡ true → IsWithin m → IsText m → IsTextMember (field_of m).0 (field_of m).1
+is_text (word name bytes) plain h utf8 =
+    let parts = and_parts (are_ascii name) _ plain in
+    (IsUtf8-are_ascii name parts.0, IsUtf8-are_ascii bytes (and_parts _ _ parts.1).0)
+is_text (whole name limit n) plain h utf8 = (IsUtf8-are_ascii name (and_parts _ _ plain).0, is_flat (whole name limit n) plain h)
+is_text (item_text name bytes) plain h utf8 = (IsUtf8-are_ascii name plain, utf8)
+
+pub row_is_text : (row : List Member) → are_plain row ≡ true → Each IsWithin row → Each IsText row → AllFields IsTextMember (map field_of row)
+row_is_text [] plain h utf8 = tt
+row_is_text (m ∷ row) plain h utf8 =
+    let each = and_parts _ _ plain in
+    (is_text m each.0 h.0 utf8.0, row_is_text row each.1 h.1 utf8.1)

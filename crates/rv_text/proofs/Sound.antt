@@ -1,0 +1,105 @@
+-- What holds of the row of each message and answer: no name stands twice, all is plain, and there is room for it.
+use Rattle.std.proofs.Common.{◌≡◌, ℕ, ◌≤◌, List, ◌∷◌, ◌++◌, map, codes, true, Option, Some, None, IfSome, IsUtf8, refl, arith}
+use Rattle.rv_text.specs.declared.message.Key.{Key}
+use Rattle.rv_text.specs.declared.message.Message.{Message}
+use Rattle.rv_text.specs.declared.message.Message.TheVariants as message
+use Rattle.rv_text.specs.declared.call.Wait.{Wait}
+use Rattle.rv_text.specs.declared.call.Wait.TheVariants as wait
+use Rattle.rv_text.specs.declared.call.Side.{Side}
+use Rattle.rv_text.specs.declared.call.Call.{Call}
+use Rattle.rv_text.specs.declared.call.Call.TheVariants as call
+use Rattle.rv_text.specs.declared.answer.Reply.{Reply}
+use Rattle.rv_text.specs.declared.answer.Reply.TheVariants as reply
+use Rattle.rv_text.specs.declared.answer.Refusal.{Refusal}
+use Rattle.rv_text.specs.declared.answer.Refusal.TheVariants as refusal
+use Rattle.rv_text.specs.declared.answer.Answer.{Answer}
+use Rattle.rv_text.specs.declared.answer.Answer.TheVariants as answer
+use Rattle.rv_text.specs.Calls.{Nature, nature_of, item_of}
+use Rattle.rv_text.specs.Members.{Member, word, field_of, members_of, Keeps, code_numbers, IsWithin}
+use Rattle.rv_text.specs.Rows.{key_row, wait_row, item_row, nature_row, call_row, message_row, reply_row, code_of, detail_row, answer_row}
+use Rattle.rv_text.specs.Limits.{FitsKey, FitsMessage, FitsAnswer}
+use Rattle.rv_text.specs.Bodies.{HasUtf8}
+use Rattle.rv_text.proofs.Objects.{are_distinct}
+use Rattle.rv_text.proofs.ByKind.{Each, Each-append, each_within, IsText, is_plain_word, are_plain, rooms}
+use Rattle.rv_text.proofs.Texts.{put_all}
+use Rattle.serde_json.specs.Data.{no_members}
+
+pub record IsSound (row : List Member) : Type 0 where
+  -- no name stands twice
+  pub distinct : are_distinct (map field_of row) ≡ true
+  -- names and words are short and plain, and limits are below 2 ^ 64
+  pub plain : are_plain row ≡ true
+  -- a body of the row has a body's length
+  pub room : rooms row ≤ 4000
+  -- members are in order: put in one after another they come to the same place
+  pub in_order : put_all (members_of row) no_members ≡ members_of row
+
+-- ---- messages
+
+call_word : (call : Call) → is_plain_word (nature_of call).word ≡ true
+call_word (call.Put queue item) = refl
+call_word _ = refl
+
+abbrev request_row : Key → Nature → List Member
+request_row key nature = word (codes "kind") (codes "request") ∷ (key_row key ++ nature_row nature)
+
+request_sound : (key : Key) (name : List ℕ) (at : Side) (waits : Option Wait) (gives : Option (List ℕ)) → is_plain_word name ≡ true
+    → IsSound (request_row key (record { word = name; side = at; wait = waits; item = gives }))
+request_sound key name at None None plain = record { distinct = refl; plain = rw plain refl; room = omega arith; in_order = refl }
+request_sound key name at None (Some item) plain = record { distinct = refl; plain = rw plain refl; room = omega arith; in_order = refl }
+request_sound key name at (Some wait.Now) None plain = record { distinct = refl; plain = rw plain refl; room = omega arith; in_order = refl }
+request_sound key name at (Some wait.Now) (Some item) plain = record { distinct = refl; plain = rw plain refl; room = omega arith; in_order = refl }
+
+pub message_sound : (message : Message) → IsSound (message_row message)
+message_sound (message.Hello client incarnation) = record { distinct = refl; plain = refl; room = omega arith; in_order = refl }
+message_sound (message.Request key call) =
+    let nature = nature_of call in
+    request_sound key nature.word nature.side nature.wait nature.item (call_word call)
+
+key_within : (key : Key) (row : List Member) → FitsKey key → Each IsWithin row → Each IsWithin (key_row key ++ row)
+key_within key row fits rest = (fits.0, (fits.1, (fits.2, (fits.3, rest))))
+
+pub message_within : (message : Message) → FitsMessage message → Each IsWithin (message_row message)
+message_within (message.Hello client incarnation) fits = (tt, (fits.0, (fits.1, tt)))
+message_within (message.Request key call) fits = (tt, key_within key (call_row call) fits.0 (each_within (call_row call) fits.1))
+
+wait_text : (waits : Option Wait) → Each IsText (wait_row waits)
+wait_text None = tt
+wait_text (Some wait.Now) = (tt, tt)
+
+item_is_text : (gives : Option (List ℕ)) → IfSome gives IsUtf8 → Each IsText (item_row gives)
+item_is_text None utf8 = tt
+item_is_text (Some bytes) utf8 = (utf8, tt)
+
+call_text : (call : Call) → IfSome (item_of call) IsUtf8 → Each IsText (call_row call)
+call_text call utf8 =
+    let n = nature_of call in
+    (tt, (tt, Each-append IsText (wait_row n.wait) _ (wait_text n.wait) (item_is_text n.item utf8)))
+
+pub message_has_text : (message : Message) → HasUtf8 message → Each IsText (message_row message)
+message_has_text (message.Hello client incarnation) utf8 = (tt, (tt, (tt, tt)))
+message_has_text (message.Request key call) utf8 = (tt, (tt, (tt, (tt, (tt, call_text call utf8)))))
+
+-- ---- answers
+
+reply_sound : (key : Key) (reply : Reply) → IsSound (answer_row (answer.Replied key reply))
+reply_sound key reply.Done = record { distinct = refl; plain = refl; room = omega arith; in_order = refl }
+reply_sound key _ = record { distinct = refl; plain = refl; room = omega arith; in_order = refl }
+
+refusal_sound : (refusal : Refusal) → IsSound (answer_row (answer.Refused refusal))
+refusal_sound refusal.BadText = record { distinct = refl; plain = refl; room = omega arith; in_order = refl }
+refusal_sound _ = record { distinct = refl; plain = refl; room = omega arith; in_order = refl }
+
+pub answer_sound : (answer : Answer) → IsSound (answer_row answer)
+answer_sound (answer.Welcome epoch client incarnation) = record { distinct = refl; plain = refl; room = omega arith; in_order = refl }
+answer_sound (answer.Replied key reply) = reply_sound key reply
+answer_sound (answer.Refused refusal) = refusal_sound refusal
+
+code_within : (refusal : Refusal) → Keeps code_numbers (code_of refusal)
+code_within refusal.BadText = (omega arith, omega arith)
+code_within _ = (omega arith, omega arith)
+
+pub answer_within : (answer : Answer) → FitsAnswer answer → Each IsWithin (answer_row answer)
+answer_within (answer.Welcome epoch client incarnation) fits = (tt, (fits.0, (fits.1, (fits.2, tt))))
+answer_within (answer.Replied key reply) fits = (tt, key_within key (reply_row reply) fits.0 (each_within (reply_row reply) fits.1))
+answer_within (answer.Refused refusal) fits = (tt, (code_within refusal, each_within (detail_row refusal) fits))

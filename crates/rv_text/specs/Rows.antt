@@ -1,0 +1,116 @@
+-- The members of each body: one short row for each kind of value.
+use Rattle.std.specs.Prelude.{ℕ, List, [], ◌∷◌, ◌++◌, codes, Option, Some, None}
+use Rattle.rv_text.specs.declared.message.Key.{Key}
+use Rattle.rv_text.specs.declared.message.Message.{Message}
+use Rattle.rv_text.specs.declared.message.Message.TheVariants as message
+use Rattle.rv_text.specs.declared.call.Wait.{Wait}
+use Rattle.rv_text.specs.declared.call.Wait.TheVariants as wait
+use Rattle.rv_text.specs.declared.call.Side.{Side}
+use Rattle.rv_text.specs.declared.call.Call.{Call}
+use Rattle.rv_text.specs.declared.answer.Reply.{Reply}
+use Rattle.rv_text.specs.declared.answer.Reply.TheVariants as reply
+use Rattle.rv_text.specs.declared.answer.Refusal.{Refusal}
+use Rattle.rv_text.specs.declared.answer.Refusal.TheVariants as refusal
+use Rattle.rv_text.specs.declared.answer.Answer.{Answer}
+use Rattle.rv_text.specs.declared.answer.Answer.TheVariants as answer
+use Rattle.rv_text.specs.Calls.{Nature, nature_of, queue_of}
+use Rattle.rv_text.specs.Members.{Member, word, whole, item_text}
+use Rattle.rv_text.specs.Members as limits
+
+-- ---- members by name
+
+abbrev identifier : List ℕ → ℕ → Member
+identifier name n = whole name limits.identifiers n
+
+abbrev last : ℕ → Member
+last n = whole (codes "last") limits.last_numbers n
+
+abbrev item : List ℕ → Member
+item bytes = item_text (codes "item") bytes
+
+-- ---- messages
+
+abbrev pub key_row : Key → List Member
+key_row key =
+    identifier (codes "epoch") key.epoch ∷
+    identifier (codes "client") key.client ∷
+    identifier (codes "incarnation") key.incarnation ∷
+    identifier (codes "number") key.number ∷
+    []
+
+abbrev pub side_row : Side → List Member
+side_row side = whole (codes "queue") limits.queue_numbers (queue_of side) ∷ []
+
+abbrev pub wait_row : Option Wait → List Member
+wait_row None = []
+wait_row (Some wait.Now) = word (codes "wait") (codes "now") ∷ []
+
+abbrev pub item_row : Option (List ℕ) → List Member
+item_row None = []
+item_row (Some bytes) = item bytes ∷ []
+
+-- a call's members are those of its nature
+abbrev pub nature_row : Nature → List Member
+nature_row nature =
+    word (codes "call") nature.word ∷ (side_row nature.side ++ (wait_row nature.wait ++ item_row nature.item))
+
+abbrev pub call_row : Call → List Member
+call_row call = nature_row (nature_of call)
+
+abbrev pub message_row : Message → List Member
+message_row (message.Hello client incarnation) =
+    word (codes "kind") (codes "hello") ∷
+    identifier (codes "client") client ∷
+    identifier (codes "incarnation") incarnation ∷
+    []
+message_row (message.Request key call) =
+    word (codes "kind") (codes "request") ∷ (key_row key ++ call_row call)
+
+-- ---- answers
+
+abbrev pub reply_row : Reply → List Member
+reply_row reply.Done = word (codes "reply") (codes "done") ∷ []
+reply_row (reply.Item bytes) = word (codes "reply") (codes "item") ∷ item bytes ∷ []
+reply_row reply.Empty = word (codes "reply") (codes "empty") ∷ []
+
+-- the refusals in the order in which a message is checked
+abbrev pub code_of : Refusal → ℕ
+code_of refusal.BadText = 1
+code_of (refusal.OtherEpoch current) = 2
+code_of refusal.NoSession = 3
+code_of (refusal.OldIncarnation current) = 4
+code_of (refusal.OldNumber number) = 5
+code_of refusal.OtherCall = 6
+code_of (refusal.Busy waiting) = 7
+code_of (refusal.Gap number) = 8
+code_of refusal.ClientsFull = 9
+code_of refusal.EpochFull = 10
+code_of refusal.NoMemory = 11
+
+-- what a refusal says beside its code
+abbrev pub detail_row : Refusal → List Member
+detail_row refusal.BadText = []
+detail_row (refusal.OtherEpoch current) = identifier (codes "current") current ∷ []
+detail_row refusal.NoSession = []
+detail_row (refusal.OldIncarnation current) = identifier (codes "current") current ∷ []
+detail_row (refusal.OldNumber number) = last number ∷ []
+detail_row refusal.OtherCall = []
+detail_row (refusal.Busy waiting) = identifier (codes "open") waiting ∷ []
+detail_row (refusal.Gap number) = last number ∷ []
+detail_row refusal.ClientsFull = []
+detail_row refusal.EpochFull = []
+detail_row refusal.NoMemory = []
+
+abbrev pub answer_row : Answer → List Member
+answer_row (answer.Welcome epoch client incarnation) =
+    word (codes "kind") (codes "welcome") ∷
+    identifier (codes "epoch") epoch ∷
+    identifier (codes "client") client ∷
+    identifier (codes "incarnation") incarnation ∷
+    []
+answer_row (answer.Replied key reply) =
+    word (codes "kind") (codes "reply") ∷ (key_row key ++ reply_row reply)
+answer_row (answer.Refused refusal) =
+    word (codes "kind") (codes "refused") ∷
+    whole (codes "code") limits.code_numbers (code_of refusal) ∷
+    detail_row refusal
