@@ -8,9 +8,9 @@ a reply's word and members, or `{..`, the text itself.
 import json
 import re
 
-from model_parts.account import Account, Cancel, Entry, Hello, Key, Request, Tick, first_fault
+from model_parts.account import Account, Call, Entry, Hello, Key, Request, Tick, first_fault
 from model_parts.steps import WHOLE, told
-from model_parts.texts import read_call, written
+from model_parts.texts import written
 
 THREE = "hello 1/1 => welcome\nhello 2/1 => welcome\nhello 3/1 => welcome\n"
 DETAILS = {2: "current", 4: "current", 5: "last", 7: "open", 8: "last"}
@@ -238,10 +238,15 @@ def row_fault(epoch, lines):
 
 def audited(partner, number, second, has_tick):
     """The account of an audit: two hellos, two puts and a take, and perhaps a tick."""
-    put = [Request(Key(1, 1, 1, n), read_call({"call": "put", "item": item, "queue": 3})) for n, item in ((1, "a"), (2, "b"))]
-    take = Request(Key(1, 2, 1, number), read_call({"call": "take", "queue": 3, "wait": "now"}))
-    entries = [Entry(0, Hello(1, 1)), Entry(0, Hello(second, 1)), Entry(0, put[0]), Entry(0, put[1]), Entry(1, take, partner)]
-    return Account(1, 0, (*entries, *([Entry(1, Tick())] if has_tick else [])))
+    acts = [
+        Hello(1, 1),
+        Hello(second, 1),
+        Request(Key(1, 1, 1, 1), Call("put", 3, "a")),
+        Request(Key(1, 1, 1, 2), Call("put", 3, "b")),
+    ]
+    take = Request(Key(1, 2, 1, number), Call("take", 3, wait="now"))
+    ticks = [Entry(1, Tick())] if has_tick else []
+    return Account(1, 0, (*(Entry(0, act) for act in acts), Entry(1, take, partner), *ticks))
 
 
 def row_faults():

@@ -13,6 +13,9 @@ VALUES = [*NUMBERS, None, True, "", "1", "now", "forever", "NOW", "put", "take",
 TEXTS = ["", "[]", '"hello"', "null", "{}", "{", "}", "01", "nul", "[" * 127 + "]" * 127, "[" * 128 + "]" * 128]
 NUMERALS = ["1.0", "1e2", "1E0", "-0", "-1", "01", "+1", ".5", "1.", "1e999", "1e-999", "0x1", "NaN", "Infinity",
             "18446744073709551615", "18446744073709551616", "9" * 400, '"1"', "0", "00"]
+FURTHER = ["x", "", "Kind", "item", "wait", "queue", "exchanger"]
+BYTES = [b"\xff", b"\xc0\x80", b"\xed\xa0\x80", b"\xc2\xa0", b"\x0b", b"\x00"]
+ESCAPES = [b"\\ud800", b"\\udc00", b"\\ud83d\\ude00", b"\\x", b"\\u12", b"\\"]
 WAITS = ["forever", "now", 0, 1, 2, 3, 5, 10, 20, 86_400_000, 86_400_001]
 
 
@@ -56,7 +59,8 @@ class Script:
         return self.chance.choice([
             b"", b" ", digits, digits + b" ", digits + b"\t" + body, body, b" " + line, b"+" + line, b"-" + line,
             b"x " + body, digits + b"x " + body, digits.zfill(19) + b" " + body, digits.zfill(20) + b" " + body,
-            b"1." + line, digits + b"  " + body, line + b"\r", line + b" ", digits + b" \t" + body, "１ ".encode() + body])
+            b"1." + line, digits + b"  " + body, line + b"\r", line + b" ", digits + b" \t" + body, "１ ".encode() + body,
+        ])
 
     def body(self):
         """A body, mostly that of a message."""
@@ -83,7 +87,8 @@ class Script:
             return {"kind": "hello", "client": client, "incarnation": 1}
         last = last_number(entries, client) if current else 0
         step = 0 if waiting_of(entries, client) and self.odds(0.6) else self.chance.choice([1] * 16 + [0, 0, -1, 2, 3])
-        key = {"epoch": self.account.epoch, "client": client, "incarnation": current or 1, "number": max(1, last + step)}
+        number = max(1, last + step)
+        key = {"epoch": self.account.epoch, "client": client, "incarnation": current or 1, "number": number}
         if self.odds(0.04):
             name = self.chance.choice(list(key))
             key[name] = self.chance.choice([key[name] + 1, max(1, key[name] - 1), MAX_IDENTIFIER])
@@ -98,7 +103,8 @@ class Script:
             if isinstance(entry.act, Request) and vars(entry.act.key) == key:
                 call = entry.act.call
                 members = {"call": call.word, "exchanger" if call.word == "swap" else "queue": call.at}
-                return {**members, **{name: getattr(call, name) for name in ("item", "wait") if getattr(call, name) is not None}}
+                more = {"item": call.item, "wait": call.wait}
+                return {**members, **{name: value for name, value in more.items() if value is not None}}
         return None
 
     def call(self):
@@ -140,7 +146,7 @@ class Script:
         if how == 0:
             del members[name]
         elif how == 1:
-            members[self.chance.choice(["x", "", "Kind", "item", "wait", "queue", "exchanger"])] = self.chance.choice(VALUES)
+            members[self.chance.choice(FURTHER)] = self.chance.choice(VALUES)
         else:
             members[name] = self.chance.choice(VALUES)
 
@@ -153,11 +159,11 @@ class Script:
             lambda: body[:at],
             lambda: body[:at] + body[at + 1 :],
             lambda: body[:at] + bytes([self.chance.randrange(256)]) + body[at + 1 :],
-            lambda: body[:at] + self.chance.choice([b"\xff", b"\xc0\x80", b"\xed\xa0\x80", b"\xc2\xa0", b"\x0b", b"\x00"]) + body[at:],
+            lambda: body[:at] + self.chance.choice(BYTES) + body[at:],
             lambda: body + self.chance.choice([b"x", b"{}", b",", b"\xc2\xa0", b" ", b"\t\r "]),
             lambda: b"\xef\xbb\xbf" + body,
             lambda: body.replace(b":1", b":" + self.chance.choice(NUMERALS).encode(), 1),
-            lambda: body.replace(b'":"', b'":"' + self.chance.choice([b"\\ud800", b"\\udc00", b"\\ud83d\\ude00", b"\\x", b"\\u12", b"\\"]), 1),
+            lambda: body.replace(b'":"', b'":"' + self.chance.choice(ESCAPES), 1),
             lambda: padded(self.chance.choice([MAX_BODY_BYTES, MAX_BODY_BYTES + 1])),
             lambda: nested(self.chance.choice([1, 125, 126, 127])),
             lambda: body[:-1] + b',"kind":"hello"}',
@@ -171,16 +177,17 @@ class Script:
         names = self.chance.sample(list(members), len(members))
         if names and self.odds(0.05):
             names.insert(0, self.chance.choice(names))
-        pairs = [f"{self.gap()}{self.string(name)}{self.gap()}:{self.gap()}{self.value(members[name])}" for name in names]
+        pairs = [self.pair(name, members[name]) for name in names]
         return f"{self.gap()}{{{(self.gap() + ',').join(pairs)}{self.gap()}}}{self.gap()}"
+
+    def pair(self, name, value):
+        """The text of a member."""
+        text = self.string(value) if isinstance(value, str) else json.dumps(value)
+        return f"{self.gap()}{self.string(name)}{self.gap()}:{self.gap()}{text}"
 
     def gap(self):
         """White space, mostly none."""
         return "".join(self.chance.choices(" \t\r", k=self.chance.randint(1, 3))) if self.odds(0.1) else ""
-
-    def value(self, value):
-        """The text of a value."""
-        return self.string(value) if isinstance(value, str) else json.dumps(value)
 
     def string(self, text):
         """A JSON string, some of its letters with an escape."""
