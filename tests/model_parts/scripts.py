@@ -1,9 +1,9 @@
 """Random scripts: lines of `rv book`, good ones and bad ones, with what the model answers to each."""
 import json
 
-from model_parts.account import Account, Request, incarnation, last_number, waiting_of
-from model_parts.steps import TODAY, told
-from model_parts.texts import MAX_BODY_BYTES, MAX_IDENTIFIER, written
+from model_parts.account import Account, Key, Request, first_fault, incarnation, last_number, reply, waiting_of
+from model_parts.steps import TODAY, WHOLE, replied, told
+from model_parts.texts import KEY, MAX_BODY_BYTES, MAX_IDENTIFIER, written
 
 LETTERS = ["a", "b", "x", " ", "/", '"', "\\", "\0", "\x01", "\b", "\t", "\n", "\f", "\r", "\x1f", "\x7f", "\x80",
            "é", "߿", "ࠀ", "\u2028", "\ud7ff", "\ue000", "�", "\uffff", "𝄞", "\U0010ffff"]
@@ -22,8 +22,9 @@ WAITS = ["forever", "now", 0, 1, 2, 3, 5, 10, 20, 86_400_000, 86_400_001]
 class Script:
     """One book's lines. What comes next is chosen by the account that the model has so far."""
 
-    def __init__(self, chance, epoch):
+    def __init__(self, chance, epoch, have):
         self.chance = chance
+        self.have = have
         self.account = Account(epoch, 0)
         self.now = 0
         self.clients = chance.sample([1, 2, 3, 4, 5, 6, 7, 8, 1000, MAX_IDENTIFIER], chance.randint(1, 6))
@@ -42,7 +43,7 @@ class Script:
         if self.odds(0.02):
             line = self.spoilt_line(line)
         line = line.replace(b"\n", b" ")
-        self.account, text = told(self.account, line, TODAY)
+        self.account, text = told(self.account, line, self.have)
         return line, text.encode()
 
     def moment(self):
@@ -92,7 +93,7 @@ class Script:
         if self.odds(0.04):
             name = self.chance.choice(list(key))
             key[name] = self.chance.choice([key[name] + 1, max(1, key[name] - 1), MAX_IDENTIFIER])
-        if TODAY["cancel"] and self.odds(0.12) or self.odds(0.01):
+        if self.have["cancel"] and self.odds(0.12) or self.odds(0.01):
             return {"kind": "cancel", **key}
         again = self.arrived(key) if self.odds(0.7) else None
         return {"kind": "request", **key, **(again or self.call())}
@@ -112,7 +113,7 @@ class Script:
         word = self.chance.choice(["put", "transfer"]) if self.odds(self.gives) else "take"
         if self.odds(0.25):
             word = self.chance.choice(["swap", "swap", "count", "peek"])
-        if not TODAY.get(word, True) and self.odds(0.9):
+        if not self.have.get(word, True) and self.odds(0.9):
             word = "put" if self.odds(self.gives) else "take"
         at = self.chance.randrange(65) if self.odds(0.02) else self.chance.choice(self.queues)
         members = {"call": word, "exchanger" if word == "swap" else "queue": at}
@@ -124,7 +125,7 @@ class Script:
 
     def wait(self, word):
         """A wait, mostly one that exists."""
-        if word == "take" and not TODAY["take that waits"] and self.odds(0.95):
+        if word == "take" and not self.have["take that waits"] and self.odds(0.95):
             return "now"
         return self.chance.choice(WAITS)
 
@@ -206,6 +207,19 @@ class Script:
 
 
 def make_script(chance, epoch, count):
-    """So many lines for a book of an epoch, each with the text that the model answers."""
-    script = Script(chance, epoch)
+    """So many lines for a book of an epoch, each with the text that today's program must answer."""
+    script = Script(chance, epoch, TODAY)
     return [script.line() for _ in range(count)]
+
+
+def law_fault(chance):
+    """What is wrong with a random book of the whole model, if something is: it must be legal, and replies must stay."""
+    script = Script(chance, 1, WHOLE)
+    answers = [json.loads(script.line()[1]) for _ in range(200)]
+    if first_fault(script.account):
+        return f"the account breaks a rule: {first_fault(script.account)}"
+    for answer in answers:
+        key = Key(*(answer.get(name) for name in KEY))
+        if answer["kind"] == "reply" and replied(key, reply(script.account.entries, key)) != answer:
+            return f"this reply did not stay: {answer}"
+    return None
