@@ -2,15 +2,21 @@
 PREFIX ?= /usr/local
 PROGRAM = crates/rv_app/out/rv_app
 
-.PHONY: run test install bench build
+.PHONY: run test edits install bench build
 
 # the four answers of the first example
 run: build
 	@$(PROGRAM) book --epoch 1 < examples/first.in
 
-# the gate, and then the built program from outside; the last line counts both
+# the gate: proofs, edits and tests, the built program from outside, the documents; the last line counts all of them
 test:
+	@command -v python3 > /dev/null || { echo "python3 is missing: the gate is written in it" >&2; exit 1; }
 	@tests/all
+
+# the edits beside the gate's, each of which the prover must refuse; NAMES="rv_text .." tries those of some crates
+edits:
+	@command -v python3 > /dev/null || { echo "python3 is missing: the script is written in it" >&2; exit 1; }
+	@tests/edits $(NAMES)
 
 # the proved program, as PREFIX/bin/rv
 install: build

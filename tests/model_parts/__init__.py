@@ -1,0 +1,1 @@
+"""A plain second implementation of docs/MODEL.md, for tests/model."""

@@ -1,0 +1,311 @@
+"""Accounts, and what is said of them: formulas over places, with no table beside the list of entries.
+
+The words are those of docs/MODEL.md, sections 4 to 8. A place is an index into a list of entries, and
+"before j" is the same formula over the entries before j.
+"""
+from dataclasses import dataclass
+
+MAX_MOMENT = 2**62
+MAX_CLIENTS = 1024
+MAX_ENTRIES = 100_000
+SIDES = {
+    "put": "giving",
+    "transfer": "giving",
+    "take": "taking",
+    "swap": "exchanging",
+    "count": "looking",
+    "peek": "looking",
+}
+OTHER_SIDE = {"giving": "taking", "taking": "giving", "exchanging": "exchanging"}
+
+
+@dataclass(frozen=True)
+class Key:
+    epoch: int
+    client: int
+    incarnation: int
+    number: int
+
+
+@dataclass(frozen=True)
+class Call:
+    """A call; `at` is its queue or exchanger, `wait` is "now", "forever" or milliseconds."""
+
+    word: str
+    at: int
+    item: str | None = None
+    wait: str | int | None = None
+
+    @property
+    def side(self):
+        return SIDES[self.word]
+
+
+@dataclass(frozen=True)
+class Hello:
+    client: int
+    incarnation: int
+
+
+@dataclass(frozen=True)
+class Request:
+    key: Key
+    call: Call
+
+
+@dataclass(frozen=True)
+class Cancel:
+    key: Key
+
+
+@dataclass(frozen=True)
+class Tick:
+    pass
+
+
+@dataclass(frozen=True)
+class Entry:
+    """A moment, an act (the message that came, or a tick), and perhaps a partner's place."""
+
+    moment: int
+    act: Hello | Request | Cancel | Tick
+    partner: int | None = None
+
+
+@dataclass(frozen=True)
+class Account:
+    epoch: int
+    opened: int
+    entries: tuple = ()
+
+    def own_moment(self):
+        return self.entries[-1].moment if self.entries else self.opened
+
+    def with_entry(self, entry):
+        return Account(self.epoch, self.opened, (*self.entries, entry))
+
+
+def arrivals(entries):
+    """The places of the arrivals."""
+    return [r for r, entry in enumerate(entries) if isinstance(entry.act, Request)]
+
+
+def limit(entries, r):
+    """The moment at which the arrival times out, if it has one."""
+    wait = entries[r].act.call.wait
+    return entries[r].moment + wait if isinstance(wait, int) else None
+
+
+def stays(call):
+    """Whether a call may be met after its arrival."""
+    return call.word == "put" or call.wait == "forever" or isinstance(call.wait, int) and call.wait > 0
+
+
+def met(entries, r):
+    """Whether the arrival is in a pair or swap."""
+    return entries[r].partner is not None or any(later.partner == r for later in entries[r + 1 :])
+
+
+def stops(entries, r, later):
+    """Whether this later entry stops the arrival."""
+    key = entries[r].act.key
+    match later.act:
+        case Cancel(cancelled):
+            return cancelled == key
+        case Hello(client, _):
+            return client == key.client
+        case Tick():
+            return limit(entries, r) is not None and later.moment >= limit(entries, r)
+    return False
+
+
+def stopper(entries, r):
+    """The first entry that stops the arrival, if one does; a put is never stopped."""
+    if entries[r].act.call.word == "put":
+        return None
+    return next((later for later in entries[r + 1 :] if stops(entries, r, later)), None)
+
+
+def is_open(entries, r):
+    """Whether the arrival may still be met."""
+    return stays(entries[r].act.call) and not met(entries, r) and stopper(entries, r) is None
+
+
+def open_at(entries, side, at):
+    """The places of the open arrivals of this side of a queue or exchanger, oldest first."""
+    there = [r for r in arrivals(entries) if entries[r].act.call.side == side and entries[r].act.call.at == at]
+    return [r for r in there if is_open(entries, r)]
+
+
+def waiting(entries):
+    """The places of the waiting requests: what is open and no put."""
+    return [r for r in arrivals(entries) if entries[r].act.call.word != "put" and is_open(entries, r)]
+
+
+def overdue(entries, moment):
+    """Whether a waiting request has a limit at or below the moment."""
+    timed = [r for r in arrivals(entries) if limit(entries, r) is not None and limit(entries, r) <= moment]
+    return any(is_open(entries, r) for r in timed)
+
+
+def hellos(entries, client):
+    """The places of the client's hellos."""
+    return [r for r, entry in enumerate(entries) if isinstance(entry.act, Hello) and entry.act.client == client]
+
+
+def incarnation(entries, client):
+    """The incarnation of the client's last hello, if it said one."""
+    places = hellos(entries, client)
+    return entries[places[-1]].act.incarnation if places else None
+
+
+def last_number(entries, client):
+    """The greatest number of an arrival or cancel of the client since its last hello; else 0."""
+    since = entries[hellos(entries, client)[-1] :]
+    keys = [entry.act.key for entry in since if isinstance(entry.act, (Request, Cancel))]
+    return max((key.number for key in keys if key.client == client), default=0)
+
+
+def waiting_of(entries, client):
+    """The key of the client's waiting request, if it has one."""
+    own = [r for r in arrivals(entries) if entries[r].act.key.client == client and entries[r].act.call.word != "put"]
+    return next((entries[r].act.key for r in own if is_open(entries, r)), None)
+
+
+def arrival_of(entries, key):
+    """The place at which the key arrived, if it did."""
+    return next((r for r in arrivals(entries) if entries[r].act.key == key), None)
+
+
+def met_with(entries, r):
+    """The other place of the arrival's pair or swap, if it is in one."""
+    if entries[r].partner is not None:
+        return entries[r].partner
+    return next((j for j in range(r + 1, len(entries)) if entries[j].partner == r), None)
+
+
+def reply(entries, key):
+    """The members of the key's reply; none while its request waits, or where nothing came of the key."""
+    r = arrival_of(entries, key)
+    if r is None:
+        came = any(isinstance(entry.act, Cancel) and entry.act.key == key for entry in entries)
+        return {"reply": "cancelled"} if came else None
+    call = entries[r].act.call
+    if call.word == "put":
+        return {"reply": "done"}
+    if call.side == "looking":
+        return look(entries[:r], call)
+    return reply_met(entries, r) or reply_unmet(entries, r)
+
+
+def look(before, call):
+    """The reply of a count or a peek, by the entries before it."""
+    givers, takers = open_at(before, "giving", call.at), open_at(before, "taking", call.at)
+    if call.word == "count":
+        return {"reply": "counted", "items": len(givers), "consumers": len(takers)}
+    if givers:
+        return {"reply": "peeked", "item": before[givers[0]].act.call.item}
+    return {"reply": "empty"}
+
+
+def reply_met(entries, r):
+    """The reply of an arrival that is in a pair or swap."""
+    other = met_with(entries, r)
+    if other is None:
+        return None
+    item = entries[other].act.call.item
+    return {
+        "transfer": {"reply": "received"},
+        "take": {"reply": "item", "item": item},
+        "swap": {"reply": "swapped", "item": item},
+    }[entries[r].act.call.word]
+
+
+def reply_unmet(entries, r):
+    """The reply of an arrival that met nobody."""
+    call = entries[r].act.call
+    if call.wait == "now":
+        return {"reply": "nobody" if call.word == "transfer" else "empty"}
+    if call.wait == 0:
+        return {"reply": "timedout"}
+    match stopper(entries, r):
+        case None:
+            return None
+        case Entry(act=Tick()):
+            return {"reply": "timedout"}
+    return {"reply": "cancelled"}
+
+
+def broken_rule(account, j):
+    """The first rule of legal accounts that is broken at a place, by its short name; none where all hold."""
+    before, entry = account.entries[:j], account.entries[j]
+    tests = [*broken_moments(account, before, entry), *broken_numbers(account, before, entry)]
+    for name, is_broken in tests:
+        if is_broken():
+            return name
+    return broken_pair(before, entry)
+
+
+def broken_moments(account, before, entry):
+    """The rules on moments, each with a test whether it is broken."""
+    is_tick = isinstance(entry.act, Tick)
+    yield "M1", lambda: entry.moment < (before[-1].moment if before else account.opened)
+    yield "M2", lambda: not is_tick and overdue(before, entry.moment)
+    yield "M3", lambda: is_tick and not overdue(before, entry.moment)
+
+
+def broken_numbers(account, before, entry):
+    """The rules on numbers, each with a test whether it is broken."""
+    match entry.act:
+        case Hello(client, number):
+            yield "N1", lambda: any(before[r].act.incarnation >= number for r in hellos(before, client))
+        case Request(key, _):
+            yield "N2", lambda: not is_of_session(account, before, key)
+            yield "N3", lambda: waiting_of(before, key.client) is not None or not is_next(before, key)
+        case Cancel(key):
+            yield "N2", lambda: not is_of_session(account, before, key)
+            yield "N3", lambda: not is_due(before, key)
+
+
+def is_of_session(account, before, key):
+    """Whether a key has the account's epoch and its client's last incarnation."""
+    return key.epoch == account.epoch and incarnation(before, key.client) == key.incarnation
+
+
+def is_next(before, key):
+    """Whether a key has its session's last number plus one."""
+    return key.number == last_number(before, key.client) + 1
+
+
+def is_due(before, key):
+    """Whether a cancel may have the key: that of its session's waiting request, or else the next one."""
+    waits = waiting_of(before, key.client)
+    return waits == key if waits else is_next(before, key)
+
+
+def broken_pair(before, entry):
+    """The first rule on pairs and swaps that is broken by an entry."""
+    call = entry.act.call if isinstance(entry.act, Request) else None
+    other = OTHER_SIDE.get(call.side) if call else None
+    partner = entry.partner
+    if partner is not None:
+        named = any(earlier.partner == partner for earlier in before)
+        if other is None or partner >= len(before) or named or before[partner].partner is not None:
+            return "P1"
+    if other is None:
+        return None
+    opposites = open_at(before, other, call.at)
+    opposite, first, possible = ("S1", None, "S2") if call.side == "exchanging" else ("P2", "P3", "P4")
+    if partner is not None and partner not in opposites:
+        return opposite
+    if partner is not None and first and partner != opposites[0]:
+        return first
+    if partner is None and opposites:
+        return possible
+    return None
+
+
+def first_fault(account):
+    """The first place at which a rule is broken, and the rule; none where the account is legal."""
+    faults = ((j, broken_rule(account, j)) for j in range(len(account.entries)))
+    return next((fault for fault in faults if fault[1]), None)

@@ -1,0 +1,258 @@
+"""Worked rows, by which the model is tested itself: what each line is told, with values that were set beforehand.
+
+A row is lines `[@MOMENT] WHAT => ANSWER`; without @MOMENT the moment is 0. WHAT is `hello CLIENT/INCARNATION`,
+`cancel KEY`, `KEY CALL`, or `line` and the line's text itself. KEY is `CLIENT#NUMBER` with incarnation 1, or
+`CLIENT/INCARNATION#NUMBER`, and `EPOCH:` may stand before it. ANSWER is `welcome`, `waiting`, `refused CODE DETAIL`,
+a reply's word and members, or `{..`, the text itself.
+"""
+import json
+import re
+
+from model_parts.account import Account, Call, Entry, Hello, Key, Request, Tick, first_fault
+from model_parts.steps import WHOLE, told
+from model_parts.texts import written
+
+THREE = "hello 1/1 => welcome\nhello 2/1 => welcome\nhello 3/1 => welcome\n"
+DETAILS = {2: "current", 4: "current", 5: "last", 7: "open", 8: "last"}
+X512, X513 = '"' + 512 * "x" + '"', '"' + 513 * "x" + '"'
+
+# Name, epoch, lines.
+ROWS = [
+    ("a poll gets the item", 1, """
+        line 0 {"client":1,"incarnation":1,"kind":"hello"} => {"client":1,"epoch":1,"incarnation":1,"kind":"welcome"}
+        hello 2/1 => {"client":2,"epoch":1,"incarnation":1,"kind":"welcome"}
+        1#1 put 3 "a" => {"client":1,"epoch":1,"incarnation":1,"kind":"reply","number":1,"reply":"done"}
+        2#1 take 3 now => {"client":2,"epoch":1,"incarnation":1,"item":"a","kind":"reply","number":1,"reply":"item"}
+        """),
+    ("a poll of nothing", 1, THREE + "2#1 take 3 now => empty"),
+    ("a transfer waits for its consumer, and repeats get the replies again", 1, THREE + """
+        1#1 transfer 3 "a" forever => waiting
+        @5 2#1 take 3 forever => item "a"
+        @6 1#1 transfer 3 "a" forever => received
+        @7 2#1 take 3 forever => item "a"
+        """),
+    ("a transfer that does not wait", 1, THREE + """
+        1#1 transfer 3 "a" now => nobody
+        2#1 take 3 now => empty
+        2#2 take 3 forever => waiting
+        @1 1#2 transfer 3 "b" now => received
+        @1 2#2 take 3 forever => item "b"
+        """),
+    ("a transfer that times out at its limit", 1, THREE + """
+        1#1 transfer 3 "a" 10 => waiting
+        @10 2#1 take 3 forever => waiting
+        @10 1#1 transfer 3 "a" 10 => timedout
+        """),
+    ("zero milliseconds", 1, THREE + """
+        2#1 take 3 0 => timedout
+        1#1 transfer 3 "a" 0 => timedout
+        """),
+    ("puts and transfers in one order; count and peek", 1, THREE + """
+        1#1 put 3 "a" => done
+        1#2 put 3 "b" => done
+        2#1 transfer 3 "c" forever => waiting
+        @1 3#1 count 3 => counted 3 0
+        @1 3#2 peek 3 => peeked "a"
+        @2 cancel 2#1 => cancelled
+        @3 3#3 take 3 now => item "a"
+        @3 3#4 take 3 now => item "b"
+        @3 3#5 take 3 now => empty
+        @3 3#6 peek 3 => empty
+        """),
+    ("consumers in order", 1, THREE + """
+        1#1 take 3 forever => waiting
+        2#1 take 3 forever => waiting
+        3#1 take 3 forever => waiting
+        @1 cancel 2#1 => cancelled
+        @1 2#2 count 3 => counted 0 2
+        @2 2#3 put 3 "x" => done
+        @2 2#4 put 3 "y" => done
+        @3 1#1 take 3 forever => item "x"
+        @3 3#1 take 3 forever => item "y"
+        """),
+    ("a cancel before arrival", 1, THREE + """
+        cancel 1#1 => cancelled
+        @1 1#1 transfer 3 "a" forever => cancelled
+        @2 1#1 put 3 "z" => cancelled
+        @3 2#1 take 3 forever => waiting
+        """),
+    ("a client starts anew", 1, THREE + """
+        1#1 transfer 3 "a" forever => waiting
+        @1 hello 1/2 => welcome
+        @2 2#1 take 3 now => empty
+        @3 1#1 transfer 3 "a" forever => refused 4 2
+        @3 hello 1/1 => refused 4 2
+        @4 hello 1/2 => welcome
+        @4 1/9#1 put 3 "q" => refused 3
+        @5 1/2#1 put 3 "b" => done
+        @6 hello 1/3 => welcome
+        @7 2#2 take 3 now => item "b"
+        """),
+    ("partners swap", 1, THREE + """
+        1#1 swap 63 "a" forever => waiting
+        @1 2#1 swap 63 "b" 5 => swapped "a"
+        @2 1#1 swap 63 "a" forever => swapped "b"
+        @2 3#1 swap 63 "c" 0 => timedout
+        @2 3#2 swap 63 "c" now => refused 1
+        """),
+    ("refusals in their order", 1, THREE + """
+        1#1 put 3 "a" => done
+        1#1 put 3 "b" => refused 6
+        1#3 put 3 "c" => refused 8 1
+        1#2 transfer 4 "t" forever => waiting
+        1#2 transfer 5 "t" forever => refused 6
+        1#3 put 3 "c" => refused 7 2
+        1#9 put 3 "c" => refused 7 2
+        1#1 put 3 "a" => refused 5 2
+        cancel 1#1 => refused 5 2
+        cancel 1#2 => cancelled
+        cancel 1#4 => refused 8 2
+        9#1 put 3 "a" => refused 3
+        """),
+    ("limits of items and queues", 1, f"""
+        hello 1/1 => welcome
+        1#1 put 3 {X512} => done
+        1#2 put 3 {X513} => refused 1
+        1#2 put 64 "a" => refused 1
+        1#2 put 3.0 "a" => refused 1
+        1#2 put 63 "" => done
+        """),
+    ("another epoch", 2, """
+        1:1#1 put 3 "a" => refused 2 2
+        2:1#1 put 3 "a" => refused 3
+        hello 1/1 => welcome
+        1:1#1 put 3 "a" => refused 2 2
+        """),
+    ("a transfer is met before its limit", 1, THREE + """
+        1#1 transfer 3 "a" 10 => waiting
+        @9 2#1 take 3 forever => item "a"
+        @10 1#1 transfer 3 "a" 10 => received
+        """),
+    ("the greatest number of clients", 1, "".join(f"hello {client}/1 => welcome\n" for client in range(1, 1025)) + """
+        hello 1025/1 => refused 9
+        hello 1/2 => welcome
+        """),
+    ("a moment that falls counts as the book's own", 1, THREE + """
+        1#1 transfer 3 "a" 10 => waiting
+        @8 2#1 count 3 => counted 1 0
+        @2 3#1 transfer 3 "b" 4 => waiting
+        @9 2#2 take 3 now => item "a"
+        @9 2#3 take 3 now => item "b"
+        """),
+    ("lines of another form", 1, """
+        line 0 { "kind":"hello", "incarnation":1, "client":7 } => {"client":7,"epoch":1,"incarnation":1,"kind":"welcome"}
+        line 0 {"client":1,"incarnation":1,"kind":"hello","x":1} => refused 1
+        line 0 {"client":0,"incarnation":1,"kind":"hello"} => refused 1
+        line 0 { => refused 1
+        line 0  => refused 1
+        line x {"client":1,"incarnation":1,"kind":"hello"} => refused 1
+        line  => refused 1
+        """),
+    ("an item with escapes", 1, r"""
+        hello 1/1 => welcome
+        1#1 put 3 "\u0001\"\\\u00e9" => done
+        1#2 take 3 now => {"client":1,"epoch":1,"incarnation":1,"item":"\u0001\"\\é","kind":"reply","number":2,"reply":"item"}
+        """),
+]
+
+# The partner of the take, the take's number, the second hello's client, whether a tick follows; and the fault.
+AUDITS = [
+    (2, 1, 2, False, None),
+    (3, 1, 2, False, (4, "P3")),
+    (None, 1, 2, False, (4, "P4")),
+    (1, 1, 2, False, (4, "P2")),
+    (4, 1, 2, False, (4, "P1")),
+    (2, 1, 2, True, (5, "M3")),
+    (2, 2, 2, False, (4, "N3")),
+    (2, 1, 1, False, (1, "N1")),
+]
+
+KEY = re.compile(r"(?:(\d+):)?(\d+)(?:/(\d+))?#(\d+)$")
+
+
+def key_of(text, epoch):
+    """The members of a key."""
+    own, client, incarnation, number = KEY.match(text).groups()
+    return vars(Key(int(own or epoch), int(client), int(incarnation or 1), int(number)))
+
+
+def call_members(text):
+    """The members of a call as a row writes it."""
+    word, at, rest = (text + " ").split(" ", 2)
+    members = {"call": word, "exchanger" if word == "swap" else "queue": json.loads(at)}
+    rest = rest.strip()
+    if word in ("put", "transfer", "swap"):
+        item, end = json.JSONDecoder().raw_decode(rest)
+        members["item"], rest = item, rest[end:].strip()
+    if rest:
+        members["wait"] = int(rest) if rest.isdigit() else rest
+    return members
+
+
+def line_of(what, moment, epoch):
+    """The line that a row means, and the key members that its reply has."""
+    if what.startswith("line "):
+        return what.removeprefix("line "), {}
+    first, rest = what.split(" ", 1)
+    if first == "hello":
+        client, incarnation = map(int, rest.split("/"))
+        members = {"client": client, "incarnation": incarnation}
+        return f"{moment} {written({'kind': 'hello', **members})}", {"epoch": epoch, **members}
+    key = key_of(rest if first == "cancel" else first, epoch)
+    act = {"kind": "cancel"} if first == "cancel" else {"kind": "request", **call_members(rest)}
+    return f"{moment} {written({**key, **act})}", key
+
+
+def answer_of(text, key):
+    """The text of the answer that a row means."""
+    if text.startswith("{"):
+        return text
+    word, *rest = text.split(" ", 1)
+    if word == "refused":
+        code, *detail = map(int, rest[0].split())
+        return written({"kind": "refused", "code": code, **({DETAILS[code]: detail[0]} if detail else {})})
+    if word in ("welcome", "waiting"):
+        return written({"kind": word, **key})
+    members = {"reply": word}
+    if word == "counted":
+        members["items"], members["consumers"] = map(int, rest[0].split())
+    elif rest:
+        members["item"] = json.loads(rest[0])
+    return written({"kind": "reply", **key, **members})
+
+
+def row_fault(epoch, lines):
+    """What is wrong with a row, if something is."""
+    account = Account(epoch, 0)
+    for row in filter(None, map(str.strip, lines.splitlines())):
+        what, _, expected = row.rpartition("=>")
+        moment, what = what.removeprefix("@").split(" ", 1) if row.startswith("@") else (0, what)
+        what = what.removesuffix(" ")
+        line, key = line_of(what, moment, epoch)
+        account, got = told(account, line.encode(), WHOLE)
+        if got != answer_of(expected.strip(), key):
+            return f"{row}: got {got}"
+    fault = first_fault(account) if len(account.entries) < 100 else None
+    return f"the account breaks a rule: {fault}" if fault else None
+
+
+def audited(partner, number, second, has_tick):
+    """The account of an audit: two hellos, two puts and a take, and perhaps a tick."""
+    acts = [
+        Hello(1, 1),
+        Hello(second, 1),
+        Request(Key(1, 1, 1, 1), Call("put", 3, "a")),
+        Request(Key(1, 1, 1, 2), Call("put", 3, "b")),
+    ]
+    take = Request(Key(1, 2, 1, number), Call("take", 3, wait="now"))
+    ticks = [Entry(1, Tick())] if has_tick else []
+    return Account(1, 0, (*(Entry(0, act) for act in acts), Entry(1, take, partner), *ticks))
+
+
+def row_faults():
+    """Each row and audit by its name, with what is wrong with it, if something is."""
+    for name, epoch, lines in ROWS:
+        yield name, row_fault(epoch, lines)
+    for *change, expected in AUDITS:
+        got = first_fault(audited(*change))
+        yield f"audit {change}", None if got == expected else f"got {got}, not {expected}"

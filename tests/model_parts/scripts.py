@@ -1,0 +1,225 @@
+"""Random scripts: lines of `rv book`, good ones and bad ones, with what the model answers to each."""
+import json
+
+from model_parts.account import Account, Key, Request, first_fault, incarnation, last_number, reply, waiting_of
+from model_parts.steps import TODAY, WHOLE, replied, told
+from model_parts.texts import KEY, MAX_BODY_BYTES, MAX_IDENTIFIER, written
+
+LETTERS = ["a", "b", "x", " ", "/", '"', "\\", "\0", "\x01", "\b", "\t", "\n", "\f", "\r", "\x1f", "\x7f", "\x80",
+           "é", "߿", "ࠀ", "\u2028", "\ud7ff", "\ue000", "�", "\uffff", "𝄞", "\U0010ffff"]
+NUMBERS = [0, 1, 2, 63, 64, 86_400_000, 86_400_001, 2**53 - 1, 2**53, 2**64 - 1, 2**64, -1, 1.0, 0.5]
+VALUES = [*NUMBERS, None, True, "", "1", "now", "forever", "NOW", "put", "take", "transfer", "swap", "count", "peek",
+          "offer", "hello", "request", "cancel", "goodbye", [], [1], {}, {"kind": "hello"}]
+TEXTS = ["", "[]", '"hello"', "null", "{}", "{", "}", "01", "nul", "[" * 127 + "]" * 127, "[" * 128 + "]" * 128]
+NUMERALS = ["1.0", "1e2", "1E0", "-0", "-1", "01", "+1", ".5", "1.", "1e999", "1e-999", "0x1", "NaN", "Infinity",
+            "18446744073709551615", "18446744073709551616", "9" * 400, '"1"', "0", "00"]
+FURTHER = ["x", "", "Kind", "item", "wait", "queue", "exchanger"]
+BYTES = [b"\xff", b"\xc0\x80", b"\xed\xa0\x80", b"\xc2\xa0", b"\x0b", b"\x00"]
+ESCAPES = [b"\\ud800", b"\\udc00", b"\\ud83d\\ude00", b"\\x", b"\\u12", b"\\"]
+WAITS = ["forever", "now", 0, 1, 2, 3, 5, 10, 20, 86_400_000, 86_400_001]
+
+
+class Script:
+    """One book's lines. What comes next is chosen by the account that the model has so far."""
+
+    def __init__(self, chance, epoch, have):
+        self.chance = chance
+        self.have = have
+        self.account = Account(epoch, 0)
+        self.now = 0
+        self.clients = chance.sample([1, 2, 3, 4, 5, 6, 7, 8, 1000, MAX_IDENTIFIER], chance.randint(1, 6))
+        self.queues = chance.sample(range(64), chance.randint(1, 3))
+        self.gives = chance.choice([0.35, 0.5, 0.65])
+        self.longs = chance.random() < 0.2
+        self.leaps = chance.random() < 0.2
+
+    def odds(self, likelihood):
+        """True so often."""
+        return self.chance.random() < likelihood
+
+    def line(self):
+        """One line more, and the text that answers it."""
+        line = self.moment() + b" " + self.body()
+        if self.odds(0.02):
+            line = self.spoilt_line(line)
+        line = line.replace(b"\n", b" ")
+        self.account, text = told(self.account, line, self.have)
+        return line, text.encode()
+
+    def moment(self):
+        """A moment that mostly rises a little."""
+        self.now = max(0, self.now + self.chance.choice([0, 0, 0, 1, 1, 2, 5, -3]))
+        if self.leaps and self.odds(0.03):
+            self.now = self.chance.choice([0, 1000, 2**62 - 1, 2**62, 2**62 + 1, 10**19 - 1])
+        digits = str(min(self.now, 10**19 - 1))
+        return (digits.zfill(self.chance.randint(1, 19)) if self.odds(0.05) else digits).encode()
+
+    def spoilt_line(self, line):
+        """A line of another form, or nearly so."""
+        digits, _, body = line.partition(b" ")
+        return self.chance.choice([
+            b"", b" ", digits, digits + b" ", digits + b"\t" + body, body, b" " + line, b"+" + line, b"-" + line,
+            b"x " + body, digits + b"x " + body, digits.zfill(19) + b" " + body, digits.zfill(20) + b" " + body,
+            b"1." + line, digits + b"  " + body, line + b"\r", line + b" ", digits + b" \t" + body, "１ ".encode() + body,
+        ])
+
+    def body(self):
+        """A body, mostly that of a message."""
+        members = self.hello() if self.odds(0.1) or not self.account.entries else self.of_a_key()
+        if self.odds(0.03):
+            self.spoil(members)
+        text = self.text(members).encode()
+        return self.spoilt_body(text) if self.odds(0.04) else text
+
+    def hello(self):
+        """A hello: of a new incarnation, of this one again, or of an old one."""
+        client = self.chance.choice(self.clients)
+        current = incarnation(self.account.entries, client)
+        number = self.chance.choice([1, 2]) if current is None else current + self.chance.choice([0, 0, 1, 1, 2, -1])
+        if self.odds(0.01):
+            number = MAX_IDENTIFIER
+        return {"kind": "hello", "client": client, "incarnation": max(1, number)}
+
+    def of_a_key(self):
+        """A request or cancel, mostly one that its session may send next."""
+        entries, client = self.account.entries, self.chance.choice(self.clients)
+        current = incarnation(entries, client)
+        if current is None and self.odds(0.8):
+            return {"kind": "hello", "client": client, "incarnation": 1}
+        last = last_number(entries, client) if current else 0
+        step = 0 if waiting_of(entries, client) and self.odds(0.6) else self.chance.choice([1] * 16 + [0, 0, -1, 2, 3])
+        number = max(1, last + step)
+        key = {"epoch": self.account.epoch, "client": client, "incarnation": current or 1, "number": number}
+        if self.odds(0.04):
+            name = self.chance.choice(list(key))
+            key[name] = self.chance.choice([key[name] + 1, max(1, key[name] - 1), MAX_IDENTIFIER])
+        if self.have["cancel"] and self.odds(0.12) or self.odds(0.01):
+            return {"kind": "cancel", **key}
+        again = self.arrived(key) if self.odds(0.7) else None
+        return {"kind": "request", **key, **(again or self.call())}
+
+    def arrived(self, key):
+        """The members of the call that arrived under these key members, if one did."""
+        for entry in self.account.entries:
+            if isinstance(entry.act, Request) and vars(entry.act.key) == key:
+                call = entry.act.call
+                members = {"call": call.word, "exchanger" if call.word == "swap" else "queue": call.at}
+                more = {"item": call.item, "wait": call.wait}
+                return {**members, **{name: value for name, value in more.items() if value is not None}}
+        return None
+
+    def call(self):
+        """The members of a call, mostly of one that exists."""
+        word = self.chance.choice(["put", "transfer"]) if self.odds(self.gives) else "take"
+        if self.odds(0.25):
+            word = self.chance.choice(["swap", "swap", "count", "peek"])
+        if not self.have.get(word, True) and self.odds(0.9):
+            word = "put" if self.odds(self.gives) else "take"
+        at = self.chance.randrange(65) if self.odds(0.02) else self.chance.choice(self.queues)
+        members = {"call": word, "exchanger" if word == "swap" else "queue": at}
+        if word in ("put", "transfer", "swap"):
+            members["item"] = self.item()
+        if word in ("transfer", "take", "swap"):
+            members["wait"] = self.wait(word)
+        return members
+
+    def wait(self, word):
+        """A wait, mostly one that exists."""
+        if word == "take" and not self.have["take that waits"] and self.odds(0.95):
+            return "now"
+        return self.chance.choice(WAITS)
+
+    def item(self):
+        """A text of some letters, now and then as long as one may be, or a byte longer."""
+        if not self.longs and self.odds(0.9):
+            return "".join(self.chance.choices(LETTERS, k=self.chance.randint(0, 3)))
+        size = self.chance.choice([0, 1, 255, 256, 257, 300, 511, 512, 512, 513])
+        letters = self.chance.choices(LETTERS, k=self.chance.randint(1, 8))
+        text = ""
+        while size - len(text.encode()) >= 4:
+            text += self.chance.choice(letters)
+        return text + "x" * (size - len(text.encode()))
+
+    def spoil(self, members):
+        """Leaves a member out, adds one or changes one's value."""
+        name = self.chance.choice(list(members))
+        how = self.chance.randrange(4)
+        if how == 0:
+            del members[name]
+        elif how == 1:
+            members[self.chance.choice(FURTHER)] = self.chance.choice(VALUES)
+        else:
+            members[name] = self.chance.choice(VALUES)
+
+    def spoilt_body(self, body):
+        """A body with something wrong in its bytes, or nearly so."""
+        at, end = self.chance.randrange(len(body)), body[-1:]
+        nested = lambda levels: b'{"kind":' + b"[" * levels + b"]" * levels + b"," + body[1:]
+        padded = lambda size: body[:-1] + b" " * max(0, size - len(body)) + end
+        return self.chance.choice([
+            lambda: body[:at],
+            lambda: body[:at] + body[at + 1 :],
+            lambda: body[:at] + bytes([self.chance.randrange(256)]) + body[at + 1 :],
+            lambda: body[:at] + self.chance.choice(BYTES) + body[at:],
+            lambda: body + self.chance.choice([b"x", b"{}", b",", b"\xc2\xa0", b" ", b"\t\r "]),
+            lambda: b"\xef\xbb\xbf" + body,
+            lambda: body.replace(b":1", b":" + self.chance.choice(NUMERALS).encode(), 1),
+            lambda: body.replace(b'":"', b'":"' + self.chance.choice(ESCAPES), 1),
+            lambda: padded(self.chance.choice([MAX_BODY_BYTES, MAX_BODY_BYTES + 1])),
+            lambda: nested(self.chance.choice([1, 125, 126, 127])),
+            lambda: body[:-1] + b',"kind":"hello"}',
+            lambda: self.chance.choice(TEXTS).encode(),
+        ])()
+
+    def text(self, members):
+        """A JSON text of members: often as it would be written, else in any order, with white space and escapes."""
+        if self.odds(0.5):
+            return written(members)
+        names = self.chance.sample(list(members), len(members))
+        if names and self.odds(0.05):
+            names.insert(0, self.chance.choice(names))
+        pairs = [self.pair(name, members[name]) for name in names]
+        return f"{self.gap()}{{{(self.gap() + ',').join(pairs)}{self.gap()}}}{self.gap()}"
+
+    def pair(self, name, value):
+        """The text of a member."""
+        text = self.string(value) if isinstance(value, str) else json.dumps(value)
+        return f"{self.gap()}{self.string(name)}{self.gap()}:{self.gap()}{text}"
+
+    def gap(self):
+        """White space, mostly none."""
+        return "".join(self.chance.choices(" \t\r", k=self.chance.randint(1, 3))) if self.odds(0.1) else ""
+
+    def string(self, text):
+        """A JSON string, some of its letters with an escape."""
+        often = self.chance.choice([0, 0, 0.1, 1])
+        return '"' + "".join(self.letter(letter, often) for letter in text) + '"'
+
+    def letter(self, letter, often):
+        """A letter of a JSON string, so often with an escape that it needs not have."""
+        if not self.odds(often):
+            return written(letter)[1:-1]
+        if letter == "/":
+            return "\\/"
+        units = letter.encode("utf-16-be")
+        form = self.chance.choice(["\\u{:04x}", "\\u{:04X}"])
+        return "".join(form.format(int.from_bytes(units[i : i + 2])) for i in range(0, len(units), 2))
+
+
+def make_script(chance, epoch, count):
+    """So many lines for a book of an epoch, each with the text that today's program must answer."""
+    script = Script(chance, epoch, TODAY)
+    return [script.line() for _ in range(count)]
+
+
+def law_fault(chance):
+    """What is wrong with a random book of the whole model, if something is: it must be legal, and replies must stay."""
+    script = Script(chance, 1, WHOLE)
+    answers = [json.loads(script.line()[1]) for _ in range(200)]
+    if first_fault(script.account):
+        return f"the account breaks a rule: {first_fault(script.account)}"
+    for answer in answers:
+        key = Key(*(answer.get(name) for name in KEY))
+        if answer["kind"] == "reply" and replied(key, reply(script.account.entries, key)) != answer:
+            return f"this reply did not stay: {answer}"
+    return None

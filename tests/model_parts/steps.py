@@ -1,0 +1,153 @@
+"""One step of an account by a moment and a message (docs/MODEL.md, section 9), and the lines that exist today."""
+from model_parts.account import (
+    MAX_CLIENTS, MAX_ENTRIES, MAX_MOMENT, OTHER_SIDE, Cancel, Entry, Hello, Request, Tick, arrival_of, broken_rule,
+    incarnation, last_number, open_at, overdue, reply, stays, waiting, waiting_of)
+from model_parts.texts import NoReading, demand, read_line, written
+
+# What the whole model has. `kept replies` are lines 5 to 8 of the step, `client limit` is line 13.
+WHOLE = {
+    "put": True,
+    "take that does not wait": True,
+    "take that waits": True,
+    "transfer": True,
+    "swap": True,
+    "count": True,
+    "peek": True,
+    "cancel": True,
+    "kept replies": True,
+    "client limit": True,
+}
+
+# What the program has today: each change of the program flips its entries here.
+TODAY = {
+    "put": True,
+    "take that does not wait": True,
+    "take that waits": False,
+    "transfer": False,
+    "swap": False,
+    "count": False,
+    "peek": False,
+    "cancel": False,
+    "kept replies": False,
+    "client limit": False,
+}
+
+
+def told(account, line, have):
+    """The account after a line of `rv book`, and the text that answers it."""
+    try:
+        moment, message = read_line(line)
+        demand(exists(message, have))
+    except NoReading:
+        return account, written(refused(1))
+    account, members = step(account, moment, message, have)
+    return account, written(members)
+
+
+def exists(message, have):
+    """Whether a message is one that a program with these parts knows."""
+    match message:
+        case Hello():
+            return True
+        case Cancel():
+            return have["cancel"]
+    call = message.call
+    if call.word == "take":
+        return have["take that does not wait" if call.wait == "now" else "take that waits"]
+    return have[call.word]
+
+
+def refused(code, **detail):
+    """The members of a refusal."""
+    return {"kind": "refused", "code": code, **detail}
+
+
+def replied(key, members):
+    """The members of a reply; of `waiting` where there is none yet."""
+    return {"kind": "reply", **vars(key), **members} if members else {"kind": "waiting", **vars(key)}
+
+
+def welcome(account, hello):
+    """The members of a welcome."""
+    return {"kind": "welcome", "epoch": account.epoch, "client": hello.client, "incarnation": hello.incarnation}
+
+
+def step(account, now, message, have):
+    """The account after a message that was handed in at a moment, and the members of its answer."""
+    moment = max(account.own_moment(), min(now, MAX_MOMENT))
+    if overdue(account.entries, moment):
+        account = account.with_entry(Entry(moment, Tick()))
+    lines = hello_lines if isinstance(message, Hello) else key_lines
+    answer = lines(account, message, have) or full(account, message)
+    if answer:
+        return account, answer
+    account = entered(account, moment, message)
+    if isinstance(message, Hello):
+        return account, welcome(account, message)
+    return account, replied(message.key, reply(account.entries, message.key))
+
+
+def key_lines(account, message, have):
+    """Lines 1 to 10: the answer to a request or cancel that gets no entry of its own, if one of them applies."""
+    entries, key = account.entries, message.key
+    if key.epoch != account.epoch:
+        return refused(2, current=account.epoch)
+    current = incarnation(entries, key.client)
+    if current is None or current < key.incarnation:
+        return refused(3)
+    if key.incarnation < current:
+        return refused(4, current=current)
+    last = last_number(entries, key.client)
+    if key.number < last or key.number == last and not have["kept replies"]:
+        return refused(5, last=last)
+    if key.number == last:
+        return repeat_lines(entries, message)
+    if waiting_of(entries, key.client):
+        return refused(7, open=last)
+    if key.number > last + 1:
+        return refused(8, last=last)
+    return None
+
+
+def repeat_lines(entries, message):
+    """Lines 5 to 8: the answer to a request or cancel of its session's last number."""
+    kept = reply(entries, message.key)
+    if isinstance(message, Cancel):
+        return replied(message.key, kept) if kept else None
+    r = arrival_of(entries, message.key)
+    if r is not None and entries[r].act.call != message.call:
+        return refused(6)
+    return replied(message.key, kept)
+
+
+def hello_lines(account, hello, have):
+    """Lines 11 to 13: the answer to a hello that gets no entry of its own, if one of them applies."""
+    current = incarnation(account.entries, hello.client)
+    if current is not None and current > hello.incarnation:
+        return refused(4, current=current)
+    if current == hello.incarnation:
+        return welcome(account, hello)
+    clients = {entry.act.client for entry in account.entries if isinstance(entry.act, Hello)}
+    if current is None and have["client limit"] and len(clients) >= MAX_CLIENTS:
+        return refused(9)
+    return None
+
+
+def full(account, message):
+    """Line 14, the rule of room."""
+    entries = account.entries
+    if isinstance(message, Cancel) and waiting_of(entries, message.key.client):
+        return None
+    may_wait = isinstance(message, Request) and message.call.word != "put" and stays(message.call)
+    need = 2 if may_wait else 1
+    return refused(10) if len(entries) + len(waiting(entries)) + need > MAX_ENTRIES else None
+
+
+def entered(account, moment, message):
+    """The one legal account with the message's entry. Only an open place of the other side can be its partner."""
+    partners = [None]
+    if isinstance(message, Request) and message.call.side in OTHER_SIDE:
+        partners += open_at(account.entries, OTHER_SIDE[message.call.side], message.call.at)
+    choices = [account.with_entry(Entry(moment, message, partner)) for partner in partners]
+    [legal] = [choice for choice in choices if broken_rule(choice, len(account.entries)) is None]
+    return legal
