@@ -1,4 +1,4 @@
-//! What no clause says: that calls succeed on devices that work, and that the device is asked no more often than promised.
+//! What no clause says: that calls succeed on devices that work, and how often a device is asked.
 use super::testing::{Stop, TestReader, TestWriter};
 use super::uses::{CopyFault, GatherFault, copy_all, gather, write_both};
 use super::{ReadFault, Sink, Source, WriteFault};
