@@ -1,4 +1,7 @@
 -- What the contracts cite.
+pub mod Cut
+pub mod Laws
 pub mod Sink
 pub mod Source
+pub mod Stream
 pub mod Testing

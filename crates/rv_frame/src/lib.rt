@@ -1,6 +1,7 @@
 //! Readers and writers that remember a failure and count what went out.
 #![tactic(auto)]
 
+pub mod laws;
 mod sink;
 mod source;
 pub mod testing;
