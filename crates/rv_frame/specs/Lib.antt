@@ -1,5 +1,6 @@
 -- What the contracts cite.
 pub mod Cut
+pub mod Held
 pub mod Laws
 pub mod Sink
 pub mod Source
