@@ -3,19 +3,19 @@ use Rattle.std.proofs.Common.{ap, sym, ◌≡◌, ◌∙◌, ℕ, List, Option, 
 use Rattle.std.specs.Option.{IsSomeAnd}
 use Rattle.std.specs.Prelude.{IfOk, IsErrOf, MatchResult}
 use Rattle.clap.specs.Words.{Row, Text, subcommand_of}
-use Rattle.rv_app.specs.Command.{GivesNumber, Names, NamesNone, Says, rv_app}
+use Rattle.rv_app.specs.Command.{GivesIdentifier, Names, NamesNone, Says, rv_app}
 use Rattle.rv_app.specs.declared.command.Command.{Command}
 use Rattle.rv_app.specs.declared.command.Command.TheVariants.{Book}
 use Rattle.rv_app.specs.declared.command.CommandFault.{CommandFault}
 use Rattle.rv_app.specs.declared.command.CommandFault.TheVariants.{Bad, NoMemory}
 
-number_one : (value : Option Text) (least most m n : ℕ) → GivesNumber value least most m → GivesNumber value least most n → m ≡ n
-number_one None least most m n a b = absurd a.0
-number_one (Some text) least most m n a b = a.0.1 ∙ sym b.0.1
+number_one : (value : Option Text) (m n : ℕ) → GivesIdentifier value m → GivesIdentifier value n → m ≡ n
+number_one None m n a b = absurd a.0
+number_one (Some text) m n a b = a.0.1 ∙ sym b.0.1
 
 said_one : (subcommand : Option (Text × List Row)) (c d : Command) → IsSomeAnd subcommand (λ s. Says s c) → IsSomeAnd subcommand (λ s. Says s d) → c ≡ d
 said_one None c d a b = absurd a
-said_one (Some s) (Book m) (Book n) a b = ap Book (number_one _ _ _ m n a.1 b.1)
+said_one (Some s) (Book m) (Book n) a b = ap Book (number_one _ m n a.1 b.1)
 
 pub named_one : (words : List Text) (c d : Command) → Names words c → Names words d → c ≡ d
 named_one words c d a b = said_one (subcommand_of rv_app words) c d a.said b.said

@@ -50,7 +50,7 @@ digits_lack_space digits within k d inside same = omega (arith, within k d insid
 pub one_reading : (digits body digits' body' : List ℕ) (moment moment' : ℕ) → Writes digits moment → Writes digits' moment' → digits ++ 32 ∷ body ≡ digits' ++ 32 ∷ body'
     → (digits ≡ digits') × (body ≡ body')
 one_reading digits body digits' body' moment moment' writes writes' same =
-    cut_once 32 digits body digits' body' (digits_lack_space digits writes.0.2) (digits_lack_space digits' writes'.0.2) same
+    cut_once 32 digits body digits' body' (digits_lack_space digits writes.0.are_digits) (digits_lack_space digits' writes'.0.are_digits) same
 
 -- a line whose body is no message's is bad
 pub bad_body : (line digits body : List ℕ) (moment : ℕ) → line ≡ digits ++ 32 ∷ body → Writes digits moment → ((message : Message) → ¬ IsMessageBody body message) → IsBadLine line

@@ -43,8 +43,8 @@ first_of byte (x ∷ xs) = elim (eqb_tells x byte) [
 
 digits_or_not : (text : List ℕ) → Decided (IsDigits text)
 digits_or_not text = elim (both (at_most 1 (length text)) (both (at_most (length text) 19) (all_in_range 48 57 text))) [
-  | inl are ↦ inl (are.0, are.1.0, are.1.1)
-  | inr not ↦ inr (λ are. not (are.0, (are.1, are.2)))
+  | inl are ↦ inl (record { some = are.0; within = are.1.0; are_digits = are.1.1 })
+  | inr not ↦ inr (λ are. not (are.some, (are.within, are.are_digits)))
 ]
 
 -- digits before a first space and bytes of a body's length behind it are the form
@@ -52,7 +52,7 @@ form_of : (line digits body : List ℕ) → line ≡ digits ++ 32 ∷ body → L
 form_of line digits body parts lacks decided = elim decided [
   | inl both ↦ inl (record { digits = digits; body = body; parts = parts; are_digits = both.0; is_long = both.1 })
   | inr not ↦ inr (λ form.
-      let one = cut_once 32 form.digits form.body digits body (digits_lack_space form.digits form.are_digits.2) lacks (sym form.parts ∙ parts) in
+      let one = cut_once 32 form.digits form.body digits body (digits_lack_space form.digits form.are_digits.are_digits) lacks (sym form.parts ∙ parts) in
       not (subst IsDigits one.0 form.are_digits, subst HasBodyLength one.1 form.is_long))
 ]
 

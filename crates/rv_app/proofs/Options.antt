@@ -3,7 +3,7 @@ use Rattle.std.proofs.Common.{◌≡◌, ◌∙◌, Bor, codes, List, option_map
 use Rattle.clap.proofs.WalkLemmas.{first_value-rows}
 use Rattle.clap.specs.Words.{Row, Text, first_of, first_value, rows_of}
 use Rattle.clap.specs.declared.parser.matches.Found.{Found}
-use Rattle.rv_app.specs.Command.{GivesNumber, Says, largest_id}
+use Rattle.rv_app.specs.Command.{GivesIdentifier, Says}
 use Rattle.rv_app.specs.declared.command.Command.{Command}
 use Rattle.rv_app.specs.declared.command.Command.TheVariants.{Book}
 
@@ -14,5 +14,5 @@ value_in_rows f name value got = got ∙ first_value-rows f name
 
 -- the subcommand `book` is no other command
 pub book_alone : (options : List Row) (command : Command) → Says (codes "book", options) command
-    → (epoch : ℕ) × GivesNumber (first_of (codes "epoch") options) 1 largest_id epoch
+    → (epoch : ℕ) × GivesIdentifier (first_of (codes "epoch") options) epoch
 book_alone options (Book epoch) said = (epoch, said.1)

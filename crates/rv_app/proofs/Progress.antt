@@ -6,10 +6,16 @@ use Rattle.std.specs.Io.KnownBytes.{Appends, append_known}
 use Rattle.std.proofs.KnownBytes.{Appends-trans}
 use Rattle.rv_text.specs.declared.answer.Refusal.TheVariants.{BadText, NoMemory}
 use Rattle.rv_book.specs.Account.{Account}
+use Rattle.rv_text.specs.Bodies.{HasBodyLength}
+use Rattle.rv_frame.specs.declared.sink.Sink.{Sink}
+use Rattle.rv_frame.specs.Sink.{SinkTakes, sink_contents}
+use Rattle.rv_app.specs.declared.output.Output.{Output}
 use Rattle.rv_app.specs.declared.output.OutputFault.{OutputFault}
+use Rattle.rv_app.specs.Output.{StopsAfter}
+use Rattle.rv_app.specs.Outcomes.{SendsAll, SendsFront}
 use Rattle.rv_app.specs.Lines.{lines}
 use Rattle.rv_app.proofs.Forms.{formless_is_bad, has_form}
-use Rattle.rv_app.specs.Run.{AnswersLine, Prints, Runs, printed, refused_text}
+use Rattle.rv_app.specs.Run.{AnswersLine, Runs, printed, refused_text}
 
 -- ---- runs, one after the other
 
@@ -26,8 +32,8 @@ printed_append (body ∷ bodies) others = ap (λ rest. body ++ 10 ∷ rest) (pri
 -- a line can be answered whatever becomes of memory, and the account stays
 answered : (a : Account) (line : List ℕ) → (body : List ℕ) × AnswersLine line a a body
 answered a line = elim (has_form line) [
-  | inl form ↦ (refused_text NoMemory, inr (inr (form, inl refl, refl)))
-  | inr formless ↦ (refused_text BadText, inl (formless_is_bad line formless, refl, refl))
+  | inl form ↦ (refused_text NoMemory, inr (inr (record { has_form = form; stays_or_steps = inl refl; body_is = refl })))
+  | inr formless ↦ (refused_text BadText, inl (record { is_bad = formless_is_bad line formless; account_stays = refl; body_is = refl }))
 ]
 
 pub runs_on : (a : Account) (all : List (List ℕ)) → (bodies : List (List ℕ)) × Runs a all bodies a
@@ -84,7 +90,7 @@ progress_start contents a input gathered sent none zero = record {
 module _ {contents : Option (List ℕ)} {a : Account} {input : List ℕ} {now : Option (List ℕ)} {b : Account} {rest gathered : List ℕ} {sent : ℕ} (so_far : Progress contents a input now b rest gathered sent) where
   pub progress_more : (now' : Option (List ℕ)) (b' : Account) (after gathered' line body : List ℕ) (sent' : ℕ) → lines rest ≡ line ∷ lines after → AnswersLine line b b' body
       → Appends (append_known now gathered) (append_known now' gathered') (body ++ 10 ∷ []) → sent' + length gathered' ≡ sent + length gathered + length body + 1
-      → length body ≤ 4096 → length after < length rest → Progress contents a input now' b' after gathered' sent'
+      → HasBodyLength body → length after < length rest → Progress contents a input now' b' after gathered' sent'
   progress_more now' b' after gathered' line body sent' cut answers took count short shorter = record {
     first = so_far.first ++ line ∷ [];
     bodies = so_far.bodies ++ body ∷ [];
@@ -95,35 +101,43 @@ module _ {contents : Option (List ℕ)} {a : Account} {input : List ℕ} {now : 
     small = omega (arith, so_far.small);
   }
 
+-- ---- the end of a run
+
+module _ {W : Type 0} (contents : W → Option (List ℕ)) {a : Account} {input : List ℕ} (start now : Sink W) {b : Account} {rest : List ℕ} (output : Output)
+    (so_far : Progress (sink_contents contents start) a input (sink_contents contents now) b rest output.gathered.items output.sent) where
   -- all lines are answered, and what was gathered went out
-  pub progress_end : (now' : Option (List ℕ)) → rest ≡ [] → Appends now now' gathered → (output : List ℕ) × Prints a input output × Appends contents now' output
-  progress_end now' none out =
+  pub sends_all : (now' : Sink W) → rest ≡ [] → SinkTakes contents now now' output.gathered.items → SendsAll contents a input start now'
+  sends_all now' none out =
       let all : lines input ≡ so_far.first = so_far.cut ∙ ap (λ bytes. so_far.first ++ lines bytes) none ∙ append-nil so_far.first in
-      let prints : Prints a input (printed so_far.bodies) = record { bodies = so_far.bodies; last = b; run = subst (λ (l : List (List ℕ)). Runs a l so_far.bodies b) (sym all) so_far.run; output_is = refl } in
-      (printed so_far.bodies, prints, all_out contents now now' gathered (printed so_far.bodies) so_far.took out)
+      record {
+        output = printed so_far.bodies;
+        is_printed = record { bodies = so_far.bodies; last = b; run = subst (λ (l : List (List ℕ)). Runs a l so_far.bodies b) (sym all) so_far.run; output_is = refl };
+        went_out = all_out (sink_contents contents start) (sink_contents contents now) (sink_contents contents now') output.gathered.items (printed so_far.bodies) so_far.took out;
+      }
 
   -- a write failed: what went out is the front of what one run prints
-  pub progress_fault : (now' : Option (List ℕ)) (out : ℕ) → sent ≤ out → out < sent + length gathered → Appends now now' (take (out - sent) gathered)
-      → (output : List ℕ) × Prints a input output × (out < length output) × Appends contents now' (take out output)
-  progress_fault now' out from before part =
+  pub sends_front : (now' : Sink W) (out : ℕ) → StopsAfter contents output now now' out → SendsFront contents a input start now' out
+  sends_front now' out stops =
       let later = runs_on b (lines rest) in
       let bodies = so_far.bodies ++ later.0 in
       let run = runs_append a b b so_far.first (lines rest) so_far.bodies later.0 so_far.run later.1 in
-      let prints : Prints a input (printed bodies) = record { bodies = bodies; last = b; run = subst (λ (l : List (List ℕ)). Runs a l bodies b) (sym so_far.cut) run; output_is = refl } in
       let joined = printed_append so_far.bodies later.0 in
-      let front : take out (printed bodies) ≡ take out (printed so_far.bodies) = ap (take out) joined ∙ take-append-le out (printed so_far.bodies) (printed later.0) (omega (arith, so_far.count)) in
-      let longer : out < length (printed bodies) = omega (arith, so_far.count, ap length joined, length-append (printed so_far.bodies) (printed later.0)) in
-      let went = part_out contents now now' gathered (printed so_far.bodies) sent out so_far.took so_far.count from before part in
-      (printed bodies, prints, longer, subst (Appends contents now') (sym front) went)
+      let front : take out (printed bodies) ≡ take out (printed so_far.bodies) = ap (take out) joined ∙ take-append-le out (printed so_far.bodies) (printed later.0) (omega (arith, so_far.count, stops.not_all)) in
+      let went = part_out (sink_contents contents start) (sink_contents contents now) (sink_contents contents now') output.gathered.items (printed so_far.bodies) output.sent out so_far.took so_far.count stops.past_those_sent stops.not_all stops.went_out in
+      record {
+        output = printed bodies;
+        is_printed = record { bodies = bodies; last = b; run = subst (λ (l : List (List ℕ)). Runs a l bodies b) (sym so_far.cut) run; output_is = refl };
+        not_all = omega (arith, so_far.count, ap length joined, length-append (printed so_far.bodies) (printed later.0), stops.not_all);
+        went_out = subst (Appends (sink_contents contents start) (sink_contents contents now')) (sym front) went;
+      }
 
-  -- the same of an answer of `line` or `flush`
-  pub progress_if_err : {T : Type 0} (now' : Option (List ℕ)) (answer : Result T OutputFault) → IfErr answer (λ fault. (sent ≤ fault.sent) × (fault.sent < sent + length gathered))
-      → IfErr answer (λ fault. Appends now now' (take (fault.sent - sent) gathered))
-      → IfErr answer (λ fault. (output : List ℕ) × Prints a input output × (fault.sent < length output) × Appends contents now' (take fault.sent output))
-  progress_if_err now' (Ok x) between part = tt
-  progress_if_err now' (Err fault) between part = progress_fault now' fault.sent between.0 between.1 part
+  -- the same of an answer of `flush`
+  pub sends_all_on_ok : {T : Type 0} (now' : Sink W) (answer : Result T OutputFault) → rest ≡ [] → OnOk answer (SinkTakes contents now now' output.gathered.items)
+      → OnOk answer (SendsAll contents a input start now')
+  sends_all_on_ok now' (Ok x) none out = sends_all now' none out
+  sends_all_on_ok now' (Err fault) none out = tt
 
-  pub progress_on_ok : {T : Type 0} (now' : Option (List ℕ)) (answer : Result T OutputFault) → rest ≡ [] → OnOk answer (Appends now now' gathered)
-      → OnOk answer ((output : List ℕ) × Prints a input output × Appends contents now' output)
-  progress_on_ok now' (Ok x) none out = progress_end now' none out
-  progress_on_ok now' (Err fault) none out = tt
+  pub sends_front_if_err : {T : Type 0} (now' : Sink W) (answer : Result T OutputFault) → IfErr answer (λ fault. StopsAfter contents output now now' fault.sent)
+      → IfErr answer (λ fault. SendsFront contents a input start now' fault.sent)
+  sends_front_if_err now' (Ok x) stops = tt
+  sends_front_if_err now' (Err fault) stops = sends_front now' fault.sent stops

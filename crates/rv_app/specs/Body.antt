@@ -1,5 +1,6 @@
 -- The bytes of a body.
-use Rattle.std.specs.Prelude.{ℕ, ◌≤◌, List, length, string_bytes}
+use Rattle.std.specs.Prelude.{ℕ, List, string_bytes}
+use Rattle.rv_text.specs.Bodies.{HasBodyLength}
 use Rattle.rv_text.specs.declared.answer.Refusal as refusal
 use Rattle.rv_app.specs.Run.{refused_text}
 use Rattle.rv_app.specs.declared.turn.Body.{Body}
@@ -10,8 +11,8 @@ body_text BadText = refused_text refusal.TheVariants.BadText
 body_text NoMemory = refused_text refusal.TheVariants.NoMemory
 body_text (Text text) = string_bytes text
 
--- a text of the book is no longer than a body is
-abbrev pub HasShortText : Body → Type 0
-HasShortText BadText = Unit {0}
-HasShortText NoMemory = Unit {0}
-HasShortText (Text text) = length (string_bytes text) ≤ 4096
+-- a text of the book has a body's length
+abbrev pub HasTextOfBody : Body → Type 0
+HasTextOfBody BadText = Unit {0}
+HasTextOfBody NoMemory = Unit {0}
+HasTextOfBody (Text text) = HasBodyLength (string_bytes text)

@@ -1,5 +1,5 @@
 -- The commands that the words of a command line name.
-use Rattle.std.specs.Prelude.{codes, List, ℕ, Option, Some, true, [], ◌≡◌, ◌≤◌}
+use Rattle.std.specs.Prelude.{codes, List, ℕ, Option, Some, true, [], ◌≡◌}
 use Rattle.std.specs.Option.{IsSomeAnd}
 use Rattle.clap.specs.Words.{App, Row, Rule, Text, fault_of, first_of, new_app, new_rule}
 use Rattle.clap.specs.Words.{subcommand_of, with_rule, with_subcommand}
@@ -22,19 +22,14 @@ book_app = with_rule (new_app (codes "book")) (required_option (codes "epoch"))
 abbrev pub rv_app : App
 rv_app = with_subcommand (new_app (codes "rv")) book_app.top
 
--- the largest epoch
-abbrev pub largest_id : ℕ
-largest_id = 9007199254740991
-
--- the value of an option is there, and is the digits of n, which lies within the limits
-abbrev pub GivesNumber : Option Text → ℕ → ℕ → ℕ → Type 0
-GivesNumber value least most n =
-    IsSomeAnd value (λ text. Writes text n) × (least ≤ n) × (n ≤ most)
+-- the value of an option is there, and is the digits of an identifier
+abbrev pub GivesIdentifier : Option Text → ℕ → Type 0
+GivesIdentifier value n = IsSomeAnd value (λ text. Writes text n) × FitsIdentifier n
 
 -- a subcommand, by its name and its options, is the command
 abbrev pub Says : Text × List Row → Command → Type 0
 Says subcommand (Book epoch) = (subcommand.0 ≡ codes "book")
-    × GivesNumber (first_of (codes "epoch") subcommand.1) 1 largest_id epoch
+    × GivesIdentifier (first_of (codes "epoch") subcommand.1) epoch
 
 -- the words, the program's name first, name the command: `clap` finds no fault in them, and the
 -- subcommand that it finds is the command

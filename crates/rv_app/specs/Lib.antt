@@ -4,5 +4,6 @@ pub mod Command
 pub mod Faults
 pub mod Lines
 pub mod Number
+pub mod Outcomes
 pub mod Output
 pub mod Run

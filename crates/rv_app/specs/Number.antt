@@ -5,8 +5,10 @@ use Rattle.std.specs.List.{All}
 use Rattle.std.specs.Str.Parse.{digits_value}
 
 -- 1 to 19 ASCII digits, '0' (48) to '9' (57), and nothing else
-abbrev pub IsDigits : List ℕ → Type 0
-IsDigits text = (1 ≤ length text) × (length text ≤ 19) × All (IsInRange 48 57) text
+pub record IsDigits (text : List ℕ) : Type 0 where
+  pub some : 1 ≤ length text
+  pub within : length text ≤ 19
+  pub are_digits : All (IsInRange 48 57) text
 
 -- the number that the digits write in decimal
 abbrev pub value_of_digits : List ℕ → ℕ

@@ -21,35 +21,49 @@ unfoldable pub refused_text : Refusal → List ℕ
 refused_text refusal = answer_text (Refused refusal)
 
 -- the line's message, at the line's moment, leads from one account to the other with this answer
-abbrev pub StepsBy : List ℕ → Account → Account → Answer → Type 0
-StepsBy line a b answer = (moment : ℕ) × (message : Message) × ReadsLine line moment message × Next a moment message b answer
+pub record StepsBy (line : List ℕ) (a b : Account) (answer : Answer) : Type 0 where
+  pub moment : ℕ
+  pub message : Message
+  pub said : ReadsLine line moment message
+  pub step : Next a moment message b answer
 
 -- a line that says no message is refused as that, and the account stays
-abbrev pub RefusesLine : List ℕ → Account → Account → List ℕ → Type 0
-RefusesLine line a b body = IsBadLine line × (b ≡ a) × (body ≡ refused_text BadText)
+pub record RefusesLine (line : List ℕ) (a b : Account) (body : List ℕ) : Type 0 where
+  pub is_bad : IsBadLine line
+  pub account_stays : b ≡ a
+  pub body_is : body ≡ refused_text BadText
 
 -- the line's message takes its step, and the body says the step's answer
-abbrev pub SaysAnswer : List ℕ → Account → Account → List ℕ → Type 0
-SaysAnswer line a b body = (answer : Answer) × StepsBy line a b answer × (body ≡ answer_text answer)
+pub record SaysAnswer (line : List ℕ) (a b : Account) (body : List ℕ) : Type 0 where
+  pub answer : Answer
+  pub steps : StepsBy line a b answer
+  pub body_is : body ≡ answer_text answer
 
--- memory was refused, for a line of a message's form: the account stays or takes the step of the line's message, and the body says that memory was refused
-abbrev pub LacksMemory : List ℕ → Account → Account → List ℕ → Type 0
-LacksMemory line a b body = HasForm line × ((b ≡ a) ⊎ ((answer : Answer) × StepsBy line a b answer)) × (body ≡ refused_text NoMemory)
+-- memory was refused, for a line of a message's form: the account stays or takes the step of the line's
+-- message, and the body says that memory was refused
+pub record LacksMemory (line : List ℕ) (a b : Account) (body : List ℕ) : Type 0 where
+  pub has_form : HasForm line
+  pub stays_or_steps : (b ≡ a) ⊎ ((answer : Answer) × StepsBy line a b answer)
+  pub body_is : body ≡ refused_text NoMemory
 
 -- the line is answered by this body, and leads from one account to the other
 abbrev pub AnswersLine : List ℕ → Account → Account → List ℕ → Type 0
-AnswersLine line a b body = RefusesLine line a b body ⊎ (SaysAnswer line a b body ⊎ LacksMemory line a b body)
+AnswersLine line a b body =
+    RefusesLine line a b body ⊎ (SaysAnswer line a b body ⊎ LacksMemory line a b body)
 
 -- the message takes its step and the body says the answer, or the body says that memory was refused
-abbrev pub SaysNext : ℕ → Message → Account → Account → List ℕ → Type 0
-SaysNext moment message a b body = (answer : Answer) × Next a moment message b answer × ((body ≡ answer_text answer) ⊎ (body ≡ refused_text NoMemory))
+pub record SaysNext (moment : ℕ) (message : Message) (a b : Account) (body : List ℕ) : Type 0 where
+  pub answer : Answer
+  pub step : Next a moment message b answer
+  pub body_is : (body ≡ answer_text answer) ⊎ (body ≡ refused_text NoMemory)
 
 -- ---- all lines
 
 -- the lines, in order, are answered by these bodies, one a line, and lead from one account to the other
 abbrev pub Runs : Account → List (List ℕ) → List (List ℕ) → Account → Type 0
 Runs a [] [] b = b ≡ a
-Runs a (line ∷ lines) (body ∷ bodies) b = (between : Account) × AnswersLine line a between body × Runs between lines bodies b
+Runs a (line ∷ lines) (body ∷ bodies) b =
+    (between : Account) × AnswersLine line a between body × Runs between lines bodies b
 Runs a _ _ b = ⊥
 
 -- each body, and LF (10) after it

@@ -1,12 +1,13 @@
 //! Reads the words of a command line.
 ghost use Rattle.std.specs.Prelude.{IfOk, IfSome, IsErrOf, None, codes, false, option_map};
-ghost use Rattle.std.specs.Prelude.{ℕ, ◌≡◌, ◌≤◌, []};
+ghost use Rattle.std.specs.Prelude.{ℕ, ◌≡◌, []};
 ghost use Rattle.std.specs.Option.{IsSomeAnd};
 ghost use Rattle.clap.specs.Words.{app_of, fault_of, found_of, kind_of, rows_of, rule_of, shape_of};
 ghost use Rattle.clap.specs.Words.{subcommand_of, subcommand_rows_of};
 ghost use Rattle.clap.specs.declared.Command.TheViews.{out-Command};
 ghost use Rattle.clap.specs.Walk.{texts};
-ghost use Rattle.rv_app.specs.Command.{FitsCommand, GivesNumber, Names, NamesNone, Says, book_app, required_option, rv_app};
+ghost use Rattle.rv_app.specs.Command.{FitsCommand, GivesIdentifier, Names, NamesNone, Says};
+ghost use Rattle.rv_app.specs.Command.{book_app, required_option, rv_app};
 ghost use Rattle.rv_app.specs.declared.command.CommandFault.TheVariants.{Bad, NoMemory};
 ghost use Rattle.clap.specs.declared.error.ErrorKind.TheVariants.{OutOfMemory};
 
@@ -56,8 +57,8 @@ impl From<clap::Error> for CommandFault {
     }
 }
 
-// The largest epoch.
-const LARGEST_ID: u64 = 9_007_199_254_740_991;
+// The largest identifier.
+const MAX_IDENTIFIER: u64 = 9_007_199_254_740_991;
 
 /// The command that the words name, as `clap` reads them. The first word is the program's name. A
 /// number is 1 to 19 ASCII digits, read in decimal.
@@ -90,18 +91,18 @@ fn book_of(options: &ArgMatches) -> Option<Command>
     ensures none { result ≡ None → (command : Command)
         → ¬ Says (codes "book", rows_of (found_of options.now)) command }
 {
-    let epoch = number_in(options.get_str("epoch"), 1, LARGEST_ID)?;
+    let epoch = identifier_in(options.get_str("epoch"))?;
     Some(Command::Book(epoch))
 }
 
-// The number that an option's value writes, where it lies within the limits.
-fn number_in(value: Option<&str>, least: u64, most: u64) -> Option<u64>
-    ensures some { IfSome result (GivesNumber (option_map (λ v. v.now) value.entry) least most) }
+// The identifier that an option's value writes: an epoch, a client and the like.
+fn identifier_in(value: Option<&str>) -> Option<u64>
+    ensures some { IfSome result (GivesIdentifier (option_map (λ v. v.now) value.entry)) }
     ensures none { result ≡ None
-        → (n : ℕ) → ¬ GivesNumber (option_map (λ v. v.now) value.entry) least most n }
+        → (n : ℕ) → ¬ GivesIdentifier (option_map (λ v. v.now) value.entry) n }
 {
     let n = read_number(value?.as_bytes())?;
-    if least <= n && n <= most {
+    if 1 <= n && n <= MAX_IDENTIFIER {
         Some(n)
     } else {
         None

@@ -1,7 +1,7 @@
 //! Reads the whole input of a run.
-ghost use Rattle.std.specs.Prelude.{◌≡◌, ◌<◌, ◌≤◌, ℕ, true, false, length, vec_len, Err, IfOk, IfSome, OnOk};
-ghost use Rattle.std.specs.Io.KnownBytes.{IsAtEnd};
-ghost use Rattle.rv_frame.specs.Source.{source_failed, source_remaining};
+ghost use Rattle.std.specs.Prelude.{◌≡◌, ◌≤◌, vec_len, IfErr, IfOk, IfSome, OnOk};
+ghost use Rattle.rv_frame.specs.Source.{source_remaining};
+ghost use Rattle.rv_app.specs.Outcomes.{ReadsAll, StopsReading, max_input};
 
 use crate::run::RunFault;
 use rv_frame::Source;
@@ -22,13 +22,9 @@ pub(crate) fn read_input<R: Read>(
 ) -> Result<Vec<u8>, RunFault>
     ensures bytes { IfOk result (λ input.
         IfSome (source_remaining R.remaining source.old) (λ bytes. input.items ≡ bytes)) }
-    ensures end { OnOk result (IsAtEnd (source_remaining R.remaining source.new)) }
-    ensures within { IfOk result (λ input. vec_len input ≤ MAX_INPUT_BYTES) }
-    ensures too_long { result ≡ Err RunFault.TooLong →
-        IfSome (source_remaining R.remaining source.old) (λ bytes. MAX_INPUT_BYTES < length bytes) }
-    ensures fault { result ≡ Err RunFault.ReadFault → source_failed source.new ≡ true }
-    ensures failed { source_failed source.new ≡ true → result ≡ Err RunFault.ReadFault }
-    ensures no_write { (fault : _) → ¬ (result ≡ Err (RunFault.WriteFault fault)) }
+    ensures within { IfOk result (λ input. vec_len input ≤ max_input) }
+    ensures all { OnOk result (ReadsAll R.remaining source.old source.new) }
+    ensures fault { IfErr result (StopsReading R.remaining source.old source.new) }
 {
     let mut input = Vec::new(alloc);
     let mut piece = [0u8; PIECE_BYTES];

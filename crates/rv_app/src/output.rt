@@ -1,10 +1,12 @@
 //! Gathers what is printed, and sends it in large pieces.
-ghost use Rattle.std.specs.Prelude.{◌≡◌, ◌∷◌, ◌++◌, ◌+◌, ◌-◌, ◌^◌, ◌<◌, ◌≤◌, [], true, length, take, IfOk, IfErr, OnOk, OnErr};
-ghost use Rattle.std.specs.Io.KnownBytes.{Appends, Keeps};
+ghost use Rattle.std.specs.Prelude.{◌≡◌, ◌∷◌, ◌++◌, ◌+◌, ◌^◌, ◌<◌, ◌≤◌, [], length, IfOk, IfErr, OnOk};
+ghost use Rattle.std.specs.Io.KnownBytes.{Appends};
 ghost use Rattle.std.specs.Vec.{vec_capacity};
-ghost use Rattle.rv_frame.specs.Sink.{sink_contents, sink_failed};
+ghost use Rattle.rv_text.specs.Bodies.{HasBodyLength};
+ghost use Rattle.rv_frame.specs.Sink.{FailsWithSink, SinkTakes, sink_contents};
 
 use rv_frame::Sink;
+use rv_text::MAX_BODY_BYTES;
 use std::alloc::{AllocError, Global};
 use std::io::Write;
 use thiserror::Error;
@@ -20,8 +22,8 @@ pub struct OutputFault {
 // How many bytes are gathered at most.
 const ROOM: usize = 65_536;
 
-// The most bytes of a line with its LF.
-const LONGEST_LINE: usize = 4_097;
+// The most bytes of a body with its LF.
+const LONGEST_LINE: usize = MAX_BODY_BYTES + 1;
 
 // Lines on their way to a sink. Its room is made once, so that a line needs no memory.
 #[derive(Drop)]
@@ -32,7 +34,7 @@ pub(crate) struct Output {
 }
 
 impl Output {
-    ghost use Rattle.rv_app.specs.Output.{gathered, promised, taken_in};
+    ghost use Rattle.rv_app.specs.Output.{StopsAfter, gathered, promised, taken_in};
 
     /// An output that has taken nothing in.
     pub(crate) fn new(alloc: Global) -> Result<Output, AllocError>
@@ -45,30 +47,26 @@ impl Output {
         })
     }
 
-    /// Takes a line in, and LF after it. Where room may be missing, what was gathered is sent
+    /// Takes a body in, and LF after it. Where room may be missing, what was gathered is sent
     /// first, and a fault is one of that.
     pub(crate) fn line<W: Write>(
         &mut self,
         sink: &mut Sink<W>,
-        line: &[u8],
+        body: &[u8],
     ) -> Result<(), OutputFault>
-        requires short { length line.now ≤ 4096 }
+        requires of_body { HasBodyLength body.now }
         requires countable { taken_in self.old < 2 ^ 63 }
         ensures ok { OnOk result (Appends (promised (sink_contents W.contents sink.old) self.old)
-            (promised (sink_contents W.contents sink.new) self.new) (line.now ++ 10 ∷ [])) }
-        ensures count { OnOk result (taken_in self.new ≡ taken_in self.old + length line.now + 1) }
-        ensures fault { IfErr result (λ fault. (self.old.sent ≤ fault.sent)
-            × (fault.sent < taken_in self.old)) }
-        ensures part { IfErr result (λ fault. Appends (sink_contents W.contents sink.old)
-            (sink_contents W.contents sink.new)
-            (take (fault.sent - self.old.sent) (gathered self.old))) }
-        ensures unfailed { OnOk result (sink_failed sink.new ≡ sink_failed sink.old) }
-        ensures failed { OnErr result (sink_failed sink.new ≡ true) }
+            (promised (sink_contents W.contents sink.new) self.new) (body.now ++ 10 ∷ [])) }
+        ensures count { OnOk result (taken_in self.new ≡ taken_in self.old + length body.now + 1) }
+        ensures fault { IfErr result (λ fault.
+            StopsAfter W.contents self.old sink.old sink.new fault.sent) }
+        ensures told { FailsWithSink result sink.old sink.new }
     {
         if self.gathered.len() > ROOM - LONGEST_LINE {
             self.flush(sink)?;
         }
-        self.gather(line);
+        self.gather(body);
         self.gather(b"\n");
         Ok(())
     }
@@ -77,16 +75,11 @@ impl Output {
     pub(crate) fn flush<W: Write>(&mut self, sink: &mut Sink<W>) -> Result<(), OutputFault>
         requires { taken_in self.old < 2 ^ 64 }
         ensures empty { OnOk result (gathered self.new ≡ []) }
-        ensures ok { OnOk result (Appends (sink_contents W.contents sink.old)
-            (sink_contents W.contents sink.new) (gathered self.old)) }
+        ensures ok { OnOk result (SinkTakes W.contents sink.old sink.new (gathered self.old)) }
         ensures count { OnOk result (taken_in self.new ≡ taken_in self.old) }
-        ensures fault { IfErr result (λ fault. (self.old.sent ≤ fault.sent)
-            × (fault.sent < taken_in self.old)) }
-        ensures part { IfErr result (λ fault. Appends (sink_contents W.contents sink.old)
-            (sink_contents W.contents sink.new)
-            (take (fault.sent - self.old.sent) (gathered self.old))) }
-        ensures unfailed { OnOk result (sink_failed sink.new ≡ sink_failed sink.old) }
-        ensures failed { OnErr result (sink_failed sink.new ≡ true) }
+        ensures fault { IfErr result (λ fault.
+            StopsAfter W.contents self.old sink.old sink.new fault.sent) }
+        ensures told { FailsWithSink result sink.old sink.new }
     {
         if self.gathered.is_empty() {
             return Ok(());

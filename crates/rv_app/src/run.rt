@@ -1,12 +1,11 @@
 //! Runs the book over a whole input, and prints one body for each line.
-ghost use Rattle.std.specs.Prelude.{◌≡◌, ◌<◌, ◌≤◌, ℕ, List, [], true, take, length, vec_len, Err, IfErr, IfSome, OnOk, OnErr};
-ghost use Rattle.std.specs.Io.KnownBytes.{Appends, IsAtEnd};
+ghost use Rattle.std.specs.Prelude.{◌≡◌, ◌≤◌, [], length, Err, IfErr, OnOk};
 ghost use Rattle.rv_text.specs.Limits.{FitsIdentifier};
-ghost use Rattle.rv_frame.specs.Sink.{sink_contents, sink_failed};
-ghost use Rattle.rv_frame.specs.Source.{source_failed, source_remaining};
+ghost use Rattle.rv_frame.specs.Sink.{FailsWithSink};
 ghost use Rattle.rv_app.specs.Output.{gathered, taken_in};
 ghost use Rattle.rv_app.specs.Faults.{fault_number};
-ghost use Rattle.rv_app.specs.Run.{Prints, opened_account};
+ghost use Rattle.rv_app.specs.Outcomes.{FailedReading, FoundTooLong, LackedMemory, Ran};
+ghost use Rattle.rv_app.specs.Outcomes.{SendsAll, SendsFront, StoppedWriting, max_input};
 ghost use Rattle.rv_app.specs.declared.run.RunFault.TheVariants.{NoMemory, ReadFault, WriteFault};
 
 use crate::input::read_input;
@@ -93,36 +92,20 @@ pub fn book_run<R: Read, W: Write>(
     requires { FitsIdentifier epoch }
 
     // All lines of an input that keeps the limit are answered, by one run of the book.
-    ensures end { OnOk result (IsAtEnd (source_remaining R.remaining source.new)) }
-    ensures within { OnOk result (IfSome (source_remaining R.remaining source.old)
-        (λ input. length input ≤ 536870912)) }
-    ensures output { OnOk result (IfSome (source_remaining R.remaining source.old)
-        (λ input. (output : List ℕ) × Prints (opened_account epoch 0) input output
-        × Appends (sink_contents W.contents sink.old) (sink_contents W.contents sink.new) output)) }
-    ensures unfailed { OnOk result (sink_failed sink.new ≡ sink_failed sink.old) }
+    ensures ran { OnOk result
+        (Ran R.remaining W.contents epoch source.old source.new sink.old sink.new) }
 
-    // After a write fault exactly the first `sent` bytes of such an output went out, and not all.
-    ensures write_fault { (fault : _) → result ≡ Err (RunFault.WriteFault fault) →
-        IfSome (source_remaining R.remaining source.old)
-        (λ input. (output : List ℕ) × Prints (opened_account epoch 0) input output
-        × (fault.sent < length output)
-        × Appends (sink_contents W.contents sink.old) (sink_contents W.contents sink.new)
-        (take fault.sent output)) }
-    ensures sink_failed { (fault : _) → result ≡ Err (RunFault.WriteFault fault)
-        → sink_failed sink.new ≡ true }
-    ensures whole_read { (fault : _) → result ≡ Err (RunFault.WriteFault fault)
-        → IsAtEnd (source_remaining R.remaining source.new) }
-    ensures within_limit { (fault : _) → result ≡ Err (RunFault.WriteFault fault) →
-        IfSome (source_remaining R.remaining source.old) (λ input. length input ≤ 536870912) }
+    // Exactly the first `sent` bytes of such an output went out, and not all.
+    ensures stopped_writing { (fault : _) → result ≡ Err (RunFault.WriteFault fault) →
+        StoppedWriting R.remaining W.contents epoch source.old source.new sink.old sink.new fault.sent }
 
     // The other faults write nothing.
-    ensures read_fault { result ≡ Err RunFault.ReadFault → source_failed source.new ≡ true }
-    ensures read_failed { source_failed source.new ≡ true → result ≡ Err RunFault.ReadFault }
-    ensures too_long { result ≡ Err RunFault.TooLong →
-        IfSome (source_remaining R.remaining source.old) (λ input. 536870912 < length input) }
-    ensures nothing_read { result ≡ Err RunFault.ReadFault → sink.new ≡ sink.old }
-    ensures nothing_long { result ≡ Err RunFault.TooLong → sink.new ≡ sink.old }
-    ensures nothing_opened { result ≡ Err RunFault.NoMemory → sink.new ≡ sink.old }
+    ensures failed_reading { result ≡ Err RunFault.ReadFault →
+        FailedReading source.new sink.old sink.new }
+    ensures found_too_long { result ≡ Err RunFault.TooLong →
+        FoundTooLong R.remaining source.old source.new sink.old sink.new }
+    ensures lacked_memory { result ≡ Err RunFault.NoMemory →
+        LackedMemory source.new sink.old sink.new }
 {
     let input = read_input(alloc, source)?;
     let mut book = Book::open(alloc, epoch, 0)?;
@@ -138,17 +121,13 @@ fn answer_lines<W: Write>(
     output: &mut Output,
     sink: &mut Sink<W>,
 ) -> Result<(), OutputFault>
-    requires within { length input.now ≤ 536870912 }
+    requires within { length input.now ≤ max_input }
     requires nothing_gathered { gathered output.old ≡ [] }
     requires nothing_sent { taken_in output.old ≡ 0 }
-    ensures all { OnOk result ((output : List ℕ) × Prints book.old input.now output
-        × Appends (sink_contents W.contents sink.old) (sink_contents W.contents sink.new) output) }
-    ensures part { IfErr result (λ fault. (output : List ℕ) × Prints book.old input.now output
-        × (fault.sent < length output)
-        × Appends (sink_contents W.contents sink.old) (sink_contents W.contents sink.new)
-        (take fault.sent output)) }
-    ensures unfailed { OnOk result (sink_failed sink.new ≡ sink_failed sink.old) }
-    ensures failed { OnErr result (sink_failed sink.new ≡ true) }
+    ensures all { OnOk result (SendsAll W.contents book.old input.now sink.old sink.new) }
+    ensures part { IfErr result (λ fault.
+        SendsFront W.contents book.old input.now sink.old sink.new fault.sent) }
+    ensures told { FailsWithSink result sink.old sink.new }
 {
     let mut rest = input;
     while let Some((line, after)) = first_line(rest) {

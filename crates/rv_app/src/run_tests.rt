@@ -22,11 +22,17 @@ static FIRST: [(&str, &str); 4] = [
         r#"{"client":2,"epoch":1,"incarnation":1,"kind":"welcome"}"#,
     ),
     (
-        r#"0 {"call":"put","client":1,"epoch":1,"incarnation":1,"item":"a","kind":"request","number":1,"queue":3}"#,
+        concat!(
+            r#"0 {"call":"put","client":1,"epoch":1,"incarnation":1,"#,
+            r#""item":"a","kind":"request","number":1,"queue":3}"#
+        ),
         r#"{"client":1,"epoch":1,"incarnation":1,"kind":"reply","number":1,"reply":"done"}"#,
     ),
     (
-        r#"0 {"call":"take","client":2,"epoch":1,"incarnation":1,"kind":"request","number":1,"queue":3,"wait":"now"}"#,
+        concat!(
+            r#"0 {"call":"take","client":2,"epoch":1,"incarnation":1,"#,
+            r#""kind":"request","number":1,"queue":3,"wait":"now"}"#
+        ),
         r#"{"client":2,"epoch":1,"incarnation":1,"item":"a","kind":"reply","number":1,"reply":"item"}"#,
     ),
 ];
@@ -81,7 +87,10 @@ fn a_poll_of_an_empty_queue(rt: HostRuntime) -> Result<(), Fail> {
             r#"{"client":3,"epoch":1,"incarnation":1,"kind":"welcome"}"#,
         ),
         (
-            r#"0 {"call":"take","client":2,"epoch":1,"incarnation":1,"kind":"request","number":1,"queue":3,"wait":"now"}"#,
+            concat!(
+                r#"0 {"call":"take","client":2,"epoch":1,"incarnation":1,"#,
+                r#""kind":"request","number":1,"queue":3,"wait":"now"}"#
+            ),
             r#"{"client":2,"epoch":1,"incarnation":1,"kind":"reply","number":1,"reply":"empty"}"#,
         ),
     ];
@@ -92,8 +101,9 @@ fn a_poll_of_an_empty_queue(rt: HostRuntime) -> Result<(), Fail> {
 
 // A put of client 1 and its number, into queue 3.
 fn put(alloc: Global, number: u64, item: &str) -> Result<String, AllocError> {
+    let key = r#""client":1,"epoch":1,"incarnation":1"#;
     format!(in alloc;
-        "0 {{\"call\":\"put\",\"client\":1,\"epoch\":1,\"incarnation\":1,\"item\":\"{item}\",\"kind\":\"request\",\"number\":{number},\"queue\":3}}"
+        r#"0 {{"call":"put",{key},"item":"{item}","kind":"request","number":{number},"queue":3}}"#
     )
 }
 
@@ -106,15 +116,24 @@ fn the_limits_of_items_and_queues(rt: HostRuntime) -> Result<(), Fail> {
         (longest.as_str(), FIRST[2].1),
         (too_long.as_str(), BAD_TEXT),
         (
-            r#"0 {"call":"put","client":1,"epoch":1,"incarnation":1,"item":"a","kind":"request","number":2,"queue":64}"#,
+            concat!(
+                r#"0 {"call":"put","client":1,"epoch":1,"incarnation":1,"#,
+                r#""item":"a","kind":"request","number":2,"queue":64}"#
+            ),
             BAD_TEXT,
         ),
         (
-            r#"0 {"call":"put","client":1,"epoch":1,"incarnation":1,"item":"a","kind":"request","number":2,"queue":3.0}"#,
+            concat!(
+                r#"0 {"call":"put","client":1,"epoch":1,"incarnation":1,"#,
+                r#""item":"a","kind":"request","number":2,"queue":3.0}"#
+            ),
             BAD_TEXT,
         ),
         (
-            r#"0 {"call":"put","client":1,"epoch":1,"incarnation":1,"item":"","kind":"request","number":2,"queue":63}"#,
+            concat!(
+                r#"0 {"call":"put","client":1,"epoch":1,"incarnation":1,"#,
+                r#""item":"","kind":"request","number":2,"queue":63}"#
+            ),
             r#"{"client":1,"epoch":1,"incarnation":1,"kind":"reply","number":2,"reply":"done"}"#,
         ),
     ];
@@ -128,7 +147,10 @@ fn another_epoch(rt: HostRuntime) -> Result<(), Fail> {
     let rows = [
         (FIRST[2].0, r#"{"code":2,"current":2,"kind":"refused"}"#),
         (
-            r#"0 {"call":"put","client":1,"epoch":2,"incarnation":1,"item":"a","kind":"request","number":1,"queue":3}"#,
+            concat!(
+                r#"0 {"call":"put","client":1,"epoch":2,"incarnation":1,"#,
+                r#""item":"a","kind":"request","number":1,"queue":3}"#
+            ),
             r#"{"code":3,"kind":"refused"}"#,
         ),
         (
@@ -183,12 +205,21 @@ fn escapes_in_items(rt: HostRuntime) -> Result<(), Fail> {
     let rows = [
         FIRST[0],
         (
-            r#"0 {"call":"put","client":1,"epoch":1,"incarnation":1,"item":"\u0001\"\\\u00e9","kind":"request","number":1,"queue":3}"#,
+            concat!(
+                r#"0 {"call":"put","client":1,"epoch":1,"incarnation":1,"#,
+                r#""item":"\u0001\"\\\u00e9","kind":"request","number":1,"queue":3}"#
+            ),
             FIRST[2].1,
         ),
         (
-            r#"0 {"call":"take","client":1,"epoch":1,"incarnation":1,"kind":"request","number":2,"queue":3,"wait":"now"}"#,
-            r#"{"client":1,"epoch":1,"incarnation":1,"item":"\u0001\"\\é","kind":"reply","number":2,"reply":"item"}"#,
+            concat!(
+                r#"0 {"call":"take","client":1,"epoch":1,"incarnation":1,"#,
+                r#""kind":"request","number":2,"queue":3,"wait":"now"}"#
+            ),
+            concat!(
+                r#"{"client":1,"epoch":1,"incarnation":1,"#,
+                r#""item":"\u0001\"\\é","kind":"reply","number":2,"reply":"item"}"#
+            ),
         ),
     ];
     let (input, output) = texts(rt.alloc(), rows.as_slice())?;

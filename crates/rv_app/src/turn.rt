@@ -1,10 +1,10 @@
 //! The turn of one line: what it does to the book, and the body that answers it.
-ghost use Rattle.std.specs.Prelude.{◌≡◌, ◌≤◌, length, string_bytes, IsSome, IfOk, IfSome};
-ghost use Rattle.rv_text.specs.Bodies.{answer_text};
+ghost use Rattle.std.specs.Prelude.{◌≡◌, string_bytes, IsSome, IfOk, IfSome};
+ghost use Rattle.rv_text.specs.Bodies.{HasBodyLength, answer_text};
 ghost use Rattle.rv_book.specs.Verdicts.{says};
 ghost use Rattle.rv_text.specs.Limits.{FitsAnswer, FitsMessage};
 ghost use Rattle.rv_book.specs.Steps.{Next};
-ghost use Rattle.rv_app.specs.Body.{HasShortText, body_text};
+ghost use Rattle.rv_app.specs.Body.{HasTextOfBody, body_text};
 ghost use Rattle.rv_app.specs.Run.{AnswersLine, SaysNext};
 
 use crate::line::{LineFault, read_line};
@@ -26,9 +26,9 @@ pub(crate) enum Body {
 impl Body {
     /// The bytes of the body.
     pub(crate) fn as_bytes(&self) -> &[u8]
-        requires { HasShortText self.now }
+        requires { HasTextOfBody self.now }
         ensures text { result.now ≡ body_text self.now }
-        ensures short { length result.now ≤ 4096 }
+        ensures of_body { HasBodyLength result.now }
     {
         laws::body_constants();
         match self {
@@ -43,7 +43,7 @@ impl Body {
 /// book may have taken the message's step or not.
 pub(crate) fn answer_line(alloc: Global, book: &mut Book, line: &[u8]) -> Body
     ensures answers { AnswersLine line.now book.old book.new (body_text result) }
-    ensures short { HasShortText result }
+    ensures of_body { HasTextOfBody result }
 {
     match read_line(alloc, line) {
         Ok((moment, message)) => answer_message(alloc, book, moment, message),
@@ -56,7 +56,7 @@ pub(crate) fn answer_line(alloc: Global, book: &mut Book, line: &[u8]) -> Body
 fn answer_message(alloc: Global, book: &mut Book, moment: u64, message: Message) -> Body
     requires { FitsMessage message }
     ensures says { SaysNext moment message book.old book.new (body_text result) }
-    ensures short { HasShortText result }
+    ensures of_body { HasTextOfBody result }
 {
     let verdict = book.handle(moment, message);
     match verdict_text(alloc, book, &verdict) {
@@ -71,7 +71,7 @@ fn verdict_text(alloc: Global, book: &Book, verdict: &Verdict) -> Result<String,
     requires fits { IfSome (says book.now verdict.now) FitsAnswer }
     ensures text { IfOk result (λ s. IfSome (says book.now verdict.now)
         (λ answer. string_bytes s ≡ answer_text answer)) }
-    ensures short { IfOk result (λ s. length (string_bytes s) ≤ 4096) }
+    ensures of_body { IfOk result (λ s. HasBodyLength (string_bytes s)) }
 {
     let answer = book.answer(alloc, verdict)?;
     encode_answer(alloc, &answer)

@@ -1,4 +1,4 @@
--- What a clause reads of a `Source`: its device, whether a read failed, and the bytes that the device has left.
+-- What a clause reads of a `Source`: its device, whether a read failed, and the bytes that are left.
 use Rattle.std.specs.Prelude.{ℕ, Bool, List, Option}
 use Rattle.rv_frame.specs.declared.source.Source.{Source}
 

@@ -36,3 +36,7 @@ writer_stop writer = writer.stop
 -- how many writes were made
 abbrev pub writer_writes : TestWriter → ℕ
 writer_writes writer = writer.writes
+
+-- how often it was flushed
+abbrev pub writer_flushes : TestWriter → ℕ
+writer_flushes writer = writer.flushes

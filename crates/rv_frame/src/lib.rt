@@ -1,6 +1,9 @@
-//! Readers and writers that remember a failure and count what went out.
+//! Readers and writers that remember a failure and count what went out, and frames of bytes.
 #![tactic(auto)]
 
+mod frames;
+mod held;
+pub mod laws;
 mod sink;
 mod source;
 pub mod testing;
@@ -9,5 +12,6 @@ mod tests;
 #[cfg(test)]
 mod uses;
 
+pub use frames::{FrameFault, Frames, NoMemory};
 pub use sink::{Sink, WriteFault};
 pub use source::{ReadFault, Source};

@@ -1,7 +1,6 @@
 //! A writer that remembers that a write failed, and counts what went out.
 ghost use Rattle.std.specs.Prelude.{◌≡◌, ◌<◌, ◌≤◌, true, false, take, length, IfErr, OnOk, OnErr, IsErrOf};
-ghost use Rattle.std.specs.Io.KnownBytes.{Appends};
-ghost use Rattle.rv_frame.specs.Sink.{sink_device, sink_failed, sink_contents};
+ghost use Rattle.rv_frame.specs.Sink.{SinkTakes, sink_device, sink_failed};
 
 use std::io::Write;
 use thiserror::Error;
@@ -55,10 +54,9 @@ impl<W: Write> Sink<W> {
     /// 0. The sink has then failed, and every later call is a fault that gives the device
     /// nothing.
     pub fn write_all(&mut self, bytes: &[u8]) -> Result<(), WriteFault>
-        ensures bytes { OnOk result (Appends (sink_contents W.contents self.old)
-            (sink_contents W.contents self.new) bytes.now) }
-        ensures sent { IfErr result (λ fault. Appends (sink_contents W.contents self.old)
-            (sink_contents W.contents self.new) (take fault.sent bytes.now)) }
+        ensures bytes { OnOk result (SinkTakes W.contents self.old self.new bytes.now) }
+        ensures sent { IfErr result (λ fault.
+            SinkTakes W.contents self.old self.new (take fault.sent bytes.now)) }
         ensures short { sink_failed self.old ≡ false →
             IfErr result (λ fault. fault.sent < length bytes.now) }
         ensures within { IfErr result (λ fault. fault.sent ≤ length bytes.now) }

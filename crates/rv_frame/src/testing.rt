@@ -97,10 +97,12 @@ pub struct TestWriter {
     most: usize,
     stop: Option<(usize, Stop)>,
     writes: u64,
+    flushes: u64,
 }
 
 impl TestWriter {
-    ghost use Rattle.rv_frame.specs.Testing.{writer_most, writer_stop, writer_taken, writer_writes};
+    ghost use Rattle.rv_frame.specs.Testing.{writer_flushes, writer_most, writer_stop};
+    ghost use Rattle.rv_frame.specs.Testing.{writer_taken, writer_writes};
 
     /// A writer that has taken nothing, never stops, and takes at most `most` bytes a write.
     pub fn new(alloc: Global, most: usize) -> TestWriter
@@ -108,12 +110,14 @@ impl TestWriter {
         ensures most { writer_most result ≡ most }
         ensures stop { writer_stop result ≡ None }
         ensures writes { writer_writes result ≡ 0 }
+        ensures flushes { writer_flushes result ≡ 0 }
     {
         TestWriter {
             taken: Vec::new(alloc),
             most,
             stop: None,
             writes: 0,
+            flushes: 0,
         }
     }
 
@@ -123,6 +127,7 @@ impl TestWriter {
         ensures most { writer_most result ≡ writer_most self }
         ensures stop { writer_stop result ≡ Some (room, stop) }
         ensures writes { writer_writes result ≡ writer_writes self }
+        ensures flushes { writer_flushes result ≡ writer_flushes self }
     {
         self.stop = Some((room, stop));
         self
@@ -140,6 +145,13 @@ impl TestWriter {
         ensures { result ≡ writer_writes self.now }
     {
         self.writes
+    }
+
+    /// How often it was flushed.
+    pub fn flushes(&self) -> u64
+        ensures { result ≡ writer_flushes self.now }
+    {
+        self.flushes
     }
 }
 
@@ -165,6 +177,7 @@ impl Write for TestWriter {
     }
 
     fn flush(&mut self) -> Result<()> {
+        self.flushes = self.flushes.saturating_add(1);
         Ok(())
     }
 }

@@ -1,9 +1,9 @@
-//! What no clause says: that calls succeed on devices that work, and that the device is asked no more often than promised.
+//! What no clause says: that calls succeed on devices that work, and how often a device is asked.
 use super::testing::{Stop, TestReader, TestWriter};
 use super::uses::{CopyFault, GatherFault, copy_all, gather, write_both};
 use super::{ReadFault, Sink, Source, WriteFault};
 use std::alloc::Global;
-use std::io::ErrorKind;
+use std::io::{ErrorKind, Read, Write};
 use std::process::Abort;
 use std::test::Fail;
 
@@ -75,6 +75,7 @@ fn writes_all_in_any_pieces(rt: HostRuntime) -> Result<(), Fail> {
         assert_eq!(rt; write_both(&mut sink, TEXT, b"; end"), Ok(()));
         assert!(rt; !sink.failed());
         assert_eq!(rt; device.taken(), b"hello, frame; end".as_slice());
+        assert_eq!(rt; device.flushes(), 0);
     }
     Ok(())
 }
@@ -110,6 +111,27 @@ fn stops_for_good(rt: &impl Abort, alloc: Global, room: usize, stop: Stop) {
     assert!(rt; sink.failed());
     assert_eq!(rt; device.writes(), room as u64 + 1);
     assert_eq!(rt; device.taken(), &TEXT[..room]);
+    assert_eq!(rt; device.flushes(), 0);
+}
+
+#[test]
+fn the_devices_fail_once(rt: HostRuntime) {
+    for fault in 1..TEXT.len() as u64 + 2 {
+        let mut reader = TestReader::new(TEXT, 1).failing_at(fault, ErrorKind::Other);
+        let mut buffer = [0u8; 1];
+        for read in 1..TEXT.len() as u64 + 3 {
+            assert_eq!(rt; reader.read(&mut buffer).is_err(), read == fault);
+        }
+    }
+    for room in 0..TEXT.len() {
+        let stop = Stop::Error(ErrorKind::Other);
+        let mut writer = TestWriter::new(rt.alloc(), 1).stopping_after(room, stop);
+        for write in 0..TEXT.len() {
+            assert_eq!(rt; writer.write(b"x").is_err(), write == room);
+        }
+        assert!(rt; writer.flush().is_ok());
+        assert_eq!(rt; writer.flushes(), 1);
+    }
 }
 
 #[test]

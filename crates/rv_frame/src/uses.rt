@@ -1,8 +1,8 @@
 //! Callers that are proved from the clauses alone: what a crate above can say of a whole run.
 ghost use Rattle.std.specs.Prelude.{◌≡◌, ◌≢◌, ◌+◌, ◌<◌, ◌^◌, ◌++◌, true, take, length, OnOk, IfErr, IfSome};
 ghost use Rattle.std.specs.Io.{appended_bytes, StartsWith};
-ghost use Rattle.std.specs.Io.KnownBytes.{Appends, Consumes, IsAtEnd};
-ghost use Rattle.rv_frame.specs.Sink.{sink_contents, sink_failed};
+ghost use Rattle.std.specs.Io.KnownBytes.{Consumes, IsAtEnd};
+ghost use Rattle.rv_frame.specs.Sink.{SinkTakes, sink_failed};
 ghost use Rattle.rv_frame.specs.Source.{source_failed, source_remaining};
 
 use super::{Sink, Source, WriteFault};
@@ -52,10 +52,10 @@ pub fn write_both<W: Write>(
     second: &[u8],
 ) -> Result<(), WriteFault>
     requires { length first.now + length second.now < 2 ^ 64 }
-    ensures bytes { OnOk result (Appends (sink_contents W.contents sink.old)
-        (sink_contents W.contents sink.new) (first.now ++ second.now)) }
-    ensures sent { IfErr result (λ fault. Appends (sink_contents W.contents sink.old)
-        (sink_contents W.contents sink.new) (take fault.sent (first.now ++ second.now))) }
+    ensures bytes { OnOk result
+        (SinkTakes W.contents sink.old sink.new (first.now ++ second.now)) }
+    ensures sent { IfErr result (λ fault.
+        SinkTakes W.contents sink.old sink.new (take fault.sent (first.now ++ second.now))) }
     ensures failed { IfErr result (λ _. sink_failed sink.new ≡ true) }
 {
     sink.write_all(first)?;
@@ -81,11 +81,10 @@ pub fn copy_all<R: Read, W: Write>(
     sink: &mut Sink<W>,
 ) -> Result<(), CopyFault>
     ensures ok { OnOk result (IfSome (source_remaining R.remaining source.old)
-        (Appends (sink_contents W.contents sink.old) (sink_contents W.contents sink.new))) }
+        (SinkTakes W.contents sink.old sink.new)) }
     ensures sent { (fault : _) → result ≡ Err (CopyFault.Write fault) →
         IfSome (source_remaining R.remaining source.old) (λ xs.
-        Appends (sink_contents W.contents sink.old) (sink_contents W.contents sink.new)
-        (take fault.sent xs)) }
+        SinkTakes W.contents sink.old sink.new (take fault.sent xs)) }
     ensures nothing_sent { (fault : _) → result ≡ Err (CopyFault.Gather fault) →
         sink.new ≡ sink.old }
 {

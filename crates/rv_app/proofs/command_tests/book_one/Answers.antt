@@ -15,7 +15,7 @@ names_book_one : Names words (Book 1)
 unfolding clap_on_literals
 names_book_one = record {
   taken = refl;
-  said = (refl, (((lit≤ tt, lit≤ tt, all_in_range (codes "1") (lit< tt, tt)), refl), lit≤ tt, lit≤ tt));
+  said = (refl, ((record { some = lit≤ tt; within = lit≤ tt; are_digits = all_in_range (codes "1") (lit< tt, tt) }, refl), (lit≤ tt, lit≤ tt)));
 }
 
 pub returns : goal.returns

@@ -5,8 +5,8 @@ use Rattle.rv_app.proofs.turn.Body.as_bytes.Goals as goal
 
 pub returns-in-BadText : goal.returns-in-BadText
 unfolding refused_text
-returns-in-BadText c = record { text = rw c.in-BadText.is (c.as_bytes.ensures.value ∙ c.body_constants.ensures.bad_text); short = search rules }
+returns-in-BadText c = record { text = rw c.in-BadText.is (c.as_bytes.ensures.value ∙ c.body_constants.ensures.bad_text); of_body = search rules }
 
 pub returns-in-NoMemory : goal.returns-in-NoMemory
 unfolding refused_text
-returns-in-NoMemory c = record { text = rw c.in-NoMemory.is (c.as_bytes-in-NoMemory.ensures.value ∙ c.body_constants.ensures.no_memory); short = search rules }
+returns-in-NoMemory c = record { text = rw c.in-NoMemory.is (c.as_bytes-in-NoMemory.ensures.value ∙ c.body_constants.ensures.no_memory); of_body = search rules }

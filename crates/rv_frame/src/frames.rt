@@ -1,0 +1,109 @@
+//! Cuts bytes that come in pieces into frames, and writes frames.
+ghost use Rattle.std.specs.Prelude.{◌≡◌, ◌≢◌, ◌∷◌, [], Err, None, Ok};
+ghost use Rattle.std.specs.Prelude.{IfOk, IfSome, IsErrOf, MatchOption, OnErr, OnOk};
+ghost use Rattle.rv_frame.specs.Cut.{Bad, IsBody, Open};
+ghost use Rattle.rv_frame.specs.Stream.{Feeds, IsOpen, rest_length};
+
+use crate::held::Held;
+use std::alloc::{AllocError, Global};
+use std::marker::Model;
+use thiserror::Error;
+
+/// A growth of memory was refused.
+pub type NoMemory = AllocError;
+
+/// Why a piece is not taken.
+#[derive(Clone, Copy, Debug, PartialEq, Eq, Error)]
+pub enum FrameFault {
+    /// Fault 1: two length bytes say 0 or more than 4,096.
+    #[error("a frame has the bad length {0}")]
+    BadLength(u16),
+    /// Fault 2: a growth of memory was refused.
+    #[error("out of memory")]
+    NoMemory,
+}
+
+impl From<AllocError> for FrameFault {
+    ghost use Rattle.std.specs.Prelude.{◌≡◌};
+    ghost use Rattle.rv_frame.specs.declared.frames.FrameFault.TheVariants.{NoMemory};
+
+    ghost from_gives = { λ _ fault. fault ≡ NoMemory };
+
+    fn from(_refused: AllocError) -> FrameFault {
+        FrameFault::NoMemory
+    }
+}
+
+/// Frames out of bytes that are fed in pieces. A frame is two length bytes, the greater part first, and
+/// a body of that length, 1 to 4,096 bytes.
+///
+/// Contracts see the bodies of the whole frames that can still be taken, oldest first, and what follows
+/// them: the bytes of a frame that is not whole, or the bad length that was met. The frames that were
+/// taken and those that can still be are those of the cut of all bytes that were fed, whatever the pieces
+/// (`laws::fed_is_cut`, `laws::taken_is_cut`).
+///
+/// The bytes that were not taken lie in one vector. `feed` looks at the new frames alone; `next` moves
+/// what follows the frame to the front, once for each frame.
+#[derive(Drop)]
+pub struct Frames {
+    held: Held,
+}
+
+impl Model for Frames {
+    ghost use Rattle.rv_frame.specs.Stream.{Stream};
+
+    ghost Value = { Stream };
+
+    ghost use Rattle.rv_frame.specs.Held.{IsSound, stream_of};
+
+    ghost view = { λ f. stream_of f.held };
+
+    ghost invariant = { λ f. IsSound f.held };
+}
+
+impl Frames {
+    /// Frames to which nothing was fed.
+    pub fn new(alloc: Global) -> Frames
+        ensures frames { result.frames ≡ [] }
+        ensures end { result.end ≡ Open [] }
+    {
+        Frames {
+            held: Held::new(alloc),
+        }
+    }
+
+    /// Takes a piece of the bytes in, of any length.
+    ///
+    /// `BadLength(n)` comes exactly where the cut meets the length n: the whole frames before it can
+    /// still be taken, all from it on is dropped, and every later feed answers the same and changes
+    /// nothing. After `NoMemory` nothing has changed, and it never comes once a bad length was met.
+    pub fn feed(&mut self, piece: &[u8]) -> Result<(), FrameFault>
+        ensures cut { result ≢ Err FrameFault.NoMemory → Feeds self.old piece.now self.new }
+        ensures ok { OnOk result (IsOpen self.new.end) }
+        ensures bad_length { (n : _) → result ≡ Err (FrameFault.BadLength n) → self.new.end ≡ Bad n }
+        ensures told_again { (n : _) → self.old.end ≡ Bad n → IsErrOf result (FrameFault.BadLength n) }
+        ensures no_memory { result ≡ Err FrameFault.NoMemory → self.new ≡ self.old }
+    {
+        self.held.feed(piece)
+    }
+
+    /// Takes the oldest whole frame, and gives its body; `None` where no whole frame is left. Where
+    /// memory for the body is refused, nothing changes.
+    pub fn next(&mut self) -> Result<Option<Vec<u8>>, NoMemory>
+        ensures oldest { IfOk result (λ taken. MatchOption taken (self.old.frames ≡ [])
+            (λ body. self.old.frames ≡ body.items ∷ self.new.frames)) }
+        ensures fits { IfOk result (λ taken. IfSome taken (λ body. IsBody body.items)) }
+        ensures end { self.new.end ≡ self.old.end }
+        ensures none { result ≡ Ok None → self.new ≡ self.old }
+        ensures refused { OnErr result (self.new ≡ self.old) }
+    {
+        self.held.next()
+    }
+
+    /// How many bytes were fed after the last whole frame; 0 once a bad length was met.
+    pub fn rest(&self) -> usize
+        ensures { result ≡ rest_length self.now.end }
+    {
+        self.held.rest()
+    }
+}

@@ -1,0 +1,23 @@
+//! What holds of frames in bytes as such: each contract is a law, and no body does anything.
+ghost use Rattle.rv_frame.specs.Laws.{FedIsCut, OneCut, PiecesJoin, TakenIsCut};
+
+/// Bytes have at most one cut into whole frames and what follows them.
+pub fn one_cut()
+    ensures { OneCut }
+{}
+
+/// Pieces that are fed one after the other do what all of them do, fed as one.
+pub fn pieces_join()
+    ensures { PiecesJoin }
+{}
+
+/// The frames that were taken and those that can still be taken are those of the cut of all bytes that
+/// were fed: a further piece keeps that.
+pub fn fed_is_cut()
+    ensures { FedIsCut }
+{}
+
+/// Taking the oldest frame keeps it too.
+pub fn taken_is_cut()
+    ensures { TakenIsCut }
+{}
