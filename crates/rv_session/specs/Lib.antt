@@ -1,0 +1,4 @@
+pub mod Owed
+pub mod Table
+pub mod Standings
+pub mod Entries
