@@ -53,7 +53,7 @@ shadowed : (a : Bool) (x y : Session) (z : Option Session) → cond a (Some x) z
 shadowed true x y z = refl
 shadowed false x y z = refl
 
-are_same : (q k : ℕ) → eq_by_cmp nat_cmp q k ≡ true → q ≡ k
+pub are_same : (q k : ℕ) → eq_by_cmp nat_cmp q k ≡ true → q ≡ k
 are_same q k e = elim (cases_eq q k) [ inl same ↦ same | inr apart ↦ absurd (cc (other_client q k apart)) ]
 
 pub find_set : (es : List (ℕ × Session)) (k i : ℕ) (v : Session) → IsFirst es k i → (q : ℕ)

@@ -9,7 +9,7 @@ use Rattle.rv_session.specs.declared.standing.Greeting.{Greeting}
 use Rattle.rv_session.specs.declared.standing.Greeting.TheVariants.{Again, Unknown, Full, Newer, Older}
 use Rattle.rv_session.specs.declared.standing.Standing.{Standing}
 use Rattle.rv_session.specs.declared.standing.Standing.TheVariants.{Refused, Waits, Settled, Next}
-use Rattle.rv_session.specs.Table.{Table, session_of, session_count}
+use Rattle.rv_session.specs.Table.{Table, session_of, session_count, waiting_place}
 
 -- the most clients of an epoch
 abbrev pub max_clients : ℕ
@@ -19,12 +19,6 @@ max_clients = 1024
 abbrev pub first_line : {A : Type 0} → List (Bool × A) → A → A
 first_line [] otherwise = otherwise
 first_line (line ∷ lines) otherwise = if line.0 then line.1 else first_line lines otherwise
-
--- whether the last request waits, and where
-abbrev pub waiting_place : State → Option ℕ
-waiting_place state.TheVariants.Fresh = None
-waiting_place (state.TheVariants.Waits place) = Some place
-waiting_place (state.TheVariants.Settled place kept) = None
 
 -- ---- a hello
 

@@ -1,5 +1,5 @@
 -- A table of sessions: the epoch, and a map from clients to their sessions.
-use Rattle.std.specs.Prelude.{◌≡◌, ◌≢◌, ◌+◌, ℕ, Option, Some, None, IsSome, refl}
+use Rattle.std.specs.Prelude.{◌≡◌, ◌≢◌, ◌+◌, ℕ, Option, Some, None, IsSome, option_and_then, refl}
 use Rattle.std.specs.Ordering.{nat_cmp}
 use Rattle.std.specs.Coded.{Coded, code_by, coded×, coded_ℕ}
 use Rattle.std.specs.FinMap.{FinMap}
@@ -25,6 +25,16 @@ session_of t client = map.get t.sessions client
 abbrev pub session_count : Table → ℕ
 session_count t = map.len t.sessions
 
+-- whether the last request waits, and where
+abbrev pub waiting_place : State → Option ℕ
+waiting_place Fresh = None
+waiting_place (Waits place) = Some place
+waiting_place (Settled place kept) = None
+
+-- where the last request of the client's session waits, if it does
+abbrev pub waiting_of : Table → ℕ → Option ℕ
+waiting_of t client = option_and_then (λ session. waiting_place session.state) (session_of t client)
+
 -- a session in which nothing was asked yet
 abbrev pub fresh : ℕ → Session
 fresh incarnation = record { incarnation = incarnation; last = 0; state = Fresh }
@@ -44,12 +54,6 @@ pub record OnlySets (old new : Table) (client : ℕ) (session : Session) : Type 
   pub others : (other : ℕ) → other ≢ client → session_of new other ≡ session_of old other
   pub known : IsSome (session_of old client) → session_count new ≡ session_count old
   pub unknown : session_of old client ≡ None → session_count new ≡ session_count old + 1
-
--- the client's session waits at the place
-pub record WaitsAt (t : Table) (client place : ℕ) : Type 0 where
-  pub session : Session
-  pub there : session_of t client ≡ Some session
-  pub waits : session.state ≡ Waits place
 
 -- the client's session is settled with this, its incarnation and its last number stay, and so does all else
 pub record OnlySettles (old new : Table) (client place : ℕ) (kept : Kept) : Type 0 where

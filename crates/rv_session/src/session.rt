@@ -1,7 +1,7 @@
 //! A client's session: its incarnation, its last number and what stands of it.
 ghost use Rattle.std.specs.Prelude.{◌≡◌};
-ghost use Rattle.rv_session.specs.Table.{fresh, settled_session};
-ghost use Rattle.rv_session.specs.Standings.{greeting_in, standing_in, standing_last, waiting_place};
+ghost use Rattle.rv_session.specs.Table.{fresh, settled_session, waiting_place};
+ghost use Rattle.rv_session.specs.Standings.{greeting_in, standing_in, standing_last};
 
 use crate::kept::{Kept, Place};
 use crate::standing::{Greeting, Standing};

@@ -1,5 +1,5 @@
 //! The table of sessions: for each client its incarnation, its last number and what stands of it.
-ghost use Rattle.std.specs.Prelude.{◌≡◌, ◌<◌, ◌++◌, ◌∷◌, [], None, IsSome, IfSome, IfNone, OnOk, OnErr, length};
+ghost use Rattle.std.specs.Prelude.{◌≡◌, ◌<◌, ◌++◌, ◌∷◌, [], Some, None, IsSome, IfSome, IfNone, OnOk, OnErr, length};
 ghost use Rattle.std.specs.FinMap.{get, insert};
 ghost use Rattle.rv_session.specs.Entries.{map_of, IsFirst, IsNowhere, IsTable};
 ghost use Rattle.rv_session.specs.Table.{fresh};
@@ -84,7 +84,8 @@ impl Sessions {
     ghost use Rattle.rv_session.specs.declared.session.State.TheVariants.{Waits};
     ghost use Rattle.rv_session.specs.declared.kept.Kept.TheVariants.{Cancelled};
     ghost use Rattle.rv_session.specs.declared.standing.Standing.TheVariants.{Next};
-    ghost use Rattle.rv_session.specs.Table.{OnlySets, OnlySettles, WaitsAt, session_of, session_count, settled_session, waiting_session};
+    ghost use Rattle.rv_session.specs.Table.{OnlySets, OnlySettles, session_of, session_count, settled_session, waiting_of, waiting_session};
+    ghost use Rattle.rv_session.specs.Meanings.{GreetingMeans, StandingMeans};
     ghost use Rattle.rv_session.specs.Standings.{MayEnter, greeting_of, max_clients, standing_of};
 
     /// The table of an epoch, 1 to 2^53 - 1, with no session. It takes no memory yet.
@@ -126,6 +127,7 @@ impl Sessions {
     /// What the hello of an incarnation of a client is to the table.
     pub fn greet(&self, client: u64, incarnation: u64) -> Greeting
         ensures greeting { result ≡ greeting_of self.now client incarnation }
+        ensures means { GreetingMeans self.now client incarnation result }
         ensures bounded { session_count self.now ≤ max_clients }
     {
         let has_room = self.sessions.len() < MAX_CLIENTS;
@@ -156,8 +158,10 @@ impl Sessions {
 
     /// What stands of a key: why it is refused, what stands of its session's last number, or that it is
     /// the next one.
+    #[tactic(auto, using(crate::proofs::Meaning::standing_in_means))]
     pub fn look(&self, key: &Key) -> Standing
-        ensures { result ≡ standing_of self.now key.now }
+        ensures standing { result ≡ standing_of self.now key.now }
+        ensures means { StandingMeans self.now key.now result }
     {
         if key.epoch != self.epoch {
             return Standing::Refused(Refusal::OtherEpoch(self.epoch));
@@ -188,7 +192,7 @@ impl Sessions {
     /// Settles the request that a duty is for: from now on the reply that is kept for it stands. It is
     /// asked where the duty's session waits at the duty's place.
     pub fn settle(&mut self, duty: Duty, kept: Kept)
-        requires { WaitsAt self.old duty.client duty.place }
+        requires { waiting_of self.old duty.client ≡ Some duty.place }
         ensures { OnlySettles self.old self.new duty.client duty.place kept }
     {
         let (place, client) = duty.spend();
