@@ -13,3 +13,6 @@ pub use kept::{Kept, Place};
 pub use session::{Session, State};
 pub use sessions::{MAX_CLIENTS, Sessions};
 pub use standing::{Greeting, Standing};
+
+#[cfg(test)]
+mod tests;
