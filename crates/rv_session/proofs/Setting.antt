@@ -1,6 +1,5 @@
 -- What a table is after one of its sessions was set.
-use Rattle.std.proofs.Common.{◌≡◌, ◌≢◌, ℕ, Option, Some, cond, refl, sym, ap, ◌∙◌}
-use Rattle.std.specs.Ordering.{nat_cmp, eq_by_cmp}
+use Rattle.std.proofs.Common.{◌≡◌, ℕ, Some, cond, refl, ap, ◌∙◌}
 use Rattle.std.specs.Cmp.{nat_cmp_total}
 use Rattle.std.specs.FinMap.{get, insert, len, get-insert}
 use Rattle.rv_session.specs.declared.session.Session.{Session}

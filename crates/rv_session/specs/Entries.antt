@@ -22,4 +22,5 @@ pub record IsFirst (entries : List (ℕ × Session)) (client i : ℕ) : Type 0 w
 
 -- the client stands nowhere
 abbrev pub IsNowhere : List (ℕ × Session) → ℕ → Type 0
-IsNowhere entries client = (i : ℕ) (entry : ℕ × Session) → slice_get entries i ≡ Some entry → entry.0 ≢ client
+IsNowhere entries client =
+    (i : ℕ) (entry : ℕ × Session) → slice_get entries i ≡ Some entry → entry.0 ≢ client

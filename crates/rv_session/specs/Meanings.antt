@@ -73,7 +73,8 @@ pub record HasNext (t : Table) (key : Key) : Type 0 where
 pub record LacksSession (t : Table) (key : Key) : Type 0 where
   pub epoch : key.epoch ≡ t.epoch
   pub lacks : (session_of t key.client ≡ None)
-      ⊎ ((session : Session) × (session_of t key.client ≡ Some session) × (session.incarnation < key.incarnation))
+      ⊎ ((session : Session) × (session_of t key.client ≡ Some session)
+      × (session.incarnation < key.incarnation))
 
 -- the session has a greater incarnation, which is this one
 pub record HasOldIncarnation (t : Table) (key : Key) (current : ℕ) : Type 0 where
@@ -82,7 +83,7 @@ pub record HasOldIncarnation (t : Table) (key : Key) (current : ℕ) : Type 0 wh
   pub current_is : current ≡ session.incarnation
   pub greater : key.incarnation < current
 
--- the number is below the session's last, which is this one; or it is 0, the last number of a session that asked nothing
+-- the number is below the session's last, which is this one; or it is that of a session that asked nothing
 pub record HasOldNumber (t : Table) (key : Key) (last : ℕ) : Type 0 where
   pub session : Session
   pub of_key : OfSession t key session

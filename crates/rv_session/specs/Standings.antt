@@ -1,7 +1,9 @@
 -- What a table says to a hello and to a key, as functions of the map.
-use Rattle.std.specs.Prelude.{◌≡◌, ◌⊎◌, ◌+◌, ◌==◌, ℕ, Bool, List, [], ◌∷◌, Option, Some, None, if◌then◌else◌, is_some, nat_lt}
+use Rattle.std.specs.Prelude.{◌≡◌, ◌⊎◌, ◌+◌, ◌==◌, ℕ, Bool, List, [], ◌∷◌, Option, Some, None}
+use Rattle.std.specs.Prelude.{if◌then◌else◌, is_some, nat_lt}
 use Rattle.rv_text.specs.declared.message.Key.{Key}
-use Rattle.rv_text.specs.declared.answer.Refusal.TheVariants.{OtherEpoch, NoSession, OldIncarnation, OldNumber, Busy, Gap}
+use Rattle.rv_text.specs.declared.answer.Refusal.TheVariants.{OtherEpoch, NoSession, OldIncarnation}
+use Rattle.rv_text.specs.declared.answer.Refusal.TheVariants.{OldNumber, Busy, Gap}
 use Rattle.rv_session.specs.declared.session.Session.{Session}
 use Rattle.rv_session.specs.declared.session.State.{State}
 use Rattle.rv_session.specs.declared.session.State as state
@@ -41,9 +43,11 @@ greeting_for (Some session) count incarnation = greeting_in session incarnation
 abbrev pub greeting_of : Table → ℕ → ℕ → Greeting
 greeting_of t client incarnation = greeting_for (session_of t client) (session_count t) incarnation
 
--- the hello opens a session: of a new client, where there is room, or of a greater incarnation, where nothing waits
+-- the hello opens a session: of a new client, where there is room, or of a greater incarnation, where
+-- nothing waits
 abbrev pub MayEnter : Table → ℕ → ℕ → Type 0
-MayEnter t client incarnation = (greeting_of t client incarnation ≡ Unknown) ⊎ (greeting_of t client incarnation ≡ Newer None)
+MayEnter t client incarnation =
+    (greeting_of t client incarnation ≡ Unknown) ⊎ (greeting_of t client incarnation ≡ Newer None)
 
 -- ---- a key
 
@@ -70,4 +74,5 @@ standing_for (Some session) key = standing_in session key
 
 -- what stands of the key in the table
 abbrev pub standing_of : Table → Key → Standing
-standing_of t key = if key.epoch == t.epoch then standing_for (session_of t key.client) key else Refused (OtherEpoch t.epoch)
+standing_of t key =
+    if key.epoch == t.epoch then standing_for (session_of t key.client) key else Refused (OtherEpoch t.epoch)

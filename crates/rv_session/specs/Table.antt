@@ -15,7 +15,8 @@ pub record Table : Type 0 where
 
 -- a table is stored as the pair of its fields
 abbrev pub table_code : Coded Session → Coded Table
-table_code code = code_by (ℕ × FinMap nat_cmp Session) (coded× coded_ℕ (map.code coded_ℕ code)) (λ t. (t.epoch, t.sessions)) (λ p. record { epoch = p.0; sessions = p.1 }) (λ _. refl)
+table_code code = code_by (ℕ × FinMap nat_cmp Session) (coded× coded_ℕ (map.code coded_ℕ code))
+    (λ t. (t.epoch, t.sessions)) (λ p. record { epoch = p.0; sessions = p.1 }) (λ _. refl)
 
 -- the client's session, if it has one
 abbrev pub session_of : Table → ℕ → Option Session
@@ -41,11 +42,13 @@ fresh incarnation = record { incarnation = incarnation; last = 0; state = Fresh 
 
 -- the session of a request that waits at a place
 abbrev pub waiting_session : ℕ → ℕ → ℕ → Session
-waiting_session incarnation last place = record { incarnation = incarnation; last = last; state = Waits place }
+waiting_session incarnation last place =
+    record { incarnation = incarnation; last = last; state = Waits place }
 
 -- the session whose last number was settled
 abbrev pub settled_session : ℕ → ℕ → Option ℕ → Kept → Session
-settled_session incarnation last place kept = record { incarnation = incarnation; last = last; state = Settled place kept }
+settled_session incarnation last place kept =
+    record { incarnation = incarnation; last = last; state = Settled place kept }
 
 -- the new table has this session of the client, and else it is the old one
 pub record OnlySets (old new : Table) (client : ℕ) (session : Session) : Type 0 where

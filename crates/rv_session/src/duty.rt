@@ -55,14 +55,13 @@ impl Duty {
     pub fn park(self) -> Parked
         ensures { result ≡ self }
     {
-        let Duty { place, client } = self;
+        let (place, client) = self.spend();
         Parked { place, client }
     }
 
     // The place and the client of a duty that is settled.
     pub(crate) fn spend(self) -> (Place, u64)
-        ensures place { result.0 ≡ self.place }
-        ensures client { result.1 ≡ self.client }
+        ensures { self ≡ record { place = result.0; client = result.1 } }
     {
         let Duty { place, client } = self;
         (place, client)

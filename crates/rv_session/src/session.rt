@@ -68,6 +68,18 @@ impl Session {
         }
     }
 
+    // The session of a key whose number is the last from now on, with what stands of it.
+    pub(crate) fn of(key: &Key, state: State) -> Session
+        ensures { result
+            ≡ record { incarnation = key.now.incarnation; last = key.now.number; state = state } }
+    {
+        Session {
+            incarnation: key.incarnation,
+            last: key.number,
+            state,
+        }
+    }
+
     // The session with its last number settled.
     pub(crate) fn settled(&self, place: Option<Place>, kept: Kept) -> Session
         ensures { result ≡ settled_session self.now.incarnation self.now.last place kept }

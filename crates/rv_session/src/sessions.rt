@@ -1,5 +1,6 @@
 //! The table of sessions: for each client its incarnation, its last number and what stands of it.
-ghost use Rattle.std.specs.Prelude.{◌≡◌, ◌<◌, ◌++◌, ◌∷◌, [], Some, None, IsSome, IfSome, IfNone, OnOk, OnErr, length};
+ghost use Rattle.std.specs.Prelude.{◌≡◌, ◌<◌, ◌++◌, ◌∷◌, [], Some, None, IsSome, IfSome, IfNone, OnOk, OnErr};
+ghost use Rattle.std.specs.Prelude.{length};
 ghost use Rattle.std.specs.FinMap.{get, insert};
 ghost use Rattle.rv_session.specs.Entries.{map_of, IsFirst, IsNowhere, IsTable};
 ghost use Rattle.rv_session.specs.Table.{fresh};
@@ -84,7 +85,8 @@ impl Sessions {
     ghost use Rattle.rv_session.specs.declared.session.State.TheVariants.{Waits};
     ghost use Rattle.rv_session.specs.declared.kept.Kept.TheVariants.{Cancelled};
     ghost use Rattle.rv_session.specs.declared.standing.Standing.TheVariants.{Next};
-    ghost use Rattle.rv_session.specs.Table.{OnlySets, OnlySettles, session_of, session_count, settled_session, waiting_of, waiting_session};
+    ghost use Rattle.rv_session.specs.Table.{OnlySets, OnlySettles, settled_session, waiting_session};
+    ghost use Rattle.rv_session.specs.Table.{session_of, session_count, waiting_of};
     ghost use Rattle.rv_session.specs.Meanings.{GreetingMeans, StandingMeans};
     ghost use Rattle.rv_session.specs.Standings.{MayEnter, greeting_of, max_clients, standing_of};
 
@@ -92,10 +94,8 @@ impl Sessions {
     pub fn open(alloc: Global, epoch: u64) -> Sessions
         ensures { result ≡ record { epoch = epoch; sessions = empty } }
     {
-        Sessions {
-            epoch,
-            sessions: Vec::new(alloc),
-        }
+        let sessions = Vec::new(alloc);
+        Sessions { epoch, sessions }
     }
 
     // The client's session.
@@ -180,12 +180,7 @@ impl Sessions {
         ensures waits { OnlySets self.old self.new key.now.client
             (waiting_session key.now.incarnation key.now.number place) }
     {
-        let session = Session {
-            incarnation: key.incarnation,
-            last: key.number,
-            state: State::Waits(place),
-        };
-        self.set(key.client, session);
+        self.set(key.client, Session::of(key, State::Waits(place)));
         Duty::new(place, key.client)
     }
 
@@ -207,14 +202,10 @@ impl Sessions {
         ensures { OnlySets self.old self.new key.now.client
             (settled_session key.now.incarnation key.now.number None Cancelled) }
     {
-        let session = Session {
-            incarnation: key.incarnation,
-            last: key.number,
-            state: State::Settled {
-                place: None,
-                kept: Kept::Cancelled,
-            },
+        let cancelled = State::Settled {
+            place: None,
+            kept: Kept::Cancelled,
         };
-        self.set(key.client, session);
+        self.set(key.client, Session::of(key, cancelled));
     }
 }

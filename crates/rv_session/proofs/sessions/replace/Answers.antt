@@ -2,7 +2,7 @@
 use Rattle.std.proofs.Common.{ℕ, subst, List, IsSome}
 use Rattle.std.proofs.lemmas.Bool.{false≢true}
 use Rattle.rv_session.specs.declared.session.Session.{Session}
-use Rattle.rv_session.specs.Entries.{map_of, IsFirst, IsNowhere}
+use Rattle.rv_session.specs.Entries.{IsFirst, IsNowhere}
 use Rattle.rv_session.proofs.Mapping.{map_set, get_nowhere}
 use Rattle.rv_session.proofs.sessions.replace.Goals as goal
 
