@@ -58,6 +58,39 @@ fn a_session_lives(rt: HostRuntime) -> Result<(), Fail> {
 }
 
 #[test]
+fn two_sessions_wait(rt: HostRuntime) -> Result<(), Fail> {
+    let mut sessions = Sessions::open(rt.alloc(), 2);
+    hello(&mut sessions, 7, 1)?;
+    hello(&mut sessions, 8, 1)?;
+    let given = Key {
+        client: 7,
+        ..key(1, 1)
+    };
+    let taken = Key {
+        client: 8,
+        ..key(1, 1)
+    };
+    assert_eq!(rt; sessions.look(&given), Standing::Next);
+    assert_eq!(rt; sessions.look(&taken), Standing::Next);
+    let giver = sessions.begin(&given, 0);
+    let taker = sessions.begin(&taken, 1);
+    sessions.settle(giver, Kept::Received);
+    assert_eq!(rt; sessions.look(&taken), Standing::Waits(1));
+    sessions.settle(taker, Kept::Item(0));
+    let received = Standing::Settled {
+        place: Some(0),
+        kept: Kept::Received,
+    };
+    assert_eq!(rt; sessions.look(&given), received);
+    let item = Standing::Settled {
+        place: Some(1),
+        kept: Kept::Item(0),
+    };
+    assert_eq!(rt; sessions.look(&taken), item);
+    Ok(())
+}
+
+#[test]
 fn keys_are_refused_in_order(rt: HostRuntime) -> Result<(), Fail> {
     let mut sessions = Sessions::open(rt.alloc(), 2);
     hello(&mut sessions, 7, 2)?;
