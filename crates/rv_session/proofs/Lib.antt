@@ -1,0 +1,4 @@
+pub mod Mapping
+pub mod Setting
+pub mod Meaning
+pub mod Clients

@@ -1,0 +1,65 @@
+-- A table of sessions: the epoch, and a map from clients to their sessions.
+use Rattle.std.specs.Prelude.{◌≡◌, ◌≢◌, ◌+◌, ℕ, Option, Some, None, IsSome, option_and_then, refl}
+use Rattle.std.specs.Ordering.{nat_cmp}
+use Rattle.std.specs.Coded.{Coded, code_by, coded×, coded_ℕ}
+use Rattle.std.specs.FinMap.{FinMap}
+use Rattle.std.specs.FinMap as map
+use Rattle.rv_session.specs.declared.kept.Kept.{Kept}
+use Rattle.rv_session.specs.declared.session.Session.{Session}
+use Rattle.rv_session.specs.declared.session.State.{State}
+use Rattle.rv_session.specs.declared.session.State.TheVariants.{Fresh, Waits, Settled}
+
+pub record Table : Type 0 where
+  pub epoch : ℕ
+  pub sessions : FinMap nat_cmp Session
+
+-- a table is stored as the pair of its fields
+abbrev pub table_code : Coded Session → Coded Table
+table_code code = code_by (ℕ × FinMap nat_cmp Session) (coded× coded_ℕ (map.code coded_ℕ code))
+    (λ t. (t.epoch, t.sessions)) (λ p. record { epoch = p.0; sessions = p.1 }) (λ _. refl)
+
+-- the client's session, if it has one
+abbrev pub session_of : Table → ℕ → Option Session
+session_of t client = map.get t.sessions client
+
+-- how many clients have a session
+abbrev pub session_count : Table → ℕ
+session_count t = map.len t.sessions
+
+-- whether the last request waits, and where
+abbrev pub waiting_place : State → Option ℕ
+waiting_place Fresh = None
+waiting_place (Waits place) = Some place
+waiting_place (Settled place kept) = None
+
+-- where the last request of the client's session waits, if it does
+abbrev pub waiting_of : Table → ℕ → Option ℕ
+waiting_of t client = option_and_then (λ session. waiting_place session.state) (session_of t client)
+
+-- a session in which nothing was asked yet
+abbrev pub fresh : ℕ → Session
+fresh incarnation = record { incarnation = incarnation; last = 0; state = Fresh }
+
+-- the session of a request that waits at a place
+abbrev pub waiting_session : ℕ → ℕ → ℕ → Session
+waiting_session incarnation last place =
+    record { incarnation = incarnation; last = last; state = Waits place }
+
+-- the session whose last number was settled
+abbrev pub settled_session : ℕ → ℕ → Option ℕ → Kept → Session
+settled_session incarnation last place kept =
+    record { incarnation = incarnation; last = last; state = Settled place kept }
+
+-- the new table has this session of the client, and else it is the old one
+pub record OnlySets (old new : Table) (client : ℕ) (session : Session) : Type 0 where
+  pub epoch : new.epoch ≡ old.epoch
+  pub own : session_of new client ≡ Some session
+  pub others : (other : ℕ) → other ≢ client → session_of new other ≡ session_of old other
+  pub known : IsSome (session_of old client) → session_count new ≡ session_count old
+  pub unknown : session_of old client ≡ None → session_count new ≡ session_count old + 1
+
+-- the client's session is settled with this, its incarnation and its last number stay, and so does all else
+pub record OnlySettles (old new : Table) (client place : ℕ) (kept : Kept) : Type 0 where
+  pub session : Session
+  pub there : session_of old client ≡ Some session
+  pub sets : OnlySets old new client (settled_session session.incarnation session.last (Some place) kept)

@@ -1,0 +1,30 @@
+//! Replies as they are kept: with places of the account where a reply has a text.
+
+/// An entry's index in the account.
+pub type Place = usize;
+
+/// The reply that is kept for a session's last request. It takes no memory: a text is named by the place
+/// of the arrival that brought it.
+#[derive(Clone, Copy, Debug, PartialEq, Eq)]
+pub enum Kept {
+    /// A put was accepted.
+    Done,
+    /// A transfer's item was assigned to a consumer.
+    Received,
+    /// A transfer that doesn't wait found no consumer.
+    Nobody,
+    /// A take got the item that arrived at this place.
+    Item(Place),
+    /// A take that doesn't wait found no item, or a peek none.
+    Empty,
+    /// A swap got the object that arrived at this place.
+    Swapped(Place),
+    /// The request's time was over first.
+    TimedOut,
+    /// The request was cancelled.
+    Cancelled,
+    /// How many items and consumers wait.
+    Counted { items: usize, consumers: usize },
+    /// A peek saw the item that arrived at this place.
+    Peeked(Place),
+}

@@ -1,0 +1,18 @@
+//! The sessions of an epoch: one for each client, with what stands of its last request; and the duty to
+//! settle a request, which can be neither copied nor lost.
+#![tactic(auto)]
+
+mod duty;
+mod kept;
+mod session;
+mod sessions;
+mod standing;
+
+pub use duty::{Duty, Parked};
+pub use kept::{Kept, Place};
+pub use session::{Session, State};
+pub use sessions::{MAX_CLIENTS, Sessions};
+pub use standing::{Greeting, Standing};
+
+#[cfg(test)]
+mod tests;

@@ -1,0 +1,133 @@
+//! A client's session: its incarnation, its last number and what stands of it.
+ghost use Rattle.std.specs.Prelude.{◌≡◌};
+ghost use Rattle.rv_session.specs.Table.{fresh, settled_session, waiting_place};
+ghost use Rattle.rv_session.specs.Standings.{greeting_in, standing_in, standing_last};
+
+use crate::kept::{Kept, Place};
+use crate::standing::{Greeting, Standing};
+use rv_text::{Key, Refusal};
+
+/// What stands of a session's last number.
+#[derive(Clone, Copy, Debug, PartialEq, Eq)]
+pub enum State {
+    /// Nothing was asked yet.
+    Fresh,
+    /// The request waits at this place.
+    Waits(Place),
+    /// It was settled: the place where its request arrived, if it did, and the reply that is kept.
+    Settled { place: Option<Place>, kept: Kept },
+}
+
+/// A client's session, as contracts see it.
+#[derive(Clone, Copy, Debug, PartialEq, Eq)]
+pub struct Session {
+    /// The incarnation of the client's last hello.
+    pub incarnation: u64,
+    /// The last number; 0 before the first.
+    pub last: u64,
+    /// What stands of the last number.
+    pub state: State,
+}
+
+impl State {
+    // Where the request waits, if it does.
+    fn waiting(&self) -> Option<Place>
+        ensures { result ≡ waiting_place self.now }
+    {
+        match self {
+            State::Waits(place) => Some(*place),
+            State::Fresh => None,
+            State::Settled { .. } => None,
+        }
+    }
+
+    // What stands of the last number. No request has the number 0 of a fresh session.
+    fn standing(&self, last: u64) -> Standing
+        ensures { result ≡ standing_last last self.now }
+    {
+        match self {
+            State::Fresh => Standing::Refused(Refusal::OldNumber(last)),
+            State::Waits(place) => Standing::Waits(*place),
+            State::Settled { place, kept } => Standing::Settled {
+                place: *place,
+                kept: *kept,
+            },
+        }
+    }
+}
+
+impl Session {
+    // A session in which nothing was asked yet.
+    pub(crate) fn fresh(incarnation: u64) -> Session
+        ensures { result ≡ fresh incarnation }
+    {
+        Session {
+            incarnation,
+            last: 0,
+            state: State::Fresh,
+        }
+    }
+
+    // The session of a key whose number is the last from now on, with what stands of it.
+    pub(crate) fn of(key: &Key, state: State) -> Session
+        ensures { result
+            ≡ record { incarnation = key.now.incarnation; last = key.now.number; state = state } }
+    {
+        Session {
+            incarnation: key.incarnation,
+            last: key.number,
+            state,
+        }
+    }
+
+    // The session with its last number settled.
+    pub(crate) fn settled(&self, place: Option<Place>, kept: Kept) -> Session
+        ensures { result ≡ settled_session self.now.incarnation self.now.last place kept }
+    {
+        Session {
+            incarnation: self.incarnation,
+            last: self.last,
+            state: State::Settled { place, kept },
+        }
+    }
+
+    // What a hello of an incarnation is to the session.
+    pub(crate) fn greeting(&self, incarnation: u64) -> Greeting
+        ensures { result ≡ greeting_in self.now incarnation }
+    {
+        if incarnation < self.incarnation {
+            return Greeting::Older(self.incarnation);
+        }
+        if incarnation == self.incarnation {
+            return Greeting::Again;
+        }
+        Greeting::Newer {
+            waiting: self.state.waiting(),
+        }
+    }
+
+    // What stands of a key of the client.
+    pub(crate) fn standing(&self, key: &Key) -> Standing
+        ensures { result ≡ standing_in self.now key.now }
+    {
+        if self.incarnation < key.incarnation {
+            return Standing::Refused(Refusal::NoSession);
+        }
+        if key.incarnation < self.incarnation {
+            return Standing::Refused(Refusal::OldIncarnation(self.incarnation));
+        }
+        if key.number < self.last {
+            return Standing::Refused(Refusal::OldNumber(self.last));
+        }
+        if key.number == self.last {
+            return self.state.standing(self.last);
+        }
+        if self.state.waiting().is_some() {
+            return Standing::Refused(Refusal::Busy(self.last));
+        }
+        if key.number - self.last > 1 {
+            return Standing::Refused(Refusal::Gap(self.last));
+        }
+        Standing::Next
+    }
+}

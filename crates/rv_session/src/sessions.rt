@@ -1,0 +1,211 @@
+//! The table of sessions: for each client its incarnation, its last number and what stands of it.
+ghost use Rattle.std.specs.Prelude.{◌≡◌, ◌<◌, ◌++◌, ◌∷◌, [], Some, None, IsSome, IfSome, IfNone, OnOk, OnErr};
+ghost use Rattle.std.specs.Prelude.{length};
+ghost use Rattle.std.specs.FinMap.{get, insert};
+ghost use Rattle.rv_session.specs.Entries.{map_of, IsFirst, IsNowhere, IsTable};
+ghost use Rattle.rv_session.specs.Table.{fresh};
+
+use crate::duty::Duty;
+use crate::kept::{Kept, Place};
+use crate::session::{Session, State};
+use crate::standing::{Greeting, Standing};
+use rv_text::{Key, NoMemory, Refusal};
+use std::alloc::{AllocError, Global};
+use std::marker::Model;
+
+/// The most clients of an epoch.
+pub const MAX_CLIENTS: usize = 1_024;
+
+/// The sessions of an epoch, which contracts see as a map from clients to their [`Session`]s. There are
+/// at most 1,024.
+///
+/// Looking a client up is linear in the number of clients; nothing else is searched.
+#[derive(Drop)]
+pub struct Sessions {
+    epoch: u64,
+    // Each client with its session.
+    sessions: Vec<(u64, Session)>,
+}
+
+impl Model for Sessions {
+    ghost use Rattle.rv_session.specs.Entries.{map_of, IsTable};
+    ghost use Rattle.rv_session.specs.Table.{Table, table_code};
+    ghost use Rattle.rv_session.specs.contracts.session.Session as session;
+
+    ghost Value = { Table };
+
+    ghost coded = { table_code session.the_row.coded };
+
+    ghost view = { λ s. record { epoch = s.epoch; sessions = map_of s.sessions.items } };
+
+    ghost invariant = { λ s. IsTable s.sessions.items };
+}
+
+// The index of the client's session.
+fn index_of(sessions: &[(u64, Session)], client: u64) -> Option<usize>
+    ensures found { IfSome result (IsFirst sessions.now client) }
+    ensures none { IfNone result (IsNowhere sessions.now client) }
+{
+    sessions.iter().position(|entry| entry.0 == client)
+}
+
+// The client's session.
+fn session_of(sessions: &[(u64, Session)], client: u64) -> Option<Session>
+    ensures { result ≡ get (map_of sessions.now) client }
+{
+    match index_of(sessions, client) {
+        Some(index) => Some(sessions[index].1),
+        None => None,
+    }
+}
+
+// Replaces the session of a client that has one.
+fn replace(sessions: &mut Vec<(u64, Session)>, client: u64, session: Session)
+    requires known { IsSome (get (map_of sessions.old.items) client) }
+    ensures map { map_of sessions.new.items ≡ insert (map_of sessions.old.items) client session }
+    ensures length { length sessions.new.items ≡ length sessions.old.items }
+{
+    match index_of(sessions, client) {
+        Some(index) => sessions[index] = (client, session),
+        None => unreachable!(),
+    }
+}
+
+// Appends a client with its session. Where the growth is refused the list stays.
+fn append(sessions: &mut Vec<(u64, Session)>, client: u64, session: Session) -> Result<(), NoMemory>
+    ensures ok { OnOk result (sessions.new.items ≡ sessions.old.items ++ (client, session) ∷ []) }
+    ensures err { OnErr result (sessions.new.items ≡ sessions.old.items) }
+{
+    sessions.push((client, session)).map_err(AllocError::from)
+}
+
+impl Sessions {
+    ghost use Rattle.std.specs.Prelude.{IsOk, ◌≤◌};
+    ghost use Rattle.std.specs.FinMap.{empty};
+    ghost use Rattle.rv_session.specs.declared.session.State.TheVariants.{Waits};
+    ghost use Rattle.rv_session.specs.declared.kept.Kept.TheVariants.{Cancelled};
+    ghost use Rattle.rv_session.specs.declared.standing.Standing.TheVariants.{Next};
+    ghost use Rattle.rv_session.specs.Table.{OnlySets, OnlySettles, settled_session, waiting_session};
+    ghost use Rattle.rv_session.specs.Table.{session_of, session_count, waiting_of};
+    ghost use Rattle.rv_session.specs.Meanings.{GreetingMeans, StandingMeans};
+    ghost use Rattle.rv_session.specs.Standings.{MayEnter, greeting_of, max_clients, standing_of};
+
+    /// The table of an epoch, 1 to 2^53 - 1, with no session. It takes no memory yet.
+    pub fn open(alloc: Global, epoch: u64) -> Sessions
+        ensures { result ≡ record { epoch = epoch; sessions = empty } }
+    {
+        let sessions = Vec::new(alloc);
+        Sessions { epoch, sessions }
+    }
+
+    // The client's session.
+    fn session_of(&self, client: u64) -> Option<Session>
+        ensures { result ≡ session_of self.now client }
+    {
+        session_of(&self.sessions, client)
+    }
+
+    // Replaces the session of a client that has one.
+    fn set(&mut self, client: u64, session: Session)
+        requires { IsSome (session_of self.old client) }
+        ensures { OnlySets self.old self.new client session }
+    {
+        replace(&mut self.sessions, client, session);
+    }
+
+    // Adds the session of a client that has none, where there is room.
+    fn add(&mut self, client: u64, session: Session) -> Result<(), NoMemory>
+        requires unknown { session_of self.old client ≡ None }
+        requires room { session_count self.old < max_clients }
+        ensures ok { OnOk result (OnlySets self.old self.new client session) }
+        ensures err { OnErr result (self.new ≡ self.old) }
+    {
+        append(&mut self.sessions, client, session)?;
+        Ok(())
+    }
+
+    /// What the hello of an incarnation of a client is to the table.
+    pub fn greet(&self, client: u64, incarnation: u64) -> Greeting
+        ensures greeting { result ≡ greeting_of self.now client incarnation }
+        ensures means { GreetingMeans self.now client incarnation result }
+        ensures bounded { session_count self.now ≤ max_clients }
+    {
+        let has_room = self.sessions.len() < MAX_CLIENTS;
+        match self.session_of(client) {
+            Some(session) => session.greeting(incarnation),
+            None if has_room => Greeting::Unknown,
+            None => Greeting::Full,
+        }
+    }
+
+    /// Opens the session of an incarnation of a client, in which nothing was asked yet. It is asked where
+    /// [`greet`](Sessions::greet) gives `Unknown` or `Newer` with nothing that waits. For a client that
+    /// has a session it takes no memory and succeeds; for another it fails only where memory was refused,
+    /// and then nothing changes.
+    pub fn enter(&mut self, client: u64, incarnation: u64) -> Result<(), NoMemory>
+        requires { MayEnter self.old client incarnation }
+        ensures ok { OnOk result (OnlySets self.old self.new client (fresh incarnation)) }
+        ensures err { OnErr result (self.new ≡ self.old) }
+        ensures known { IsSome (session_of self.old client) → IsOk result }
+    {
+        let session = Session::fresh(incarnation);
+        if self.session_of(client).is_some() {
+            self.set(client, session);
+            return Ok(());
+        }
+        self.add(client, session)
+    }
+
+    /// What stands of a key: why it is refused, what stands of its session's last number, or that it is
+    /// the next one.
+    #[tactic(auto, using(crate::proofs::Meaning::standing_in_means))]
+    pub fn look(&self, key: &Key) -> Standing
+        ensures standing { result ≡ standing_of self.now key.now }
+        ensures means { StandingMeans self.now key.now result }
+    {
+        if key.epoch != self.epoch {
+            return Standing::Refused(Refusal::OtherEpoch(self.epoch));
+        }
+        match self.session_of(key.client) {
+            Some(session) => session.standing(key),
+            None => Standing::Refused(Refusal::NoSession),
+        }
+    }
+
+    /// Makes a next number its session's last, whose request arrived at a place and waits there, and gives
+    /// the one duty to settle it.
+    pub fn begin(&mut self, key: &Key, place: Place) -> Duty
+        requires { standing_of self.old key.now ≡ Next }
+        ensures duty { result ≡ record { place = place; client = key.now.client } }
+        ensures waits { OnlySets self.old self.new key.now.client
+            (waiting_session key.now.incarnation key.now.number place) }
+    {
+        self.set(key.client, Session::of(key, State::Waits(place)));
+        Duty::new(place, key.client)
+    }
+
+    /// Settles the request that a duty is for: from now on the reply that is kept for it stands. It is
+    /// asked where the duty's session waits at the duty's place.
+    pub fn settle(&mut self, duty: Duty, kept: Kept)
+        requires { waiting_of self.old duty.client ≡ Some duty.place }
+        ensures { OnlySettles self.old self.new duty.client duty.place kept }
+    {
+        let (place, client) = duty.spend();
+        if let Some(session) = self.session_of(client) {
+            self.set(client, session.settled(Some(place), kept));
+        }
+    }
+
+    /// Makes a next number its session's last, and settles it as cancelled: no request arrived with it.
+    pub fn bury(&mut self, key: &Key)
+        requires { standing_of self.old key.now ≡ Next }
+        ensures { OnlySets self.old self.new key.now.client
+            (settled_session key.now.incarnation key.now.number None Cancelled) }
+    {
+        let cancelled = State::Settled {
+            place: None,
+            kept: Kept::Cancelled,
+        };
+        self.set(key.client, Session::of(key, cancelled));
+    }
+}

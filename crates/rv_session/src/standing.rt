@@ -1,0 +1,33 @@
+//! What a table of sessions says to a hello and to a key.
+use crate::kept::{Kept, Place};
+use rv_text::Refusal;
+
+/// What a hello of an incarnation is to the table.
+#[derive(Clone, Copy, Debug, PartialEq, Eq)]
+pub enum Greeting {
+    /// The client's session has this incarnation already.
+    Again,
+    /// The client has no session, and there is room for one.
+    Unknown,
+    /// The client has no session, and there are as many sessions as an epoch can have.
+    Full,
+    /// The client's session has a lower incarnation; where its last request still waits, at which place.
+    Newer { waiting: Option<Place> },
+    /// The client's session has a greater incarnation, which is given.
+    Older(u64),
+}
+
+/// What stands of a key.
+#[derive(Clone, Copy, Debug, PartialEq, Eq)]
+pub enum Standing {
+    /// The key is refused: for another epoch, no session, an old incarnation, an old number, a request
+    /// that still waits, or a gap.
+    Refused(Refusal),
+    /// The key has its session's last number, whose request waits at this place.
+    Waits(Place),
+    /// The key has its session's last number, which was settled: the place where its request arrived, if
+    /// it did, and the reply that is kept.
+    Settled { place: Option<Place>, kept: Kept },
+    /// The key has its session's next number, and nothing waits there.
+    Next,
+}
