@@ -2,6 +2,7 @@
 use Rattle.rv_book.specs.declared.account.Act as act
 use Rattle.rv_text.specs.declared.message.Message.TheVariants.{Hello, Request}
 use Rattle.rv_text.specs.declared.call.Call.TheVariants.{Put, Take}
+use Rattle.rv_text.proofs.Kept.{item_fits}
 use Rattle.rv_book.specs.Account.{Account, act_at, call_in, key_in}
 use Rattle.rv_book.specs.declared.account.Act.{Act}
 use Rattle.rv_text.specs.declared.answer.Answer.{Answer}
@@ -62,21 +63,17 @@ last_fits a client last fits is = elim is.reached [
       omega arith
 ]
 
-item_within : (call : Call) (item : List ℕ) → FitsCall call → item_of call ≡ Some item → FitsItem item
-item_within (Put queue other) item fits is = subst FitsItem (same_Some _ _ is) fits.1
-item_within (Take queue wait) item fits is = absurd (none-some item is)
-
-item_fits : (a : Account) (r : ℕ) (item : List ℕ) → FitsAccount a → Gets a.entries r item → FitsItem item
-item_fits a r item fits gets =
+given_fits : (a : Account) (r : ℕ) (item : List ℕ) → FitsAccount a → Gets a.entries r item → FitsItem item
+given_fits a r item fits gets =
     let does = act_there call_in (act_at a.entries gets.giver) gets.call gets.arrived in
-    item_within gets.call item (call_of_act does.0 gets.call (act_fits a gets.giver does.0 fits does.1) does.2) gets.hands_over
+    item_fits gets.call item (call_of_act does.0 gets.call (act_fits a gets.giver does.0 fits does.1) does.2) gets.hands_over
 
 unmet_fits : (wait : Wait) (es : List Entry) (r : ℕ) (reply : Reply) → RepliesUnmet es r wait Empty reply → FitsReply reply
 unmet_fits Now es r reply is = subst FitsReply (sym is) tt
 
 reply_fits : (a : Account) (r : ℕ) (call : Call) (reply : Reply) → FitsAccount a → RepliesAt a.entries r call reply → FitsReply reply
 reply_fits a r (Put queue item) reply fits is = subst FitsReply (sym is) tt
-reply_fits a r (Take queue wait) reply fits (inl gets) = subst FitsReply (sym gets.2) (item_fits a r gets.0 fits gets.1)
+reply_fits a r (Take queue wait) reply fits (inl gets) = subst FitsReply (sym gets.2) (given_fits a r gets.0 fits gets.1)
 reply_fits a r (Take queue wait) reply fits (inr unmet) = unmet_fits wait a.entries r reply unmet.1
 
 -- ---- what a step answers fits

@@ -18,6 +18,5 @@ pub mod Replying
 pub mod Entering
 pub mod OneStep
 pub mod Fitting
-pub mod Within
 pub mod Keeping
 pub mod Stepping

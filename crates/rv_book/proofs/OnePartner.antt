@@ -19,7 +19,6 @@ use Rattle.rv_book.proofs.Histories.{one_last_hello}
 use Rattle.rv_book.proofs.Sides.{partner_before}
 use Rattle.std.proofs.lemmas.Option.{same_Some}
 use Rattle.std.specs.List.{slice_get}
-use Rattle.rv_text.specs.Fields.{whole}
 
 -- ---- partners
 

@@ -34,7 +34,6 @@ use Rattle.rv_book.proofs.Places.{get-append_within}
 use Rattle.rv_text.specs.Calls.{item_of}
 use Rattle.std.proofs.lemmas.Option.{none-some, same_Some}
 use Rattle.std.specs.List.{slice_get}
-use Rattle.rv_text.specs.Fields.{whole}
 
 -- ---- a step only adds
 

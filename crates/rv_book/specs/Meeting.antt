@@ -15,12 +15,6 @@ waiting_on lines (Looks queue) = []
 abbrev pub partner_on : List QueueLine → Side → Option ℕ
 partner_on lines side = option_and_then (λ other. slice_get (waiting_on lines other) 0) (opposite side)
 
--- the side's number is that of a queue
-abbrev pub IsAtQueue : Side → Type 0
-IsAtQueue (Gives queue) = queue ≤ 63
-IsAtQueue (Takes queue) = queue ≤ 63
-IsAtQueue (Looks queue) = queue ≤ 63
-
 -- an arrival of the side that stays has room
 abbrev pub HasRoomOn : List QueueLine → Side → Type 0
 HasRoomOn lines (Gives queue) = 0 < spare_of lines queue

@@ -1,7 +1,9 @@
 //! The queues: which items wait in each, the oldest first.
 ghost use Rattle.std.specs.Prelude.{◌≡◌, ◌<◌, ◌≤◌, ◌++◌, ◌∷◌, [], ℕ, drop, OnOk, IfOk, length};
 ghost use Rattle.rv_book.specs.Views.{places_of};
-ghost use Rattle.rv_book.specs.Meeting.{HasRoomOn, IsAtQueue, ArrivedOn, partner_on};
+ghost use Rattle.rv_text.specs.Calls.{queue_of};
+ghost use Rattle.rv_text.specs.Limits.{FitsQueue};
+ghost use Rattle.rv_book.specs.Meeting.{HasRoomOn, ArrivedOn, partner_on};
 
 use crate::account::Place;
 use rv_text::{MAX_QUEUE, NoMemory, Side};
@@ -108,7 +110,7 @@ impl Queues {
 
     /// Makes room for an arrival of this side. Where a growth is refused nothing changes.
     pub(crate) fn reserve(&mut self, side: Side) -> Result<(), NoMemory>
-        requires { IsAtQueue side }
+        requires { FitsQueue (queue_of side) }
         ensures same { (queue : ℕ) → places_of self.new queue ≡ places_of self.old queue }
         ensures room { OnOk result (HasRoomOn self.new side) }
     {
@@ -122,7 +124,7 @@ impl Queues {
     /// The arrival of this side that stands at a place meets the oldest of the other side, which leaves its
     /// queue, or, if it gives and nobody is there, waits behind the others of its side.
     pub(crate) fn arrive(&mut self, side: Side, place: Place)
-        requires queue { IsAtQueue side }
+        requires queue { FitsQueue (queue_of side) }
         requires room { HasRoomOn self.old side }
         ensures { ArrivedOn self.old self.new side place }
     {
