@@ -1,6 +1,7 @@
 pub mod Numbers
 pub mod Places
 pub mod Growing
+pub mod Kinds
 pub mod NotYet
 pub mod Legality
 pub mod Fronts

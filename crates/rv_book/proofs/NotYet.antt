@@ -4,11 +4,10 @@ use Rattle.std.specs.Prelude.{◌↔◌, Contains}
 use Rattle.std.proofs.lemmas.Option.{same_Some}
 use Rattle.rv_text.specs.declared.call.Wait.{Wait}
 use Rattle.rv_text.specs.declared.call.Wait.TheVariants.{Now}
-use Rattle.rv_text.specs.declared.call.Side.{Side}
-use Rattle.rv_text.specs.declared.call.Side.TheVariants.{Gives, Takes, Looks}
+use Rattle.rv_text.specs.declared.call.Side.TheVariants.{Gives, Takes}
 use Rattle.rv_text.specs.declared.call.Call.{Call}
-use Rattle.rv_text.specs.declared.call.Call.TheVariants.{Put, Take}
-use Rattle.rv_text.specs.Calls.{side_of, wait_of}
+use Rattle.rv_text.specs.Calls.{side_of, wait_of, item_of}
+use Rattle.rv_book.proofs.Kinds.{IsKind, kind_at}
 use Rattle.rv_book.specs.declared.account.Entry.{Entry}
 use Rattle.rv_book.specs.declared.account.Act.{Act}
 use Rattle.rv_book.specs.declared.account.Act.TheVariants.{Hello, Arrive}
@@ -19,33 +18,22 @@ use Rattle.rv_book.specs.Legal.{KeepsLimits}
 use Rattle.rv_book.specs.Steps.{NumberOf}
 use Rattle.rv_book.specs.Waiting.{OpenAt, StoppedAt, Waiting}
 
--- ---- which sides and waits calls have
+-- ---- who gives never waits, and who takes goes at once
 
-abbrev SoFar : Side → Option Wait → Type 0
-SoFar (Gives queue) None = Unit {0}
-SoFar (Gives queue) (Some wait) = ⊥
-SoFar (Takes queue) None = ⊥
-SoFar (Takes queue) (Some wait) = Unit {0}
-SoFar (Looks queue) None = Unit {0}
-SoFar (Looks queue) (Some wait) = ⊥
+giver_waits_not : (wait : Option Wait) (item : Option (List ℕ)) (queue : ℕ) → IsKind (Gives queue) wait item → Lasts wait
+giver_waits_not None item queue kind = tt
+giver_waits_not (Some wait) None queue kind = absurd kind
+giver_waits_not (Some wait) (Some item) queue kind = absurd kind
 
-so_far : (call : Call) → SoFar (side_of call) (wait_of call)
-so_far (Put queue item) = tt
-so_far (Take queue wait) = tt
-
-giver_waits_not : (wait : Option Wait) (queue : ℕ) → SoFar (Gives queue) wait → Lasts wait
-giver_waits_not None queue so = tt
-giver_waits_not (Some wait) queue so = absurd so
-
-taker_waits : (wait : Option Wait) (queue : ℕ) → SoFar (Takes queue) wait → Lasts wait → ⊥
-taker_waits None queue so lasts = so
-taker_waits (Some Now) queue so lasts = lasts
+taker_waits : (wait : Option Wait) (item : Option (List ℕ)) (queue : ℕ) → IsKind (Takes queue) wait item → Lasts wait → ⊥
+taker_waits None item queue kind lasts = kind
+taker_waits (Some Now) item queue kind lasts = lasts
 
 pub givers_stay : (call : Call) (queue : ℕ) → side_of call ≡ Gives queue → Lasts (wait_of call)
-givers_stay call queue is = giver_waits_not (wait_of call) queue (subst (λ side. SoFar side (wait_of call)) is (so_far call))
+givers_stay call queue is = giver_waits_not (wait_of call) (item_of call) queue (kind_at call (Gives queue) is)
 
 pub takers_go : (call : Call) (queue : ℕ) → side_of call ≡ Takes queue → Stays call → ⊥
-takers_go call queue is stays = taker_waits (wait_of call) queue (subst (λ side. SoFar side (wait_of call)) is (so_far call)) stays.1
+takers_go call queue is stays = taker_waits (wait_of call) (item_of call) queue (kind_at call (Takes queue) is) stays.1
 
 -- ---- who stays never waits
 

@@ -19,6 +19,7 @@ use Rattle.rv_text.specs.declared.call.Wait.TheVariants.{Now}
 use Rattle.rv_text.specs.declared.call.Side.{Side}
 use Rattle.rv_text.specs.declared.call.Wait.{Wait}
 use Rattle.rv_book.proofs.Growing.{act_read, call_read, partner_read, reads_on}
+use Rattle.rv_book.proofs.Kinds.{gives_item}
 use Rattle.rv_book.proofs.Legality.{follows_itself}
 use Rattle.rv_book.proofs.Places.{get-append_end}
 use Rattle.rv_book.specs.Verdicts.{item_at}
@@ -47,11 +48,6 @@ poll_replies a queue wait moment key before after =
       is = refl;
       replies = inr (last_unmet a e before refl, told_empty wait (with_entry a e).entries (length a.entries));
     }
-
--- what gives hands over an item
-gives_item : (call : Call) (queue : ℕ) → side_of call ≡ Gives queue → (item : List ℕ) × (item_of call ≡ Some item)
-gives_item (Put other item) queue is = (item, refl)
-gives_item (Take other wait) queue is = absurd (let no : ⊥ = cc in no)
 
 takes_meet_givers : (queue : ℕ) (side : Side) → opposite (Takes queue) ≡ Some side → side ≡ Gives queue
 takes_meet_givers queue side opposes = cc

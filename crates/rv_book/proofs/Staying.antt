@@ -82,12 +82,11 @@ mapped f None y h = absurd (none-some y h)
 mapped f (Some x) y h = (x, refl)
 
 kept_stays : (a b : Account) (k : Kept) (r : Reply) → Extends a b → reply_of a.entries k ≡ Some r → reply_of b.entries k ≡ Some r
-kept_stays a b kept.TheVariants.Done r extends is = is
 kept_stays a b (kept.TheVariants.Item place) r extends is =
     let item = mapped reply.TheVariants.Item (item_at a.entries place) r is in
     let there : item_at b.entries place ≡ Some item.0 = reading_on (λ o. option_and_then item_of (call_read o)) refl a b place item.0 extends item.1 in
     ap (option_map reply.TheVariants.Item) (there ∙ sym item.1) ∙ is
-kept_stays a b kept.TheVariants.Empty r extends is = is
+kept_stays a b k r extends is = is
 
 said_stays : (a b : Account) (s : Said) (x : Answer) → Extends a b → answer_of a.entries s ≡ Some x → answer_of b.entries s ≡ Some x
 said_stays a b (said.TheVariants.Welcome epoch client incarnation) x extends is = is

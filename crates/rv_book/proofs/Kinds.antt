@@ -1,0 +1,30 @@
+-- Which sides, waits and items go together in one call: the one place of this crate's proofs that lists the calls for it.
+use Rattle.std.proofs.Common.{◌≡◌, ℕ, List, Option, Some, None, refl, subst}
+use Rattle.rv_text.specs.declared.call.Wait.{Wait}
+use Rattle.rv_text.specs.declared.call.Side.{Side}
+use Rattle.rv_text.specs.declared.call.Side.TheVariants.{Gives, Takes, Looks}
+use Rattle.rv_text.specs.declared.call.Call.{Call}
+use Rattle.rv_text.specs.declared.call.Call as call
+use Rattle.rv_text.specs.Calls.{side_of, wait_of, item_of}
+
+abbrev pub IsKind : Side → Option Wait → Option (List ℕ) → Type 0
+IsKind (Gives queue) None (Some item) = Unit {0}
+IsKind (Takes queue) (Some wait) None = Unit {0}
+IsKind (Looks queue) None None = Unit {0}
+IsKind _ _ _ = ⊥
+
+kind_of : (call : Call) → IsKind (side_of call) (wait_of call) (item_of call)
+kind_of (call.TheVariants.Put queue item) = tt
+kind_of (call.TheVariants.Take queue wait) = tt
+
+pub kind_at : (call : Call) (side : Side) → side_of call ≡ side → IsKind side (wait_of call) (item_of call)
+kind_at call side is = subst (λ s. IsKind s (wait_of call) (item_of call)) is (kind_of call)
+
+giver_has : (wait : Option Wait) (item : Option (List ℕ)) (queue : ℕ) → IsKind (Gives queue) wait item → (bytes : List ℕ) × (item ≡ Some bytes)
+giver_has wait (Some bytes) queue kind = (bytes, refl)
+giver_has None None queue kind = absurd kind
+giver_has (Some wait) None queue kind = absurd kind
+
+-- what gives hands over an item
+pub gives_item : (call : Call) (queue : ℕ) → side_of call ≡ Gives queue → (item : List ℕ) × (item_of call ≡ Some item)
+gives_item call queue is = giver_has (wait_of call) (item_of call) queue (kind_at call (Gives queue) is)
