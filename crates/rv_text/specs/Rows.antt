@@ -15,15 +15,15 @@ use Rattle.rv_text.specs.declared.answer.Answer.{Answer}
 use Rattle.rv_text.specs.declared.answer.Answer.TheVariants as answer
 use Rattle.rv_text.specs.Calls.{Nature, nature_of, queue_of}
 use Rattle.rv_text.specs.Members.{Member, word, whole, item_text}
-use Rattle.rv_text.specs.Members as limits
+use Rattle.rv_text.specs.Members as members
 
 -- ---- members by name
 
 abbrev identifier : List ℕ → ℕ → Member
-identifier name n = whole name limits.identifiers n
+identifier name n = whole name members.identifiers n
 
 abbrev last : ℕ → Member
-last n = whole (codes "last") limits.last_numbers n
+last n = whole (codes "last") members.last_numbers n
 
 abbrev item : List ℕ → Member
 item bytes = item_text (codes "item") bytes
@@ -39,7 +39,7 @@ key_row key =
     []
 
 abbrev pub side_row : Side → List Member
-side_row side = whole (codes "queue") limits.queue_numbers (queue_of side) ∷ []
+side_row side = whole (codes "queue") members.queue_numbers (queue_of side) ∷ []
 
 abbrev pub wait_row : Option Wait → List Member
 wait_row None = []
@@ -112,5 +112,5 @@ answer_row (answer.Replied key reply) =
     word (codes "kind") (codes "reply") ∷ (key_row key ++ reply_row reply)
 answer_row (answer.Refused refusal) =
     word (codes "kind") (codes "refused") ∷
-    whole (codes "code") limits.code_numbers (code_of refusal) ∷
+    whole (codes "code") members.code_numbers (code_of refusal) ∷
     detail_row refusal
