@@ -1,11 +1,11 @@
 -- What any list of entries decides: a client's last hello and last number, who is met, and whom an arrival meets.
 use Rattle.rv_book.specs.declared.account.Act.{Act}
 use Rattle.rv_book.specs.declared.account.Act.TheVariants.{Arrive, Hello}
-use Rattle.std.proofs.Common.{Bool, List, None, Option, Some, ap, arith, false, inl, inr, length, refl, subst, suc, sym, true, zero, ℕ, ◌<◌, ◌∙◌, ◌≡◌, ◌≤◌, ◌⊎◌}
+use Rattle.std.proofs.Common.{Bool, List, None, Option, Some, ap, arith, false, inl, inr, length, refl, subst, suc, sym, true, zero, ℕ, ◌<◌, ◌∙◌, ◌≡◌, ◌≤◌, ◌⊎◌, [], ◌+◌, ◌∷◌}
 use Rattle.rv_text.specs.declared.call.Call.{Call}
 use Rattle.rv_book.specs.declared.account.Entry.{Entry}
 use Rattle.rv_text.specs.declared.call.Side.TheVariants.{Gives, Looks, Takes}
-use Rattle.rv_book.specs.Sessions.{HasIncarnation, LastHello, LastNumber, NamesKey}
+use Rattle.rv_book.specs.Sessions.{HasIncarnation, LastHello, LastNumber, NamesKey, SaidHello}
 use Rattle.rv_book.specs.Arriving.{IsOldest, MeetsOldest}
 use Rattle.rv_text.specs.declared.message.Key.{Key}
 use Rattle.rv_book.specs.Calls.{Lasts, MayMeet, Stays, opposite}
@@ -19,10 +19,12 @@ use Rattle.rv_book.specs.Legal.{before}
 use Rattle.std.proofs.lemmas.Bool.{cases_lt}
 use Rattle.rv_book.proofs.Numbers.{first_below, last_below, same_or_not}
 use Rattle.std.specs.Prelude.{is_some}
-use Rattle.rv_book.proofs.SessionTable.{key_read}
+use Rattle.rv_book.proofs.Keys.{key_read, client_of, hello_is_own}
 use Rattle.std.proofs.lemmas.Option.{none-some, same_Some}
 use Rattle.rv_text.specs.Calls.{side_of, wait_of}
 use Rattle.rv_book.proofs.NotYet.{unstopped}
+use Rattle.rv_book.specs.Steps.{NumberOf}
+use Rattle.rv_book.proofs.Counting.{find_number}
 
 -- ---- sessions
 
@@ -58,6 +60,26 @@ find_hello es c = elim (last_below (HelloAt es c) (λ r. hello_of c (act_at es r
   )
   | inr none ↦ inr (λ r i hello. none r (reads_within act_read refl es r (Hello c i) hello) (i, hello))
 ]
+
+pub said_or_not : (es : List Entry) (c : ℕ) → SaidHello es c ⊎ (SaidHello es c → ⊥)
+said_or_not es c = elim (find_hello es c) [
+  | inl found ↦ inl (found.1.0, found.0, found.1.1.hello)
+  | inr none ↦ inr (λ said. none said.0 said.1 said.2)
+]
+
+-- a bound above the clients of all hellos
+abbrev clients_below : List Entry → ℕ
+clients_below [] = 0
+clients_below (e ∷ es) = client_of e.act + 1 + clients_below es
+
+is_below : (es : List Entry) (c r i : ℕ) → act_at es r ≡ Some (Hello c i) → c < clients_below es
+is_below [] c r i hello = absurd (none-some _ hello)
+is_below (e ∷ es) c zero i hello = let own : client_of e.act ≡ c = hello_is_own e.act c i hello in omega arith
+is_below (e ∷ es) c (suc r) i hello = let below : c < clients_below es = is_below es c r i hello in omega arith
+
+-- how many clients said a hello
+pub find_clients : (es : List Entry) → (n : ℕ) × NumberOf (SaidHello es) n
+find_clients es = find_number (SaidHello es) (said_or_not es) (clients_below es) (λ c said. is_below es c said.0 said.1 said.2)
 
 -- the greatest number of the client's keys behind h and below n
 pub record Greatest (es : List Entry) (c h n m : ℕ) : Type 0 where

@@ -1,35 +1,52 @@
 -- Where an own entry is due, a legal next account exists.
-use Rattle.rv_book.specs.declared.verdict.Kept as kept
-use Rattle.rv_book.specs.declared.verdict.Kept as kept
 use Rattle.rv_text.specs.declared.call.Call.TheVariants.{Put, Take}
-use Rattle.rv_book.specs.Account.{Account, with_entry}
-use Rattle.rv_book.specs.Steps.{Adds, EpochFullDue, HelloLines, KeyLines, RefuseOr, max_entries, own_moment, step_moment}
+use Rattle.rv_book.specs.Account.{Account, with_entry, act_at, call_at, call_in, key_in}
+use Rattle.rv_book.specs.Steps.{Adds, EpochFullDue, HelloLines, KeyLines, RefuseOr, max_entries, own_moment, step_moment, ClientsFullDue, OtherCallDue, Replies}
 use Rattle.rv_book.specs.declared.account.Act.TheVariants.{Arrive, Hello}
 use Rattle.rv_text.specs.declared.call.Call.{Call}
 use Rattle.rv_book.specs.Laws.{CanEnter, HellosCanEnter, RequestsCanEnter}
 use Rattle.rv_book.specs.declared.account.Entry.{Entry}
 use Rattle.rv_text.specs.declared.answer.Refusal.TheVariants.{EpochFull}
-use Rattle.rv_book.specs.Sessions.{HasIncarnation, HasOnlyLower}
+use Rattle.rv_book.specs.Sessions.{HasIncarnation, HasOnlyLower, LastHello, LastNumber, SaidHello}
 use Rattle.rv_book.specs.Arriving.{IsNext, WillReply, entry}
-use Rattle.rv_book.specs.Legal.{KeepsTime, Legal, before}
-use Rattle.rv_book.specs.declared.verdict.Kept.{Kept}
+use Rattle.rv_book.specs.Legal.{KeepsTime, Legal, before, HasWaiting}
 use Rattle.rv_text.specs.declared.message.Key.{Key}
 use Rattle.rv_book.proofs.Legality.{Legal-with_entry}
-use Rattle.std.proofs.Common.{None, Option, Some, ap, arith, inl, inr, length, option_map, refl, subst, sym, ℕ, ◌+◌, ◌-◌, ◌<◌, ◌∙◌, ◌≡◌, ◌≤◌}
+use Rattle.std.proofs.Common.{None, Option, Some, ap, arith, inl, inr, length, option_map, refl, subst, sym, ℕ, ◌+◌, ◌-◌, ◌<◌, ◌∙◌, ◌≡◌, ◌≤◌, List, option_and_then, take}
 use Rattle.rv_text.specs.declared.answer.Answer.TheVariants.{Replied}
 use Rattle.rv_book.proofs.Following.{arrival_follows, hello_follows}
 use Rattle.std.proofs.lemmas.Bool.{cases_lt, cases_order}
-use Rattle.rv_book.proofs.Deciding.{find_hello, find_last, find_partner}
-use Rattle.rv_book.proofs.Histories.{hellos_at_most}
+use Rattle.rv_book.proofs.Deciding.{find_hello, find_last, find_partner, find_clients, met_or_not, said_or_not}
+use Rattle.rv_book.proofs.Histories.{hellos_at_most, one_incarnation}
 use Rattle.rv_book.proofs.Lines.{line_again, line_gap, line_newer, line_next, line_no_session, line_old_hello, line_old_incarnation, line_old_number, line_other_epoch, no_room, room_left}
-use Rattle.rv_book.proofs.Growing.{moment_read, reads_within}
-use Rattle.rv_book.specs.Calls.{need_of}
+use Rattle.rv_book.proofs.Growing.{moment_read, reads_within, act_read, call_read, read_there}
+use Rattle.rv_book.specs.Calls.{need_of, Stays, opposite}
 use Rattle.std.proofs.lemmas.Option.{none-some, same_Some, slice_get_cases}
-use Rattle.rv_book.proofs.Replying.{poll_replies, put_replies, recorded, take_replies}
-use Rattle.rv_book.proofs.Fronts.{read_front}
+use Rattle.rv_book.proofs.Replying.{poll_replies, put_replies, recorded, take_replies, takes_meet_givers}
+use Rattle.rv_book.proofs.Fronts.{read_front, read_whole}
 use Rattle.rv_text.specs.Calls.{side_of}
 use Rattle.std.specs.List.{slice_get}
 use Rattle.std.specs.Prelude.{unwrap_or}
+use Rattle.rv_session.specs.declared.kept.Kept as kept
+use Rattle.rv_text.proofs.Kept.{same_call}
+use Rattle.rv_text.specs.declared.answer.Reply.{Reply}
+use Rattle.rv_text.specs.declared.answer.Reply.TheVariants.{Done, Item, Empty}
+use Rattle.rv_text.specs.declared.call.Wait.TheVariants.{Now}
+use Rattle.rv_text.specs.declared.answer.Refusal.TheVariants.{OtherCall, ClientsFull}
+use Rattle.rv_book.proofs.Lines.{line_last}
+use Rattle.rv_book.specs.declared.account.Act.{Act}
+use Rattle.rv_text.specs.declared.answer.Answer.{Answer}
+use Rattle.rv_book.specs.Replies.{Gets, HasReply, RepliesAt}
+use Rattle.rv_text.specs.declared.call.Side.TheVariants.{Gives}
+use Rattle.rv_session.specs.declared.kept.Kept.{Kept}
+use Rattle.rv_book.specs.Waiting.{Met, NamesPartner}
+use Rattle.rv_text.specs.declared.answer.Refusal.{Refusal}
+use Rattle.rv_text.specs.declared.call.Wait.{Wait}
+use Rattle.rv_book.proofs.OnePartner.{arrives_once, goes_unnamed, partner_open}
+use Rattle.rv_book.proofs.CallKinds.{gives_item}
+use Rattle.rv_book.proofs.NotYet.{nobody_waits}
+use Rattle.rv_book.proofs.Staying.{one_call}
+use Rattle.rv_book.proofs.Counting.{one_number}
 
 -- ---- the step's moment
 
@@ -68,6 +85,74 @@ step_keeps_time a now legal =
       since = λ r moment there. let most : moment ≤ own_moment a = own.since r moment there in omega arith;
     }
 
+-- ---- the reply of an arrival
+
+-- what gives the taking arrival its item, if it is met
+taken : (a : Account) (r queue : ℕ) (wait : Wait) → Legal a → call_at a.entries r ≡ Some (Take queue wait) → (Stays (Take queue wait) → ⊥) → Met a.entries r → (item : List ℕ) × Gets a.entries r item
+taken a r queue wait legal arrived goes met = elim met.part [
+  | inr named ↦ absurd (goes_unnamed a met.later r (Take queue wait) legal arrived goes (subst (NamesPartner a.entries met.later) (sym named) met.names))
+  | inl own ↦
+      let names = subst (λ p. NamesPartner a.entries p met.earlier) (sym own) met.names in
+      let partner = partner_open a r met.earlier legal names in
+      let takes : names.call ≡ Take queue wait = same_Some _ _ (sym names.arrived ∙ arrived) in
+      let side : partner.side ≡ Gives queue = takes_meet_givers queue partner.side (subst (λ c. opposite (side_of c) ≡ Some partner.side) takes partner.opposes) in
+      let giver = partner.there.of_side in
+      let gives = gives_item giver.call queue (giver.is ∙ side) in
+      let whole = read_whole call_read refl a.entries r met.earlier giver.call giver.arrived in
+      (gives.0, record { giver = met.earlier; call = giver.call; meet = inr names; arrived = whole.1; hands_over = gives.1 })
+]
+
+has_reply : (a : Account) (r : ℕ) (call : Call) → Legal a → call_at a.entries r ≡ Some call → (reply : Reply) × RepliesAt a.entries r call reply
+has_reply a r (Put queue item) legal arrived = (Done, refl)
+has_reply a r (Take queue Now) legal arrived = elim (met_or_not a.entries r) [
+  | inl met ↦ let item = taken a r queue Now legal arrived (λ stays. stays.1) met in (Item item.0, inl (item.0, item.1, refl))
+  | inr unmet ↦ (Empty, inr (unmet, refl))
+]
+
+-- ---- the arrival of a session's last number
+
+act_named : (o : Option Act) (key : Key) → option_and_then key_in o ≡ Some key → (call : Call) × (o ≡ Some (Arrive key call))
+act_named None key is = absurd (none-some key is)
+act_named (Some (Hello client incarnation)) key is = absurd (none-some key is)
+act_named (Some (Arrive other call)) key is = (call, ap (λ k. Some (Arrive k call)) (same_Some _ _ is))
+
+-- the last hello is the last of each front that has it
+hello_in_front : (es : List Entry) (n c i h : ℕ) → h < n → LastHello es c i h → LastHello (take n es) c i h
+hello_in_front es n c i h less last = record {
+  hello = read_front act_read es n h (Hello c i) less last.hello;
+  last = λ r other later there. last.last r other later (read_whole act_read refl es n r (Hello c other) there).1;
+}
+
+same_fields : (a b c d e f g h : ℕ) → a ≡ b → c ≡ d → e ≡ f → g ≡ h
+    → ◌≡◌ {A = Key} (record { epoch = a; client = c; incarnation = e; number = g }) (record { epoch = b; client = d; incarnation = f; number = h })
+same_fields a b c d e f g h p q r s = cc
+
+same_key : (k key : Key) → k.epoch ≡ key.epoch → k.client ≡ key.client → k.incarnation ≡ key.incarnation → k.number ≡ key.number → k ≡ key
+same_key k key p q r s = same_fields k.epoch key.epoch k.client key.client k.incarnation key.incarnation k.number key.number p q r s
+
+-- the account has the arrival of the key's request
+pub record Arrived (a : Account) (key : Key) : Type 0 where
+  pub place : ℕ
+  pub call : Call
+  pub arrived : act_at a.entries place ≡ Some (Arrive key call)
+
+last_arrival : (a : Account) (key : Key) → Legal a → key.epoch ≡ a.epoch → HasIncarnation a.entries key.client key.incarnation → LastNumber a.entries key.client key.number → 1 ≤ key.number → Arrived a key
+last_arrival a key legal epoch has is positive = elim is.reached [
+  | inl none ↦ let zero_number : key.number ≡ 0 = none in absurd (omega arith)
+  | inr there ↦
+      let r = there.0 in
+      let k = there.1 in
+      let named = act_named (act_at a.entries r) k there.3.named in
+      let client : k.client ≡ key.client = there.3.of_client in
+      let at = read_there act_read refl (slice_get a.entries r) (Arrive k named.0) named.1 in
+      let session = (legal r at.0 at.1).numbers.of_session k (ap key_in (same_Some _ _ at.2)) in
+      let front = hello_in_front a.entries r key.client is.incarnation is.h there.2 is.hello in
+      let own = subst (λ c. HasIncarnation (take r a.entries) c k.incarnation) client session.1 in
+      let incarnation : k.incarnation ≡ key.incarnation =
+          one_incarnation (take r a.entries) key.client k.incarnation is.incarnation own (is.h, front) ∙ one_incarnation a.entries key.client is.incarnation key.incarnation (is.h, is.hello) has in
+      let same : k ≡ key = same_key k key (session.0 ∙ sym epoch) client incarnation there.4 in
+      record { place = r; call = named.0; arrived = named.1 ∙ ap (λ x. Some (Arrive x named.0)) same }
+]
 -- ---- requests
 
 -- what is kept for a call that meets the oldest or finds nobody
@@ -92,42 +177,90 @@ room_or a need G goes_on = elim (cases_lt max_entries (length a.entries + need))
   | inr room ↦ inr (room_left a need room, goes_on)
 ]
 
--- the session of the key's client decides which line applies
-by_session : (a : Account) (key : Key) (G : Type 0) → Legal a → key.epoch ≡ a.epoch → (IsNext a key → G) → KeyLines a key (λ refusal. Unit {0}) G
-by_session a key G legal epoch goes_on = elim (find_hello a.entries key.client) [
-  | inr none ↦ line_no_session (λ refusal. Unit {0}) G a key epoch (λ r incarnation hello. absurd (none r incarnation hello)) tt
-  | inl found ↦ elim (cases_order found.0 key.incarnation) [
-    | inr differ ↦ elim differ [
-      | inl lower ↦ line_no_session (λ refusal. Unit {0}) G a key epoch
-          (λ r incarnation hello. let most : incarnation ≤ found.0 = hellos_at_most a key.client found.0 r incarnation legal found.1 hello in omega arith) tt
-      | inr higher ↦ line_old_incarnation (λ refusal. Unit {0}) G a key found.0 epoch found.1 higher tt
-    ]
-    | inl same ↦
-        let has = subst (HasIncarnation a.entries key.client) same found.1 in
-        let last = find_last a.entries key.client found.0 found.1.0 found.1.1 in
-        elim (cases_lt last.0 key.number) [
-          | inr old ↦ line_old_number (λ refusal. Unit {0}) G a key last.0 epoch has last.1 old tt
-          | inl above ↦ elim (cases_lt (last.0 + 1) key.number) [
-            | inl gap ↦ line_gap (λ refusal. Unit {0}) G a key last.0 epoch has last.1 gap tt
-            | inr next ↦
-                let is : key.number ≡ last.0 + 1 = omega arith in
-                line_next (λ refusal. Unit {0}) G a key last.0 epoch has last.1 is (goes_on (record { epoch = epoch; incarnation = has; last = last.0; is_last = last.1; next = is }))
-          ]
-        ]
-  ]
+no_other_call : (a : Account) (key : Key) (call : Call) (there : Arrived a key) → Legal a → there.call ≡ call → (refusal : Refusal) → OtherCallDue a key call refusal → ⊥
+no_other_call a key call there legal same refusal due =
+    let place : due.place ≡ there.place = arrives_once a due.place there.place key due.other there.call legal due.arrived there.arrived in
+    let other : due.other ≡ there.call = one_call key due.other there.call (sym due.arrived ∙ ap (act_at a.entries) place ∙ there.arrived) in
+    due.differs (other ∙ same)
+
+-- what a repeat is told: its reply, or that it came with another call
+at_last : (a : Account) (key : Key) (call : Call) → Legal a → Arrived a key → RefuseOr (OtherCallDue a key call) (λ refusal. Unit {0}) ((x : Answer) × Replies a key x)
+at_last a key call legal there = elim (same_call there.call call) [
+  | inr differs ↦ inl (record { refusal = OtherCall; is_due = record { place = there.place; other = there.call; arrived = there.arrived; differs = differs; is = refl }; refuses_it = tt })
+  | inl same ↦
+      let reply = has_reply a there.place there.call legal (ap (option_and_then call_in) there.arrived) in
+      let has : HasReply a.entries key reply.0 = record { place = there.place; call = there.call; arrived = there.arrived; replies = reply.1 } in
+      inr (no_other_call a key call there legal same, (Replied key reply.0, record { reply = reply.0; has = has; is = refl }))
 ]
+
+-- the session of the key's client decides which line applies
+by_session : (a : Account) (key : Key) (call : Call) (G : Type 0) → Legal a → key.epoch ≡ a.epoch → (IsNext a key → G)
+    → KeyLines a key (λ refusal. Unit {0}) (RefuseOr (OtherCallDue a key call) (λ refusal. Unit {0}) ((x : Answer) × Replies a key x)) G
+by_session a key call G legal epoch goes_on =
+    let L : Type 0 = RefuseOr (OtherCallDue a key call) (λ refusal. Unit {0}) ((x : Answer) × Replies a key x) in
+    let none_waits_there = λ (h : HasWaiting a.entries key.client). nobody_waits a.entries h.place h.waits in
+    elim (find_hello a.entries key.client) [
+      | inr none ↦ line_no_session (λ refusal. Unit {0}) L G a key epoch (λ r incarnation hello. absurd (none r incarnation hello)) tt
+      | inl found ↦ elim (cases_order found.0 key.incarnation) [
+        | inr differ ↦ elim differ [
+          | inl lower ↦ line_no_session (λ refusal. Unit {0}) L G a key epoch
+              (λ r incarnation hello. let most : incarnation ≤ found.0 = hellos_at_most a key.client found.0 r incarnation legal found.1 hello in omega arith) tt
+          | inr higher ↦ line_old_incarnation (λ refusal. Unit {0}) L G a key found.0 epoch found.1 higher tt
+        ]
+        | inl same ↦
+            let has = subst (HasIncarnation a.entries key.client) same found.1 in
+            let last = find_last a.entries key.client found.0 found.1.0 found.1.1 in
+            elim (cases_order key.number last.0) [
+              | inl is ↦ elim (cases_lt 0 key.number) [
+                | inr zero_number ↦ line_old_number (λ refusal. Unit {0}) L G a key last.0 epoch has last.1 (inr (omega arith)) tt
+                | inl positive ↦
+                    let own = subst (LastNumber a.entries key.client) (sym is) last.1 in
+                    line_last (λ refusal. Unit {0}) L G a key epoch has own (omega arith) (at_last a key call legal (last_arrival a key legal epoch has own (omega arith)))
+              ]
+              | inr differ ↦ elim differ [
+                | inl below ↦ line_old_number (λ refusal. Unit {0}) L G a key last.0 epoch has last.1 (inl below) tt
+                | inr above ↦ elim (cases_lt (last.0 + 1) key.number) [
+                  | inl gap ↦ line_gap (λ refusal. Unit {0}) L G a key last.0 epoch has last.1 gap none_waits_there tt
+                  | inr next ↦
+                      let is : key.number ≡ last.0 + 1 = omega arith in
+                      let next_one : IsNext a key = record { epoch = epoch; incarnation = has; last = last.0; is_last = last.1; next = is; idle = none_waits_there } in
+                      line_next (λ refusal. Unit {0}) L G a key next_one (goes_on next_one)
+                ]
+              ]
+            ]
+      ]
+    ]
 
 pub requests_can_enter : RequestsCanEnter
 requests_can_enter a now key call legal =
     let G : Type 0 = CanEnter a (step_moment a now) key call in
+    let L : Type 0 = RefuseOr (OtherCallDue a key call) (λ refusal. Unit {0}) ((x : Answer) × Replies a key x) in
     let R : Type 0 = RefuseOr (EpochFullDue a (need_of call)) (λ refusal. Unit {0}) G in
     elim (cases_order key.epoch a.epoch) [
-      | inl same ↦ by_session a key R legal same
+      | inl same ↦ by_session a key call R legal same
           (λ next. room_or a (need_of call) G (enters a (step_moment a now) key call legal (step_keeps_time a now legal) next))
-      | inr differ ↦ line_other_epoch (λ refusal. Unit {0}) R a key (λ same. elim differ [ inl less ↦ omega arith | inr more ↦ omega arith ]) tt
+      | inr differ ↦ line_other_epoch (λ refusal. Unit {0}) L R a key (λ same. elim differ [ inl less ↦ omega arith | inr more ↦ omega arith ]) tt
     ]
 
 -- ---- hellos
+
+-- where there are not too many clients, what goes on; else the refusal
+clients_or : (a : Account) (client : ℕ) (G : Type 0) → G → RefuseOr (ClientsFullDue a client) (λ refusal. Unit {0}) G
+clients_or a client G goes_on = elim (said_or_not a.entries client) [
+  | inl said ↦ inr ((λ refusal due. due.is_new said), goes_on)
+  | inr new ↦
+      let clients = find_clients a.entries in
+      elim (cases_lt clients.0 1024) [
+        | inl room ↦ inr (
+          (λ refusal due.
+              let same : due.clients ≡ clients.0 = one_number (SaidHello a.entries) due.clients clients.0 due.count clients.1 in
+              let full : 1024 ≤ due.clients = due.full in
+              omega arith),
+          goes_on,
+        )
+        | inr full ↦ inl (record { refusal = ClientsFull; is_due = record { is_new = new; clients = clients.0; count = clients.1; full = full; is = refl }; refuses_it = tt })
+      ]
+]
 
 newer_enters : (a : Account) (now client incarnation : ℕ) → Legal a → HasOnlyLower a.entries client incarnation
     → HelloLines a client incarnation (λ refusal. Unit {0}) (Unit {0}) ((b : Account) × Adds a (step_moment a now) (Hello client incarnation) b)
@@ -135,7 +268,7 @@ newer_enters a now client incarnation legal raises =
     let e = entry (step_moment a now) (Hello client incarnation) None in
     let after = Legal-with_entry a e legal (hello_follows a (step_moment a now) client incarnation (step_keeps_time a now legal) raises) in
     let added : Adds a (step_moment a now) (Hello client incarnation) (with_entry a e) = record { entry = e; moment_is = refl; act_is = refl; follows = refl; legal = after } in
-    line_newer _ _ _ a client incarnation raises (room_or a 1 ((b : Account) × Adds a (step_moment a now) (Hello client incarnation) b) (with_entry a e, added))
+    line_newer _ _ _ a client incarnation raises (clients_or a client _ (room_or a 1 ((b : Account) × Adds a (step_moment a now) (Hello client incarnation) b) (with_entry a e, added)))
 
 pub hellos_can_enter : HellosCanEnter
 hellos_can_enter a now client incarnation legal = elim (find_hello a.entries client) [

@@ -8,7 +8,7 @@ use Rattle.rv_book.specs.declared.account.Act.{Act}
 use Rattle.rv_text.specs.declared.answer.Answer.{Answer}
 use Rattle.rv_text.specs.declared.call.Call.{Call}
 use Rattle.rv_text.specs.declared.answer.Reply.TheVariants.{Empty}
-use Rattle.rv_book.specs.Steps.{EntersOrNoMemory, EpochFullDue, GapDue, NextAt, NoSessionDue, OldIncarnationDue, OldNumberDue, OtherEpochDue, RefuseOr, Refuses, Replies}
+use Rattle.rv_book.specs.Steps.{EntersOrNoMemory, EpochFullDue, GapDue, NextAt, NoSessionDue, OldIncarnationDue, OldNumberDue, OtherEpochDue, RefuseOr, Refuses, Replies, BusyDue, ClientsFullDue, OtherCallDue}
 use Rattle.rv_book.specs.declared.account.Entry.{Entry}
 use Rattle.rv_book.specs.Limits.{FitsAccount, FitsAct}
 use Rattle.rv_text.specs.Limits.{FitsAnswer, FitsCall, FitsIdentifier, FitsItem, FitsKey, FitsLast, FitsMessage, FitsRefusal, FitsReply}
@@ -29,6 +29,7 @@ use Rattle.rv_book.specs.Arriving.{entry}
 use Rattle.rv_text.specs.Calls.{item_of}
 use Rattle.std.proofs.lemmas.Option.{none-some, same_Some}
 use Rattle.std.specs.List.{slice_get}
+use Rattle.rv_book.proofs.NotYet.{nobody_waits}
 
 -- ---- what stands in an account fits
 
@@ -104,6 +105,15 @@ old_incarnation_fits a client incarnation fits refusal due = refusal_is _ refusa
 old_number_fits : (a : Account) (key : Key) → FitsAccount a → DueFits (OldNumberDue a key)
 old_number_fits a key fits refusal due = refusal_is _ refusal due.is (last_fits a key.client due.last fits due.is_last)
 
+other_call_fits : (a : Account) (key : Key) (call : Call) → DueFits (OtherCallDue a key call)
+other_call_fits a key call refusal due = refusal_is _ refusal due.is tt
+
+busy_fits : (a : Account) (key : Key) → DueFits (BusyDue a key)
+busy_fits a key refusal due = absurd (nobody_waits a.entries due.waits.place due.waits.waits)
+
+clients_full_fits : (a : Account) (client : ℕ) → DueFits (ClientsFullDue a client)
+clients_full_fits a client refusal due = refusal_is _ refusal due.is tt
+
 gap_fits : (a : Account) (key : Key) → FitsAccount a → DueFits (GapDue a key)
 gap_fits a key fits refusal due = refusal_is _ refusal due.is (last_fits a key.client due.last fits due.is_last)
 
@@ -119,13 +129,16 @@ step_fits a b moment (Hello client incarnation) x before after fits =
     let welcome = λ (is : x ≡ Welcome a.epoch client incarnation). subst FitsAnswer (sym is) (before.epoch, fits.0, fits.1) in
     line_fits _ _ a b x (old_incarnation_fits a client incarnation before)
     (WhereElse-elim _ _ _ (FitsAnswer x) (λ has again. welcome again.1)
+    (line_fits _ _ a b x (clients_full_fits a client)
     (line_fits _ _ a b x (full_fits a 1)
-    (entered_fits a b moment _ x _ welcome)))
+    (entered_fits a b moment _ x _ welcome))))
 step_fits a b moment (Request key call) x before after fits =
     line_fits _ _ a b x (other_epoch_fits a key before)
     (line_fits _ _ a b x (no_session_fits a key)
     (line_fits _ _ a b x (old_incarnation_fits a key.client key.incarnation before)
     (line_fits _ _ a b x (old_number_fits a key before)
+    (WhereElse-elim _ _ _ (FitsAnswer x) (λ is. line_fits _ _ a b x (other_call_fits a key call) (λ again. replied_fits a key x before fits.0 again.replies))
+    (line_fits _ _ a b x (busy_fits a key)
     (line_fits _ _ a b x (gap_fits a key before)
     (line_fits _ _ a b x (full_fits a _)
-    (entered_fits a b moment _ x _ (replied_fits b key x after fits.0)))))))
+    (entered_fits a b moment _ x _ (replied_fits b key x after fits.0)))))))))

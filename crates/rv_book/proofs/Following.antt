@@ -36,7 +36,7 @@ hello_numbers a client incarnation lower = record {
 }
 
 next_number : (a : Account) (key : Key) → IsNext a key → IsNextNumber a.entries key
-next_number a key next = record { last = next.last; is_last = next.is_last; next = next.next; idle = λ r other waits names. nobody_waits a.entries r waits }
+next_number a key next = record { last = next.last; is_last = next.is_last; next = next.next; idle = next.idle }
 
 same_key : (key other : Key) (call more : Call) → Arrive key call ≡ Arrive other more → key ≡ other
 same_key key other call more e = cc

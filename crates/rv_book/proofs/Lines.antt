@@ -1,13 +1,15 @@
 -- Which line of a step decides.
 use Rattle.rv_book.specs.Account.{Account}
-use Rattle.rv_text.specs.declared.answer.Refusal.TheVariants.{EpochFull, Gap, NoSession, OldIncarnation, OldNumber, OtherEpoch}
-use Rattle.rv_book.specs.Steps.{EpochFullDue, GapDue, KeyLines, NoSessionDue, OldIncarnationDue, OldNumberDue, OtherEpochDue, RefuseOr, WhereElse}
+use Rattle.rv_text.specs.declared.answer.Refusal.TheVariants.{EpochFull, Gap, NoSession, OldIncarnation, OldNumber, OtherEpoch, Busy}
+use Rattle.rv_book.specs.Steps.{EpochFullDue, GapDue, KeyLines, NoSessionDue, OldIncarnationDue, OldNumberDue, OtherEpochDue, RefuseOr, WhereElse, BusyDue}
 use Rattle.rv_book.specs.Sessions.{HasIncarnation, HasOnlyLower, LastNumber}
 use Rattle.rv_text.specs.declared.message.Key.{Key}
 use Rattle.rv_text.specs.declared.answer.Refusal.{Refusal}
-use Rattle.std.proofs.Common.{arith, inl, length, refl, ℕ, ◌+◌, ◌<◌, ◌≡◌, ◌≤◌, inr}
+use Rattle.std.proofs.Common.{arith, inl, length, refl, ℕ, ◌+◌, ◌<◌, ◌≡◌, ◌≤◌, inr, ◌⊎◌}
 use Rattle.rv_book.proofs.NotYet.{nobody, none_waits}
 use Rattle.rv_book.proofs.Histories.{one_incarnation, one_last_number}
+use Rattle.rv_book.specs.Legal.{HasWaiting}
+use Rattle.rv_book.specs.Arriving.{IsNext}
 
 not_other_epoch : (a : Account) (key : Key) → key.epoch ≡ a.epoch → (refusal : Refusal) → OtherEpochDue a key refusal → ⊥
 not_other_epoch a key same refusal due = due.0 same
@@ -22,11 +24,16 @@ not_old_incarnation a client incarnation current has most refusal due =
     let less : incarnation < due.current = due.lower in
     omega arith
 
-not_old_number : (a : Account) (key : Key) (last : ℕ) → LastNumber a.entries key.client last → last < key.number → (refusal : Refusal) → OldNumberDue a key refusal → ⊥
-not_old_number a key last is above refusal due =
+not_old_number : (a : Account) (key : Key) (last : ℕ) → LastNumber a.entries key.client last → last ≤ key.number → 1 ≤ key.number → (refusal : Refusal) → OldNumberDue a key refusal → ⊥
+not_old_number a key last is most positive refusal due =
     let same : due.last ≡ last = one_last_number a.entries key.client due.last last due.is_last is in
-    let most : key.number ≤ due.last = due.old in
-    omega arith
+    elim due.old [ inl below ↦ omega arith | inr none ↦ omega arith ]
+
+not_last : (a : Account) (key : Key) (last : ℕ) → LastNumber a.entries key.client last → last < key.number → LastNumber a.entries key.client key.number → ⊥
+not_last a key last is above other = let same : key.number ≡ last = one_last_number a.entries key.client key.number last other is in omega arith
+
+not_busy : (a : Account) (key : Key) → (HasWaiting a.entries key.client → ⊥) → (refusal : Refusal) → BusyDue a key refusal → ⊥
+not_busy a key idle refusal due = idle due.waits
 
 not_gap : (a : Account) (key : Key) (last : ℕ) → LastNumber a.entries key.client last → key.number ≤ last + 1 → (refusal : Refusal) → GapDue a key refusal → ⊥
 not_gap a key last is next refusal due =
@@ -36,56 +43,62 @@ not_gap a key last is next refusal due =
 
 -- ---- the lines for a key
 
-pub line_other_epoch : (R : Refusal → Type 0) (G : Type 0) (a : Account) (key : Key) → (key.epoch ≡ a.epoch → ⊥) → R (OtherEpoch a.epoch) → KeyLines a key R G
-line_other_epoch R G a key other refuses = inl (record { refusal = OtherEpoch a.epoch; is_due = (other, refl); refuses_it = refuses })
+-- what a refusal does, what happens at the last number and what at the next
+module _ (R : Refusal → Type 0) (L G : Type 0) (a : Account) (key : Key) where
 
-pub line_no_session : (R : Refusal → Type 0) (G : Type 0) (a : Account) (key : Key) → key.epoch ≡ a.epoch
-    → HasOnlyLower a.entries key.client key.incarnation → R NoSession → KeyLines a key R G
-line_no_session R G a key epoch none refuses = inr (not_other_epoch a key epoch, inl (record { refusal = NoSession; is_due = (none, refl); refuses_it = refuses }))
+  pub line_other_epoch : (key.epoch ≡ a.epoch → ⊥) → R (OtherEpoch a.epoch) → KeyLines a key R L G
+  line_other_epoch other refuses = inl (record { refusal = OtherEpoch a.epoch; is_due = (other, refl); refuses_it = refuses })
 
-pub line_old_incarnation : (R : Refusal → Type 0) (G : Type 0) (a : Account) (key : Key) (current : ℕ) → key.epoch ≡ a.epoch → HasIncarnation a.entries key.client current
-    → key.incarnation < current → R (OldIncarnation current) → KeyLines a key R G
-line_old_incarnation R G a key current epoch has less refuses =
-    inr (not_other_epoch a key epoch, inr (not_no_session a key current has (omega arith), inl (record { refusal = OldIncarnation current; is_due = record { current = current; has = has; lower = less; is = refl }; refuses_it = refuses })))
+  pub line_no_session : key.epoch ≡ a.epoch → HasOnlyLower a.entries key.client key.incarnation → R NoSession → KeyLines a key R L G
+  line_no_session epoch none refuses = inr (not_other_epoch a key epoch, inl (record { refusal = NoSession; is_due = (none, refl); refuses_it = refuses }))
 
-pub line_old_number : (R : Refusal → Type 0) (G : Type 0) (a : Account) (key : Key) (last : ℕ) → key.epoch ≡ a.epoch → HasIncarnation a.entries key.client key.incarnation
-    → LastNumber a.entries key.client last → key.number ≤ last → R (OldNumber last) → KeyLines a key R G
-line_old_number R G a key last epoch has is most refuses =
-    inr (
-      not_other_epoch a key epoch,
+  pub line_old_incarnation : (current : ℕ) → key.epoch ≡ a.epoch → HasIncarnation a.entries key.client current → key.incarnation < current → R (OldIncarnation current) → KeyLines a key R L G
+  line_old_incarnation current epoch has less refuses =
       inr (
-        not_no_session a key key.incarnation has (omega arith),
-        inr (not_old_incarnation a key.client key.incarnation key.incarnation has (omega arith), inl (record { refusal = OldNumber last; is_due = record { last = last; is_last = is; old = most; is = refl }; refuses_it = refuses })),
-      ),
-    )
+        not_other_epoch a key epoch,
+        inr (not_no_session a key current has (omega arith), inl (record { refusal = OldIncarnation current; is_due = record { current = current; has = has; lower = less; is = refl }; refuses_it = refuses })),
+      )
 
-pub line_gap : (R : Refusal → Type 0) (G : Type 0) (a : Account) (key : Key) (last : ℕ) → key.epoch ≡ a.epoch → HasIncarnation a.entries key.client key.incarnation
-    → LastNumber a.entries key.client last → last + 1 < key.number → R (Gap last) → KeyLines a key R G
-line_gap R G a key last epoch has is above refuses =
-    inr (
-      not_other_epoch a key epoch,
-      inr (
-        not_no_session a key key.incarnation has (omega arith),
-        inr (
-          not_old_incarnation a key.client key.incarnation key.incarnation has (omega arith),
-          inr (not_old_number a key last is (omega arith), inl (record { refusal = Gap last; is_due = record { last = last; is_last = is; above = above; is = refl }; refuses_it = refuses })),
-        ),
-      ),
-    )
+  -- the lines for a number of the current incarnation
+  abbrev NumberLines : Type 0
+  NumberLines = RefuseOr (OldNumberDue a key) R (WhereElse (LastNumber a.entries key.client key.number) L (RefuseOr (BusyDue a key) R (RefuseOr (GapDue a key) R G)))
 
-pub line_next : (R : Refusal → Type 0) (G : Type 0) (a : Account) (key : Key) (last : ℕ) → key.epoch ≡ a.epoch → HasIncarnation a.entries key.client key.incarnation
-    → LastNumber a.entries key.client last → key.number ≡ last + 1 → G → KeyLines a key R G
-line_next R G a key last epoch has is next goes_on =
-    inr (
-      not_other_epoch a key epoch,
+  of_session : key.epoch ≡ a.epoch → HasIncarnation a.entries key.client key.incarnation → NumberLines → KeyLines a key R L G
+  of_session epoch has lines =
       inr (
-        not_no_session a key key.incarnation has (omega arith),
-        inr (
-          not_old_incarnation a key.client key.incarnation key.incarnation has (omega arith),
-          inr (not_old_number a key last is (omega arith), inr (not_gap a key last is (omega arith), goes_on)),
-        ),
-      ),
-    )
+        not_other_epoch a key epoch,
+        inr (not_no_session a key key.incarnation has (omega arith), inr (not_old_incarnation a key.client key.incarnation key.incarnation has (omega arith), lines)),
+      )
+
+  pub line_old_number : (last : ℕ) → key.epoch ≡ a.epoch → HasIncarnation a.entries key.client key.incarnation → LastNumber a.entries key.client last
+      → (key.number < last) ⊎ (key.number ≡ 0) → R (OldNumber last) → KeyLines a key R L G
+  line_old_number last epoch has is old refuses =
+      of_session epoch has (inl (record { refusal = OldNumber last; is_due = record { last = last; is_last = is; old = old; is = refl }; refuses_it = refuses }))
+
+  pub line_last : key.epoch ≡ a.epoch → HasIncarnation a.entries key.client key.incarnation → LastNumber a.entries key.client key.number → 1 ≤ key.number → L → KeyLines a key R L G
+  line_last epoch has is positive at_last = of_session epoch has (inr (not_old_number a key key.number is (omega arith) positive, inl (is, at_last)))
+
+  above_last : (last : ℕ) → key.epoch ≡ a.epoch → HasIncarnation a.entries key.client key.incarnation → LastNumber a.entries key.client last → last < key.number
+      → RefuseOr (BusyDue a key) R (RefuseOr (GapDue a key) R G) → KeyLines a key R L G
+  above_last last epoch has is above lines =
+      of_session epoch has (inr (not_old_number a key last is (omega arith) (omega arith), inr (not_last a key last is above, lines)))
+
+  pub line_busy : (last : ℕ) → key.epoch ≡ a.epoch → HasIncarnation a.entries key.client key.incarnation → LastNumber a.entries key.client last → last < key.number
+      → HasWaiting a.entries key.client → R (Busy last) → KeyLines a key R L G
+  line_busy last epoch has is above waits refuses =
+      above_last last epoch has is above (inl (record { refusal = Busy last; is_due = record { last = last; is_last = is; waits = waits; is = refl }; refuses_it = refuses }))
+
+  pub line_gap : (last : ℕ) → key.epoch ≡ a.epoch → HasIncarnation a.entries key.client key.incarnation → LastNumber a.entries key.client last → last + 1 < key.number
+      → (HasWaiting a.entries key.client → ⊥) → R (Gap last) → KeyLines a key R L G
+  line_gap last epoch has is above idle refuses =
+      above_last last epoch has is (omega arith)
+      (inr (not_busy a key idle, inl (record { refusal = Gap last; is_due = record { last = last; is_last = is; above = above; is = refl }; refuses_it = refuses })))
+
+  pub line_next : IsNext a key → G → KeyLines a key R L G
+  line_next next goes_on =
+      let one : key.number ≡ next.last + 1 = next.next in
+      above_last next.last next.epoch next.incarnation next.is_last (omega arith)
+      (inr (not_busy a key next.idle, inr (not_gap a key next.last next.is_last (omega arith), goes_on)))
 
 -- ---- the lines for a hello
 
@@ -131,15 +144,6 @@ WhereElse-map C T U O P f g (inr h) = inr (h.0, g h.1)
 pub WhereElse-elim : (C T O G : Type 0) → (C → T → G) → (O → G) → WhereElse C T O → G
 WhereElse-elim C T O G f g (inl h) = f h.0 h.1
 WhereElse-elim C T O G f g (inr h) = g h.1
-
-pub KeyLines-map : (R S : Refusal → Type 0) (G H : Type 0) (a : Account) (key : Key) → ((refusal : Refusal) → R refusal → S refusal) → (G → H) → KeyLines a key R G → KeyLines a key S H
-KeyLines-map R S G H a key f g =
-    RefuseOr-map _ R S _ _ f
-    (RefuseOr-map _ R S _ _ f
-    (RefuseOr-map _ R S _ _ f
-    (RefuseOr-map _ R S _ _ f
-    (RefuseOr-map _ R S _ _ f
-    g))))
 
 -- ---- room
 

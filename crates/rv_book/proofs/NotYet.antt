@@ -7,7 +7,7 @@ use Rattle.rv_text.specs.declared.call.Wait.TheVariants.{Now}
 use Rattle.rv_text.specs.declared.call.Side.TheVariants.{Gives, Takes}
 use Rattle.rv_text.specs.declared.call.Call.{Call}
 use Rattle.rv_text.specs.Calls.{side_of, wait_of, item_of}
-use Rattle.rv_book.proofs.Kinds.{IsKind, kind_at}
+use Rattle.rv_book.proofs.CallKinds.{IsKind, kind_at}
 use Rattle.rv_book.specs.declared.account.Entry.{Entry}
 use Rattle.rv_book.specs.declared.account.Act.{Act}
 use Rattle.rv_book.specs.declared.account.Act.TheVariants.{Hello, Arrive}

@@ -3,11 +3,11 @@ use Rattle.rv_book.specs.declared.account.Act as act
 use Rattle.rv_text.specs.declared.message.Message.TheVariants.{Hello, Request}
 use Rattle.rv_book.specs.Account.{Account, call_in, with_entry}
 use Rattle.rv_book.specs.declared.account.Act.{Act}
-use Rattle.rv_book.specs.Steps.{Adds, EntersOrNoMemory, EpochFullDue, GapDue, NextAt, NoSessionDue, OldIncarnationDue, OldNumberDue, OtherEpochDue, RefuseOr, Refuses, Replies, WhereElse, step_moment}
+use Rattle.rv_book.specs.Steps.{Adds, EntersOrNoMemory, EpochFullDue, GapDue, NextAt, NoSessionDue, OldIncarnationDue, OldNumberDue, OtherEpochDue, RefuseOr, Refuses, Replies, WhereElse, step_moment, BusyDue, ClientsFullDue, OtherCallDue, Repeats}
 use Rattle.rv_text.specs.declared.answer.Answer.{Answer}
 use Rattle.rv_text.specs.declared.call.Call.{Call}
 use Rattle.rv_book.specs.declared.account.Entry.{Entry}
-use Rattle.rv_text.specs.declared.answer.Refusal.TheVariants.{Gap, NoMemory, OldIncarnation, OldNumber}
+use Rattle.rv_text.specs.declared.answer.Refusal.TheVariants.{Busy, Gap, NoMemory, OldIncarnation, OldNumber}
 use Rattle.rv_book.specs.Replies.{HasReply}
 use Rattle.rv_book.specs.Legal.{IsOpenOpposite, Legal, MayFollow}
 use Rattle.rv_text.specs.declared.message.Key.{Key}
@@ -54,6 +54,15 @@ one_old_number a key p q first second = first.is ∙ ap OldNumber (one_last_numb
 
 one_gap : (a : Account) (key : Key) (p q : Refusal) → GapDue a key p → GapDue a key q → p ≡ q
 one_gap a key p q first second = first.is ∙ ap Gap (one_last_number a.entries key.client first.last second.last first.is_last second.is_last) ∙ sym second.is
+
+one_other_call : (a : Account) (key : Key) (call : Call) (p q : Refusal) → OtherCallDue a key call p → OtherCallDue a key call q → p ≡ q
+one_other_call a key call p q first second = first.is ∙ sym second.is
+
+one_busy : (a : Account) (key : Key) (p q : Refusal) → BusyDue a key p → BusyDue a key q → p ≡ q
+one_busy a key p q first second = first.is ∙ ap Busy (one_last_number a.entries key.client first.last second.last first.is_last second.is_last) ∙ sym second.is
+
+one_clients_full : (a : Account) (client : ℕ) (p q : Refusal) → ClientsFullDue a client p → ClientsFullDue a client q → p ≡ q
+one_clients_full a client p q first second = first.is ∙ sym second.is
 
 one_full : (a : Account) (need : ℕ) (p q : Refusal) → EpochFullDue a need p → EpochFullDue a need q → p ≡ q
 one_full a need p q first second = first.is ∙ sym second.is
@@ -134,21 +143,27 @@ one_replied a b c moment key call x y ample enough (inr h) (inr k) =
     let same = one_added a b c moment _ h.0 k.0 in
     (same, one_answer b c key x y k.0.legal same h.1 k.1)
 
+one_repeat : (a b c : Account) (key : Key) (x y : Answer) → Repeats a b key x → Repeats a c key y → Same b c x y
+one_repeat a b c key x y first second = (first.account ∙ sym second.account, second.only x first.replies)
+
 one_next_at : (a b c : Account) (moment : ℕ) (m : Message) (x y : Answer) → NextAt a moment m b x → NextAt a moment m c y → x ≢ Refused NoMemory → y ≢ Refused NoMemory → Same b c x y
 one_next_at a b c moment (Hello client incarnation) x y first second ample enough =
     both_refuse _ _ _ _ _ (Same b c x y) (one_old_incarnation a client incarnation) (λ p. one_refused a b c x y p)
     (both_where _ _ _ _ _ (Same b c x y) (λ h k. (h.0 ∙ sym k.0, h.1 ∙ sym k.1))
+    (both_refuse _ _ _ _ _ (Same b c x y) (one_clients_full a client) (λ p. one_refused a b c x y p)
     (both_refuse _ _ _ _ _ (Same b c x y) (one_full a 1) (λ p. one_refused a b c x y p)
-    (one_welcome a b c moment client incarnation x y _ ample enough)))
+    (one_welcome a b c moment client incarnation x y _ ample enough))))
     first second
 one_next_at a b c moment (Request key call) x y first second ample enough =
     both_refuse _ _ _ _ _ (Same b c x y) (one_other_epoch a key) (λ p. one_refused a b c x y p)
     (both_refuse _ _ _ _ _ (Same b c x y) (one_no_session a key) (λ p. one_refused a b c x y p)
     (both_refuse _ _ _ _ _ (Same b c x y) (one_old_incarnation a key.client key.incarnation) (λ p. one_refused a b c x y p)
     (both_refuse _ _ _ _ _ (Same b c x y) (one_old_number a key) (λ p. one_refused a b c x y p)
+    (both_where _ _ _ _ _ (Same b c x y) (both_refuse _ _ _ _ _ (Same b c x y) (one_other_call a key call) (λ p. one_refused a b c x y p) (one_repeat a b c key x y))
+    (both_refuse _ _ _ _ _ (Same b c x y) (one_busy a key) (λ p. one_refused a b c x y p)
     (both_refuse _ _ _ _ _ (Same b c x y) (one_gap a key) (λ p. one_refused a b c x y p)
     (both_refuse _ _ _ _ _ (Same b c x y) (one_full a _) (λ p. one_refused a b c x y p)
-    (one_replied a b c moment key call x y ample enough))))))
+    (one_replied a b c moment key call x y ample enough))))))))
     first second
 
 pub one_next : OneNext

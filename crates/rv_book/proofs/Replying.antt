@@ -1,7 +1,7 @@
 -- What is kept for an arrival is its reply, once its entry stands.
 use Rattle.rv_text.specs.declared.answer.Reply as reply
 use Rattle.rv_text.specs.declared.answer.Answer as answer
-use Rattle.rv_book.specs.declared.verdict.Kept as kept
+use Rattle.rv_session.specs.declared.kept.Kept as kept
 use Rattle.rv_text.specs.declared.call.Call.TheVariants.{Put, Take}
 use Rattle.rv_book.specs.Account.{Account, act_at, call_at, with_entry}
 use Rattle.rv_book.specs.declared.account.Act.TheVariants.{Arrive}
@@ -10,7 +10,7 @@ use Rattle.rv_book.specs.declared.account.Entry.{Entry}
 use Rattle.rv_book.specs.Replies.{Gets, HasReply, RepliesUnmet}
 use Rattle.rv_text.specs.declared.call.Side.TheVariants.{Gives, Takes}
 use Rattle.rv_book.specs.Arriving.{IsRecorded, WillReply, entry}
-use Rattle.rv_book.specs.declared.verdict.Kept.{Kept}
+use Rattle.rv_session.specs.declared.kept.Kept.{Kept}
 use Rattle.rv_text.specs.declared.message.Key.{Key}
 use Rattle.rv_book.specs.Legal.{Legal, before}
 use Rattle.std.proofs.Common.{List, None, Option, Some, [], ap, inl, inr, length, option_and_then, option_map, refl, subst, sym, ℕ, ◌∙◌, ◌∷◌, ◌≡◌}
@@ -19,7 +19,7 @@ use Rattle.rv_text.specs.declared.call.Wait.TheVariants.{Now}
 use Rattle.rv_text.specs.declared.call.Side.{Side}
 use Rattle.rv_text.specs.declared.call.Wait.{Wait}
 use Rattle.rv_book.proofs.Growing.{act_read, call_read, partner_read, reads_on}
-use Rattle.rv_book.proofs.Kinds.{gives_item}
+use Rattle.rv_book.proofs.CallKinds.{gives_item}
 use Rattle.rv_book.proofs.Legality.{follows_itself}
 use Rattle.rv_book.proofs.Places.{get-append_end}
 use Rattle.rv_book.specs.Verdicts.{item_at}
@@ -49,7 +49,7 @@ poll_replies a queue wait moment key before after =
       replies = inr (last_unmet a e before refl, told_empty wait (with_entry a e).entries (length a.entries));
     }
 
-takes_meet_givers : (queue : ℕ) (side : Side) → opposite (Takes queue) ≡ Some side → side ≡ Gives queue
+pub takes_meet_givers : (queue : ℕ) (side : Side) → opposite (Takes queue) ≡ Some side → side ≡ Gives queue
 takes_meet_givers queue side opposes = cc
 
 pub take_replies : (a : Account) (queue : ℕ) (wait : Wait) (place : ℕ) → WillReply a (Take queue wait) (Some place) (kept.TheVariants.Item place)

@@ -2,7 +2,7 @@
 use Rattle.rv_text.specs.declared.answer.Reply as reply
 use Rattle.rv_text.specs.declared.answer.Answer as answer
 use Rattle.rv_book.specs.declared.account.Act as act
-use Rattle.rv_book.specs.declared.verdict.Kept as kept
+use Rattle.rv_session.specs.declared.kept.Kept as kept
 use Rattle.rv_book.specs.declared.verdict.Said as said
 use Rattle.rv_text.specs.declared.message.Message.TheVariants.{Hello, Request}
 use Rattle.rv_text.specs.declared.call.Call.TheVariants.{Put, Take}
@@ -13,7 +13,7 @@ use Rattle.rv_text.specs.declared.answer.Answer.{Answer}
 use Rattle.rv_text.specs.declared.call.Call.{Call}
 use Rattle.rv_book.specs.declared.account.Entry.{Entry}
 use Rattle.rv_book.specs.Replies.{Gets, HasReply, Meet, RepliesAt, RepliesUnmet}
-use Rattle.rv_book.specs.declared.verdict.Kept.{Kept}
+use Rattle.rv_session.specs.declared.kept.Kept.{Kept}
 use Rattle.rv_text.specs.declared.message.Key.{Key}
 use Rattle.rv_book.specs.Legal.{Legal, before}
 use Rattle.std.proofs.Common.{List, None, Option, Some, [], ap, append-nil, inl, inr, length, option_and_then, option_map, refl, subst, sym, ℕ, ◌++◌, ◌<◌, ◌∙◌, ◌∷◌, ◌≡◌}
@@ -57,7 +57,8 @@ step_extends a b moment (Hello client incarnation) x next =
     RefuseOr-elim _ _ _ (Extends a b) (refused _)
     (WhereElse-elim _ _ _ (Extends a b) (λ has again. same_extends a b again.0)
     (RefuseOr-elim _ _ _ (Extends a b) (refused _)
-    entered)) next
+    (RefuseOr-elim _ _ _ (Extends a b) (refused _)
+    entered))) next
 step_extends a b moment (Request key call) x next =
     let refused = λ (D : Refusal → Type 0) (refusal : Refusal) (due : D refusal) (refuses : Refuses a b x refusal). same_extends a b refuses.0 in
     let entered = λ (h : EntersOrNoMemory a moment (act.TheVariants.Arrive key call) b x (Replies b key x)). entered_extends a b moment _ x _ h in
@@ -65,9 +66,11 @@ step_extends a b moment (Request key call) x next =
     (RefuseOr-elim _ _ _ (Extends a b) (refused _)
     (RefuseOr-elim _ _ _ (Extends a b) (refused _)
     (RefuseOr-elim _ _ _ (Extends a b) (refused _)
+    (WhereElse-elim _ _ _ (Extends a b) (λ is. RefuseOr-elim _ _ _ (Extends a b) (refused _) (λ again. same_extends a b again.account))
     (RefuseOr-elim _ _ _ (Extends a b) (refused _)
     (RefuseOr-elim _ _ _ (Extends a b) (refused _)
-    entered))))) next
+    (RefuseOr-elim _ _ _ (Extends a b) (refused _)
+    entered))))))) next
 
 pub steps_extend : StepsExtend
 steps_extend a b now m x next = step_extends a b _ m x (subst (λ (c : Account). NextAt c _ m b x) next.ticks next.steps)
@@ -81,7 +84,7 @@ mapped : {A B : Type 0} (f : A → B) (o : Option A) (y : B) → option_map f o 
 mapped f None y h = absurd (none-some y h)
 mapped f (Some x) y h = (x, refl)
 
-kept_stays : (a b : Account) (k : Kept) (r : Reply) → Extends a b → reply_of a.entries k ≡ Some r → reply_of b.entries k ≡ Some r
+pub kept_stays : (a b : Account) (k : Kept) (r : Reply) → Extends a b → reply_of a.entries k ≡ Some r → reply_of b.entries k ≡ Some r
 kept_stays a b (kept.TheVariants.Item place) r extends is =
     let item = mapped reply.TheVariants.Item (item_at a.entries place) r is in
     let there : item_at b.entries place ≡ Some item.0 = reading_on (λ o. option_and_then item_of (call_read o)) refl a b place item.0 extends item.1 in
@@ -147,7 +150,7 @@ at_once queue Now es more r reply other unmet stays = stays.1
 unmet_on : (wait : Wait) (es more : List Entry) (r : ℕ) (reply other : Reply) → RepliesUnmet es r wait reply other → RepliesUnmet (es ++ more) r wait reply other
 unmet_on Now es more r reply other unmet = unmet
 
-replies_on : (es more : List Entry) (epoch opened r : ℕ) (call : Call) (reply : Reply) → Legal (record { epoch = epoch; opened = opened; entries = es ++ more }) → call_at es r ≡ Some call
+pub replies_on : (es more : List Entry) (epoch opened r : ℕ) (call : Call) (reply : Reply) → Legal (record { epoch = epoch; opened = opened; entries = es ++ more }) → call_at es r ≡ Some call
     → RepliesAt es r call reply → RepliesAt (es ++ more) r call reply
 replies_on es more epoch opened r (Put queue item) reply legal arrived is = is
 replies_on es more epoch opened r (Take queue wait) reply legal arrived (inl gets) = inl (gets.0, gets_on es more r gets.0 gets.1, gets.2)
@@ -172,7 +175,7 @@ one_reply_at b r (Take queue wait) x y legal (inl first) (inr second) = absurd (
 one_reply_at b r (Take queue wait) x y legal (inr first) (inl second) = absurd (first.0 (gets_met b.entries r second.0 second.1))
 one_reply_at b r (Take queue wait) x y legal (inr first) (inr second) = one_unmet wait b.entries r reply.TheVariants.Empty x y first.1 second.1
 
-one_call : (key : Key) (c d : Call) → Some (act.TheVariants.Arrive key c) ≡ Some (act.TheVariants.Arrive key d) → c ≡ d
+pub one_call : (key : Key) (c d : Call) → Some (act.TheVariants.Arrive key c) ≡ Some (act.TheVariants.Arrive key d) → c ≡ d
 one_call key c d e = cc
 
 pub one_reply : (b : Account) (key : Key) (x y : Reply) → Legal b → HasReply b.entries key x → HasReply b.entries key y → y ≡ x

@@ -9,13 +9,13 @@ use Rattle.rv_book.specs.declared.account.Act.{Act}
 use Rattle.rv_book.specs.Steps.{Adds, EntersOrNoMemory, EpochFullDue, KeyLines, NextAt, OldIncarnationDue, RefuseOr, Refuses, Replies, WhereElse}
 use Rattle.rv_text.specs.declared.answer.Answer.{Answer}
 use Rattle.rv_book.specs.declared.account.Act.TheVariants.{Arrive}
-use Rattle.rv_book.specs.Tables.{Becomes, NoEntryDue, Heard, Looked}
+use Rattle.rv_book.specs.Tables.{Becomes, NoEntryDue}
 use Rattle.std.proofs.Common.{IsErrAnd, IfErr, IfOk, OnOk, OnErr, subst, Bool, ap, false, inl, inr, length, refl, sym, true, ℕ, ◌+◌, ◌∙◌, ◌≡◌, ◌≤◌}
 use Rattle.rv_text.specs.declared.call.Call.{Call}
 use Rattle.rv_book.specs.Sessions.{HasIncarnation, HasOnlyLower}
 use Rattle.rv_book.specs.Arriving.{IsNext}
 use Rattle.rv_text.specs.declared.message.Key.{Key}
-use Rattle.rv_book.proofs.Lines.{KeyLines-map, RefuseOr-elim, RefuseOr-map, WhereElse-elim, WhereElse-map, line_newer, room_left}
+use Rattle.rv_book.proofs.Lines.{RefuseOr-elim, RefuseOr-map, WhereElse-elim, WhereElse-map, line_newer, room_left}
 use Rattle.rv_text.specs.declared.message.Message.{Message}
 use Rattle.rv_text.specs.declared.answer.Refusal.{Refusal}
 use Rattle.rv_book.specs.Calls.{need_of}
@@ -53,28 +53,9 @@ on_ok_both (Err refusal) P Q R h k f = tt
 pub is_ok_of : {X : Type 0} (result : Result X Refusal) (x : X) → result ≡ Ok x → IsOk result
 is_ok_of result x is = subst IsOk (sym is) refl
 
--- ---- requests
+-- ---- the last lines
 
-pub refused_request : (a : Account) (moment : ℕ) (key : Key) (call : Call) (result : Result (Unit {0}) Refusal) (refusal : Refusal) → Looked a key result → result ≡ Err refusal
-    → NextAt a moment (Request key call) a (Refused refusal)
-refused_request a moment key call result refusal looked is =
-    KeyLines-map (λ r. result ≡ Err r) (Refuses a a (Refused refusal)) _ _ a key
-    (λ other told. (refl, ap Refused (one_refusal refusal other (sym is ∙ told))))
-    (λ found. absurd (not_ok result refusal is found.0))
-    looked
-
-pub next_request : (a : Account) (key : Key) (result : Result (Unit {0}) Refusal) → Looked a key result → IsOk result → IsNext a key
-next_request a key (Ok x) looked ok =
-    let refused = λ (D : Refusal → Type 0) (refusal : Refusal) (due : D refusal) (told : ◌≡◌ {A = Result (Unit {0}) Refusal} (Ok x) (Err refusal)). absurd {A = IsNext a key} (ok_or_err x refusal told) in
-    RefuseOr-elim _ _ _ (IsNext a key) (refused _)
-    (RefuseOr-elim _ _ _ (IsNext a key) (refused _)
-    (RefuseOr-elim _ _ _ (IsNext a key) (refused _)
-    (RefuseOr-elim _ _ _ (IsNext a key) (refused _)
-    (RefuseOr-elim _ _ _ (IsNext a key) (refused _)
-    (λ found. found.1))))) looked
-next_request a key (Err refusal) looked ok = absurd (let no : ⊥ = cc in no)
-
--- the last lines: an entry that was refused, and one that was recorded
+-- an entry that was refused, and one that was recorded
 pub unentered : (a b : Account) (moment need : ℕ) (does : Act) (refusal : Refusal) (G : Type 0) → NoEntryDue a need refusal → b ≡ a
     → RefuseOr (EpochFullDue a need) (Refuses a b (Refused refusal)) (EntersOrNoMemory a moment does b (Refused refusal) G)
 unentered a b moment need does refusal G (inl full) same = inl (record { refusal = refusal; is_due = full; refuses_it = (same, refl) })
@@ -83,51 +64,6 @@ unentered a b moment need does refusal G (inr lacks) same = inr (lacks.0, inl (s
 pub entered : (a b : Account) (moment need : ℕ) (does : Act) (x : Answer) (G : Type 0) → length a.entries + need ≤ 100000 → Adds a moment does b → G
     → RefuseOr (EpochFullDue a need) (Refuses a b x) (EntersOrNoMemory a moment does b x G)
 entered a b moment need does x G room adds told = inr (room_left a need room, inr (adds, told))
-
-pub request_step : (a b : Account) (moment : ℕ) (key : Key) (call : Call) (result : Result (Unit {0}) Refusal) (x : Answer) → Looked a key result → IsOk result
-    → RefuseOr (EpochFullDue a (need_of call)) (Refuses a b x) (EntersOrNoMemory a moment (Arrive key call) b x (Replies b key x)) → NextAt a moment (Request key call) b x
-request_step a b moment key call result x looked ok last =
-    KeyLines-map (λ r. result ≡ Err r) (Refuses a b x) _ _ a key
-    (λ other told. absurd (not_ok result other told ok))
-    (λ found. last)
-    looked
-
--- ---- hellos
-
-pub refused_hello : (a : Account) (moment client incarnation : ℕ) (result : Result Bool Refusal) (refusal : Refusal) → Heard a client incarnation result → result ≡ Err refusal
-    → NextAt a moment (Hello client incarnation) a (Refused refusal)
-refused_hello a moment client incarnation result refusal heard is =
-    RefuseOr-map _ (λ r. result ≡ Err r) (Refuses a a (Refused refusal)) _ _
-    (λ other told. (refl, ap Refused (one_refusal refusal other (sym is ∙ told))))
-    (WhereElse-map _ _ _ _ _ (λ again. absurd (ok_or_err false refusal (sym again ∙ is))) (λ newer. absurd (ok_or_err true refusal (sym newer.0 ∙ is))))
-    heard
-
-pub hello_again : (a : Account) (moment client incarnation : ℕ) (result : Result Bool Refusal) → Heard a client incarnation result → result ≡ Ok false
-    → NextAt a moment (Hello client incarnation) a (Welcome a.epoch client incarnation)
-hello_again a moment client incarnation result heard is =
-    RefuseOr-map _ (λ r. result ≡ Err r) (Refuses a a (Welcome a.epoch client incarnation)) _ _
-    (λ other told. absurd (ok_or_err false other (sym is ∙ told)))
-    (WhereElse-map _ _ _ _ _ (λ again. (refl, refl)) (λ newer. absurd (both (sym newer.0 ∙ is))))
-    heard
-  where
-    both : ◌≡◌ {A = Result Bool Refusal} (Ok true) (Ok false) → ⊥
-    both e = cc
-
-pub newer_hello : (a : Account) (client incarnation : ℕ) (result : Result Bool Refusal) → Heard a client incarnation result → result ≡ Ok true → HasOnlyLower a.entries client incarnation
-newer_hello a client incarnation result heard is =
-    RefuseOr-elim _ (λ r. result ≡ Err r) _ (HasOnlyLower a.entries client incarnation)
-    (λ refusal due told. absurd (ok_or_err true refusal (sym is ∙ told)))
-    (WhereElse-elim _ _ _ (HasOnlyLower a.entries client incarnation) (λ has again. absurd (both (sym again ∙ is))) (λ newer. newer.1))
-    heard
-  where
-    both : ◌≡◌ {A = Result Bool Refusal} (Ok false) (Ok true) → ⊥
-    both e = cc
-
-pub hello_step : (a b : Account) (moment client incarnation : ℕ) (result : Result Bool Refusal) (x : Answer) → Heard a client incarnation result → result ≡ Ok true
-    → RefuseOr (EpochFullDue a 1) (Refuses a b x) (EntersOrNoMemory a moment (act.TheVariants.Hello client incarnation) b x (x ≡ Welcome a.epoch client incarnation))
-    → NextAt a moment (Hello client incarnation) b x
-hello_step a b moment client incarnation result x heard is last =
-    line_newer (Refuses a b x) _ _ a client incarnation (newer_hello a client incarnation result heard is) last
 
 -- ---- what became of a message
 

@@ -11,6 +11,11 @@ pub record Account : Type 0 where
   pub opened : ℕ
   pub entries : List Entry
 
+-- an account as it lies in memory: beside what it is, how many more entries it has room for
+pub record Stored : Type 0 where
+  pub account : Account
+  pub room : ℕ
+
 -- the account with one entry more
 abbrev pub with_entry : Account → Entry → Account
 with_entry a e = record { epoch = a.epoch; opened = a.opened; entries = a.entries ++ e ∷ [] }

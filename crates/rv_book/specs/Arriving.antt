@@ -8,12 +8,12 @@ use Rattle.rv_text.specs.declared.answer.Answer as answer
 use Rattle.rv_book.specs.declared.account.Entry.{Entry}
 use Rattle.rv_book.specs.declared.account.Act.{Act}
 use Rattle.rv_book.specs.declared.account.Act.TheVariants.{Hello, Arrive}
-use Rattle.rv_book.specs.declared.verdict.Kept.{Kept}
+use Rattle.rv_session.specs.declared.kept.Kept.{Kept}
 use Rattle.rv_book.specs.Account.{Account, with_entry}
 use Rattle.rv_book.specs.Calls.{opposite, need_of}
 use Rattle.rv_book.specs.Waiting.{OpenAt}
 use Rattle.rv_book.specs.Sessions.{HasIncarnation, LastNumber}
-use Rattle.rv_book.specs.Legal.{Legal}
+use Rattle.rv_book.specs.Legal.{HasWaiting, Legal}
 use Rattle.rv_book.specs.Replies.{RepliesAt}
 use Rattle.rv_book.specs.Steps.{Adds, Replies}
 use Rattle.rv_book.specs.Verdicts.{reply_of}
@@ -33,6 +33,7 @@ pub record IsNext (a : Account) (key : Key) : Type 0 where
   pub last : ℕ
   pub is_last : LastNumber a.entries key.client last
   pub next : key.number ≡ last + 1
+  pub idle : ¬ HasWaiting a.entries key.client
 
 -- the oldest open arrival of a side stands at p
 pub record IsOldest (entries : List Entry) (side : Side) (p : ℕ) : Type 0 where

@@ -29,10 +29,11 @@ pub record CanEnter (a : Account) (moment : ℕ) (key : Key) (call : Call) : Typ
   pub adds : Adds a moment (Arrive key call) after
   pub replies : Replies after key answer
 
--- where no refusal of a request is due, a legal account with its entry and its reply exists
+-- where no refusal of a request is due, it has its reply, or a legal account with its entry and its reply exists
 abbrev pub RequestsCanEnter : Type 0
 RequestsCanEnter = (a : Account) (now : ℕ) (key : Key) (call : Call) → Legal a
-    → RequestLines a key call (λ refusal. Unit {0}) (CanEnter a (step_moment a now) key call)
+    → RequestLines a key call (λ refusal. Unit {0}) ((x : Answer) × Replies a key x)
+    (CanEnter a (step_moment a now) key call)
 
 -- where no refusal of a hello is due and it is no repeat, a legal account with its entry exists
 abbrev pub HellosCanEnter : Type 0

@@ -46,12 +46,19 @@ abbrev pub IsOfSession : Account → Act → Type 0
 IsOfSession a does = (key : Key) → key_in does ≡ Some key
     → (key.epoch ≡ a.epoch) × HasIncarnation a.entries key.client key.incarnation
 
+-- a request of the client waits
+pub record HasWaiting (entries : List Entry) (client : ℕ) : Type 0 where
+  pub place : ℕ
+  pub key : Key
+  pub waits : Waiting entries place
+  pub names : NamesKey entries client place key
+
 -- an arrival has its session's next number, and nothing of that session waits
 pub record IsNextNumber (entries : List Entry) (key : Key) : Type 0 where
   pub last : ℕ
   pub is_last : LastNumber entries key.client last
   pub next : key.number ≡ last + 1
-  pub idle : (r : ℕ) (other : Key) → Waiting entries r → NamesKey entries key.client r other → ⊥
+  pub idle : ¬ HasWaiting entries key.client
 
 abbrev pub CountsUp : List Entry → Act → Type 0
 CountsUp entries does = (key : Key) (call : Call) → does ≡ Arrive key call → IsNextNumber entries key

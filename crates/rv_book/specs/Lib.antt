@@ -13,7 +13,6 @@ pub mod Laws
 
 -- What only private clauses and proofs cite.
 pub mod Views
-pub mod Known
 pub mod Meeting
 pub mod Arriving
 pub mod Tables

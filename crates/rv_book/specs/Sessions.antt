@@ -14,6 +14,10 @@ pub record LastHello (entries : List Entry) (client incarnation h : ℕ) : Type 
 abbrev pub HasIncarnation : List Entry → ℕ → ℕ → Type 0
 HasIncarnation entries client incarnation = (h : ℕ) × LastHello entries client incarnation h
 
+-- the client said a hello
+abbrev pub SaidHello : List Entry → ℕ → Type 0
+SaidHello entries client = (r incarnation : ℕ) × (act_at entries r ≡ Some (Hello client incarnation))
+
 -- the client said no hello, or only hellos of lower incarnations
 abbrev pub HasOnlyLower : List Entry → ℕ → ℕ → Type 0
 HasOnlyLower entries client incarnation = (r earlier : ℕ) → act_at entries r ≡ Some (Hello client earlier)

@@ -7,7 +7,7 @@ use Rattle.rv_text.specs.declared.message.Message.{Message}
 use Rattle.rv_text.specs.declared.message.Message.TheVariants.{Hello, Request}
 use Rattle.rv_text.specs.declared.answer.Reply.{Reply}
 use Rattle.rv_text.specs.declared.answer.Refusal.{Refusal}
-use Rattle.rv_text.specs.declared.answer.Refusal.TheVariants.{OtherEpoch, NoSession, OldIncarnation, OldNumber, Gap, EpochFull, NoMemory}
+use Rattle.rv_text.specs.declared.answer.Refusal.TheVariants.{OtherEpoch, NoSession, OldIncarnation, OldNumber, OtherCall, Busy, Gap, ClientsFull, EpochFull, NoMemory}
 use Rattle.rv_text.specs.declared.answer.Answer.{Answer}
 use Rattle.rv_text.specs.declared.answer.Answer.TheVariants.{Welcome, Replied, Refused}
 use Rattle.rv_book.specs.declared.account.Entry.{Entry}
@@ -15,9 +15,9 @@ use Rattle.rv_book.specs.declared.account.Act.{Act}
 use Rattle.rv_book.specs.declared.account.Act as act
 use Rattle.rv_book.specs.Account.{Account, act_at, moment_at, with_entry}
 use Rattle.rv_book.specs.Calls.{need_of}
-use Rattle.rv_book.specs.Sessions.{HasIncarnation, HasOnlyLower, LastNumber}
+use Rattle.rv_book.specs.Sessions.{HasIncarnation, HasOnlyLower, LastNumber, SaidHello}
 use Rattle.rv_book.specs.Waiting.{Waiting}
-use Rattle.rv_book.specs.Legal.{Legal}
+use Rattle.rv_book.specs.Legal.{HasWaiting, Legal}
 use Rattle.rv_book.specs.Replies.{HasReply}
 
 -- ---- the step's moment
@@ -38,6 +38,15 @@ own_moment a = unwrap_or (moment_at a.entries (length a.entries - 1)) a.opened
 abbrev pub step_moment : Account → ℕ → ℕ
 step_moment a now = max (own_moment a) (capped now)
 
+-- ---- how many
+
+-- the numbers with a property, and no others, number n
+pub record NumberOf (P : ℕ → Type 0) (n : ℕ) : Type 0 where
+  pub places : List ℕ
+  pub rising : IsStrictlyIncreasing places
+  pub are : (r : ℕ) → Contains places r ↔ P r
+  pub is : n ≡ length places
+
 -- ---- when each refusal is due
 
 -- the key's epoch isn't the book's
@@ -55,12 +64,27 @@ pub record OldIncarnationDue (a : Account) (client incarnation : ℕ) (refusal :
   pub lower : incarnation < current
   pub is : refusal ≡ OldIncarnation current
 
--- the number is at or below the session's last
+-- the number is below the session's last; 0, which no request has, counts as below
 pub record OldNumberDue (a : Account) (key : Key) (refusal : Refusal) : Type 0 where
   pub last : ℕ
   pub is_last : LastNumber a.entries key.client last
-  pub old : key.number ≤ last
+  pub old : (key.number < last) ⊎ (key.number ≡ 0)
   pub is : refusal ≡ OldNumber last
+
+-- the request with this key arrived, and it arrived with another call
+pub record OtherCallDue (a : Account) (key : Key) (call : Call) (refusal : Refusal) : Type 0 where
+  pub place : ℕ
+  pub other : Call
+  pub arrived : act_at a.entries place ≡ Some (act.TheVariants.Arrive key other)
+  pub differs : other ≢ call
+  pub is : refusal ≡ OtherCall
+
+-- the number is above the session's last, and a request of the session waits
+pub record BusyDue (a : Account) (key : Key) (refusal : Refusal) : Type 0 where
+  pub last : ℕ
+  pub is_last : LastNumber a.entries key.client last
+  pub waits : HasWaiting a.entries key.client
+  pub is : refusal ≡ Busy last
 
 -- the number is above the last plus one
 pub record GapDue (a : Account) (key : Key) (refusal : Refusal) : Type 0 where
@@ -69,16 +93,21 @@ pub record GapDue (a : Account) (key : Key) (refusal : Refusal) : Type 0 where
   pub above : last + 1 < key.number
   pub is : refusal ≡ Gap last
 
+-- the most clients of an epoch
+abbrev pub max_clients : ℕ
+max_clients = 1024
+
+-- the client is new, and as many clients said a hello as an epoch can have
+pub record ClientsFullDue (a : Account) (client : ℕ) (refusal : Refusal) : Type 0 where
+  pub is_new : ¬ SaidHello a.entries client
+  pub clients : ℕ
+  pub count : NumberOf (SaidHello a.entries) clients
+  pub full : max_clients ≤ clients
+  pub is : refusal ≡ ClientsFull
+
 -- the most entries of an epoch
 abbrev pub max_entries : ℕ
 max_entries = 100000
-
--- the places with a property, and no others, number n
-pub record NumberOf (P : ℕ → Type 0) (n : ℕ) : Type 0 where
-  pub places : List ℕ
-  pub rising : IsStrictlyIncreasing places
-  pub are : (r : ℕ) → Contains places r ↔ P r
-  pub is : n ≡ length places
 
 -- the entries, those that the waiting requests may come to need and those that are needed now are more than
 -- 100,000
@@ -104,20 +133,24 @@ RefuseOr due refuses otherwise = RefusesDue due refuses ⊎ (((refusal : Refusal
 abbrev pub WhereElse : Type 0 → Type 0 → Type 0 → Type 0
 WhereElse condition this that = (condition × this) ⊎ ((¬ condition) × that)
 
--- the lines for a key, by what a refusal does and what happens where none is due
-abbrev pub KeyLines : Account → Key → (Refusal → Type 0) → Type 0 → Type 0
-KeyLines a key refuses goes_on =
+-- the lines for a key, by what a refusal does, what happens at the last number and what at one above it
+abbrev pub KeyLines : Account → Key → (Refusal → Type 0) → Type 0 → Type 0 → Type 0
+KeyLines a key refuses at_last above =
     RefuseOr (OtherEpochDue a key) refuses
     (RefuseOr (NoSessionDue a key) refuses
     (RefuseOr (OldIncarnationDue a key.client key.incarnation) refuses
     (RefuseOr (OldNumberDue a key) refuses
+    (WhereElse (LastNumber a.entries key.client key.number) at_last
+    (RefuseOr (BusyDue a key) refuses
     (RefuseOr (GapDue a key) refuses
-    goes_on))))
+    above))))))
 
--- the lines for a request
-abbrev pub RequestLines : Account → Key → Call → (Refusal → Type 0) → Type 0 → Type 0
-RequestLines a key call refuses enters =
+-- the lines for a request: also what happens where it is a repeat
+abbrev pub RequestLines : Account → Key → Call → (Refusal → Type 0) → Type 0 → Type 0 → Type 0
+RequestLines a key call refuses repeats enters =
     KeyLines a key refuses
+    (RefuseOr (OtherCallDue a key call) refuses
+    repeats)
     (RefuseOr (EpochFullDue a (need_of call)) refuses
     enters)
 
@@ -126,8 +159,9 @@ abbrev pub HelloLines : Account → ℕ → ℕ → (Refusal → Type 0) → Typ
 HelloLines a client incarnation refuses repeats enters =
     RefuseOr (OldIncarnationDue a client incarnation) refuses
     (WhereElse (HasIncarnation a.entries client incarnation) repeats
+    (RefuseOr (ClientsFullDue a client) refuses
     (RefuseOr (EpochFullDue a 1) refuses
-    enters))
+    enters)))
 
 -- ---- the accounts after a step
 
@@ -149,6 +183,12 @@ pub record Replies (b : Account) (key : Key) (answer : Answer) : Type 0 where
   pub has : HasReply b.entries key reply
   pub is : answer ≡ Replied key reply
 
+-- the account stays, and the answer is the reply of the request with this key, the only one
+pub record Repeats (a b : Account) (key : Key) (answer : Answer) : Type 0 where
+  pub account : b ≡ a
+  pub replies : Replies a key answer
+  pub only : (other : Answer) → Replies a key other → other ≡ answer
+
 -- where a growth was refused the account stays; else it gets the message's own entry
 abbrev pub EntersOrNoMemory : Account → ℕ → Act → Account → Answer → Type 0 → Type 0
 EntersOrNoMemory a moment does b answer answers =
@@ -163,6 +203,7 @@ NextAt a moment (Hello client incarnation) b answer =
     (answer ≡ Welcome a.epoch client incarnation))
 NextAt a moment (Request key call) b answer =
     RequestLines a key call (Refuses a b answer)
+    (Repeats a b key answer)
     (EntersOrNoMemory a moment (act.TheVariants.Arrive key call) b answer
     (Replies b key answer))
 

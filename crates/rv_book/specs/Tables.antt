@@ -1,41 +1,78 @@
 -- What the book's private tables say of its account.
-use Rattle.std.specs.Prelude.{◌≡◌, ◌⊎◌, ◌<◌, ◌≤◌, ◌+◌, ℕ, Bool, true, false, List, length, Option, Some, Result, Ok, Err, IsOk, slice_get}
-use Rattle.rv_text.specs.declared.call.Side.{Side}
+use Rattle.std.specs.Prelude.{◌≡◌, ◌⊎◌, ◌<◌, ◌≤◌, ◌+◌, ℕ, List, length, Option, Some, None, slice_get}
+use Rattle.rv_text.specs.declared.message.Key.{Key}
 use Rattle.rv_text.specs.declared.message.Message.{Message}
+use Rattle.rv_text.specs.declared.call.Side.{Side}
+use Rattle.rv_text.specs.declared.call.Call.{Call}
 use Rattle.rv_text.specs.declared.answer.Answer.{Answer}
 use Rattle.rv_text.specs.declared.answer.Refusal.{Refusal}
 use Rattle.rv_text.specs.declared.answer.Refusal.TheVariants.{NoMemory}
 use Rattle.rv_text.specs.Calls.{side_of}
+use Rattle.rv_session.specs.declared.kept.Kept.{Kept}
+use Rattle.rv_session.specs.declared.session.Session.{Session}
+use Rattle.rv_session.specs.declared.session.State as state
+use Rattle.rv_session.specs.declared.session.State.{State as StateOf}
+use Rattle.rv_session.specs.Table.{Table, session_of}
 use Rattle.rv_book.specs.declared.account.Entry.{Entry}
 use Rattle.rv_book.specs.declared.account.Act.{Act}
 use Rattle.rv_book.specs.declared.account.Act.TheVariants.{Hello, Arrive}
-use Rattle.rv_book.specs.declared.sessions.Session.{Session}
 use Rattle.rv_book.specs.declared.state.State.{State}
 use Rattle.rv_book.specs.declared.verdict.Said.{Said}
 use Rattle.rv_book.specs.declared.verdict.Said.TheVariants.{Refused}
-use Rattle.rv_text.specs.declared.message.Key.{Key}
-use Rattle.rv_book.specs.Account.{Account, act_at, with_entry}
-use Rattle.rv_book.specs.Arriving.{IsNext, entry, need_for}
-use Rattle.rv_book.specs.Known.{IsKnownAs}
+use Rattle.rv_book.specs.Account.{Account, act_at, call_at}
+use Rattle.rv_book.specs.Arriving.{IsKept, need_for}
 use Rattle.rv_book.specs.Legal.{Legal, KeepsTime}
 use Rattle.rv_book.specs.Limits.{FitsAccount, FitsAct}
 use Rattle.rv_book.specs.Meeting.{HasRoomOn, waiting_on}
-use Rattle.rv_book.specs.Sessions.{HasIncarnation, HasOnlyLower, LastNumber}
-use Rattle.rv_book.specs.Steps.{EpochFullDue, KeyLines, NextAt, OldIncarnationDue, RefuseOr, WhereElse, max_entries, max_moment}
+use Rattle.rv_book.specs.Sessions.{HasIncarnation, LastNumber, SaidHello}
+use Rattle.rv_book.specs.Steps.{EpochFullDue, NextAt, max_entries, max_moment}
 use Rattle.rv_book.specs.Verdicts.{answer_of}
 use Rattle.rv_book.specs.Views.{QueueLine, places_of}
-use Rattle.rv_book.specs.Waiting.{OpenAt}
+use Rattle.rv_book.specs.Waiting.{OpenAt, Waiting}
 
--- the session's incarnation and last number are what the entries say of its client
-pub record IsSession (entries : List Entry) (s : Session) : Type 0 where
-  pub incarnation : HasIncarnation entries s.client s.incarnation
-  pub number : LastNumber entries s.client s.last
+-- ---- sessions
 
--- each client that said a hello has one session, with its incarnation and its last number
-pub record AreSessions (entries : List Entry) (sessions : List Session) : Type 0 where
-  pub are : (i : ℕ) (s : Session) → slice_get sessions i ≡ Some s → IsSession entries s
-  pub each : (r client incarnation : ℕ) → act_at entries r ≡ Some (Hello client incarnation)
-      → (s : Session) × IsKnownAs sessions client s
+-- the key of a session's last number
+abbrev pub last_key : Account → ℕ → Session → Key
+last_key a client s = record { epoch = a.epoch; client = client; incarnation = s.incarnation; number = s.last }
+
+-- the request of the session's last number waits at the place
+pub record IsWaitingAt (a : Account) (client : ℕ) (s : Session) (place : ℕ) : Type 0 where
+  pub call : Call
+  pub arrived : act_at a.entries place ≡ Some (Arrive (last_key a client s) call)
+  pub waits : Waiting a.entries place
+
+-- the request of the session's last number arrived at the place, and this is kept as its reply
+pub record IsSettledAt (a : Account) (client : ℕ) (s : Session) (place : Option ℕ) (kept : Kept) : Type 0 where
+  pub at : ℕ
+  pub is : place ≡ Some at
+  pub call : Call
+  pub arrived : act_at a.entries at ≡ Some (Arrive (last_key a client s) call)
+  pub kept_is : IsKept a.entries at call kept
+
+-- what stands of the session's last number is what the account says of it
+abbrev pub Stands : Account → ℕ → Session → StateOf → Type 0
+Stands a client s state.TheVariants.Fresh = s.last ≡ 0
+Stands a client s (state.TheVariants.Waits place) = IsWaitingAt a client s place
+Stands a client s (state.TheVariants.Settled place kept) = IsSettledAt a client s place kept
+
+-- the session is what the account says of its client
+pub record IsSession (a : Account) (client : ℕ) (s : Session) : Type 0 where
+  pub incarnation : HasIncarnation a.entries client s.incarnation
+  pub number : LastNumber a.entries client s.last
+  pub stands : Stands a client s s.state
+
+-- the client's session, or none where it said no hello
+abbrev pub IsSessionOf : Account → ℕ → Option Session → Type 0
+IsSessionOf a client None = ¬ SaidHello a.entries client
+IsSessionOf a client (Some s) = IsSession a client s
+
+-- the table is what the account says, client by client
+pub record AreSessions (a : Account) (t : Table) : Type 0 where
+  pub epoch : t.epoch ≡ a.epoch
+  pub each : (client : ℕ) → IsSessionOf a client (session_of t client)
+
+-- ---- queues
 
 -- the places are those of a side's open arrivals, the oldest first
 pub record IsLine (entries : List Entry) (side : Side) (places : List ℕ) : Type 0 where
@@ -47,38 +84,43 @@ pub record IsLine (entries : List Entry) (side : Side) (places : List ℕ) : Typ
 abbrev pub AreQueues : List Entry → List QueueLine → Type 0
 AreQueues entries lines = (side : Side) → IsLine entries side (waiting_on lines side)
 
+-- ---- the state
+
+-- the state's account
+abbrev pub account_of : State → Account
+account_of state = state.account.account
+
 -- the account is legal and within the limits, and each table is what the account says
 pub record IsSound (state : State) : Type 0 where
-  pub legal : Legal state.account
-  pub fits : FitsAccount state.account
-  pub sessions_are : AreSessions state.account.entries state.sessions.listed
-  pub queues_are : AreQueues state.account.entries state.queues
+  pub legal : Legal (account_of state)
+  pub fits : FitsAccount (account_of state)
+  pub sessions_are : AreSessions (account_of state) state.sessions
+  pub queues_are : AreQueues (account_of state).entries state.queues
 
 -- an act comes to a sound state: at a moment that keeps time, and within the limits
 pub record Comes (state : State) (moment : ℕ) (does : Act) : Type 0 where
   pub sound : IsSound state
-  pub time : KeepsTime state.account moment
+  pub time : KeepsTime (account_of state) moment
   pub moment_fits : moment ≤ max_moment
   pub act_fits : FitsAct does
 
--- what the act adds to the tables has room
+-- what the act adds to the table of queues has room
 abbrev pub HasRoomFor : State → Act → Type 0
-HasRoomFor state (Hello client incarnation) = 0 < state.sessions.spare
+HasRoomFor state (Hello client incarnation) = Unit {0}
 HasRoomFor state (Arrive key call) = HasRoomOn state.queues (side_of call)
 
 -- the account and what the tables hold are as they were; their room may be another
 pub record IsSame (old new : State) : Type 0 where
-  pub account : new.account ≡ old.account
-  pub sessions : new.sessions.listed ≡ old.sessions.listed
+  pub account : account_of new ≡ account_of old
+  pub sessions : new.sessions ≡ old.sessions
   pub queues : (queue : ℕ) → places_of new.queues queue ≡ places_of old.queues queue
 
--- the account has the act's entry more, the tables are as they were, and what the act adds to them has room
-pub record IsEntered (old new : State) (moment : ℕ) (does : Act) (partner : Option ℕ) : Type 0 where
-  pub account : new.account ≡ with_entry old.account (entry moment does partner)
-  pub sessions : new.sessions.listed ≡ old.sessions.listed
-  pub queues : (queue : ℕ) → places_of new.queues queue ≡ places_of old.queues queue
-  pub room : HasRoomFor new does
-  pub space : length old.account.entries + need_for does ≤ max_entries
+-- nothing changed but the room: the act's entry has its own, and what the act adds to the queues too
+pub record IsReady (old new : State) (does : Act) : Type 0 where
+  pub same : IsSame old new
+  pub room : 0 < new.account.room
+  pub queue_room : HasRoomFor new does
+  pub space : length (account_of old).entries + need_for does ≤ max_entries
 
 -- why an entry that needs so many places was refused: the epoch is full; or it is not, and memory was refused
 abbrev pub NoEntryDue : Account → ℕ → Refusal → Type 0
@@ -95,13 +137,7 @@ pub record Becomes (a : Account) (moment : ℕ) (m : Message) (b : Account) (sai
 abbrev pub IsRefused : Account → ℕ → Message → Account → Refusal → Type 0
 IsRefused a moment m b refusal = Becomes a moment m b (Refused refusal)
 
--- what a look at the sessions says of a key: a refusal that is due, or that the key is next
-abbrev pub Looked : Account → Key → Result (Unit {0}) Refusal → Type 0
-Looked a key result = KeyLines a key (λ refusal. result ≡ Err refusal) (IsOk result × IsNext a key)
-
--- what a look at a client's hellos says of a hello: a refusal that is due, that it is a repeat, or that it is newer
-abbrev pub Heard : Account → ℕ → ℕ → Result Bool Refusal → Type 0
-Heard a client incarnation result =
-    RefuseOr (OldIncarnationDue a client incarnation) (λ refusal. result ≡ Err refusal)
-    (WhereElse (HasIncarnation a.entries client incarnation) (result ≡ Ok false)
-    ((result ≡ Ok true) × HasOnlyLower a.entries client incarnation))
+-- the request that arrived at the place came with this call; where none arrived, any call repeats it
+abbrev pub IsRepeat : Account → Option ℕ → Call → Type 0
+IsRepeat a None call = Unit {0}
+IsRepeat a (Some place) call = call_at a.entries place ≡ Some call

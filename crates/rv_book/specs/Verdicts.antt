@@ -1,11 +1,11 @@
 -- The answer that a verdict stands for, in an account that has the places which the verdict keeps.
-use Rattle.std.specs.Prelude.{◌≡◌, ℕ, List, Option, Some, option_map, option_and_then}
+use Rattle.std.specs.Prelude.{◌≡◌, ℕ, List, Option, Some, None, option_map, option_and_then}
 use Rattle.rv_text.specs.declared.answer.Reply.{Reply}
 use Rattle.rv_text.specs.declared.answer.Reply as reply
 use Rattle.rv_text.specs.declared.answer.Answer.{Answer}
 use Rattle.rv_text.specs.declared.answer.Answer as answer
-use Rattle.rv_book.specs.declared.verdict.Kept.{Kept}
-use Rattle.rv_book.specs.declared.verdict.Kept.TheVariants.{Done, Item, Empty}
+use Rattle.rv_session.specs.declared.kept.Kept.{Kept}
+use Rattle.rv_session.specs.declared.kept.Kept as kept
 use Rattle.rv_book.specs.declared.verdict.Said.{Said}
 use Rattle.rv_book.specs.declared.verdict.Said.TheVariants.{Welcome, Replied, Refused}
 use Rattle.rv_book.specs.declared.verdict.Verdict.{Verdict}
@@ -19,10 +19,12 @@ use Rattle.rv_text.specs.Calls.{item_of}
 abbrev pub item_at : List Entry → ℕ → Option (List ℕ)
 item_at entries place = option_and_then item_of (call_at entries place)
 
+-- the reply that is kept; none where no call has such a reply yet
 abbrev pub reply_of : List Entry → Kept → Option Reply
-reply_of entries Done = Some reply.TheVariants.Done
-reply_of entries (Item place) = option_map reply.TheVariants.Item (item_at entries place)
-reply_of entries Empty = Some reply.TheVariants.Empty
+reply_of entries kept.TheVariants.Done = Some reply.TheVariants.Done
+reply_of entries (kept.TheVariants.Item place) = option_map reply.TheVariants.Item (item_at entries place)
+reply_of entries kept.TheVariants.Empty = Some reply.TheVariants.Empty
+reply_of entries _ = None
 
 abbrev pub answer_of : List Entry → Said → Option Answer
 answer_of entries (Welcome epoch client incarnation) =

@@ -1,10 +1,5 @@
--- What contracts see of the book's tables: what they hold, and how much more they have room for.
+-- What contracts see of the table of queues: what waits in each, and how much more it has room for.
 use Rattle.std.specs.Prelude.{ℕ, List, [], option_map, unwrap_or, slice_get}
-use Rattle.rv_book.specs.declared.sessions.Session.{Session}
-
-pub record SessionList : Type 0 where
-  pub listed : List Session
-  pub spare : ℕ
 
 -- one queue: the places of its items, the oldest first
 pub record QueueLine : Type 0 where

@@ -1,14 +1,12 @@
 //! The account of an epoch: what came to the book, in order, and who met whom.
-ghost use Rattle.std.specs.Prelude.{◌≡◌, ◌==◌, [], length, slice_get, OnOk, OnErr};
+ghost use Rattle.std.specs.Prelude.{◌≡◌, ◌==◌, [], length, slice_get, OnOk};
 ghost use Rattle.std.specs.Option.{option_copied};
 ghost use Rattle.rv_book.specs.Account.{with_entry};
 
+use rv_session::Place;
 use rv_text::{Call, Item, Key, NoMemory, Wait};
-use std::alloc::{AllocError, Global};
+use std::alloc::Global;
 use std::marker::Model;
-
-/// An entry's index in its account.
-pub type Place = usize;
 
 /// What an entry records.
 #[derive(Debug, PartialEq, Eq, Drop)]
@@ -31,7 +29,8 @@ pub struct Entry {
 }
 
 /// All entries of an epoch, in the order in which they were recorded: what contracts see of it are
-/// its epoch, its opening moment and the list of its entries.
+/// its epoch, its opening moment and the list of its entries; and beside that, for how many entries more
+/// it has room.
 #[derive(Debug, Drop)]
 pub struct Account {
     epoch: u64,
@@ -40,11 +39,14 @@ pub struct Account {
 }
 
 impl Model for Account {
-    ghost use Rattle.rv_book.specs.Account.{Account};
+    ghost use Rattle.rv_book.specs.Account.{Stored};
+    ghost use Rattle.std.specs.Prelude.{◌-◌, vec_capacity, vec_len};
 
-    ghost Value = { Account };
+    ghost Value = { Stored };
 
-    ghost view = { λ a. record { epoch = a.epoch; opened = a.opened; entries = a.entries.items } };
+    ghost view = { λ a. record {
+        account = record { epoch = a.epoch; opened = a.opened; entries = a.entries.items };
+        room = vec_capacity a.entries - vec_len a.entries } };
 }
 
 impl Act {
@@ -69,48 +71,50 @@ impl Act {
 impl Account {
     ghost use Rattle.std.specs.Prelude.{option_map};
     ghost use Rattle.rv_book.specs.Account.{call_at};
+    ghost use Rattle.rv_book.specs.Arriving.{entry};
+    ghost use Rattle.std.specs.Prelude.{◌↔◌, ◌<◌, IsTrue};
     ghost use Rattle.rv_book.specs.Steps.{own_moment};
     ghost use Rattle.rv_book.specs.Verdicts.{item_at};
     ghost use Rattle.std.specs.Prelude.{Some, IsSome};
 
     /// The epoch, 1 to 2^53 - 1.
     pub fn epoch(&self) -> u64
-        ensures { result ≡ self.now.epoch }
+        ensures { result ≡ self.now.account.epoch }
     {
         self.epoch
     }
 
     /// The moment at which the epoch was opened, in milliseconds; at most 2^62.
     pub fn opened(&self) -> u64
-        ensures { result ≡ self.now.opened }
+        ensures { result ≡ self.now.account.opened }
     {
         self.opened
     }
 
     /// How many entries there are.
     pub fn len(&self) -> usize
-        ensures { result ≡ length self.now.entries }
+        ensures { result ≡ length self.now.account.entries }
     {
         self.entries.len()
     }
 
     /// Whether there is no entry yet.
     pub fn is_empty(&self) -> bool
-        ensures { result ≡ (length self.now.entries == 0) }
+        ensures { result ≡ (length self.now.account.entries == 0) }
     {
         self.entries.is_empty()
     }
 
     /// The entry at a place, if the account has one there.
     pub fn entry(&self, place: Place) -> Option<&Entry>
-        ensures { option_copied result ≡ slice_get self.now.entries place }
+        ensures { option_copied result ≡ slice_get self.now.account.entries place }
     {
         self.entries.get(place)
     }
 
     // The call of the arrival at a place, if one stands there.
     fn call(&self, place: Place) -> Option<&Call>
-        ensures { option_map (λ c. c.now) result ≡ call_at self.now.entries place }
+        ensures { option_map (λ c. c.now) result ≡ call_at self.now.account.entries place }
     {
         match &self.entry(place)?.act {
             Act::Arrive { call, .. } => Some(call),
@@ -118,17 +122,27 @@ impl Account {
         }
     }
 
+    // Whether an arrival with this call stands at a place.
+    pub(crate) fn has_call(&self, place: Place, call: &Call) -> bool
+        ensures { IsTrue result ↔ (call_at self.now.account.entries place ≡ Some call.now) }
+    {
+        match self.call(place) {
+            Some(other) => other.is_same(call),
+            None => false,
+        }
+    }
+
     // The item that the arrival at a place hands over.
     pub(crate) fn item(&self, place: Place) -> &Item
-        requires { IsSome (item_at self.now.entries place) }
-        ensures { item_at self.now.entries place ≡ Some result.now }
+        requires { IsSome (item_at self.now.account.entries place) }
+        ensures { item_at self.now.account.entries place ≡ Some result.now }
     {
         self.call(place).and_then(Call::item).unwrap()
     }
 
     // The moment of the last entry, or the opening moment while there is none.
     pub(crate) fn own_moment(&self) -> u64
-        ensures { result ≡ own_moment self.now }
+        ensures { result ≡ own_moment self.now.account }
     {
         match self.entries.last() {
             Some(entry) => entry.moment,
@@ -138,9 +152,9 @@ impl Account {
 
     // An empty account.
     pub(crate) fn empty(alloc: Global, epoch: u64, opened: u64) -> Account
-        ensures epoch { result.epoch ≡ epoch }
-        ensures opened { result.opened ≡ opened }
-        ensures entries { result.entries ≡ [] }
+        ensures epoch { result.account.epoch ≡ epoch }
+        ensures opened { result.account.opened ≡ opened }
+        ensures entries { result.account.entries ≡ [] }
     {
         Account {
             epoch,
@@ -149,20 +163,33 @@ impl Account {
         }
     }
 
-    // Records one entry more. Where its growth is refused the account stays.
-    pub(crate) fn enter(&mut self, entry: Entry) -> Result<(), NoMemory>
-        ensures ok { OnOk result (self.new ≡ with_entry self.old entry) }
-        ensures err { OnErr result (self.new ≡ self.old) }
+    // Makes room for one entry more. Where its growth is refused the account stays.
+    pub(crate) fn reserve(&mut self) -> Result<(), NoMemory>
+        ensures same { self.new.account ≡ self.old.account }
+        ensures room { OnOk result (0 < self.new.room) }
     {
-        self.entries.push(entry).map_err(AllocError::from)
+        self.entries.reserve(1)
+    }
+
+    // Records one entry more, which has its room.
+    pub(crate) fn push(&mut self, moment: u64, act: Act, partner: Option<Place>)
+        requires { 0 < self.old.room }
+        ensures { self.new.account ≡ with_entry self.old.account (entry moment act partner) }
+    {
+        let entry = Entry {
+            moment,
+            act,
+            partner,
+        };
+        self.entries.push(entry).unwrap();
     }
 
     /// The account of this epoch, opening moment and entries, legal or not. It takes no memory. A book's
     /// account is always legal; this is for accounts that come from elsewhere.
     pub fn from_entries(epoch: u64, opened: u64, entries: Vec<Entry>) -> Account
-        ensures epoch { result.epoch ≡ epoch }
-        ensures opened { result.opened ≡ opened }
-        ensures entries { result.entries ≡ entries.items }
+        ensures epoch { result.account.epoch ≡ epoch }
+        ensures opened { result.account.opened ≡ opened }
+        ensures entries { result.account.entries ≡ entries.items }
     {
         Account {
             epoch,

@@ -6,7 +6,8 @@ ghost use Rattle.rv_book.specs.Verdicts.{IsStep, says, reply_of as kept_reply};
 
 use crate::account::Account;
 use crate::state::{MAX_MOMENT, State};
-use crate::verdict::{Kept, Said, Verdict};
+use crate::verdict::{Said, Verdict};
+use rv_session::Kept;
 use rv_text::{Answer, Message, NoMemory, Reply};
 use std::alloc::Global;
 use std::marker::Model;
@@ -27,7 +28,7 @@ impl Model for Book {
 
     ghost use Rattle.rv_book.specs.Tables.{IsSound};
 
-    ghost view = { λ b. b.state.account };
+    ghost view = { λ b. b.state.account.account };
 
     ghost invariant = { λ b. IsSound b.state };
 }
@@ -37,7 +38,7 @@ impl Book {
 
     /// The book's account, as it stands.
     pub fn account(&self) -> &Account
-        ensures same { result.now ≡ self.now }
+        ensures same { result.now.account ≡ self.now }
         ensures legal { Legal self.now }
         ensures fits { FitsAccount self.now }
     {
@@ -98,12 +99,13 @@ impl Book {
 
 // The reply that is kept, with its text copied from the account.
 fn reply_of(alloc: Global, account: &Account, kept: Kept) -> Result<Reply, NoMemory>
-    requires { IsSome (kept_reply account.now.entries kept) }
-    ensures { IfOk result (λ reply. kept_reply account.now.entries kept ≡ Some reply) }
+    requires { IsSome (kept_reply account.now.account.entries kept) }
+    ensures { IfOk result (λ reply. kept_reply account.now.account.entries kept ≡ Some reply) }
 {
     match kept {
         Kept::Done => Ok(Reply::Done),
         Kept::Item(place) => Ok(Reply::Item(account.item(place).copy(alloc)?)),
         Kept::Empty => Ok(Reply::Empty),
+        _ => unreachable!(),
     }
 }

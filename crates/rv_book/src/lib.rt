@@ -5,11 +5,11 @@ mod account;
 mod book;
 pub mod laws;
 mod queues;
-mod sessions;
 mod state;
 mod verdict;
 
-pub use account::{Account, Act, Entry, Place};
+pub use account::{Account, Act, Entry};
 pub use book::Book;
 pub use state::MAX_MOMENT;
+pub use rv_session::Place;
 pub use verdict::Verdict;

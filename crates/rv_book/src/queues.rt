@@ -5,7 +5,7 @@ ghost use Rattle.rv_text.specs.Calls.{queue_of};
 ghost use Rattle.rv_text.specs.Limits.{FitsQueue};
 ghost use Rattle.rv_book.specs.Meeting.{HasRoomOn, ArrivedOn, partner_on};
 
-use crate::account::Place;
+use rv_session::Place;
 use rv_text::{MAX_QUEUE, NoMemory, Side};
 use std::alloc::Global;
 use std::collections::VecDeque;

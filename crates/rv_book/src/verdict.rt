@@ -1,14 +1,6 @@
 //! What the book said to a message, in a form that takes no memory.
-use crate::account::Place;
+use rv_session::Kept;
 use rv_text::{Key, Refusal};
-
-// A reply whose text, if it has one, stands in the account at a place.
-#[derive(Clone, Copy)]
-pub(crate) enum Kept {
-    Done,
-    Item(Place),
-    Empty,
-}
 
 #[derive(Clone, Copy)]
 pub(crate) enum Said {

@@ -1,7 +1,13 @@
--- What fits, part by part: for this crate's `fits`, and for crates that keep calls and give replies.
-use Rattle.std.proofs.Common.{◌≡◌, ℕ, List, Option, Some, None, subst}
+-- For crates that keep calls and give replies: what fits, part by part, and that two calls are the same or not.
+use Rattle.std.proofs.Common.{◌≡◌, ◌⊎◌, inl, inr, ℕ, List, Bool, true, false, Option, Some, None, refl, ap, subst, arith, Decides}
+use Rattle.std.specs.Str.{bytes_eq}
+use Rattle.std.proofs.lemmas.Slice.Eq.{bytes_eq-Decides}
+use Rattle.std.proofs.lemmas.Bool.{cases_order, false≢true}
 use Rattle.std.proofs.lemmas.Option.{none-some, same_Some}
+use Rattle.rv_text.specs.declared.call.Wait.{Wait}
+use Rattle.rv_text.specs.declared.call.Wait.TheVariants as wait
 use Rattle.rv_text.specs.declared.call.Call.{Call}
+use Rattle.rv_text.specs.declared.call.Call.TheVariants as call
 use Rattle.rv_text.specs.declared.answer.Reply.TheVariants as reply
 use Rattle.rv_text.specs.Calls.{nature_of, side_of, queue_of, item_of}
 use Rattle.rv_text.specs.Members.{IsWithin}
@@ -33,3 +39,35 @@ done_fits = tt
 
 pub empty_fits : FitsReply reply.Empty
 empty_fits = tt
+
+-- ---- whether two calls are the same
+
+decided : (b : Bool) (A : Type 0) → Decides b A → A ⊎ (A → ⊥)
+decided true A d = inl (d.0 refl)
+decided false A d = inr (λ h. absurd (false≢true (d.1 h)))
+
+same_text : (xs ys : List ℕ) → (xs ≡ ys) ⊎ (xs ≡ ys → ⊥)
+same_text xs ys = decided (bytes_eq xs ys) (xs ≡ ys) (bytes_eq-Decides xs ys)
+
+same_number : (m n : ℕ) → (m ≡ n) ⊎ (m ≡ n → ⊥)
+same_number m n = elim (cases_order m n) [
+  | inl same ↦ inl same
+  | inr differ ↦ inr (λ same. elim differ [ inl less ↦ omega arith | inr more ↦ omega arith ])
+]
+
+other_queue : (q r : ℕ) (i j : List ℕ) → (q ≡ r → ⊥) → call.Put q i ≡ call.Put r j → ⊥
+other_queue q r i j apart e = apart (cc)
+
+other_item : (q r : ℕ) (i j : List ℕ) → (i ≡ j → ⊥) → call.Put q i ≡ call.Put r j → ⊥
+other_item q r i j apart e = apart (cc)
+
+other_take : (q r : ℕ) (v w : Wait) → (q ≡ r → ⊥) → call.Take q v ≡ call.Take r w → ⊥
+other_take q r v w apart e = apart (cc)
+
+pub same_call : (c d : Call) → (c ≡ d) ⊎ (c ≡ d → ⊥)
+same_call (call.Put q i) (call.Put r j) = elim (same_number q r) [
+  | inr apart ↦ inr (other_queue q r i j apart)
+  | inl same ↦ elim (same_text i j) [ inr apart ↦ inr (other_item q r i j apart) | inl also ↦ inl (cc) ]
+]
+same_call (call.Take q wait.Now) (call.Take r wait.Now) = elim (same_number q r) [ inr apart ↦ inr (other_take q r wait.Now wait.Now apart) | inl same ↦ inl (ap (λ n. call.Take n wait.Now) same) ]
+same_call _ _ = inr (λ e. absurd (let no : ⊥ = cc in no))

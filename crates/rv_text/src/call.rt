@@ -82,6 +82,13 @@ impl Call {
         }
     }
 
+    /// Whether the calls are of one kind and have the same members.
+    pub fn is_same(&self, other: &Call) -> bool
+        ensures { IsTrue result ↔ (self.now ≡ other.now) }
+    {
+        self == other
+    }
+
     // How many members the call has in a body: its word and its place, its wait and its item.
     pub(crate) fn member_count(&self) -> usize
         ensures { result ≡ length (call_row self.now) }

@@ -8,7 +8,7 @@ use Rattle.rv_book.proofs.book.Book.handle.Goals as goal
 
 pub returns-clause-fits : goal.returns-clause-fits
 returns-clause-fits c =
-    let a = c.self.inside.state.account in
+    let a = c.self.inside.state.account.account in
     let became = c.step.ensures.step in
-    let fits = step_fits a c.step.new.self.account (step_moment a c.args.now) c.args.message became.answer c.self.invariant.fits c.step.ensures.sound.fits c.requires became.step in
+    let fits = step_fits a c.step.new.self.account.account (step_moment a c.args.now) c.args.message became.answer c.self.invariant.fits c.step.ensures.sound.fits c.requires became.step in
     subst (λ o. IfSome o FitsAnswer) (sym became.is) fits

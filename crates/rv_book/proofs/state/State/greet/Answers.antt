@@ -1,34 +1,79 @@
 -- Which line of the step decides for a hello.
-use Rattle.std.proofs.Common.{sym, ap, refl, ◌∙◌}
-use Rattle.std.specs.Prelude.{Ok, Err}
+use Rattle.std.proofs.Common.{refl}
 use Rattle.rv_text.specs.declared.message.Message.TheVariants.{Hello}
 use Rattle.rv_text.specs.declared.answer.Answer.TheVariants.{Welcome, Refused}
+use Rattle.rv_text.specs.declared.answer.Refusal.TheVariants.{OldIncarnation, ClientsFull}
 use Rattle.rv_book.specs.declared.account.Act as act
-use Rattle.rv_book.proofs.Stepping.{becomes_refused, entered, err_both, err_gives, hello_step, on_ok_both, refused_hello, unentered}
+use Rattle.rv_book.specs.Tables.{account_of}
+use Rattle.rv_book.proofs.Repeating.{hello_again, old_hello, one_client_too_many, new_hello, newer_hello}
+use Rattle.rv_book.proofs.Stepping.{becomes_refused, entered, err_both, on_ok_both, unentered}
 use Rattle.rv_book.proofs.state.State.greet.Goals as goal
 
-pub returns-in_err-is_newer-clause-err : goal.returns-in_err-is_newer-clause-err
-returns-in_err-is_newer-clause-err c =
-    let a = c.args.self.now.account in
-    err_gives c.from_residual.result _ _ c.from_residual.ensures.1
-    (λ refusal is. becomes_refused a a c.args.moment (Hello c.args.client c.args.incarnation) refusal
-    (refused_hello a c.args.moment c.args.client c.args.incarnation c.is_newer.result refusal c.is_newer.ensures (c.in_err-is_newer.was ∙ ap Err (sym is))))
+pub returns-in-Again-clause-ok : goal.returns-in-Again-clause-ok
+returns-in-Again-clause-ok c =
+    let a = account_of c.args.self.now in
+    let t = c.args.self.now.sessions in
+    let are = c.requires.sound.sessions_are in
+    hello_again a t c.args.moment are c.requires.sound.legal c.args.client c.args.incarnation c.in-Again.ensures.means
 
-pub returns-then-branch-clause-ok : goal.returns-then-branch-clause-ok
-returns-then-branch-clause-ok c =
-    let a = c.args.self.now.account in
-    let b = c.admit.new.self.account in
-    let newer = c.in_ok-is_newer.was ∙ ap Ok c.if-branch.true in
+pub returns-in-Older-clause-err : goal.returns-in-Older-clause-err
+returns-in-Older-clause-err c =
+    let a = account_of c.args.self.now in
+    let t = c.args.self.now.sessions in
+    let are = c.requires.sound.sessions_are in
+    becomes_refused a a c.args.moment (Hello c.args.client c.args.incarnation) (OldIncarnation c.in-Older.current)
+    (old_hello a t c.args.moment are c.requires.sound.legal c.args.client c.args.incarnation c.in-Older.current c.in-Older.ensures.means)
+
+pub returns-in-Full-clause-err : goal.returns-in-Full-clause-err
+returns-in-Full-clause-err c =
+    let a = account_of c.args.self.now in
+    let t = c.args.self.now.sessions in
+    let are = c.requires.sound.sessions_are in
+    let means = c.in-Full.ensures.means in
+    becomes_refused a a c.args.moment (Hello c.args.client c.args.incarnation) ClientsFull
+    (one_client_too_many a t c.args.moment are c.requires.sound.legal c.args.client c.args.incarnation means.0 means.1)
+
+pub returns-in-Unknown-clause-ok : goal.returns-in-Unknown-clause-ok
+returns-in-Unknown-clause-ok c =
+    let a = account_of c.args.self.now in
+    let t = c.args.self.now.sessions in
+    let are = c.requires.sound.sessions_are in
+    let b = account_of c.admit.new.self in
+    let welcome = Welcome a.epoch c.args.client c.args.incarnation in
     on_ok_both c.admit.result _ _ _ c.admit.ensures.ok c.admit.ensures.space
-    (λ adds room. hello_step a b c.args.moment c.args.client c.args.incarnation c.is_newer.result (Welcome a.epoch c.args.client c.args.incarnation) c.is_newer.ensures newer
-    (entered a b c.args.moment 1 (act.TheVariants.Hello c.args.client c.args.incarnation) (Welcome a.epoch c.args.client c.args.incarnation) _ room adds refl))
+    (λ adds room. new_hello a t c.args.moment are c.requires.sound.legal b c.args.client c.args.incarnation welcome c.in-Unknown.ensures.means.0 c.in-Unknown.ensures.means.1
+    (entered a b c.args.moment 1 (act.TheVariants.Hello c.args.client c.args.incarnation) welcome _ room adds refl))
 
-pub returns-then-branch-clause-err : goal.returns-then-branch-clause-err
-returns-then-branch-clause-err c =
-    let a = c.args.self.now.account in
-    let b = c.admit.new.self.account in
-    let newer = c.in_ok-is_newer.was ∙ ap Ok c.if-branch.true in
+pub returns-in-Unknown-clause-err : goal.returns-in-Unknown-clause-err
+returns-in-Unknown-clause-err c =
+    let a = account_of c.args.self.now in
+    let t = c.args.self.now.sessions in
+    let are = c.requires.sound.sessions_are in
+    let b = account_of c.admit.new.self in
     err_both c.admit.result _ _ _ c.admit.ensures.err c.admit.ensures.same
     (λ refusal due same. becomes_refused a b c.args.moment (Hello c.args.client c.args.incarnation) refusal
-    (hello_step a b c.args.moment c.args.client c.args.incarnation c.is_newer.result (Refused refusal) c.is_newer.ensures newer
+    (new_hello a t c.args.moment are c.requires.sound.legal b c.args.client c.args.incarnation (Refused refusal) c.in-Unknown.ensures.means.0 c.in-Unknown.ensures.means.1
     (unentered a b c.args.moment 1 (act.TheVariants.Hello c.args.client c.args.incarnation) refusal _ due same)))
+
+pub returns-in-Newer-None-clause-ok : goal.returns-in-Newer-None-clause-ok
+returns-in-Newer-None-clause-ok c =
+    let a = account_of c.args.self.now in
+    let t = c.args.self.now.sessions in
+    let are = c.requires.sound.sessions_are in
+    let b = account_of c.admit-in-Newer-None.new.self in
+    let welcome = Welcome a.epoch c.args.client c.args.incarnation in
+    on_ok_both c.admit-in-Newer-None.result _ _ _ c.admit-in-Newer-None.ensures.ok c.admit-in-Newer-None.ensures.space
+    (λ adds room. newer_hello a t c.args.moment are c.requires.sound.legal b c.args.client c.args.incarnation welcome _ c.in-Newer-None.ensures.means
+    (entered a b c.args.moment 1 (act.TheVariants.Hello c.args.client c.args.incarnation) welcome _ room adds refl))
+
+pub returns-in-Newer-None-clause-err : goal.returns-in-Newer-None-clause-err
+returns-in-Newer-None-clause-err c =
+    let a = account_of c.args.self.now in
+    let t = c.args.self.now.sessions in
+    let are = c.requires.sound.sessions_are in
+    let b = account_of c.admit-in-Newer-None.new.self in
+    err_both c.admit-in-Newer-None.result _ _ _ c.admit-in-Newer-None.ensures.err c.admit-in-Newer-None.ensures.same
+    (λ refusal due same. becomes_refused a b c.args.moment (Hello c.args.client c.args.incarnation) refusal
+    (newer_hello a t c.args.moment are c.requires.sound.legal b c.args.client c.args.incarnation (Refused refusal) _ c.in-Newer-None.ensures.means
+    (unentered a b c.args.moment 1 (act.TheVariants.Hello c.args.client c.args.incarnation) refusal _ due same)))
+

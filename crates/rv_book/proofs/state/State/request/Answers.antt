@@ -1,40 +1,65 @@
 -- Which line of the step decides for a request.
-use Rattle.std.proofs.Common.{sym, ap, ◌∙◌, option_map}
-use Rattle.std.specs.Prelude.{Err}
+use Rattle.std.proofs.Common.{sym, ap, subst, option_map}
+use Rattle.std.proofs.lemmas.Result.{IfOk-weaker, IfErr-weaker}
 use Rattle.rv_text.specs.declared.message.Message.TheVariants.{Request}
 use Rattle.rv_text.specs.declared.answer.Answer.TheVariants.{Replied, Refused}
+use Rattle.rv_text.specs.declared.answer.Refusal.TheVariants.{OtherCall}
 use Rattle.rv_book.specs.declared.account.Act.TheVariants.{Arrive}
 use Rattle.rv_book.specs.Calls.{need_of}
-use Rattle.rv_book.proofs.Stepping.{becomes_refused, entered, err_both, err_gives, is_ok_of, next_request, ok_both, refused_request, request_step, unentered}
+use Rattle.rv_book.specs.Tables.{IsRefused, account_of}
+use Rattle.rv_book.proofs.Repeating.{next_key, refused_key, repeated, repeated_otherwise}
+use Rattle.rv_book.proofs.Stepping.{becomes_refused, entered, err_both, ok_both, unentered}
 use Rattle.rv_book.proofs.state.State.request.Goals as goal
 
-pub returns-in_err-stands-clause-err : goal.returns-in_err-stands-clause-err
-returns-in_err-stands-clause-err c =
-    let a = c.args.self.now.account in
-    err_gives c.from_residual.result _ _ c.from_residual.ensures.1
-    (λ refusal is. becomes_refused a a c.args.moment (Request c.args.key c.args.call) refusal
-    (refused_request a c.args.moment c.args.key c.args.call c.stands.result refusal c.stands.ensures (c.in_err-stands.was ∙ ap Err (sym is))))
+pub returns-in-Refused-clause-err : goal.returns-in-Refused-clause-err
+returns-in-Refused-clause-err c =
+    let a = account_of c.args.self.now in
+    let t = c.args.self.now.sessions in
+    let are = c.requires.sound.sessions_are in
+    becomes_refused a a c.args.moment (Request c.args.key c.args.call) c.in-Refused.refusal
+    (refused_key a t c.args.moment are c.requires.sound.legal c.args.key c.args.call c.in-Refused.refusal c.in-Refused.ensures.means)
 
-pub arrive-requires-clause-next : goal.arrive-requires-clause-next
-arrive-requires-clause-next c = next_request c.args.self.now.account c.args.key c.stands.result c.stands.ensures (is_ok_of c.stands.result _ c.in_ok-stands.was)
+pub returns-in-Settled-clause-ok : goal.returns-in-Settled-clause-ok
+returns-in-Settled-clause-ok c =
+    let a = account_of c.args.self.now in
+    let t = c.args.self.now.sessions in
+    let are = c.requires.sound.sessions_are in
+    IfOk-weaker c.repeat.result _ _
+    (λ again h. repeated a t c.args.moment are c.requires.sound.legal c.args.key c.args.call c.in-Settled.place c.in-Settled.kept again c.in-Settled.ensures.means c.requires.act_fits.0.3.0 h.0 h.1)
+    c.repeat.ensures.ok
 
-pub returns-clause-ok : goal.returns-clause-ok
-returns-clause-ok c =
-    let a = c.args.self.now.account in
-    let b = c.arrive.new.self.account in
+pub returns-in-Settled-clause-err : goal.returns-in-Settled-clause-err
+returns-in-Settled-clause-err c =
+    let a = account_of c.args.self.now in
+    let t = c.args.self.now.sessions in
+    let are = c.requires.sound.sessions_are in
+    IfErr-weaker c.repeat.result _ _
+    (λ refusal h. subst (IsRefused a c.args.moment (Request c.args.key c.args.call) a) (sym h.0)
+    (becomes_refused a a c.args.moment (Request c.args.key c.args.call) OtherCall
+    (repeated_otherwise a t c.args.moment are c.requires.sound.legal c.args.key c.args.call c.in-Settled.place c.in-Settled.kept c.in-Settled.ensures.means c.requires.act_fits.0.3.0 h.1)))
+    c.repeat.ensures.err
+
+pub returns-in-Next-clause-ok : goal.returns-in-Next-clause-ok
+returns-in-Next-clause-ok c =
+    let a = account_of c.args.self.now in
+    let t = c.args.self.now.sessions in
+    let are = c.requires.sound.sessions_are in
+    let b = account_of c.arrive.new.self in
     ok_both c.arrive.result _ _ _ c.arrive.ensures.ok c.arrive.ensures.space
     (λ kept told room. record {
       answer = Replied c.args.key told.reply;
       is = ap (option_map (Replied c.args.key)) told.is;
-      step = request_step a b c.args.moment c.args.key c.args.call c.stands.result (Replied c.args.key told.reply) c.stands.ensures (is_ok_of c.stands.result _ c.in_ok-stands.was)
+      step = next_key a t c.args.moment are c.requires.sound.legal b c.args.key c.args.call (Replied c.args.key told.reply) c.in-Next.ensures.means
           (entered a b c.args.moment (need_of c.args.call) (Arrive c.args.key c.args.call) _ _ room told.adds told.replies);
     })
 
-pub returns-clause-err : goal.returns-clause-err
-returns-clause-err c =
-    let a = c.args.self.now.account in
-    let b = c.arrive.new.self.account in
+pub returns-in-Next-clause-err : goal.returns-in-Next-clause-err
+returns-in-Next-clause-err c =
+    let a = account_of c.args.self.now in
+    let t = c.args.self.now.sessions in
+    let are = c.requires.sound.sessions_are in
+    let b = account_of c.arrive.new.self in
     err_both c.arrive.result _ _ _ c.arrive.ensures.err c.arrive.ensures.same
     (λ refusal due same. becomes_refused a b c.args.moment (Request c.args.key c.args.call) refusal
-    (request_step a b c.args.moment c.args.key c.args.call c.stands.result (Refused refusal) c.stands.ensures (is_ok_of c.stands.result _ c.in_ok-stands.was)
+    (next_key a t c.args.moment are c.requires.sound.legal b c.args.key c.args.call (Refused refusal) c.in-Next.ensures.means
     (unentered a b c.args.moment (need_of c.args.call) (Arrive c.args.key c.args.call) refusal _ due same)))

@@ -8,9 +8,9 @@ use Rattle.rv_book.proofs.state.State.step.Goals as goal
 
 pub returns-in-Ok-clause-step : goal.returns-in-Ok-clause-step
 returns-in-Ok-clause-step c =
-    let a = c.args.self.now.account in
+    let a = c.args.self.now.account.account in
     let welcome = Welcome a.epoch c.in-Hello.client c.in-Hello.incarnation in
-    let b = c.greet.new.self.account in
+    let b = c.greet.new.self.account.account in
     let step = subst (λ moment. NextAt a moment (Hello c.in-Hello.client c.in-Hello.incarnation) b welcome) c.moment_at-moment.ensures.exact c.in-Ok.ensures.ok in
     record {
       answer = welcome;

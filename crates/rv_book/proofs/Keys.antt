@@ -1,0 +1,60 @@
+-- Whose session an act belongs to, and what one more entry leaves of hellos and keys.
+use Rattle.rv_book.specs.Account.{Account, act_at, call_at, call_in, key_at, key_in, with_entry}
+use Rattle.rv_book.specs.declared.account.Act.{Act}
+use Rattle.rv_book.specs.declared.account.Act.TheVariants.{Arrive, Hello}
+use Rattle.rv_text.specs.declared.call.Call.{Call}
+use Rattle.rv_book.specs.declared.account.Entry.{Entry}
+use Rattle.rv_book.specs.Sessions.{HasIncarnation, LastHello, LastNumber, NamesKey, SaidHello}
+use Rattle.rv_text.specs.declared.message.Key.{Key}
+use Rattle.rv_book.specs.Legal.{Legal, before}
+use Rattle.std.proofs.Common.{List, None, Option, Some, [], ap, arith, inl, inr, length, option_and_then, refl, subst, sym, ℕ, ◌++◌, ◌+◌, ◌<◌, ◌∙◌, ◌∷◌, ◌≡◌, ◌≤◌, ◌⊎◌}
+use Rattle.rv_book.proofs.Growing.{act_read, reads_back, reads_on, reads_within}
+use Rattle.rv_book.proofs.Places.{get-append_end}
+use Rattle.std.proofs.lemmas.Option.{none-some, same_Some}
+use Rattle.rv_book.proofs.Numbers.{same_or_not}
+
+abbrev pub key_read : Option Entry → Option Key
+key_read o = option_and_then key_in (act_read o)
+
+-- whose session an act belongs to
+abbrev pub client_of : Act → ℕ
+client_of (Hello client incarnation) = client
+client_of (Arrive key call) = key.client
+
+-- ---- one more entry
+
+pub no_hello : (key : Key) (call : Call) (c i : ℕ) → Some (Arrive key call) ≡ Some (Hello c i) → ⊥
+no_hello key call c i e = cc
+
+pub same_hello : (c i d j : ℕ) → Some (Hello c i) ≡ Some (Hello d j) → c ≡ d
+same_hello c i d j e = cc
+
+-- the entry's own hello, if it is one, is its client's
+pub hello_is_own : (act : Act) (c i : ℕ) → Some act ≡ Some (Hello c i) → client_of act ≡ c
+hello_is_own (Hello d j) c i e = same_hello d j c i e
+hello_is_own (Arrive key call) c i e = absurd (no_hello key call c i e)
+
+-- the key that the entry names is its client's
+pub key_is_own : (act : Act) (key : Key) → key_in act ≡ Some key → client_of act ≡ key.client
+key_is_own (Hello d j) key e = absurd (none-some key e)
+key_is_own (Arrive own call) key e = ap (λ (k : Key). k.client) (same_Some _ _ e)
+
+pub LastHello-on : (es : List Entry) (e : Entry) (c i h : ℕ) → ((j : ℕ) → Some e.act ≡ Some (Hello c j) → ⊥) → LastHello es c i h → LastHello (es ++ e ∷ []) c i h
+LastHello-on es e c i h other last = record {
+  hello = reads_on act_read refl es (e ∷ []) h (Hello c i) last.hello;
+  last = λ r j later hello. elim (reads_back act_read refl es e r (Hello c j) hello) [
+    | inl inside ↦ last.last r j later inside.1
+    | inr own ↦ other j own.1
+  ];
+}
+
+pub NamesKey-on : (es more : List Entry) (c r : ℕ) (key : Key) → NamesKey es c r key → NamesKey (es ++ more) c r key
+NamesKey-on es more c r key h = record { named = reads_on key_read refl es more r key h.named; of_client = h.of_client }
+
+pub NamesKey-back : (es : List Entry) (e : Entry) (c r : ℕ) (key : Key) → NamesKey (es ++ e ∷ []) c r key → NamesKey es c r key ⊎ ((r ≡ length es) × (key_in e.act ≡ Some key))
+NamesKey-back es e c r key h =
+    elim (reads_back key_read refl es e r key h.named) [
+      | inl inside ↦ inl (record { named = inside.1; of_client = h.of_client })
+      | inr own ↦ inr own
+    ]
+

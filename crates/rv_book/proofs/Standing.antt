@@ -1,0 +1,177 @@
+-- From what the table of sessions says of a key or of a client to the line of the step that decides.
+use Rattle.rv_text.specs.declared.message.Message.TheVariants.{Hello, Request}
+use Rattle.rv_text.specs.declared.answer.Refusal as refusal
+use Rattle.rv_text.specs.declared.answer.Answer.TheVariants.{Welcome, Replied, Refused}
+use Rattle.rv_book.specs.declared.account.Act as act
+use Rattle.rv_session.specs.declared.session.Session.{Session}
+use Rattle.rv_session.specs.declared.session.State as state
+use Rattle.rv_session.specs.declared.session.State.{State as StateOf}
+use Rattle.rv_session.specs.declared.kept.Kept.{Kept}
+use Rattle.rv_session.specs.Table.{Table, session_of, session_count, waiting_of, waiting_place}
+use Rattle.rv_book.proofs.Lines.{line_other_epoch, line_no_session, line_old_incarnation, line_old_number, line_last, line_gap}
+use Rattle.rv_session.specs.Meanings.{HasNext, HasLast, RefusalMeans}
+use Rattle.rv_session.proofs.Clients.{clients_of, clients_rise, clients_are, length-clients}
+use Rattle.rv_book.specs.Account.{Account, act_at}
+use Rattle.rv_book.specs.Tables.{AreSessions, IsSessionOf, Stands, last_key}
+use Rattle.rv_text.specs.declared.call.Call.{Call}
+use Rattle.rv_book.specs.Steps.{ClientsFullDue, KeyLines, NumberOf}
+use Rattle.rv_book.specs.Sessions.{HasIncarnation, HasOnlyLower, LastNumber, SaidHello}
+use Rattle.rv_book.specs.Legal.{HasWaiting, Legal}
+use Rattle.rv_book.specs.Arriving.{IsKept, IsNext}
+use Rattle.std.specs.Prelude.{IsSome}
+use Rattle.rv_text.specs.declared.message.Key.{Key}
+use Rattle.std.proofs.Common.{None, Option, Some, ap, arith, inl, inr, option_and_then, refl, subst, sym, ℕ, ◌<◌, ◌∙◌, ◌≡◌, ◌≤◌, ◌⊎◌}
+use Rattle.rv_text.specs.declared.answer.Refusal.{Refusal}
+use Rattle.rv_book.proofs.Histories.{hellos_at_most}
+use Rattle.rv_book.proofs.SessionTable.{known, unknown}
+use Rattle.rv_book.proofs.NotYet.{nobody_waits}
+use Rattle.std.proofs.lemmas.Option.{none-some}
+use Rattle.rv_book.proofs.Counting.{one_number}
+
+-- ---- keys
+
+same_parts : (a b c d e f client : ℕ) → a ≡ b → c ≡ d → e ≡ f
+    → ◌≡◌ {A = Key} (record { epoch = a; client = client; incarnation = c; number = e }) (record { epoch = b; client = client; incarnation = d; number = f })
+same_parts a b c d e f client p q r = cc
+
+module _ (a : Account) (t : Table) (are : AreSessions a t) where
+
+  epoch_is : (key : Key) → key.epoch ≡ t.epoch → key.epoch ≡ a.epoch
+  epoch_is key same = same ∙ are.epoch
+
+  -- a session of the key's incarnation
+  current : (key : Key) (s : Session) → session_of t key.client ≡ Some s → s.incarnation ≡ key.incarnation → HasIncarnation a.entries key.client key.incarnation
+  current key s there same = subst (HasIncarnation a.entries key.client) same (known a t key.client s are there).incarnation
+
+  -- nobody waits, so no session does
+  never_waits : (client place : ℕ) (o : Option Session) → IsSessionOf a client o → option_and_then (λ (s : Session). waiting_place s.state) o ≡ Some place → ⊥
+  never_waits client place None is waits = none-some place waits
+  never_waits client place (Some s) is waits = by_state s.state is.stands waits
+    where
+      by_state : (stands : StateOf) → Stands a client s stands → waiting_place stands ≡ Some place → ⊥
+      by_state state.TheVariants.Fresh is waits = none-some place waits
+      by_state (state.TheVariants.Waits at) is waits = nobody_waits a.entries at is.waits
+      by_state (state.TheVariants.Settled at kept) is waits = none-some place waits
+
+  pub idle : (client place : ℕ) → waiting_of t client ≡ Some place → ⊥
+  idle client place waits = never_waits client place (session_of t client) (are.each client) waits
+
+  -- no request of the client waits in the account
+  unwaiting : (client : ℕ) → HasWaiting a.entries client → ⊥
+  unwaiting client h = nobody_waits a.entries h.place h.waits
+
+  pub is_next : (key : Key) → HasNext t key → IsNext a key
+  is_next key next = record {
+    epoch = epoch_is key next.of_key.epoch;
+    incarnation = current key next.session next.of_key.there next.of_key.incarnation;
+    last = next.session.last;
+    is_last = (known a t key.client next.session are next.of_key.there).number;
+    next = next.number;
+    idle = unwaiting key.client;
+  }
+
+  -- each refusal that the table tells
+  pub refused_lines : (R : Refusal → Type 0) (L G : Type 0) (key : Key) (r : Refusal) → Legal a → RefusalMeans t key r → R r → KeyLines a key R L G
+  refused_lines R L G key (refusal.TheVariants.OtherEpoch epoch) legal is refuses =
+      line_other_epoch R L G a key (λ same. is.0 (same ∙ sym are.epoch ∙ sym is.1)) (subst (λ n. R (refusal.TheVariants.OtherEpoch n)) (is.1 ∙ are.epoch) refuses)
+  refused_lines R L G key refusal.TheVariants.NoSession legal is refuses = line_no_session R L G a key (epoch_is key is.epoch) (lower is.lacks) refuses
+    where
+      lower : (session_of t key.client ≡ None) ⊎ ((s : Session) × (session_of t key.client ≡ Some s) × (s.incarnation < key.incarnation)) → HasOnlyLower a.entries key.client key.incarnation
+      lower (inl none) = λ r earlier hello. absurd (unknown a t key.client are none (r, earlier, hello))
+      lower (inr (s, there, less)) = λ r earlier hello.
+          let most : earlier ≤ s.incarnation = hellos_at_most a key.client s.incarnation r earlier legal (known a t key.client s are there).incarnation hello in
+          omega arith
+  refused_lines R L G key (refusal.TheVariants.OldIncarnation now) legal is refuses =
+      let has = (known a t key.client is.session are is.of_key.there).incarnation in
+      line_old_incarnation R L G a key now (epoch_is key is.of_key.epoch) (subst (HasIncarnation a.entries key.client) (sym is.current_is) has) is.greater refuses
+  refused_lines R L G key (refusal.TheVariants.OldNumber last) legal is refuses =
+      let session = known a t key.client is.session are is.of_key.there in
+      let number = subst (LastNumber a.entries key.client) (sym is.last_is) session.number in
+      line_old_number R L G a key last (epoch_is key is.of_key.epoch) (current key is.session is.of_key.there is.of_key.incarnation) number (old_number is.old) refuses
+    where
+      old_number : (key.number < last) ⊎ ((key.number ≡ last) × (is.session.state ≡ state.TheVariants.Fresh)) → (key.number < last) ⊎ (key.number ≡ 0)
+      old_number (inl below) = inl below
+      old_number (inr (same, fresh)) =
+          let zero_last : is.session.last ≡ 0 = subst (Stands a key.client is.session) fresh (known a t key.client is.session are is.of_key.there).stands in
+          inr (same ∙ is.last_is ∙ zero_last)
+  refused_lines R L G key (refusal.TheVariants.Busy last) legal is refuses = absurd (idle key.client is.place is.waits)
+  refused_lines R L G key (refusal.TheVariants.Gap last) legal is refuses =
+      let session = known a t key.client is.session are is.of_key.there in
+      let number = subst (LastNumber a.entries key.client) (sym is.last_is) session.number in
+      line_gap R L G a key last (epoch_is key is.of_key.epoch) (current key is.session is.of_key.there is.of_key.incarnation) number is.above (unwaiting key.client) refuses
+  refused_lines R L G key refusal.TheVariants.BadText legal is refuses = absurd is
+  refused_lines R L G key refusal.TheVariants.OtherCall legal is refuses = absurd is
+  refused_lines R L G key refusal.TheVariants.ClientsFull legal is refuses = absurd is
+  refused_lines R L G key refusal.TheVariants.EpochFull legal is refuses = absurd is
+  refused_lines R L G key refusal.TheVariants.NoMemory legal is refuses = absurd is
+
+  -- ---- the last number
+
+  -- the key's request arrived here, and this is kept as its reply
+  pub record Settled (key : Key) (place : Option ℕ) (k : Kept) : Type 0 where
+    pub at : ℕ
+    pub is : place ≡ Some at
+    pub call : Call
+    pub arrived : act_at a.entries at ≡ Some (act.TheVariants.Arrive key call)
+    pub kept_is : IsKept a.entries at call k
+
+  pub settled : (key : Key) (place : Option ℕ) (k : Kept) → HasLast t key (state.TheVariants.Settled place k) → Settled key place k
+  settled key place k has =
+      let s = has.session in
+      let stands = subst (Stands a key.client s) has.state (known a t key.client s are has.of_key.there).stands in
+      let epoch : a.epoch ≡ key.epoch = sym (epoch_is key has.of_key.epoch) in
+      let incarnation : s.incarnation ≡ key.incarnation = has.of_key.incarnation in
+      let number : s.last ≡ key.number = sym has.number in
+      let same : ◌≡◌ {A = Key} (last_key a key.client s) key = same_parts _ _ _ _ _ _ key.client epoch incarnation number in
+      record { at = stands.at; is = stands.is; call = stands.call; arrived = stands.arrived ∙ ap (λ k. Some (act.TheVariants.Arrive k stands.call)) same; kept_is = stands.kept_is }
+
+  -- the lines of a key at its session's last number
+  pub last_lines : (R : Refusal → Type 0) (L G : Type 0) (key : Key) (stands : StateOf) → HasLast t key stands → 1 ≤ key.number → L → KeyLines a key R L G
+  last_lines R L G key stands has positive at_last =
+      let number = subst (LastNumber a.entries key.client) (sym has.number) (known a t key.client has.session are has.of_key.there).number in
+      line_last R L G a key (epoch_is key has.of_key.epoch) (current key has.session has.of_key.there has.of_key.incarnation) number positive at_last
+
+  -- ---- clients
+
+  -- the clients that said a hello are those of the table
+  client_number : NumberOf (SaidHello a.entries) (session_count t)
+  client_number = record {
+    places = clients_of t;
+    rising = clients_rise t;
+    are = λ c. (
+      (λ there. said c (session_of t c) (are.each c) ((clients_are t c).0 there)),
+      (λ hello. (clients_are t c).1 (has_session c (session_of t c) (are.each c) hello)),
+    );
+    is = sym (length-clients t);
+  }
+    where
+      said : (c : ℕ) (o : Option Session) → IsSessionOf a c o → IsSome o → SaidHello a.entries c
+      said c None is some = absurd (let no : ⊥ = cc in no)
+      said c (Some s) is some = (is.incarnation.0, s.incarnation, is.incarnation.1.hello)
+      has_session : (c : ℕ) (o : Option Session) → IsSessionOf a c o → SaidHello a.entries c → IsSome o
+      has_session c None is hello = absurd (is hello)
+      has_session c (Some s) is hello = refl
+
+  -- a client that has a session is not new
+  pub not_new : (client : ℕ) (s : Session) → session_of t client ≡ Some s → (r : Refusal) → ClientsFullDue a client r → ⊥
+  not_new client s there r due = let has = (known a t client s are there).incarnation in due.is_new (has.0, s.incarnation, has.1.hello)
+
+  -- where there is room for a client, the clients are not full
+  pub room_for_client : (client : ℕ) → session_count t < 1024 → (r : Refusal) → ClientsFullDue a client r → ⊥
+  room_for_client client room r due =
+      let same : due.clients ≡ session_count t = one_number (SaidHello a.entries) due.clients (session_count t) due.count client_number in
+      let full : 1024 ≤ due.clients = due.full in
+      omega arith
+
+  pub clients_full : (client : ℕ) → session_of t client ≡ None → 1024 ≤ session_count t → ClientsFullDue a client refusal.TheVariants.ClientsFull
+  clients_full client none full = record { is_new = unknown a t client are none; clients = session_count t; count = client_number; full = full; is = refl }
+
+  -- a client with no session said no hello
+  pub none_lower : (client incarnation : ℕ) → session_of t client ≡ None → HasOnlyLower a.entries client incarnation
+  none_lower client incarnation none = λ r earlier hello. absurd (unknown a t client are none (r, earlier, hello))
+
+  -- a newer hello is above all that the client said
+  pub newer_lower : (client incarnation : ℕ) (s : Session) → Legal a → session_of t client ≡ Some s → s.incarnation < incarnation → HasOnlyLower a.entries client incarnation
+  newer_lower client incarnation s legal there lower = λ r earlier hello.
+      let most : earlier ≤ s.incarnation = hellos_at_most a client s.incarnation r earlier legal (known a t client s are there).incarnation hello in
+      omega arith
