@@ -1,7 +1,4 @@
 -- Where an own entry is due, a legal next account exists.
-use Rattle.rv_book.specs.declared.verdict.Kept as kept
-use Rattle.rv_book.specs.declared.verdict.Kept as kept
-use Rattle.rv_text.specs.declared.call.Call.TheVariants.{Put, Take}
 use Rattle.rv_book.specs.Account.{Account, with_entry}
 use Rattle.rv_book.specs.Steps.{Adds, EpochFullDue, HelloLines, KeyLines, RefuseOr, max_entries, own_moment, step_moment}
 use Rattle.rv_book.specs.declared.account.Act.TheVariants.{Arrive, Hello}
@@ -10,9 +7,8 @@ use Rattle.rv_book.specs.Laws.{CanEnter, HellosCanEnter, RequestsCanEnter}
 use Rattle.rv_book.specs.declared.account.Entry.{Entry}
 use Rattle.rv_text.specs.declared.answer.Refusal.TheVariants.{EpochFull}
 use Rattle.rv_book.specs.Sessions.{HasIncarnation, HasOnlyLower}
-use Rattle.rv_book.specs.Arriving.{IsNext, WillReply, entry}
+use Rattle.rv_book.specs.Arriving.{IsNext, entry}
 use Rattle.rv_book.specs.Legal.{KeepsTime, Legal, before}
-use Rattle.rv_book.specs.declared.verdict.Kept.{Kept}
 use Rattle.rv_text.specs.declared.message.Key.{Key}
 use Rattle.rv_book.proofs.Legality.{Legal-with_entry}
 use Rattle.std.proofs.Common.{None, Option, Some, ap, arith, inl, inr, length, option_map, refl, subst, sym, ℕ, ◌+◌, ◌-◌, ◌<◌, ◌∙◌, ◌≡◌, ◌≤◌}
@@ -25,7 +21,7 @@ use Rattle.rv_book.proofs.Lines.{line_again, line_gap, line_newer, line_next, li
 use Rattle.rv_book.proofs.Growing.{moment_read, reads_within}
 use Rattle.rv_book.specs.Calls.{need_of}
 use Rattle.std.proofs.lemmas.Option.{none-some, same_Some, slice_get_cases}
-use Rattle.rv_book.proofs.Replying.{poll_replies, put_replies, recorded, take_replies}
+use Rattle.rv_book.proofs.Replying.{recorded, reply_laws}
 use Rattle.rv_book.proofs.Fronts.{read_front}
 use Rattle.rv_text.specs.Calls.{side_of}
 use Rattle.std.specs.List.{slice_get}
@@ -70,18 +66,12 @@ step_keeps_time a now legal =
 
 -- ---- requests
 
--- what is kept for a call that meets the oldest or finds nobody
-reply_for : (a : Account) (call : Call) (partner : Option ℕ) → (said : Kept) × WillReply a call partner said
-reply_for a (Put queue item) partner = (kept.TheVariants.Done, put_replies a queue item partner)
-reply_for a (Take queue wait) None = (kept.TheVariants.Empty, poll_replies a queue wait)
-reply_for a (Take queue wait) (Some place) = (kept.TheVariants.Item place, take_replies a queue wait place)
-
 enters : (a : Account) (moment : ℕ) (key : Key) (call : Call) → Legal a → KeepsTime a moment → IsNext a key → CanEnter a moment key call
 enters a moment key call legal time next =
     let partner = find_partner a.entries (side_of call) in
     let e = entry moment (Arrive key call) partner.0 in
     let after = Legal-with_entry a e legal (arrival_follows a moment key call partner.0 time next partner.1) in
-    let reply = reply_for a call partner.0 in
+    let reply = (reply_laws call).is_kept a partner.0 in
     let is = recorded a (with_entry a e) moment key call partner.0 reply.0 reply.1 legal after refl in
     record { after = with_entry a e; answer = Replied key is.reply; adds = is.adds; replies = is.replies }
 

@@ -1,7 +1,7 @@
 pub mod Numbers
 pub mod Places
 pub mod Growing
-pub mod Kinds
+pub mod CallKinds
 pub mod NotYet
 pub mod Legality
 pub mod Fronts
@@ -14,8 +14,13 @@ pub mod Lines
 pub mod Deciding
 pub mod OnePartner
 pub mod Leaving
-pub mod Staying
+pub mod Limits
+pub mod ReplyLaws
+pub mod Puts
+pub mod Takes
+pub mod Counting
 pub mod Replying
+pub mod Staying
 pub mod Entering
 pub mod OneStep
 pub mod Fitting

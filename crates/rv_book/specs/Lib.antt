@@ -1,6 +1,7 @@
 -- What a reader must agree with: all that the public contracts and the laws cite.
 pub mod Account
 pub mod Calls
+pub mod Counting
 pub mod Waiting
 pub mod Sessions
 pub mod Legal

@@ -1,6 +1,5 @@
 -- One step of the book: the answer to a message, and which accounts may stand after it.
-use Rattle.std.specs.Prelude.{◌≡◌, ◌≢◌, ◌⊎◌, ◌<◌, ◌≤◌, ◌+◌, ◌-◌, ◌^◌, ◌↔◌, ℕ, List, length, Contains, Some, min, max, unwrap_or}
-use Rattle.std.specs.List.Sorted.{IsStrictlyIncreasing}
+use Rattle.std.specs.Prelude.{◌≡◌, ◌≢◌, ◌⊎◌, ◌<◌, ◌≤◌, ◌+◌, ◌-◌, ◌^◌, ℕ, length, min, max, unwrap_or}
 use Rattle.rv_text.specs.declared.message.Key.{Key}
 use Rattle.rv_text.specs.declared.call.Call.{Call}
 use Rattle.rv_text.specs.declared.message.Message.{Message}
@@ -13,8 +12,9 @@ use Rattle.rv_text.specs.declared.answer.Answer.TheVariants.{Welcome, Replied, R
 use Rattle.rv_book.specs.declared.account.Entry.{Entry}
 use Rattle.rv_book.specs.declared.account.Act.{Act}
 use Rattle.rv_book.specs.declared.account.Act as act
-use Rattle.rv_book.specs.Account.{Account, act_at, moment_at, with_entry}
+use Rattle.rv_book.specs.Account.{Account, moment_at, with_entry}
 use Rattle.rv_book.specs.Calls.{need_of}
+use Rattle.rv_book.specs.Counting.{NumberOf}
 use Rattle.rv_book.specs.Sessions.{HasIncarnation, HasOnlyLower, LastNumber}
 use Rattle.rv_book.specs.Waiting.{Waiting}
 use Rattle.rv_book.specs.Legal.{Legal}
@@ -72,13 +72,6 @@ pub record GapDue (a : Account) (key : Key) (refusal : Refusal) : Type 0 where
 -- the most entries of an epoch
 abbrev pub max_entries : ℕ
 max_entries = 100000
-
--- the places with a property, and no others, number n
-pub record NumberOf (P : ℕ → Type 0) (n : ℕ) : Type 0 where
-  pub places : List ℕ
-  pub rising : IsStrictlyIncreasing places
-  pub are : (r : ℕ) → Contains places r ↔ P r
-  pub is : n ≡ length places
 
 -- the entries, those that the waiting requests may come to need and those that are needed now are more than
 -- 100,000

@@ -1,11 +1,11 @@
 -- The answer that a verdict stands for, in an account that has the places which the verdict keeps.
 use Rattle.std.specs.Prelude.{◌≡◌, ℕ, List, Option, Some, option_map, option_and_then}
 use Rattle.rv_text.specs.declared.answer.Reply.{Reply}
-use Rattle.rv_text.specs.declared.answer.Reply as reply
+use Rattle.rv_text.specs.declared.answer.Reply.TheVariants as reply
 use Rattle.rv_text.specs.declared.answer.Answer.{Answer}
 use Rattle.rv_text.specs.declared.answer.Answer as answer
 use Rattle.rv_book.specs.declared.verdict.Kept.{Kept}
-use Rattle.rv_book.specs.declared.verdict.Kept.TheVariants.{Done, Item, Empty}
+use Rattle.rv_book.specs.declared.verdict.Kept.TheVariants as kept
 use Rattle.rv_book.specs.declared.verdict.Said.{Said}
 use Rattle.rv_book.specs.declared.verdict.Said.TheVariants.{Welcome, Replied, Refused}
 use Rattle.rv_book.specs.declared.verdict.Verdict.{Verdict}
@@ -20,14 +20,14 @@ abbrev pub item_at : List Entry → ℕ → Option (List ℕ)
 item_at entries place = option_and_then item_of (call_at entries place)
 
 abbrev pub reply_of : List Entry → Kept → Option Reply
-reply_of entries Done = Some reply.TheVariants.Done
-reply_of entries (Item place) = option_map reply.TheVariants.Item (item_at entries place)
-reply_of entries Empty = Some reply.TheVariants.Empty
+reply_of entries kept.Done = Some reply.Done
+reply_of entries (kept.Item place) = option_map reply.Item (item_at entries place)
+reply_of entries kept.Empty = Some reply.Empty
 
 abbrev pub answer_of : List Entry → Said → Option Answer
 answer_of entries (Welcome epoch client incarnation) =
     Some (answer.TheVariants.Welcome epoch client incarnation)
-answer_of entries (Replied key kept) = option_map (answer.TheVariants.Replied key) (reply_of entries kept)
+answer_of entries (Replied key told) = option_map (answer.TheVariants.Replied key) (reply_of entries told)
 answer_of entries (Refused refusal) = Some (answer.TheVariants.Refused refusal)
 
 -- what the verdict says in the account

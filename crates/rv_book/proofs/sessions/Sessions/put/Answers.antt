@@ -1,5 +1,5 @@
 -- The client's session stands in the list, and the others are as they were.
-use Rattle.std.proofs.Common.{◌≡◌, ℕ, ◌<◌, List, [], ◌∷◌, ◌++◌, sym, ap, subst, arith, rules}
+use Rattle.std.proofs.Common.{◌≡◌, ◌<◌, List, [], ◌∷◌, ◌++◌, sym, ap, subst, arith, rules}
 use Rattle.std.specs.Prelude.{vec_len, vec_capacity, ◌-◌}
 use Rattle.std.proofs.Math.ListN.{set}
 use Rattle.rv_book.specs.declared.sessions.Session.{Session}
