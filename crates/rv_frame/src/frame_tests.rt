@@ -57,6 +57,18 @@ fn frames_in_all_cuts(rt: HostRuntime) {
 }
 
 #[test]
+fn frames_in_pieces_of_a_size(rt: HostRuntime) -> Result<(), Fail> {
+    for size in 1..TWO_FRAMES.len() + 1 {
+        let mut frames = frames_of_pieces(rt.alloc(), TWO_FRAMES, size)?;
+        gives(&rt, &mut frames, b"A");
+        gives(&rt, &mut frames, b"BC");
+        gives_none(&rt, &mut frames);
+        assert_eq!(rt; frames.rest(), 0);
+    }
+    Ok(())
+}
+
+#[test]
 fn frames_are_taken_between_pieces(rt: HostRuntime) {
     let mut frames = Frames::new(rt.alloc());
     gives_none(&rt, &mut frames);
@@ -98,7 +110,8 @@ fn the_limits_of_a_length(rt: HostRuntime) -> Result<(), Fail> {
         );
     }
     let longest = vec![in rt.alloc(); 7u8; 4096]?;
-    let mut frames = frames_of_pieces(rt.alloc(), b"\x10", b"\x00")?;
+    let mut frames = Frames::new(rt.alloc());
+    assert_eq!(rt; frames.feed(b"\x10\x00"), Ok(()));
     assert_eq!(rt; frames.rest(), 2);
     assert_eq!(rt; frames.feed(&longest), Ok(()));
     assert_eq!(rt; frames.rest(), 0);

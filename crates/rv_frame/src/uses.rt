@@ -94,13 +94,19 @@ pub fn copy_all<R: Read, W: Write>(
     sink.write_all(&all).map_err(CopyFault::Write)
 }
 
-/// Feeds bytes that come in two pieces: the frames are those of the cut of the bytes joined.
-pub fn frames_of_pieces(alloc: Global, first: &[u8], second: &[u8]) -> Result<Frames, FrameFault>
-    ensures { IfOk result (λ frames. Cut (first.now ++ second.now) frames.frames frames.end) }
+/// Feeds the bytes in pieces of this size, the last one as long as it comes: the frames are those of the
+/// cut of all the bytes.
+pub fn frames_of_pieces(alloc: Global, bytes: &[u8], size: usize) -> Result<Frames, FrameFault>
+    requires { 0 < size }
+    ensures { IfOk result (λ frames. Cut bytes.now frames.frames frames.end) }
 {
     laws::fed_is_cut();
     let mut frames = Frames::new(alloc);
-    frames.feed(first)?;
-    frames.feed(second)?;
+    let mut fed = 0;
+    while fed < bytes.len() {
+        let count = size.min(bytes.len() - fed);
+        frames.feed(&bytes[fed..fed + count])?;
+        fed += count;
+    }
     Ok(frames)
 }
