@@ -3,7 +3,7 @@ ghost use Rattle.rv_frame.specs.Cut.{IsBody};
 
 use super::testing::{Stop, TestWriter};
 use super::uses::frames_of_pieces;
-use super::{FrameFault, Frames, Sink, WriteFault, write_frame};
+use super::{FrameFault, Frames, NoMemory, Sink, WriteFault, write_frame};
 use std::alloc::Global;
 use std::io::ErrorKind;
 use std::process::Abort;
@@ -96,6 +96,35 @@ fn a_bad_length_ends_the_frames(rt: HostRuntime) {
         assert_eq!(rt; frames.feed(b"\x00\x01A"), bad);
         gives_none(&rt, &mut frames);
         assert_eq!(rt; frames.rest(), 0);
+    }
+}
+
+// Where memory is refused, the same call once more.
+fn feed_again(frames: &mut Frames, piece: &[u8]) -> Result<(), FrameFault> {
+    match frames.feed(piece) {
+        Err(FrameFault::NoMemory) => frames.feed(piece),
+        answer => answer,
+    }
+}
+
+fn next_again(frames: &mut Frames) -> Result<Option<Vec<u8>>, NoMemory> {
+    match frames.next() {
+        Err(_) => frames.next(),
+        answer => answer,
+    }
+}
+
+// Passes too where any one growth is refused.
+#[test]
+fn a_refused_growth_changes_nothing(rt: HostRuntime) {
+    let mut frames = Frames::new(rt.alloc());
+    assert_eq!(rt; feed_again(&mut frames, b"\x00\x01A\x00"), Ok(()));
+    assert_eq!(rt; feed_again(&mut frames, b"\x02BC\x00\x03DEF\x00"), Ok(()));
+    for body in [b"A".as_slice(), b"BC", b"DEF"] {
+        match next_again(&mut frames) {
+            Ok(Some(taken)) => assert_eq!(rt; taken.as_slice(), body),
+            _ => assert!(rt; false, "no frame"),
+        }
     }
 }
 
