@@ -79,12 +79,15 @@ no_more P n m not_here = same_number (Below P n) (Below P (suc n)) m (λ r. (
 ))
 
 count_below : (P : ℕ → Type 0) → ((r : ℕ) → P r ⊎ (P r → ⊥)) → (n : ℕ) → (m : ℕ) × NumberOf (Below P n) m
-count_below P decide zero = (0, record {
-  places = [];
-  rising = λ k less. absurd (omega arith);
-  are = λ r. ((λ there. absurd (omega arith)), (λ holds. absurd (omega arith)));
-  is = refl;
-})
+count_below P decide zero = (
+  0,
+  record {
+    places = [];
+    rising = λ k less. absurd (omega arith);
+    are = λ r. ((λ there. absurd (omega arith)), (λ holds. absurd (omega arith)));
+    is = refl;
+  },
+)
 count_below P decide (suc n) =
     let before = count_below P decide n in
     elim (decide n) [

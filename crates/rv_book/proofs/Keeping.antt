@@ -69,7 +69,6 @@ same_partner old new (Looks queue) same = refl
 
 -- between the entry and the tables: the old state, the state that has the entry, and the state whose tables know of it
 module _ (old mid new : State) (moment : ℕ) (untouched : new.account ≡ mid.account) where
-
   pub sound_arrival : (key : Key) (call : Call) (partner : Option ℕ) → Comes old moment (Arrive key call) → IsNext old.account key → partner ≡ partner_on old.queues (side_of call)
       → IsEntered old mid moment (Arrive key call) partner → ArrivedOn mid.queues new.queues (side_of call) (length old.account.entries)
       → Replaces mid.sessions.listed new.sessions.listed (session_after key) → IsSound new

@@ -11,7 +11,6 @@ pub mod Limits
 pub mod Verdicts
 pub mod Order
 pub mod Laws
-
 -- What only private clauses and proofs cite.
 pub mod Views
 pub mod Known

@@ -30,7 +30,10 @@ impl Session {
     /// The key's session, once its request has come.
     pub(crate) fn after(key: &Key) -> Session
         ensures { result ≡ record {
-            client = key.now.client; incarnation = key.now.incarnation; last = key.now.number } }
+          client = key.now.client;
+          incarnation = key.now.incarnation;
+          last = key.now.number;
+        } }
     {
         Session {
             client: key.client,

@@ -18,7 +18,7 @@ returns-clause-sound c =
     let replaces = subst (Replaces mid.sessions.listed c.put.new.self.listed) c.after.ensures c.put.ensures in
     let partner = subst (λ side. c.partner-partner.result ≡ partner_on old.queues side) c.side-side.ensures c.partner-partner.ensures in
     let arrived = subst (λ side. ArrivedOn mid.queues c.arrive.new.self side (length old.account.entries)) c.side-side.ensures
-        (subst (ArrivedOn mid.queues c.arrive.new.self c.side-side.result) c.len-place.ensures c.arrive.ensures) in
+    (subst (ArrivedOn mid.queues c.arrive.new.self c.side-side.result) c.len-place.ensures c.arrive.ensures) in
     sound_arrival old mid new c.args.moment refl c.args.key c.args.call c.partner-partner.result c.requires.comes c.requires.next partner c.in_ok-enter.ensures.ok arrived replaces
 
 pub returns-clause-ok : goal.returns-clause-ok
