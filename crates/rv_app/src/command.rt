@@ -14,6 +14,7 @@ ghost use Rattle.clap.specs.declared.error.ErrorKind.TheVariants.{OutOfMemory};
 use crate::number::read_number;
 use clap::error::ErrorKind;
 use clap::{Arg, ArgAction, ArgMatches};
+use rv_text::MAX_IDENTIFIER;
 use std::alloc::{AllocError, Global};
 use thiserror::Error;
 
@@ -56,9 +57,6 @@ impl From<clap::Error> for CommandFault {
         }
     }
 }
-
-// The largest identifier.
-const MAX_IDENTIFIER: u64 = 9_007_199_254_740_991;
 
 /// The command that the words name, as `clap` reads them. The first word is the program's name. A
 /// number is 1 to 19 ASCII digits, read in decimal.

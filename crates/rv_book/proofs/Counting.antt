@@ -1,13 +1,19 @@
--- How many numbers have a property: that there is such a number, and one alone.
-use Rattle.std.proofs.Common.{◌≡◌, ◌⊎◌, inl, inr, ℕ, zero, suc, ◌+◌, ◌-◌, ◌<◌, ◌≤◌, List, [], ◌∷◌, ◌++◌, length, Some, refl, sym, ap, subst, ◌∙◌, arith}
+-- How many places have a property: that there is such a number, that there is one alone, how great it can be, and how a list tells it.
+use Rattle.std.proofs.Common.{◌≡◌, ◌⊎◌, inl, inr, ℕ, zero, suc, ◌+◌, ◌-◌, ◌<◌, ◌≤◌, List, [], ◌∷◌, ◌++◌, length, Some, refl, ap, subst, ◌∙◌, arith}
 use Rattle.std.specs.Prelude.{◌↔◌, Contains}
-use Rattle.std.specs.List.{slice_index}
+use Rattle.std.specs.List.{slice_get, slice_index}
 use Rattle.std.specs.List.Sorted.{IsStrictlyIncreasing}
 use Rattle.std.proofs.lemmas.Bool.{cases_lt}
 use Rattle.std.proofs.lemmas.List.{get_or_append_left, get_or_default, get_or_push, length_push}
 use Rattle.std.proofs.lemmas.List.Elements.{Contains-append_left, Contains-get_or, Contains-push, Contains-push_cases}
 use Rattle.std.proofs.lemmas.List.Kept.{AllPairs-from_increasing}
-use Rattle.rv_book.specs.Steps.{NumberOf}
+use Rattle.std.proofs.lemmas.Option.{get_or_from_slice_get, slice_get-get_or}
+use Rattle.rv_text.specs.declared.call.Side.{Side}
+use Rattle.rv_book.specs.declared.account.Entry.{Entry}
+use Rattle.rv_book.specs.Counting.{NumberOf}
+use Rattle.rv_book.specs.Tables.{IsLine}
+use Rattle.rv_book.specs.Waiting.{OpenAt}
+use Rattle.rv_book.proofs.Places.{within}
 
 -- ---- a property that has the same places
 
@@ -73,12 +79,15 @@ no_more P n m not_here = same_number (Below P n) (Below P (suc n)) m (λ r. (
 ))
 
 count_below : (P : ℕ → Type 0) → ((r : ℕ) → P r ⊎ (P r → ⊥)) → (n : ℕ) → (m : ℕ) × NumberOf (Below P n) m
-count_below P decide zero = (0, record {
-  places = [];
-  rising = λ k less. absurd (omega arith);
-  are = λ r. ((λ there. absurd (omega arith)), (λ holds. absurd (omega arith)));
-  is = refl;
-})
+count_below P decide zero = (
+  0,
+  record {
+    places = [];
+    rising = λ k less. absurd (omega arith);
+    are = λ r. ((λ there. absurd (omega arith)), (λ holds. absurd (omega arith)));
+    is = refl;
+  },
+)
 count_below P decide (suc n) =
     let before = count_below P decide n in
     elim (decide n) [
@@ -143,3 +152,42 @@ one_number P m n first second =
     let most : m ≤ n = number_at_most P P m n (λ r holds. holds) first second in
     let least : n ≤ m = number_at_most P P n m (λ r holds. holds) second first in
     omega arith
+
+-- in numbers that rise, each is no less than its index
+index_at_most : (places : List ℕ) → IsStrictlyIncreasing places → (k : ℕ) → k < length places → k ≤ slice_index places k
+index_at_most places rising zero inside = omega arith
+index_at_most places rising (suc k) inside =
+    let so_far : k ≤ slice_index places k = index_at_most places rising k (omega arith) in
+    let rises : slice_index places k < slice_index places (suc k) = later_is_greater places k (suc k) rising (omega arith) inside in
+    omega arith
+
+-- places that all stand below n are at most n
+pub number_below : (P : ℕ → Type 0) (m n : ℕ) → ((r : ℕ) → P r → r < n) → NumberOf P m → m ≤ n
+number_below P m n bound count =
+    let is : m ≡ length count.places = count.is in
+    elim (cases_lt 0 m) [
+      | inr none ↦ omega arith
+      | inl some ↦
+          let k : ℕ = m - 1 in
+          let inside : k < length count.places = omega arith in
+          let least : k ≤ slice_index count.places k = index_at_most count.places count.rising k inside in
+          let less : slice_index count.places k < n = bound (slice_index count.places k) ((count.are (slice_index count.places k)).0 (Contains-get_or count.places k 0 inside)) in
+          omega arith
+    ]
+
+-- ---- from a line to a number
+
+-- a side's line has as many places as the side has open arrivals
+pub line_number : (es : List Entry) (side : Side) (places : List ℕ) → IsLine es side places → NumberOf (OpenAt es side) (length places)
+line_number es side places line = record {
+  places = places;
+  rising = λ k less.
+      let here : slice_get places k ≡ Some (slice_index places k) = slice_get-get_or places k 0 (omega arith) in
+      let next : slice_get places (k + 1) ≡ Some (slice_index places (k + 1)) = slice_get-get_or places (k + 1) 0 less in
+      line.rising k (k + 1) (slice_index places k) (slice_index places (k + 1)) (omega arith) here next;
+  are = λ r. (
+    (λ there. line.are there.0 r (slice_get-get_or places there.0 r there.1 ∙ ap Some there.2)),
+    (λ opened. let there = line.each r opened in (there.0, within places there.0 r there.1, get_or_from_slice_get places there.0 r r there.1)),
+  );
+  is = refl;
+}

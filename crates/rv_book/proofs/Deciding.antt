@@ -15,7 +15,6 @@ use Rattle.rv_text.specs.declared.call.Side.{Side}
 use Rattle.rv_text.specs.declared.call.Wait.{Wait}
 use Rattle.rv_book.specs.Account.{act_at, call_at, key_at, partner_at}
 use Rattle.rv_book.proofs.Growing.{act_read, call_read, reads_within}
-use Rattle.rv_book.specs.Legal.{before}
 use Rattle.std.proofs.lemmas.Bool.{cases_lt}
 use Rattle.rv_book.proofs.Numbers.{first_below, last_below, same_or_not}
 use Rattle.std.specs.Prelude.{is_some}
@@ -23,7 +22,7 @@ use Rattle.rv_book.proofs.Keys.{key_read, client_of, hello_is_own}
 use Rattle.std.proofs.lemmas.Option.{none-some, same_Some}
 use Rattle.rv_text.specs.Calls.{side_of, wait_of}
 use Rattle.rv_book.proofs.NotYet.{unstopped}
-use Rattle.rv_book.specs.Steps.{NumberOf}
+use Rattle.rv_book.specs.Counting.{NumberOf}
 use Rattle.rv_book.proofs.Counting.{find_number}
 
 -- ---- sessions
@@ -234,7 +233,7 @@ open_of es side r call arrived is = elim (stays_or_not call) [
   ]
 ]
 
-open_by : (es : List Entry) (side : Side) (r : ℕ) (c : Option Call) → call_at es r ≡ c → OpenAt es side r ⊎ (OpenAt es side r → ⊥)
+pub open_by : (es : List Entry) (side : Side) (r : ℕ) (c : Option Call) → call_at es r ≡ c → OpenAt es side r ⊎ (OpenAt es side r → ⊥)
 open_by es side r None calls = inr (λ h. none-some h.of_side.call (sym calls ∙ h.of_side.arrived))
 open_by es side r (Some call) calls = elim (same_side (side_of call) side) [
   | inl same ↦ open_of es side r call calls same

@@ -22,7 +22,7 @@ use Rattle.rv_book.proofs.Lines.{line_again, line_gap, line_newer, line_next, li
 use Rattle.rv_book.proofs.Growing.{moment_read, reads_within, act_read, call_read, read_there}
 use Rattle.rv_book.specs.Calls.{need_of, Stays, opposite}
 use Rattle.std.proofs.lemmas.Option.{none-some, same_Some, slice_get_cases}
-use Rattle.rv_book.proofs.Replying.{poll_replies, put_replies, recorded, take_replies, takes_meet_givers}
+use Rattle.rv_book.proofs.Replying.{reply_laws, recorded}
 use Rattle.rv_book.proofs.Fronts.{read_front, read_whole}
 use Rattle.rv_text.specs.Calls.{side_of}
 use Rattle.std.specs.List.{slice_get}
@@ -85,30 +85,6 @@ step_keeps_time a now legal =
       since = λ r moment there. let most : moment ≤ own_moment a = own.since r moment there in omega arith;
     }
 
--- ---- the reply of an arrival
-
--- what gives the taking arrival its item, if it is met
-taken : (a : Account) (r queue : ℕ) (wait : Wait) → Legal a → call_at a.entries r ≡ Some (Take queue wait) → (Stays (Take queue wait) → ⊥) → Met a.entries r → (item : List ℕ) × Gets a.entries r item
-taken a r queue wait legal arrived goes met = elim met.part [
-  | inr named ↦ absurd (goes_unnamed a met.later r (Take queue wait) legal arrived goes (subst (NamesPartner a.entries met.later) (sym named) met.names))
-  | inl own ↦
-      let names = subst (λ p. NamesPartner a.entries p met.earlier) (sym own) met.names in
-      let partner = partner_open a r met.earlier legal names in
-      let takes : names.call ≡ Take queue wait = same_Some _ _ (sym names.arrived ∙ arrived) in
-      let side : partner.side ≡ Gives queue = takes_meet_givers queue partner.side (subst (λ c. opposite (side_of c) ≡ Some partner.side) takes partner.opposes) in
-      let giver = partner.there.of_side in
-      let gives = gives_item giver.call queue (giver.is ∙ side) in
-      let whole = read_whole call_read refl a.entries r met.earlier giver.call giver.arrived in
-      (gives.0, record { giver = met.earlier; call = giver.call; meet = inr names; arrived = whole.1; hands_over = gives.1 })
-]
-
-has_reply : (a : Account) (r : ℕ) (call : Call) → Legal a → call_at a.entries r ≡ Some call → (reply : Reply) × RepliesAt a.entries r call reply
-has_reply a r (Put queue item) legal arrived = (Done, refl)
-has_reply a r (Take queue Now) legal arrived = elim (met_or_not a.entries r) [
-  | inl met ↦ let item = taken a r queue Now legal arrived (λ stays. stays.1) met in (Item item.0, inl (item.0, item.1, refl))
-  | inr unmet ↦ (Empty, inr (unmet, refl))
-]
-
 -- ---- the arrival of a session's last number
 
 act_named : (o : Option Act) (key : Key) → option_and_then key_in o ≡ Some key → (call : Call) × (o ≡ Some (Arrive key call))
@@ -155,18 +131,12 @@ last_arrival a key legal epoch has is positive = elim is.reached [
 ]
 -- ---- requests
 
--- what is kept for a call that meets the oldest or finds nobody
-reply_for : (a : Account) (call : Call) (partner : Option ℕ) → (said : Kept) × WillReply a call partner said
-reply_for a (Put queue item) partner = (kept.TheVariants.Done, put_replies a queue item partner)
-reply_for a (Take queue wait) None = (kept.TheVariants.Empty, poll_replies a queue wait)
-reply_for a (Take queue wait) (Some place) = (kept.TheVariants.Item place, take_replies a queue wait place)
-
 enters : (a : Account) (moment : ℕ) (key : Key) (call : Call) → Legal a → KeepsTime a moment → IsNext a key → CanEnter a moment key call
 enters a moment key call legal time next =
     let partner = find_partner a.entries (side_of call) in
     let e = entry moment (Arrive key call) partner.0 in
     let after = Legal-with_entry a e legal (arrival_follows a moment key call partner.0 time next partner.1) in
-    let reply = reply_for a call partner.0 in
+    let reply = (reply_laws call).is_kept a partner.0 in
     let is = recorded a (with_entry a e) moment key call partner.0 reply.0 reply.1 legal after refl in
     record { after = with_entry a e; answer = Replied key is.reply; adds = is.adds; replies = is.replies }
 
@@ -188,7 +158,7 @@ at_last : (a : Account) (key : Key) (call : Call) → Legal a → Arrived a key 
 at_last a key call legal there = elim (same_call there.call call) [
   | inr differs ↦ inl (record { refusal = OtherCall; is_due = record { place = there.place; other = there.call; arrived = there.arrived; differs = differs; is = refl }; refuses_it = tt })
   | inl same ↦
-      let reply = has_reply a there.place there.call legal (ap (option_and_then call_in) there.arrived) in
+      let reply = (reply_laws there.call).exists a there.place legal (ap (option_and_then call_in) there.arrived) in
       let has : HasReply a.entries key reply.0 = record { place = there.place; call = there.call; arrived = there.arrived; replies = reply.1 } in
       inr (no_other_call a key call there legal same, (Replied key reply.0, record { reply = reply.0; has = has; is = refl }))
 ]

@@ -1,54 +1,26 @@
 -- What a step answers is within the limits, where its message and its account are.
 use Rattle.rv_book.specs.declared.account.Act as act
 use Rattle.rv_text.specs.declared.message.Message.TheVariants.{Hello, Request}
-use Rattle.rv_text.specs.declared.call.Call.TheVariants.{Put, Take}
-use Rattle.rv_text.proofs.Kept.{item_fits}
-use Rattle.rv_book.specs.Account.{Account, act_at, call_in, key_in}
+use Rattle.rv_book.specs.Account.{Account, act_at, key_in}
 use Rattle.rv_book.specs.declared.account.Act.{Act}
 use Rattle.rv_text.specs.declared.answer.Answer.{Answer}
-use Rattle.rv_text.specs.declared.call.Call.{Call}
-use Rattle.rv_text.specs.declared.answer.Reply.TheVariants.{Empty}
 use Rattle.rv_book.specs.Steps.{EntersOrNoMemory, EpochFullDue, GapDue, NextAt, NoSessionDue, OldIncarnationDue, OldNumberDue, OtherEpochDue, RefuseOr, Refuses, Replies, BusyDue, ClientsFullDue, OtherCallDue}
-use Rattle.rv_book.specs.declared.account.Entry.{Entry}
-use Rattle.rv_book.specs.Limits.{FitsAccount, FitsAct}
-use Rattle.rv_text.specs.Limits.{FitsAnswer, FitsCall, FitsIdentifier, FitsItem, FitsKey, FitsLast, FitsMessage, FitsRefusal, FitsReply}
-use Rattle.rv_book.specs.Replies.{Gets, RepliesAt, RepliesUnmet}
+use Rattle.rv_book.specs.Limits.{FitsAccount}
+use Rattle.rv_text.specs.Limits.{FitsAnswer, FitsIdentifier, FitsKey, FitsLast, FitsMessage, FitsRefusal}
 use Rattle.rv_book.specs.Sessions.{HasIncarnation, LastNumber}
 use Rattle.rv_text.specs.declared.message.Key.{Key}
-use Rattle.std.proofs.Common.{List, None, Option, Some, arith, inl, inr, option_and_then, refl, subst, sym, ℕ, ◌≡◌, ◌≤◌}
+use Rattle.std.proofs.Common.{arith, inl, inr, subst, sym, ℕ, ◌≡◌, ◌≤◌}
 use Rattle.rv_text.specs.declared.message.Message.{Message}
-use Rattle.rv_text.specs.declared.call.Wait.TheVariants.{Now}
 use Rattle.rv_text.specs.declared.answer.Refusal.{Refusal}
+use Rattle.rv_book.proofs.Limits.{act_fits, act_there, key_of_act}
 use Rattle.rv_book.proofs.Lines.{RefuseOr-elim, WhereElse-elim}
-use Rattle.rv_text.specs.declared.answer.Reply.{Reply}
-use Rattle.rv_text.specs.declared.call.Wait.{Wait}
+use Rattle.rv_book.proofs.Replying.{reply_laws}
 use Rattle.rv_text.specs.declared.answer.Answer.TheVariants.{Welcome}
-use Rattle.rv_book.proofs.Growing.{act_read, read_there}
 use Rattle.rv_book.specs.Legal.{before}
-use Rattle.rv_book.specs.Arriving.{entry}
-use Rattle.rv_text.specs.Calls.{item_of}
-use Rattle.std.proofs.lemmas.Option.{none-some, same_Some}
-use Rattle.std.specs.List.{slice_get}
+use Rattle.rv_text.specs.declared.call.Call.{Call}
 use Rattle.rv_book.proofs.NotYet.{nobody_waits}
 
 -- ---- what stands in an account fits
-
-act_fits : (a : Account) (r : ℕ) (does : Act) → FitsAccount a → act_at a.entries r ≡ Some does → FitsAct does
-act_fits a r does fits there =
-    let entry = read_there act_read refl (slice_get a.entries r) does there in
-    subst FitsAct (same_Some _ _ entry.2) (fits.entries r entry.0 entry.1).1
-
-key_of_act : (does : Act) (key : Key) → FitsAct does → key_in does ≡ Some key → FitsKey key
-key_of_act (act.TheVariants.Hello client incarnation) key fits is = absurd (none-some key is)
-key_of_act (act.TheVariants.Arrive other call) key fits is = subst FitsKey (same_Some _ _ is) fits.0
-
-call_of_act : (does : Act) (call : Call) → FitsAct does → call_in does ≡ Some call → FitsCall call
-call_of_act (act.TheVariants.Hello client incarnation) call fits is = absurd (none-some call is)
-call_of_act (act.TheVariants.Arrive key other) call fits is = subst FitsCall (same_Some _ _ is) fits.1
-
-act_there : {B : Type 0} (f : Act → Option B) (o : Option Act) (y : B) → option_and_then f o ≡ Some y → (does : Act) × (o ≡ Some does) × (f does ≡ Some y)
-act_there f None y h = absurd (none-some y h)
-act_there f (Some does) y h = (does, refl, h)
 
 incarnation_fits : (a : Account) (client current : ℕ) → FitsAccount a → HasIncarnation a.entries client current → FitsIdentifier current
 incarnation_fits a client current fits has = (act_fits a has.0 (act.TheVariants.Hello client current) fits has.1.hello).1
@@ -64,23 +36,10 @@ last_fits a client last fits is = elim is.reached [
       omega arith
 ]
 
-given_fits : (a : Account) (r : ℕ) (item : List ℕ) → FitsAccount a → Gets a.entries r item → FitsItem item
-given_fits a r item fits gets =
-    let does = act_there call_in (act_at a.entries gets.giver) gets.call gets.arrived in
-    item_fits gets.call item (call_of_act does.0 gets.call (act_fits a gets.giver does.0 fits does.1) does.2) gets.hands_over
-
-unmet_fits : (wait : Wait) (es : List Entry) (r : ℕ) (reply : Reply) → RepliesUnmet es r wait Empty reply → FitsReply reply
-unmet_fits Now es r reply is = subst FitsReply (sym is) tt
-
-reply_fits : (a : Account) (r : ℕ) (call : Call) (reply : Reply) → FitsAccount a → RepliesAt a.entries r call reply → FitsReply reply
-reply_fits a r (Put queue item) reply fits is = subst FitsReply (sym is) tt
-reply_fits a r (Take queue wait) reply fits (inl gets) = subst FitsReply (sym gets.2) (given_fits a r gets.0 fits gets.1)
-reply_fits a r (Take queue wait) reply fits (inr unmet) = unmet_fits wait a.entries r reply unmet.1
-
 -- ---- what a step answers fits
 
 replied_fits : (b : Account) (key : Key) (x : Answer) → FitsAccount b → FitsKey key → Replies b key x → FitsAnswer x
-replied_fits b key x fits key_fits told = subst FitsAnswer (sym told.is) (key_fits, reply_fits b told.has.place told.has.call told.reply fits told.has.replies)
+replied_fits b key x fits key_fits told = subst FitsAnswer (sym told.is) (key_fits, (reply_laws told.has.call).fits b told.has.place told.reply fits told.has.replies)
 
 entered_fits : (a b : Account) (moment : ℕ) (does : Act) (x : Answer) (G : Type 0) → (G → FitsAnswer x) → EntersOrNoMemory a moment does b x G → FitsAnswer x
 entered_fits a b moment does x G answers (inl refuses) = subst FitsAnswer (sym refuses.1) tt

@@ -3,7 +3,7 @@ use Rattle.rv_book.specs.Account.{Account, partner_at}
 use Rattle.rv_book.specs.declared.account.Entry.{Entry}
 use Rattle.rv_text.specs.declared.call.Side.TheVariants.{Gives}
 use Rattle.rv_book.specs.Laws.{ItemsLeaveInOrder}
-use Rattle.rv_book.specs.Legal.{Legal, before}
+use Rattle.rv_book.specs.Legal.{Legal}
 use Rattle.std.proofs.Common.{List, ap, arith, inl, inr, subst, sym, take, ℕ, ◌<◌, ◌∙◌, ◌≡◌}
 use Rattle.rv_book.specs.Waiting.{NamesPartner, OpenAt, SideAt}
 use Rattle.rv_book.specs.Order.{PairAt}

@@ -12,11 +12,10 @@ use Rattle.rv_book.specs.declared.account.Entry.{Entry}
 use Rattle.rv_book.specs.declared.account.Act.{Act}
 use Rattle.rv_book.specs.declared.account.Act.TheVariants.{Hello, Arrive}
 use Rattle.rv_book.specs.Account.{call_at, call_in}
-use Rattle.rv_book.specs.Arriving.{need_for}
 use Rattle.rv_book.specs.Calls.{IsPut, Lasts, Stays, need_by, need_of}
 use Rattle.rv_book.specs.Legal.{KeepsLimits}
-use Rattle.rv_book.specs.Steps.{NumberOf}
-use Rattle.rv_book.specs.Waiting.{OpenAt, StoppedAt, Waiting}
+use Rattle.rv_book.specs.Counting.{NumberOf}
+use Rattle.rv_book.specs.Waiting.{StoppedAt, Waiting}
 
 -- ---- who gives never waits, and who takes goes at once
 

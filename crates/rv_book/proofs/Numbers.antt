@@ -1,5 +1,5 @@
 -- What is decided of numbers: whether two are the same, and the least and the greatest number below a bound with a property.
-use Rattle.std.proofs.Common.{◌≡◌, ◌⊎◌, inl, inr, ℕ, zero, suc, ◌<◌, refl, subst, arith}
+use Rattle.std.proofs.Common.{◌≡◌, ◌⊎◌, inl, inr, ℕ, zero, suc, ◌<◌, subst, arith}
 use Rattle.std.proofs.lemmas.Bool.{cases_order, cases_lt}
 
 pub same_or_not : (m n : ℕ) → (m ≡ n) ⊎ (m ≡ n → ⊥)

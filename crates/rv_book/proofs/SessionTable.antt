@@ -17,11 +17,12 @@ use Rattle.rv_book.specs.Legal.{Legal, before}
 use Rattle.std.proofs.Common.{List, None, Option, Some, [], ap, arith, inl, inr, length, option_and_then, refl, subst, sym, ℕ, ◌++◌, ◌+◌, ◌<◌, ◌∙◌, ◌∷◌, ◌≡◌, ◌≤◌, ◌⊎◌}
 use Rattle.rv_book.proofs.Growing.{act_read, reads_back, reads_on, reads_within}
 use Rattle.rv_book.proofs.Places.{get-append_end}
-use Rattle.rv_book.proofs.Staying.{kept_stays, replies_on}
+use Rattle.rv_book.proofs.Staying.{kept_stays}
 use Rattle.rv_book.proofs.NotYet.{nobody_waits}
 use Rattle.std.proofs.lemmas.Option.{none-some, same_Some}
 use Rattle.rv_book.proofs.Numbers.{same_or_not}
 use Rattle.rv_book.proofs.Keys.{LastHello-on, NamesKey-back, NamesKey-on, client_of, hello_is_own, key_is_own, key_read, no_hello}
+use Rattle.rv_book.proofs.Replying.{reply_laws}
 
 -- the session of the client has this incarnation and this last number
 pub record IsAt (es : List Entry) (c i n : ℕ) : Type 0 where
@@ -96,7 +97,7 @@ IsKept-on : (a : Account) (e : Entry) (r : ℕ) (call : Call) (k : Kept) → Leg
 IsKept-on a e r call k legal arrived is = record {
   reply = is.reply;
   is = kept_stays a (with_entry a e) k is.reply (record { epoch = refl; opened = refl; more = e ∷ []; entries = refl }) is.is;
-  replies = replies_on a.entries (e ∷ []) a.epoch a.opened r call is.reply legal arrived is.replies;
+  replies = (reply_laws call).stays a.entries (e ∷ []) a.epoch a.opened r is.reply legal arrived is.replies;
 }
 
 Stands-on : (a : Account) (e : Entry) (client : ℕ) (s : Session) (stands : StateOf) → Legal (with_entry a e) → Stands a client s stands → Stands (with_entry a e) client s stands

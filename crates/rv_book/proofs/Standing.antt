@@ -1,4 +1,5 @@
 -- From what the table of sessions says of a key or of a client to the line of the step that decides.
+use Rattle.rv_book.specs.Counting.{NumberOf}
 use Rattle.rv_text.specs.declared.message.Message.TheVariants.{Hello, Request}
 use Rattle.rv_text.specs.declared.answer.Refusal as refusal
 use Rattle.rv_text.specs.declared.answer.Answer.TheVariants.{Welcome, Replied, Refused}
@@ -14,7 +15,7 @@ use Rattle.rv_session.proofs.Clients.{clients_of, clients_rise, clients_are, len
 use Rattle.rv_book.specs.Account.{Account, act_at}
 use Rattle.rv_book.specs.Tables.{AreSessions, IsSessionOf, Stands, last_key}
 use Rattle.rv_text.specs.declared.call.Call.{Call}
-use Rattle.rv_book.specs.Steps.{ClientsFullDue, KeyLines, NumberOf}
+use Rattle.rv_book.specs.Steps.{ClientsFullDue, KeyLines}
 use Rattle.rv_book.specs.Sessions.{HasIncarnation, HasOnlyLower, LastNumber, SaidHello}
 use Rattle.rv_book.specs.Legal.{HasWaiting, Legal}
 use Rattle.rv_book.specs.Arriving.{IsKept, IsNext}

@@ -5,35 +5,31 @@ use Rattle.rv_book.specs.declared.account.Act as act
 use Rattle.rv_session.specs.declared.kept.Kept as kept
 use Rattle.rv_book.specs.declared.verdict.Said as said
 use Rattle.rv_text.specs.declared.message.Message.TheVariants.{Hello, Request}
-use Rattle.rv_text.specs.declared.call.Call.TheVariants.{Put, Take}
-use Rattle.rv_book.specs.Account.{Account, Extends, act_at, call_at, call_in}
+use Rattle.rv_book.specs.Account.{Account, Extends, act_at, call_in}
 use Rattle.rv_book.specs.declared.account.Act.{Act}
 use Rattle.rv_book.specs.Steps.{Adds, EntersOrNoMemory, NextAt, Refuses, Replies}
 use Rattle.rv_text.specs.declared.answer.Answer.{Answer}
 use Rattle.rv_text.specs.declared.call.Call.{Call}
 use Rattle.rv_book.specs.declared.account.Entry.{Entry}
-use Rattle.rv_book.specs.Replies.{Gets, HasReply, Meet, RepliesAt, RepliesUnmet}
+use Rattle.rv_book.specs.Replies.{HasReply, RepliesAt}
 use Rattle.rv_session.specs.declared.kept.Kept.{Kept}
 use Rattle.rv_text.specs.declared.message.Key.{Key}
 use Rattle.rv_book.specs.Legal.{Legal, before}
-use Rattle.std.proofs.Common.{List, None, Option, Some, [], ap, append-nil, inl, inr, length, option_and_then, option_map, refl, subst, sym, ℕ, ◌++◌, ◌<◌, ◌∙◌, ◌∷◌, ◌≡◌}
+use Rattle.std.proofs.Common.{List, None, Option, Some, [], ap, append-nil, inl, inr, option_and_then, option_map, refl, subst, sym, ℕ, ◌++◌, ◌∙◌, ◌∷◌, ◌≡◌}
 use Rattle.rv_text.specs.declared.message.Message.{Message}
-use Rattle.rv_book.specs.Waiting.{Met, NamesPartner}
-use Rattle.rv_book.proofs.Growing.{NamesPartner-on, act_read, call_read, partner_read, reads_on, reads_within}
-use Rattle.rv_text.specs.declared.call.Wait.TheVariants.{Now}
+use Rattle.rv_book.proofs.Growing.{act_read, call_read, reads_on}
 use Rattle.rv_text.specs.declared.answer.Refusal.{Refusal}
 use Rattle.rv_book.proofs.Lines.{RefuseOr-elim, WhereElse-elim}
 use Rattle.rv_book.specs.Laws.{RepliesStay, StepsExtend, VerdictsStay}
 use Rattle.rv_text.specs.declared.answer.Reply.{Reply}
 use Rattle.rv_book.specs.declared.verdict.Said.{Said}
-use Rattle.rv_book.specs.Calls.{Stays}
-use Rattle.rv_text.specs.declared.call.Wait.{Wait}
 use Rattle.rv_book.specs.Verdicts.{answer_of, item_at, reply_of}
-use Rattle.rv_book.proofs.OnePartner.{arrives_once, goes_unnamed, meets_one}
-use Rattle.rv_book.proofs.Places.{get-append_within}
+use Rattle.rv_book.proofs.OnePartner.{arrives_once}
+use Rattle.rv_book.proofs.Replying.{reply_laws}
 use Rattle.rv_text.specs.Calls.{item_of}
-use Rattle.std.proofs.lemmas.Option.{none-some, same_Some}
+use Rattle.std.proofs.lemmas.Option.{none-some}
 use Rattle.std.specs.List.{slice_get}
+use Rattle.rv_book.proofs.Stepping.{entered}
 
 -- ---- a step only adds
 
@@ -103,78 +99,6 @@ verdicts_stay a b verdict x extends is = said_stays a b verdict.said x extends i
 
 -- ---- a reply stays, and it is the only one
 
-Meet-on : (es more : List Entry) (r s : ℕ) → Meet es r s → Meet (es ++ more) r s
-Meet-on es more r s (inl names) = inl (NamesPartner-on es more r s names)
-Meet-on es more r s (inr names) = inr (NamesPartner-on es more s r names)
-
-gets_on : (es more : List Entry) (r : ℕ) (item : List ℕ) → Gets es r item → Gets (es ++ more) r item
-gets_on es more r item gets = record {
-  giver = gets.giver;
-  call = gets.call;
-  meet = Meet-on es more gets.giver r gets.meet;
-  arrived = reads_on call_read refl es more gets.giver gets.call gets.arrived;
-  hands_over = gets.hands_over;
-}
-
-gets_met : (es : List Entry) (r : ℕ) (item : List ℕ) → Gets es r item → Met es r
-gets_met es r item gets = elim gets.meet [
-  | inl names ↦ record { later = gets.giver; earlier = r; names = names; part = inr refl }
-  | inr names ↦ record { later = r; earlier = gets.giver; names = names; part = inl refl }
-]
-
--- an arrival that does not stay and was not met is not met in any legal account that goes on
-still_unmet : (es more : List Entry) (epoch opened r : ℕ) (call : Call) → Legal (record { epoch = epoch; opened = opened; entries = es ++ more }) → call_at es r ≡ Some call
-    → (Stays call → ⊥) → (Met es r → ⊥) → Met (es ++ more) r → ⊥
-still_unmet es more epoch opened r call legal arrived goes unmet met =
-    let b : Account = record { epoch = epoch; opened = opened; entries = es ++ more } in
-    elim met.part [
-      | inr named ↦
-          let names = subst (NamesPartner (es ++ more) met.later) (sym named) met.names in
-          goes_unnamed b met.later r call legal (reads_on call_read refl es more r call arrived) goes names
-      | inl own ↦
-          let names = subst (λ p. NamesPartner (es ++ more) p met.earlier) (sym own) met.names in
-          let inside : r < length es = reads_within call_read refl es r call arrived in
-          let same : slice_get (es ++ more) r ≡ slice_get es r = get-append_within es more r inside in
-          unmet (record {
-            later = r;
-            earlier = met.earlier;
-            names = record { call = names.call; arrived = sym (ap call_read same) ∙ names.arrived; meets = names.meets; named = sym (ap partner_read same) ∙ names.named };
-            part = inl refl;
-          })
-    ]
-
--- what is told at once is told of a call that does not stay
-at_once : (queue : ℕ) (wait : Wait) (es more : List Entry) (r : ℕ) (reply other : Reply) → RepliesUnmet es r wait reply other → Stays (Take queue wait) → ⊥
-at_once queue Now es more r reply other unmet stays = stays.1
-
-unmet_on : (wait : Wait) (es more : List Entry) (r : ℕ) (reply other : Reply) → RepliesUnmet es r wait reply other → RepliesUnmet (es ++ more) r wait reply other
-unmet_on Now es more r reply other unmet = unmet
-
-pub replies_on : (es more : List Entry) (epoch opened r : ℕ) (call : Call) (reply : Reply) → Legal (record { epoch = epoch; opened = opened; entries = es ++ more }) → call_at es r ≡ Some call
-    → RepliesAt es r call reply → RepliesAt (es ++ more) r call reply
-replies_on es more epoch opened r (Put queue item) reply legal arrived is = is
-replies_on es more epoch opened r (Take queue wait) reply legal arrived (inl gets) = inl (gets.0, gets_on es more r gets.0 gets.1, gets.2)
-replies_on es more epoch opened r (Take queue wait) reply legal arrived (inr unmet) = inr (
-  still_unmet es more epoch opened r (Take queue wait) legal arrived (at_once queue wait es more r _ reply unmet.1) unmet.0,
-  unmet_on wait es more r _ reply unmet.1,
-)
-
-one_item : (b : Account) (r : ℕ) (x y : List ℕ) → Legal b → Gets b.entries r x → Gets b.entries r y → x ≡ y
-one_item b r x y legal first second =
-    let giver : first.giver ≡ second.giver = meets_one b r first.giver second.giver legal first.meet second.meet in
-    let call : first.call ≡ second.call = same_Some _ _ (sym first.arrived ∙ ap (call_at b.entries) giver ∙ second.arrived) in
-    same_Some _ _ (sym first.hands_over ∙ ap item_of call ∙ second.hands_over)
-
-one_unmet : (wait : Wait) (es : List Entry) (r : ℕ) (at_once x y : Reply) → RepliesUnmet es r wait at_once x → RepliesUnmet es r wait at_once y → y ≡ x
-one_unmet Now es r at_once x y first second = second ∙ sym first
-
-one_reply_at : (b : Account) (r : ℕ) (call : Call) (x y : Reply) → Legal b → RepliesAt b.entries r call x → RepliesAt b.entries r call y → y ≡ x
-one_reply_at b r (Put queue item) x y legal first second = second ∙ sym first
-one_reply_at b r (Take queue wait) x y legal (inl first) (inl second) = second.2 ∙ ap reply.TheVariants.Item (one_item b r second.0 first.0 legal second.1 first.1) ∙ sym first.2
-one_reply_at b r (Take queue wait) x y legal (inl first) (inr second) = absurd (second.0 (gets_met b.entries r first.0 first.1))
-one_reply_at b r (Take queue wait) x y legal (inr first) (inl second) = absurd (first.0 (gets_met b.entries r second.0 second.1))
-one_reply_at b r (Take queue wait) x y legal (inr first) (inr second) = one_unmet wait b.entries r reply.TheVariants.Empty x y first.1 second.1
-
 pub one_call : (key : Key) (c d : Call) → Some (act.TheVariants.Arrive key c) ≡ Some (act.TheVariants.Arrive key d) → c ≡ d
 one_call key c d e = cc
 
@@ -183,14 +107,14 @@ one_reply b key x y legal first second =
     let place : second.place ≡ first.place = arrives_once b second.place first.place key second.call first.call legal second.arrived first.arrived in
     let call : second.call ≡ first.call = one_call key second.call first.call (sym second.arrived ∙ ap (act_at b.entries) place ∙ first.arrived) in
     let moved = subst (λ r. RepliesAt b.entries r first.call y) place (subst (λ c. RepliesAt b.entries second.place c y) call second.replies) in
-    one_reply_at b first.place first.call x y legal first.replies moved
+    (reply_laws first.call).one b first.place x y legal first.replies moved
 
 reply_on : (es more : List Entry) (epoch opened : ℕ) (key : Key) (reply : Reply) → Legal (record { epoch = epoch; opened = opened; entries = es ++ more }) → HasReply es key reply → HasReply (es ++ more) key reply
 reply_on es more epoch opened key reply legal has = record {
   place = has.place;
   call = has.call;
   arrived = reads_on act_read refl es more has.place (act.TheVariants.Arrive key has.call) has.arrived;
-  replies = replies_on es more epoch opened has.place has.call reply legal (ap (option_and_then call_in) has.arrived) has.replies;
+  replies = (reply_laws has.call).stays es more epoch opened has.place reply legal (ap (option_and_then call_in) has.arrived) has.replies;
 }
 
 pub replies_stay : RepliesStay

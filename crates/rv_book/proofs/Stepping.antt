@@ -6,13 +6,13 @@ use Rattle.rv_text.specs.declared.answer.Answer.TheVariants.{Welcome, Refused}
 use Rattle.std.specs.Prelude.{Result, Ok, Err, IsOk}
 use Rattle.rv_book.specs.Account.{Account}
 use Rattle.rv_book.specs.declared.account.Act.{Act}
-use Rattle.rv_book.specs.Steps.{Adds, EntersOrNoMemory, EpochFullDue, KeyLines, NextAt, OldIncarnationDue, RefuseOr, Refuses, Replies, WhereElse}
+use Rattle.rv_book.specs.Steps.{Adds, EntersOrNoMemory, EpochFullDue, NextAt, RefuseOr, Refuses, Replies}
 use Rattle.rv_text.specs.declared.answer.Answer.{Answer}
 use Rattle.rv_book.specs.declared.account.Act.TheVariants.{Arrive}
 use Rattle.rv_book.specs.Tables.{Becomes, NoEntryDue}
 use Rattle.std.proofs.Common.{IsErrAnd, IfErr, IfOk, OnOk, OnErr, subst, Bool, ap, false, inl, inr, length, refl, sym, true, ℕ, ◌+◌, ◌∙◌, ◌≡◌, ◌≤◌}
 use Rattle.rv_text.specs.declared.call.Call.{Call}
-use Rattle.rv_book.specs.Sessions.{HasIncarnation, HasOnlyLower}
+use Rattle.rv_book.specs.Sessions.{HasOnlyLower}
 use Rattle.rv_book.specs.Arriving.{IsNext}
 use Rattle.rv_text.specs.declared.message.Key.{Key}
 use Rattle.rv_book.proofs.Lines.{RefuseOr-elim, RefuseOr-map, WhereElse-elim, WhereElse-map, line_newer, room_left}

@@ -1,5 +1,5 @@
 -- The table of queues stays what the account says, side by side: where an entry is none of the side's, where it waits there, and where it takes the first.
-use Rattle.std.proofs.Common.{◌≡◌, ◌⊎◌, inl, inr, ℕ, zero, suc, ◌<◌, ◌≤◌, List, [], ◌∷◌, ◌++◌, length, drop, Option, Some, None, refl, sym, ap, subst, ◌∙◌, arith, option_and_then}
+use Rattle.std.proofs.Common.{◌≡◌, inl, inr, ℕ, zero, suc, ◌<◌, List, [], ◌∷◌, ◌++◌, length, drop, Option, Some, None, refl, sym, ap, subst, ◌∙◌, arith, option_and_then}
 use Rattle.rv_book.specs.Account.{Account, call_in}
 use Rattle.rv_text.specs.declared.call.Call.{Call}
 use Rattle.rv_book.specs.declared.account.Entry.{Entry}
@@ -174,12 +174,11 @@ new_side e call side arrives new = ap side_of (same_Some _ _ (sym arrives ∙ ne
 
 module _ (a : Account) (e : Entry) (old new : List QueueLine) (call : Call) (legal : Legal a) (are : AreQueues a.entries old) (free : NamesFreePartner a.entries e)
     (arrives : call_in e.act ≡ Some call) where
-
   gave : (queue : ℕ) → side_of call ≡ Gives queue → e.partner ≡ None → IsChanged old new queue (places_of old queue ++ length a.entries ∷ []) → AreQueues (a.entries ++ e ∷ []) new
   gave queue is none changed = all_sides (a.entries ++ e ∷ []) new (λ other. elim (same_or_not other queue) [
     | inl same ↦
         let pushed = line_push a e (Gives queue) (places_of old queue) (are (Gives queue)) legal free none
-            (record { call = call; arrives = arrives; is = is; stays = (subst (λ side. IsSome (opposite side)) (sym is) refl, givers_stay call queue is) }) in
+        (record { call = call; arrives = arrives; is = is; stays = (subst (λ side. IsSome (opposite side)) (sym is) refl, givers_stay call queue is) }) in
         subst (λ n. IsLine (a.entries ++ e ∷ []) (Gives n) (places_of new n)) (sym same) (subst (IsLine (a.entries ++ e ∷ []) (Gives queue)) (sym changed.here) pushed)
     | inr apart ↦
         subst (IsLine (a.entries ++ e ∷ []) (Gives other)) (sym (changed.others other apart))
@@ -196,8 +195,8 @@ module _ (a : Account) (e : Entry) (old new : List QueueLine) (call : Call) (leg
         subst (IsLine (a.entries ++ e ∷ []) (Gives other)) (sym (changed.others other apart))
         (line_same a.entries e (Gives other) (places_of old other) (are (Gives other)) free
         (λ r opened named.
-            let there = (are (Gives queue)).are 0 r (sym first ∙ named) in
-            other_queue other queue apart (one_side a.entries (Gives other) (Gives queue) r opened.of_side there.of_side))
+        let there = (are (Gives queue)).are 0 r (sym first ∙ named) in
+        other_queue other queue apart (one_side a.entries (Gives other) (Gives queue) r opened.of_side there.of_side))
         (λ fresh. not_both queue other (sym is ∙ new_side e call (Gives other) arrives fresh)))
   ])
     where

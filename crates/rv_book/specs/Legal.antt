@@ -7,7 +7,7 @@ use Rattle.rv_text.specs.Calls.{side_of}
 use Rattle.rv_book.specs.declared.account.Entry.{Entry}
 use Rattle.rv_book.specs.declared.account.Act.{Act}
 use Rattle.rv_book.specs.declared.account.Act.TheVariants.{Hello, Arrive}
-use Rattle.rv_book.specs.Account.{Account, act_at, moment_at, call_in, key_in, call_at}
+use Rattle.rv_book.specs.Account.{Account, moment_at, call_in, key_in}
 use Rattle.rv_book.specs.Calls.{MayMeet, opposite}
 use Rattle.rv_book.specs.Sessions.{HasIncarnation, HasOnlyLower, LastNumber, NamesKey}
 use Rattle.rv_book.specs.Waiting.{limit_at, Met, SideAt, OpenAt, Waiting}

@@ -1,6 +1,7 @@
 -- What a reader must agree with: all that the public contracts and the laws cite.
 pub mod Account
 pub mod Calls
+pub mod Counting
 pub mod Waiting
 pub mod Sessions
 pub mod Legal
@@ -10,7 +11,6 @@ pub mod Limits
 pub mod Verdicts
 pub mod Order
 pub mod Laws
-
 -- What only private clauses and proofs cite.
 pub mod Views
 pub mod Meeting

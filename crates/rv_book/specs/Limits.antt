@@ -1,11 +1,12 @@
 -- The limits of an account.
-use Rattle.std.specs.Prelude.{◌≡◌, ◌≤◌, ◌+◌, ◌^◌, ℕ, length, Some, slice_get}
+use Rattle.std.specs.Prelude.{◌≡◌, ◌≤◌, ◌+◌, ℕ, length, Some, slice_get}
 use Rattle.rv_text.specs.Limits.{FitsIdentifier, FitsKey, FitsCall}
 use Rattle.rv_book.specs.declared.account.Entry.{Entry}
 use Rattle.rv_book.specs.declared.account.Act.{Act}
 use Rattle.rv_book.specs.declared.account.Act.TheVariants.{Hello, Arrive}
 use Rattle.rv_book.specs.Account.{Account}
-use Rattle.rv_book.specs.Steps.{NumberOf, max_entries, max_moment}
+use Rattle.rv_book.specs.Counting.{NumberOf}
+use Rattle.rv_book.specs.Steps.{max_entries, max_moment}
 use Rattle.rv_book.specs.Waiting.{Waiting}
 
 abbrev pub FitsAct : Act → Type 0

@@ -1,5 +1,5 @@
 -- What the table of queues does at an arrival, by the arrival's side.
-use Rattle.std.specs.Prelude.{◌≡◌, ◌≢◌, ◌<◌, ◌≤◌, ℕ, List, [], ◌∷◌, ◌++◌, drop, Option, Some, None, option_and_then, slice_get}
+use Rattle.std.specs.Prelude.{◌≡◌, ◌≢◌, ◌<◌, ℕ, List, [], ◌∷◌, ◌++◌, drop, Option, option_and_then, slice_get}
 use Rattle.rv_text.specs.declared.call.Side.{Side}
 use Rattle.rv_text.specs.declared.call.Side.TheVariants.{Gives, Takes, Looks}
 use Rattle.rv_book.specs.Calls.{opposite}

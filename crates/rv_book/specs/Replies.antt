@@ -5,9 +5,9 @@ use Rattle.rv_text.specs.declared.message.Key.{Key}
 use Rattle.rv_text.specs.declared.call.Wait.{Wait}
 use Rattle.rv_text.specs.declared.call.Wait.TheVariants.{Now}
 use Rattle.rv_text.specs.declared.call.Call.{Call}
-use Rattle.rv_text.specs.declared.call.Call.TheVariants.{Put, Take}
+use Rattle.rv_text.specs.declared.call.Call.TheVariants as call
 use Rattle.rv_text.specs.declared.answer.Reply.{Reply}
-use Rattle.rv_text.specs.declared.answer.Reply.TheVariants.{Done, Item, Empty}
+use Rattle.rv_text.specs.declared.answer.Reply.TheVariants as reply
 use Rattle.rv_book.specs.declared.account.Entry.{Entry}
 use Rattle.rv_book.specs.declared.account.Act.TheVariants.{Arrive}
 use Rattle.rv_book.specs.Account.{act_at, call_at}
@@ -32,10 +32,10 @@ RepliesUnmet entries r Now at_once reply = reply ≡ at_once
 
 -- the reply of the request with this call that arrived at r
 abbrev pub RepliesAt : List Entry → ℕ → Call → Reply → Type 0
-RepliesAt entries r (Put queue item) reply = reply ≡ Done
-RepliesAt entries r (Take queue wait) reply =
-    ((item : List ℕ) × Gets entries r item × (reply ≡ Item item))
-    ⊎ ((¬ Met entries r) × RepliesUnmet entries r wait Empty reply)
+RepliesAt entries r (call.Put queue item) told = told ≡ reply.Done
+RepliesAt entries r (call.Take queue wait) told =
+    ((item : List ℕ) × Gets entries r item × (told ≡ reply.Item item))
+    ⊎ ((¬ Met entries r) × RepliesUnmet entries r wait reply.Empty told)
 
 -- the request with this key arrived, and it has this reply
 pub record RepliesToArrival (entries : List Entry) (key : Key) (reply : Reply) : Type 0 where

@@ -1,6 +1,5 @@
 -- One step of the book: the answer to a message, and which accounts may stand after it.
 use Rattle.std.specs.Prelude.{◌≡◌, ◌≢◌, ◌⊎◌, ◌<◌, ◌≤◌, ◌+◌, ◌-◌, ◌^◌, ◌↔◌, ℕ, List, length, Contains, Some, min, max, unwrap_or}
-use Rattle.std.specs.List.Sorted.{IsStrictlyIncreasing}
 use Rattle.rv_text.specs.declared.message.Key.{Key}
 use Rattle.rv_text.specs.declared.call.Call.{Call}
 use Rattle.rv_text.specs.declared.message.Message.{Message}
@@ -15,6 +14,7 @@ use Rattle.rv_book.specs.declared.account.Act.{Act}
 use Rattle.rv_book.specs.declared.account.Act as act
 use Rattle.rv_book.specs.Account.{Account, act_at, moment_at, with_entry}
 use Rattle.rv_book.specs.Calls.{need_of}
+use Rattle.rv_book.specs.Counting.{NumberOf}
 use Rattle.rv_book.specs.Sessions.{HasIncarnation, HasOnlyLower, LastNumber, SaidHello}
 use Rattle.rv_book.specs.Waiting.{Waiting}
 use Rattle.rv_book.specs.Legal.{HasWaiting, Legal}
@@ -37,15 +37,6 @@ own_moment a = unwrap_or (moment_at a.entries (length a.entries - 1)) a.opened
 -- a lower moment counts as the book's own
 abbrev pub step_moment : Account → ℕ → ℕ
 step_moment a now = max (own_moment a) (capped now)
-
--- ---- how many
-
--- the numbers with a property, and no others, number n
-pub record NumberOf (P : ℕ → Type 0) (n : ℕ) : Type 0 where
-  pub places : List ℕ
-  pub rising : IsStrictlyIncreasing places
-  pub are : (r : ℕ) → Contains places r ↔ P r
-  pub is : n ≡ length places
 
 -- ---- when each refusal is due
 

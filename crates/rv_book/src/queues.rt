@@ -25,7 +25,9 @@ impl Model for Queue {
     ghost Value = { QueueLine };
 
     ghost view = { λ q. record {
-        places = q.places.items; spare = deque_capacity q.places - deque_len q.places } };
+      places = q.places.items;
+      spare = deque_capacity q.places - deque_len q.places;
+    } };
 }
 
 impl Queue {

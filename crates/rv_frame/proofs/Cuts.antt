@@ -1,11 +1,10 @@
 -- That bytes have one cut, and how the cuts of pieces join.
-use Rattle.std.proofs.Common.{◌≡◌, ◌+◌, ◌*◌, ◌/◌, ◌%◌, ◌∙◌, ℕ, List, [], ◌∷◌, ◌++◌, refl, sym, ap, subst, arith, length, take, drop, append_assoc}
+use Rattle.std.proofs.Common.{◌≡◌, ◌/◌, ◌%◌, ◌∙◌, ℕ, List, [], ◌∷◌, ◌++◌, refl, sym, ap, subst, arith, length, append_assoc}
 use Rattle.std.specs.List.{All}
-use Rattle.std.proofs.Math.Seq.{drop-append_seam, take-append_seam}
 use Rattle.std.proofs.lemmas.List.Elements.{All-append, All-head, All-tail}
-use Rattle.rv_frame.specs.Cut.{Bad, BeginsBad, Cut, End, EndsIn, FitsLength, IsBody, IsUnfinished, Open, frame_bytes, length_bytes, row_bytes}
+use Rattle.rv_frame.specs.Cut.{Bad, BeginsBad, Cut, End, EndsIn, FitsLength, IsBody, Open, frame_bytes, length_bytes, row_bytes}
 use Rattle.rv_frame.specs.Laws.{FedIsCut, OneCut, PiecesJoin, TakenIsCut}
-use Rattle.rv_frame.specs.Stream.{Feeds, FeedsAt, Grows, HasFed, Stream}
+use Rattle.rv_frame.specs.Stream.{FeedsAt, HasFed, Stream}
 
 -- ---- one cut
 

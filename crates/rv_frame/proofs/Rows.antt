@@ -1,10 +1,10 @@
 -- Fronts of bytes that are whole frames: how they grow, shrink and are found again.
-use Rattle.std.proofs.Common.{◌≡◌, ◌<◌, ◌≤◌, ◌+◌, ◌-◌, ◌*◌, ◌/◌, ◌%◌, ◌∙◌, ℕ, List, [], ◌∷◌, ◌++◌, Option, Some, None, IfSome, refl, sym, ap, subst, arith, length, take, drop, append_assoc, append-nil, false, get_or, is_some, true, length-append, length-drop, zero, suc}
+use Rattle.std.proofs.Common.{◌≡◌, ◌<◌, ◌≤◌, ◌+◌, ◌-◌, ◌*◌, ◌/◌, ◌%◌, ◌∙◌, ℕ, List, [], ◌∷◌, ◌++◌, Option, Some, None, IfSome, refl, sym, ap, subst, arith, length, take, drop, append-nil, false, get_or, is_some, true, length-append, length-drop, zero, suc}
 use Rattle.std.specs.List.{All}
 use Rattle.std.proofs.Math.Seq.{drop-append_seam, take-add, take-append_seam}
 use Rattle.std.proofs.lemmas.List.{drop-drop, drop-take, length-take-le, take-append-drop, take-take}
 use Rattle.std.proofs.lemmas.List.Elements.{All-append, All-cons, All-head, All-nil, All-tail}
-use Rattle.rv_frame.specs.Cut.{Bad, BeginsBad, Cut, End, EndsIn, FitsLength, IsBody, IsUnfinished, Open, frame_bytes, length_bytes, row_bytes}
+use Rattle.rv_frame.specs.Cut.{BeginsBad, Cut, End, FitsLength, IsBody, IsUnfinished, frame_bytes, length_bytes, row_bytes}
 use Rattle.rv_frame.specs.Held.{BeginsFrame, CutAt, FrontIsRow, bodies_in, end_of}
 use Rattle.rv_frame.specs.Stream.{Grows}
 use Rattle.rv_frame.proofs.Cuts.{frame_once, length_once, row_append}
@@ -94,7 +94,7 @@ front_alone bytes whole front = record {
 pub grows_by : (bytes bytes' : List ℕ) (whole more : ℕ) (bad : Option ℕ) (end : End) → FrontIsRow bytes whole → CutAt (drop whole bytes) more bad
     → take (whole + more) bytes' ≡ take (whole + more) bytes → end_of bad (drop (whole + more) bytes') ≡ end_of bad (drop (whole + more) bytes)
     → Grows (record { frames = bodies_in whole (take whole bytes); end = end }) (drop whole bytes)
-      (record { frames = bodies_in (whole + more) (take (whole + more) bytes'); end = end_of bad (drop (whole + more) bytes') })
+    (record { frames = bodies_in (whole + more) (take (whole + more) bytes'); end = end_of bad (drop (whole + more) bytes') })
 unfolding fronts_join
 grows_by bytes bytes' whole more bad end front at same ends =
     let joined = fronts_join bytes whole more front at.front in

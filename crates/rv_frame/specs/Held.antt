@@ -1,5 +1,5 @@
 -- What the fields of a `Frames` hold, for the proofs: the public words are those of `Cut` and `Stream`.
-use Rattle.std.specs.Prelude.{ℕ, ◌≡◌, ◌+◌, ◌*◌, ◌≤◌, List, [], ◌∷◌, length, take, drop, suc, zero}
+use Rattle.std.specs.Prelude.{ℕ, ◌≡◌, ◌+◌, ◌*◌, ◌≤◌, List, [], ◌∷◌, length, take, drop, suc}
 use Rattle.std.specs.Prelude.{IfSome, None, Option, Some}
 use Rattle.std.specs.List.{All}
 use Rattle.rv_frame.specs.declared.held.Head.{Head}

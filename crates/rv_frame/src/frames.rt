@@ -1,8 +1,8 @@
-//! Cuts bytes that come in pieces into frames, and writes frames.
-ghost use Rattle.std.specs.Prelude.{◌≡◌, ◌≢◌, ◌∷◌, [], Err, None, Ok};
+//! Cuts bytes that come in pieces into frames.
+ghost use Rattle.std.specs.Prelude.{◌≡◌, ◌∷◌, [], Err, None, Ok};
 ghost use Rattle.std.specs.Prelude.{IfOk, IfSome, IsErrOf, MatchOption, OnErr, OnOk};
 ghost use Rattle.rv_frame.specs.Cut.{Bad, IsBody, Open};
-ghost use Rattle.rv_frame.specs.Stream.{Feeds, IsOpen, rest_length};
+ghost use Rattle.rv_frame.specs.Stream.{Feeds, HasFed, IsOpen, rest_length};
 
 use crate::held::Held;
 use std::alloc::{AllocError, Global};
@@ -66,6 +66,7 @@ impl Frames {
     pub fn new(alloc: Global) -> Frames
         ensures frames { result.frames ≡ [] }
         ensures end { result.end ≡ Open [] }
+        ensures fed { HasFed [] [] result }
     {
         Frames {
             held: Held::new(alloc),
@@ -78,8 +79,12 @@ impl Frames {
     /// still be taken, all from it on is dropped, and every later feed answers the same and changes
     /// nothing. After `NoMemory` nothing has changed, and it never comes once a bad length was met.
     pub fn feed(&mut self, piece: &[u8]) -> Result<(), FrameFault>
-        ensures cut { result ≢ Err FrameFault.NoMemory → Feeds self.old piece.now self.new }
-        ensures ok { OnOk result (IsOpen self.new.end) }
+        ensures fed { OnOk result (Feeds self.old piece.now self.new) }
+        ensures open_end { OnOk result (IsOpen self.new.end) }
+
+        // The frames before the bad length are fed too.
+        ensures fed_before { (n : _) → result ≡ Err (FrameFault.BadLength n)
+            → Feeds self.old piece.now self.new }
         ensures bad_length { (n : _) → result ≡ Err (FrameFault.BadLength n) → self.new.end ≡ Bad n }
         ensures told_again { (n : _) → self.old.end ≡ Bad n → IsErrOf result (FrameFault.BadLength n) }
         ensures no_memory { result ≡ Err FrameFault.NoMemory → self.new ≡ self.old }

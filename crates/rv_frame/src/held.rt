@@ -1,5 +1,5 @@
 //! The bytes of a stream that were not taken yet, and where its frames lie in them.
-ghost use Rattle.std.specs.Prelude.{◌≡◌, ◌≢◌, ◌∷◌, [], Err, None, Ok, drop, take};
+ghost use Rattle.std.specs.Prelude.{◌≡◌, ◌∷◌, [], Err, None, Ok, drop, take};
 ghost use Rattle.std.specs.Prelude.{IfOk, IfSome, IsErrOf, IsTrue, ◌↔◌, MatchOption, OnErr, OnOk};
 ghost use Rattle.rv_frame.specs.Cut.{Bad, FitsLength, IsBody, Open};
 ghost use Rattle.rv_frame.specs.Held.{BeginsFrame, CutAt, FrontIsRow, HasHead, IsSound, stream_of};
@@ -47,9 +47,10 @@ impl Held {
     pub(crate) fn feed(&mut self, piece: &[u8]) -> Result<(), FrameFault>
         requires { IsSound self.old }
         ensures sound { IsSound self.new }
-        ensures cut { result ≢ Err FrameFault.NoMemory
+        ensures fed { OnOk result (Feeds (stream_of self.old) piece.now (stream_of self.new)) }
+        ensures open_end { OnOk result (IsOpen (stream_of self.new).end) }
+        ensures fed_before { (n : _) → result ≡ Err (FrameFault.BadLength n)
             → Feeds (stream_of self.old) piece.now (stream_of self.new) }
-        ensures ok { OnOk result (IsOpen (stream_of self.new).end) }
         ensures bad_length { (n : _) → result ≡ Err (FrameFault.BadLength n)
             → (stream_of self.new).end ≡ Bad n }
         ensures told_again { (n : _) → (stream_of self.old).end ≡ Bad n

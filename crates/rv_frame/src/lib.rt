@@ -1,6 +1,8 @@
 //! Readers and writers that remember a failure and count what went out, and frames of bytes.
 #![tactic(auto)]
 
+#[cfg(test)]
+mod frame_tests;
 mod frames;
 mod held;
 pub mod laws;
@@ -11,7 +13,9 @@ pub mod testing;
 mod tests;
 #[cfg(test)]
 mod uses;
+mod write;
 
 pub use frames::{FrameFault, Frames, NoMemory};
 pub use sink::{Sink, WriteFault};
 pub use source::{ReadFault, Source};
+pub use write::write_frame;

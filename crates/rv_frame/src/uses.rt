@@ -1,11 +1,12 @@
 //! Callers that are proved from the clauses alone: what a crate above can say of a whole run.
-ghost use Rattle.std.specs.Prelude.{◌≡◌, ◌≢◌, ◌+◌, ◌<◌, ◌^◌, ◌++◌, true, take, length, OnOk, IfErr, IfSome};
+ghost use Rattle.std.specs.Prelude.{◌≡◌, ◌≢◌, ◌+◌, ◌<◌, ◌^◌, ◌++◌, true, take, length, OnOk, IfErr, IfOk, IfSome};
 ghost use Rattle.std.specs.Io.{appended_bytes, StartsWith};
 ghost use Rattle.std.specs.Io.KnownBytes.{Consumes, IsAtEnd};
+ghost use Rattle.rv_frame.specs.Cut.{Cut};
 ghost use Rattle.rv_frame.specs.Sink.{SinkTakes, sink_failed};
 ghost use Rattle.rv_frame.specs.Source.{source_failed, source_remaining};
 
-use super::{Sink, Source, WriteFault};
+use super::{FrameFault, Frames, Sink, Source, WriteFault, laws};
 use std::alloc::Global;
 use std::io::{Read, Write};
 
@@ -91,4 +92,21 @@ pub fn copy_all<R: Read, W: Write>(
     let mut all = Vec::new(alloc);
     gather(source, &mut all).map_err(CopyFault::Gather)?;
     sink.write_all(&all).map_err(CopyFault::Write)
+}
+
+/// Feeds the bytes in pieces of this size, the last one as long as it comes: the frames are those of the
+/// cut of all the bytes.
+pub fn frames_of_pieces(alloc: Global, bytes: &[u8], size: usize) -> Result<Frames, FrameFault>
+    requires { 0 < size }
+    ensures { IfOk result (λ frames. Cut bytes.now frames.frames frames.end) }
+{
+    laws::fed_is_cut();
+    let mut frames = Frames::new(alloc);
+    let mut fed = 0;
+    while fed < bytes.len() {
+        let count = size.min(bytes.len() - fed);
+        frames.feed(&bytes[fed..fed + count])?;
+        fed += count;
+    }
+    Ok(frames)
 }

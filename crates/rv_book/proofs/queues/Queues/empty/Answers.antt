@@ -1,6 +1,5 @@
 -- Each queue that was made is empty.
-use Rattle.std.proofs.Common.{◌≡◌, [], ◌∷◌, ◌++◌, ℕ, ◌+◌, length, refl, sym, ap, subst, ◌∙◌, arith, length-append}
-use Rattle.rv_book.specs.Views.{places_of}
+use Rattle.std.proofs.Common.{◌≡◌, [], ◌∷◌, ◌++◌, length, refl, ap, ◌∙◌, arith, length-append}
 use Rattle.rv_book.proofs.Waiters.{append_empty}
 use Rattle.rv_book.proofs.queues.Queues.empty.Goals as goal
 

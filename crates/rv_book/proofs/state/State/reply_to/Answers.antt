@@ -1,10 +1,11 @@
 -- What is kept is the reply, whomever the call meets.
-use Rattle.std.proofs.Common.{◌≡◌, Option, Some, None, sym, subst}
+use Rattle.std.proofs.Common.{Option, sym, subst}
 use Rattle.rv_text.specs.declared.call.Call.{Call}
-use Rattle.rv_text.specs.declared.call.Call.TheVariants.{Put, Take}
+use Rattle.rv_text.specs.declared.call.Call.TheVariants.{Take}
 use Rattle.rv_session.specs.declared.kept.Kept as kept
 use Rattle.rv_book.specs.Arriving.{WillReply}
-use Rattle.rv_book.proofs.Replying.{put_replies, poll_replies, take_replies}
+use Rattle.rv_book.proofs.Puts.{put_replies}
+use Rattle.rv_book.proofs.Takes.{poll_replies, take_replies}
 use Rattle.rv_book.proofs.state.State.reply_to.Goals as goal
 
 pub returns-in-Put : goal.returns-in-Put

@@ -1,7 +1,7 @@
 -- The frames of the piece join those before it.
 use Rattle.std.proofs.Common.{List, ℕ, ap, arith, drop, length, refl, subst, sym, take, ◌+◌, ◌≡◌, ◌∙◌}
 use Rattle.std.proofs.lemmas.List.{length-take-le, take-take, take_rest}
-use Rattle.rv_frame.specs.Held.{CutAt, FrontIsRow, end_of}
+use Rattle.rv_frame.specs.Held.{CutAt, FrontIsRow}
 use Rattle.rv_frame.proofs.Rows.{bad_ends, front_alone, fronts_join, grows_by, if_none, if_some_held}
 use Rattle.rv_frame.proofs.held.Held.cut_on.Goals as goal
 

@@ -1,5 +1,5 @@
 -- The oldest body leaves the front.
-use Rattle.std.proofs.Common.{◌≡◌, ◌∙◌, ◌∷◌, ◌-◌, ap, arith, sym, subst, List, ℕ, drop, length, take}
+use Rattle.std.proofs.Common.{◌≡◌, ◌∙◌, ◌-◌, ap, sym, subst, List, ℕ, drop, length, take}
 use Rattle.std.proofs.lemmas.List.{length-drop}
 use Rattle.rv_frame.specs.Held.{FrontIsRow, bodies_in}
 use Rattle.rv_frame.proofs.Rows.{body_in, front_bodies, front_less, if_some_more}

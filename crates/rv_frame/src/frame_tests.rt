@@ -1,0 +1,185 @@
+//! Frames out of known bytes, in all cuts, and what is written of a frame.
+ghost use Rattle.rv_frame.specs.Cut.{IsBody};
+
+use super::testing::{Stop, TestWriter};
+use super::uses::frames_of_pieces;
+use super::{FrameFault, Frames, NoMemory, Sink, WriteFault, write_frame};
+use std::alloc::Global;
+use std::io::ErrorKind;
+use std::process::Abort;
+use std::test::Fail;
+
+// The frames of `A` and `BC`.
+const TWO_FRAMES: &[u8] = b"\x00\x01A\x00\x02BC";
+
+// The frame of `A`, the bad length 0, and one byte more.
+const BAD_AFTER_ONE: &[u8] = b"\x00\x01A\x00\x00B";
+
+// Feeds the bytes, cut after each byte whose bit is set, the lowest for the first, up to a fault.
+fn feed_cut(frames: &mut Frames, bytes: &[u8], cuts: u32) -> Result<(), FrameFault> {
+    let mut piece_start = 0;
+    let mut later_cuts = cuts;
+    for end in 1..bytes.len() {
+        if later_cuts % 2 == 1 {
+            frames.feed(bytes.get(piece_start..end).unwrap_or(b""))?;
+            piece_start = end;
+        }
+        later_cuts /= 2;
+    }
+    frames.feed(bytes.get(piece_start..).unwrap_or(b""))
+}
+
+// The next frame has this body.
+fn gives(rt: &impl Abort, frames: &mut Frames, body: &[u8]) {
+    match frames.next() {
+        Ok(Some(taken)) => assert_eq!(rt; taken.as_slice(), body),
+        _ => assert!(rt; false, "no frame"),
+    }
+}
+
+fn gives_none(rt: &impl Abort, frames: &mut Frames) {
+    assert!(rt; matches!(frames.next(), Ok(None)));
+}
+
+#[test]
+fn frames_in_all_cuts(rt: HostRuntime) {
+    for cuts in 0..64u32 {
+        let mut frames = Frames::new(rt.alloc());
+        assert_eq!(rt; feed_cut(&mut frames, TWO_FRAMES, cuts), Ok(()));
+        assert_eq!(rt; frames.rest(), 0);
+        assert_eq!(rt; frames.feed(b"\x00"), Ok(()));
+        assert_eq!(rt; frames.rest(), 1);
+        gives(&rt, &mut frames, b"A");
+        gives(&rt, &mut frames, b"BC");
+        gives_none(&rt, &mut frames);
+        assert_eq!(rt; frames.rest(), 1);
+    }
+}
+
+#[test]
+fn frames_in_pieces_of_a_size(rt: HostRuntime) -> Result<(), Fail> {
+    for size in 1..TWO_FRAMES.len() + 1 {
+        let mut frames = frames_of_pieces(rt.alloc(), TWO_FRAMES, size)?;
+        gives(&rt, &mut frames, b"A");
+        gives(&rt, &mut frames, b"BC");
+        gives_none(&rt, &mut frames);
+        assert_eq!(rt; frames.rest(), 0);
+    }
+    Ok(())
+}
+
+#[test]
+fn frames_are_taken_between_pieces(rt: HostRuntime) {
+    let mut frames = Frames::new(rt.alloc());
+    gives_none(&rt, &mut frames);
+    assert_eq!(rt; frames.feed(b"\x00\x01A"), Ok(()));
+    gives(&rt, &mut frames, b"A");
+    assert_eq!(rt; frames.feed(b"\x00"), Ok(()));
+    gives_none(&rt, &mut frames);
+    assert_eq!(rt; frames.rest(), 1);
+    assert_eq!(rt; frames.feed(b"\x02BC"), Ok(()));
+    assert_eq!(rt; frames.rest(), 0);
+    gives(&rt, &mut frames, b"BC");
+    gives_none(&rt, &mut frames);
+}
+
+#[test]
+fn a_bad_length_ends_the_frames(rt: HostRuntime) {
+    for cuts in 0..32u32 {
+        let mut frames = Frames::new(rt.alloc());
+        let bad = Err(FrameFault::BadLength(0));
+        assert_eq!(rt; feed_cut(&mut frames, BAD_AFTER_ONE, cuts), bad);
+        assert_eq!(rt; frames.rest(), 0);
+        gives(&rt, &mut frames, b"A");
+        gives_none(&rt, &mut frames);
+        assert_eq!(rt; frames.feed(b"A"), bad);
+        assert_eq!(rt; frames.feed(b"\x00\x01A"), bad);
+        gives_none(&rt, &mut frames);
+        assert_eq!(rt; frames.rest(), 0);
+    }
+}
+
+// Where memory is refused, the same call once more.
+fn feed_again(frames: &mut Frames, piece: &[u8]) -> Result<(), FrameFault> {
+    match frames.feed(piece) {
+        Err(FrameFault::NoMemory) => frames.feed(piece),
+        answer => answer,
+    }
+}
+
+fn next_again(frames: &mut Frames) -> Result<Option<Vec<u8>>, NoMemory> {
+    match frames.next() {
+        Err(_) => frames.next(),
+        answer => answer,
+    }
+}
+
+// Passes too where any one growth is refused.
+#[test]
+fn a_refused_growth_changes_nothing(rt: HostRuntime) {
+    let mut frames = Frames::new(rt.alloc());
+    assert_eq!(rt; feed_again(&mut frames, b"\x00\x01A\x00"), Ok(()));
+    assert_eq!(rt; feed_again(&mut frames, b"\x02BC\x00\x03DEF\x00"), Ok(()));
+    for body in [b"A".as_slice(), b"BC", b"DEF"] {
+        match next_again(&mut frames) {
+            Ok(Some(taken)) => assert_eq!(rt; taken.as_slice(), body),
+            _ => assert!(rt; false, "no frame"),
+        }
+    }
+}
+
+#[test]
+fn the_limits_of_a_length(rt: HostRuntime) -> Result<(), Fail> {
+    let rows = [(b"\x00\x00", 0), (b"\x10\x01", 4097), (b"\xff\xff", 65_535)];
+    for (bytes, length) in rows {
+        let mut frames = Frames::new(rt.alloc());
+        assert_eq!(rt;
+            frames.feed(bytes.as_slice()),
+            Err(FrameFault::BadLength(length))
+        );
+    }
+    let longest = vec![in rt.alloc(); 7u8; 4096]?;
+    let mut frames = Frames::new(rt.alloc());
+    assert_eq!(rt; frames.feed(b"\x10\x00"), Ok(()));
+    assert_eq!(rt; frames.rest(), 2);
+    assert_eq!(rt; frames.feed(&longest), Ok(()));
+    assert_eq!(rt; frames.rest(), 0);
+    gives(&rt, &mut frames, &longest);
+    Ok(())
+}
+
+// The device takes `room` bytes of the frame, which are its first.
+fn stops(rt: &impl Abort, alloc: Global, body: &[u8], frame: &[u8], room: usize)
+    requires { IsBody body.now }
+{
+    let stop = Stop::Error(ErrorKind::Other);
+    let mut device = TestWriter::new(alloc, 1).stopping_after(room, stop);
+    let mut sink = Sink::new(&mut device);
+    assert_eq!(rt;
+        write_frame(&mut sink, body),
+        Err(WriteFault { sent: room })
+    );
+    assert!(rt; sink.failed());
+    assert_eq!(rt; write_frame(&mut sink, body), Err(WriteFault { sent: 0 }));
+    assert_eq!(rt; Some(device.taken()), frame.get(..room));
+    assert_eq!(rt; device.flushes(), 0);
+}
+
+#[test]
+fn a_frame_is_written(rt: HostRuntime) -> Result<(), Fail> {
+    let mut device = TestWriter::new(rt.alloc(), 3);
+    let mut sink = Sink::new(&mut device);
+    assert_eq!(rt; write_frame(&mut sink, b"A"), Ok(()));
+    assert_eq!(rt; write_frame(&mut sink, b"BC"), Ok(()));
+    assert_eq!(rt; device.taken(), TWO_FRAMES);
+    for room in 0..4 {
+        stops(&rt, rt.alloc(), b"BC", b"\x00\x02BC", room);
+    }
+    let longest = vec![in rt.alloc(); 7u8; 4096]?;
+    let mut device = TestWriter::new(rt.alloc(), 10_000);
+    let mut sink = Sink::new(&mut device);
+    assert_eq!(rt; write_frame(&mut sink, &longest), Ok(()));
+    assert_eq!(rt; device.taken().get(..3), Some(b"\x10\x00\x07".as_slice()));
+    assert_eq!(rt; device.taken().len(), 4098);
+    Ok(())
+}
