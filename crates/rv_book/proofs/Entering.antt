@@ -125,10 +125,11 @@ last_arrival a key legal epoch has is positive = elim is.reached [
       let front = hello_in_front a.entries r key.client is.incarnation is.h there.2 is.hello in
       let own = subst (λ c. HasIncarnation (take r a.entries) c k.incarnation) client session.1 in
       let incarnation : k.incarnation ≡ key.incarnation =
-          one_incarnation (take r a.entries) key.client k.incarnation is.incarnation own (is.h, front) ∙ one_incarnation a.entries key.client is.incarnation key.incarnation (is.h, is.hello) has in
+      one_incarnation (take r a.entries) key.client k.incarnation is.incarnation own (is.h, front) ∙ one_incarnation a.entries key.client is.incarnation key.incarnation (is.h, is.hello) has in
       let same : k ≡ key = same_key k key (session.0 ∙ sym epoch) client incarnation there.4 in
       record { place = r; call = named.0; arrived = named.1 ∙ ap (λ x. Some (Arrive x named.0)) same }
 ]
+
 -- ---- requests
 
 enters : (a : Account) (moment : ℕ) (key : Key) (call : Call) → Legal a → KeepsTime a moment → IsNext a key → CanEnter a moment key call

@@ -71,7 +71,6 @@ same_partner old new (Looks queue) same = refl
 
 -- a state that is ready for an act, and the state in which it was recorded
 module _ (old ready new : State) (moment : ℕ) where
-
   pub sound_arrival : (key : Key) (call : Call) (partner : Option ℕ) (k : Kept) → Comes old moment (Arrive key call) → IsNext (account_of old) key
       → partner ≡ partner_on old.queues (side_of call) → WillReply (account_of old) call partner k → IsReady old ready (Arrive key call)
       → account_of new ≡ with_entry (account_of ready) (entry moment (Arrive key call) partner) → ArrivedOn ready.queues new.queues (side_of call) (length (account_of old).entries)

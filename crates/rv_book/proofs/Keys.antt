@@ -57,4 +57,3 @@ NamesKey-back es e c r key h =
       | inl inside ↦ inl (record { named = inside.1; of_client = h.of_client })
       | inr own ↦ inr own
     ]
-

@@ -45,7 +45,6 @@ not_gap a key last is next refusal due =
 
 -- what a refusal does, what happens at the last number and what at the next
 module _ (R : Refusal → Type 0) (L G : Type 0) (a : Account) (key : Key) where
-
   pub line_other_epoch : (key.epoch ≡ a.epoch → ⊥) → R (OtherEpoch a.epoch) → KeyLines a key R L G
   line_other_epoch other refuses = inl (record { refusal = OtherEpoch a.epoch; is_due = (other, refl); refuses_it = refuses })
 

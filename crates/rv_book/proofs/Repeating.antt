@@ -30,7 +30,6 @@ use Rattle.rv_book.specs.Verdicts.{reply_of}
 use Rattle.std.proofs.lemmas.Option.{same_Some}
 
 module _ (a : Account) (t : Table) (moment : ℕ) (are : AreSessions a t) (legal : Legal a) where
-
   -- ---- keys
 
   pub refused_key : (key : Key) (call : Call) (refusal : Refusal) → RefusalMeans t key refusal → NextAt a moment (Request key call) a (Refused refusal)

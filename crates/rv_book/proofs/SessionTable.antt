@@ -104,11 +104,11 @@ Stands-on : (a : Account) (e : Entry) (client : ℕ) (s : Session) (stands : Sta
 Stands-on a e client s state.TheVariants.Fresh legal is = is
 Stands-on a e client s (state.TheVariants.Waits place) legal is = absurd (nobody_waits a.entries place is.waits)
 Stands-on a e client s (state.TheVariants.Settled place k) legal is = record {
-  at = is.at;
+  place = is.place;
   is = is.is;
   call = is.call;
-  arrived = reads_on act_read refl a.entries (e ∷ []) is.at _ is.arrived;
-  kept_is = IsKept-on a e is.at is.call k legal (ap (option_and_then call_in) is.arrived) is.kept_is;
+  arrived = reads_on act_read refl a.entries (e ∷ []) is.place _ is.arrived;
+  kept_is = IsKept-on a e is.place is.call k legal (ap (option_and_then call_in) is.arrived) is.kept_is;
 }
 
 -- ---- the table
@@ -161,11 +161,11 @@ sessions_arrived a e old new key call k are legal next is kept_is changes =
     let above : key.number ≡ next.last + 1 = next.next in
     let at = arrived_at a.entries e key call key.incarnation next.last is (record { incarnation = next.incarnation; number = next.is_last }) (omega arith) in
     let own : Some e.act ≡ Some (Arrive (record { epoch = a.epoch; client = key.client; incarnation = key.incarnation; number = key.number }) call) =
-        ap Some is ∙ ap (λ epoch. Some (Arrive (record { epoch = epoch; client = key.client; incarnation = key.incarnation; number = key.number }) call)) next.epoch in
+    ap Some is ∙ ap (λ epoch. Some (Arrive (record { epoch = epoch; client = key.client; incarnation = key.incarnation; number = key.number }) call)) next.epoch in
     sessions_next a e old new key.client _ are legal changes (ap client_of is) (record {
       incarnation = at.incarnation;
       number = at.number;
-      stands = record { at = length a.entries; is = refl; call = call; arrived = ap act_read (get-append_end a.entries e) ∙ own; kept_is = kept_is };
+      stands = record { place = length a.entries; is = refl; call = call; arrived = ap act_read (get-append_end a.entries e) ∙ own; kept_is = kept_is };
     })
 
 -- after a hello its session is fresh

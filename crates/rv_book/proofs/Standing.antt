@@ -36,7 +36,6 @@ same_parts : (a b c d e f client : ℕ) → a ≡ b → c ≡ d → e ≡ f
 same_parts a b c d e f client p q r = cc
 
 module _ (a : Account) (t : Table) (are : AreSessions a t) where
-
   epoch_is : (key : Key) → key.epoch ≡ t.epoch → key.epoch ≡ a.epoch
   epoch_is key same = same ∙ are.epoch
 
@@ -124,7 +123,7 @@ module _ (a : Account) (t : Table) (are : AreSessions a t) where
       let incarnation : s.incarnation ≡ key.incarnation = has.of_key.incarnation in
       let number : s.last ≡ key.number = sym has.number in
       let same : ◌≡◌ {A = Key} (last_key a key.client s) key = same_parts _ _ _ _ _ _ key.client epoch incarnation number in
-      record { at = stands.at; is = stands.is; call = stands.call; arrived = stands.arrived ∙ ap (λ k. Some (act.TheVariants.Arrive k stands.call)) same; kept_is = stands.kept_is }
+      record { at = stands.place; is = stands.is; call = stands.call; arrived = stands.arrived ∙ ap (λ k. Some (act.TheVariants.Arrive k stands.call)) same; kept_is = stands.kept_is }
 
   -- the lines of a key at its session's last number
   pub last_lines : (R : Refusal → Type 0) (L G : Type 0) (key : Key) (stands : StateOf) → HasLast t key stands → 1 ≤ key.number → L → KeyLines a key R L G
@@ -149,6 +148,7 @@ module _ (a : Account) (t : Table) (are : AreSessions a t) where
       said : (c : ℕ) (o : Option Session) → IsSessionOf a c o → IsSome o → SaidHello a.entries c
       said c None is some = absurd (let no : ⊥ = cc in no)
       said c (Some s) is some = (is.incarnation.0, s.incarnation, is.incarnation.1.hello)
+
       has_session : (c : ℕ) (o : Option Session) → IsSessionOf a c o → SaidHello a.entries c → IsSome o
       has_session c None is hello = absurd (is hello)
       has_session c (Some s) is hello = refl

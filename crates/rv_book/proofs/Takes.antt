@@ -189,6 +189,10 @@ exists_at queue Now a r legal arrived = elim (met_or_not a.entries r) [
 ]
 
 pub takes : (queue : ℕ) (wait : Wait) → ReplyLaws (Take queue wait)
-takes queue wait = record { is_kept = is_kept queue wait; stays = stays queue wait; one = one queue wait; fits = fits queue wait;
+takes queue wait = record {
+  is_kept = is_kept queue wait;
+  stays = stays queue wait;
+  one = one queue wait;
+  fits = fits queue wait;
   exists = exists_at queue wait;
 }

@@ -54,7 +54,8 @@ pub record IsKept (entries : List Entry) (r : ℕ) (call : Call) (kept : Kept) :
 -- what is kept will be the reply, where the call arrives behind the account with this partner
 abbrev pub WillReply : Account → Call → Option ℕ → Kept → Type 0
 WillReply a call partner kept = (moment : ℕ) (key : Key) → Legal a
-    → let b = with_entry a (entry moment (Arrive key call) partner) in Legal b → IsKept b.entries (length a.entries) call kept
+    → let b = with_entry a (entry moment (Arrive key call) partner) in
+    Legal b → IsKept b.entries (length a.entries) call kept
 
 -- the request was recorded, and what is kept for it is its reply
 pub record IsRecorded (a b : Account) (moment : ℕ) (key : Key) (call : Call) (kept : Kept) : Type 0 where

@@ -29,7 +29,8 @@ pub record CanEnter (a : Account) (moment : ℕ) (key : Key) (call : Call) : Typ
   pub adds : Adds a moment (Arrive key call) after
   pub replies : Replies after key answer
 
--- where no refusal of a request is due, it has its reply, or a legal account with its entry and its reply exists
+-- where no refusal of a request is due, it has its reply, or a legal account with its entry and its reply
+-- exists
 abbrev pub RequestsCanEnter : Type 0
 RequestsCanEnter = (a : Account) (now : ℕ) (key : Key) (call : Call) → Legal a
     → RequestLines a key call (λ refusal. Unit {0}) ((x : Answer) × Replies a key x)

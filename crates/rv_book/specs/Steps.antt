@@ -1,12 +1,15 @@
 -- One step of the book: the answer to a message, and which accounts may stand after it.
-use Rattle.std.specs.Prelude.{◌≡◌, ◌≢◌, ◌⊎◌, ◌<◌, ◌≤◌, ◌+◌, ◌-◌, ◌^◌, ◌↔◌, ℕ, List, length, Contains, Some, min, max, unwrap_or}
+use Rattle.std.specs.Prelude.{◌≡◌, ◌≢◌, ◌⊎◌, ◌<◌, ◌≤◌, ◌+◌, ◌-◌, ◌^◌, ◌↔◌, ℕ, List, length, Contains, Some}
+use Rattle.std.specs.Prelude.{min, max, unwrap_or}
 use Rattle.rv_text.specs.declared.message.Key.{Key}
 use Rattle.rv_text.specs.declared.call.Call.{Call}
 use Rattle.rv_text.specs.declared.message.Message.{Message}
 use Rattle.rv_text.specs.declared.message.Message.TheVariants.{Hello, Request}
 use Rattle.rv_text.specs.declared.answer.Reply.{Reply}
 use Rattle.rv_text.specs.declared.answer.Refusal.{Refusal}
-use Rattle.rv_text.specs.declared.answer.Refusal.TheVariants.{OtherEpoch, NoSession, OldIncarnation, OldNumber, OtherCall, Busy, Gap, ClientsFull, EpochFull, NoMemory}
+use Rattle.rv_text.specs.declared.answer.Refusal.TheVariants.{OtherEpoch, NoSession, OldIncarnation}
+use Rattle.rv_text.specs.declared.answer.Refusal.TheVariants.{OldNumber, OtherCall, Busy, Gap, ClientsFull}
+use Rattle.rv_text.specs.declared.answer.Refusal.TheVariants.{EpochFull, NoMemory}
 use Rattle.rv_text.specs.declared.answer.Answer.{Answer}
 use Rattle.rv_text.specs.declared.answer.Answer.TheVariants.{Welcome, Replied, Refused}
 use Rattle.rv_book.specs.declared.account.Entry.{Entry}

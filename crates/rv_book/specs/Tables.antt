@@ -34,7 +34,8 @@ use Rattle.rv_book.specs.Waiting.{OpenAt, Waiting}
 
 -- the key of a session's last number
 abbrev pub last_key : Account → ℕ → Session → Key
-last_key a client s = record { epoch = a.epoch; client = client; incarnation = s.incarnation; number = s.last }
+last_key a client s =
+    record { epoch = a.epoch; client = client; incarnation = s.incarnation; number = s.last }
 
 -- the request of the session's last number waits at the place
 pub record IsWaitingAt (a : Account) (client : ℕ) (s : Session) (place : ℕ) : Type 0 where
@@ -43,12 +44,12 @@ pub record IsWaitingAt (a : Account) (client : ℕ) (s : Session) (place : ℕ) 
   pub waits : Waiting a.entries place
 
 -- the request of the session's last number arrived at the place, and this is kept as its reply
-pub record IsSettledAt (a : Account) (client : ℕ) (s : Session) (place : Option ℕ) (kept : Kept) : Type 0 where
-  pub at : ℕ
-  pub is : place ≡ Some at
+pub record IsSettledAt (a : Account) (client : ℕ) (s : Session) (at : Option ℕ) (kept : Kept) : Type 0 where
+  pub place : ℕ
+  pub is : at ≡ Some place
   pub call : Call
-  pub arrived : act_at a.entries at ≡ Some (Arrive (last_key a client s) call)
-  pub kept_is : IsKept a.entries at call kept
+  pub arrived : act_at a.entries place ≡ Some (Arrive (last_key a client s) call)
+  pub kept_is : IsKept a.entries place call kept
 
 -- what stands of the session's last number is what the account says of it
 abbrev pub Stands : Account → ℕ → Session → StateOf → Type 0

@@ -45,8 +45,9 @@ impl Model for Account {
     ghost Value = { Stored };
 
     ghost view = { λ a. record {
-        account = record { epoch = a.epoch; opened = a.opened; entries = a.entries.items };
-        room = vec_capacity a.entries - vec_len a.entries } };
+      account = record { epoch = a.epoch; opened = a.opened; entries = a.entries.items };
+      room = vec_capacity a.entries - vec_len a.entries;
+    } };
 }
 
 impl Act {

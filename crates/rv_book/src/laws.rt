@@ -1,5 +1,6 @@
 //! Laws of accounts, replies and steps: each function is its contract, over the definitions alone.
-ghost use Rattle.rv_book.specs.Laws.{OneNext, RepliesStay, RequestsCanEnter, HellosCanEnter, ItemsLeaveInOrder, StepsExtend, VerdictsStay};
+ghost use Rattle.rv_book.specs.Laws.{OneNext, RepliesStay, RequestsCanEnter, HellosCanEnter};
+ghost use Rattle.rv_book.specs.Laws.{ItemsLeaveInOrder, StepsExtend, VerdictsStay};
 
 /// A reply that stands in a legal account stands in every legal account that extends it, and the
 /// request has no other reply there.

@@ -10,6 +10,6 @@ mod verdict;
 
 pub use account::{Account, Act, Entry};
 pub use book::Book;
-pub use state::MAX_MOMENT;
 pub use rv_session::Place;
+pub use state::MAX_MOMENT;
 pub use verdict::Verdict;

@@ -34,7 +34,8 @@ impl State {
     ghost use Rattle.rv_book.specs.Legal.{KeepsTime};
     ghost use Rattle.rv_book.specs.Sessions.{HasOnlyLower};
     ghost use Rattle.rv_book.specs.Steps.{Adds, NextAt, max_entries, max_moment, step_moment};
-    ghost use Rattle.rv_book.specs.Tables.{Becomes, Comes, HasRoomFor, IsReady, IsRefused, IsRepeat, IsSame, IsSound, NoEntryDue};
+    ghost use Rattle.rv_book.specs.Tables.{Becomes, Comes, HasRoomFor, IsReady, IsRefused, IsRepeat};
+    ghost use Rattle.rv_book.specs.Tables.{IsSame, IsSound, NoEntryDue};
     ghost use Rattle.rv_book.specs.Tables.{account_of};
     ghost use Rattle.rv_session.specs.Meanings.{HasNext};
     ghost use Rattle.rv_session.specs.Standings.{MayEnter, standing_of};

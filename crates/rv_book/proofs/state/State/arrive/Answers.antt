@@ -27,7 +27,7 @@ returns-clause-sound c =
     let new : State = record { account = c.push.new.self; sessions = c.settle.new.self; queues = c.arrive.new.self } in
     let partner = subst (λ side. c.partner-partner.result ≡ partner_on old.queues side) c.side-side.ensures c.partner-partner.ensures in
     let arrived = subst (λ side. ArrivedOn ready.queues c.arrive.new.self side place) c.side-side.ensures
-        (subst (ArrivedOn ready.queues c.arrive.new.self c.side-side.result) c.len-place.ensures c.arrive.ensures) in
+    (subst (ArrivedOn ready.queues c.arrive.new.self c.side-side.result) c.len-place.ensures c.arrive.ensures) in
     let duty = c.begin-duty.ensures.duty in
     let settled = subst (λ (d : Owed). OnlySettles c.begin-duty.new.self c.settle.new.self d.client d.place k) duty c.settle.ensures in
     let changes = settled_changes ready.sessions c.begin-duty.new.self c.settle.new.self key.client key.incarnation key.number c.len-place.result k c.begin-duty.ensures.waits settled in

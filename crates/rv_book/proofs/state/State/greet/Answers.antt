@@ -76,4 +76,3 @@ returns-in-Newer-None-clause-err c =
     (λ refusal due same. becomes_refused a b c.args.moment (Hello c.args.client c.args.incarnation) refusal
     (newer_hello a t c.args.moment are c.requires.sound.legal b c.args.client c.args.incarnation (Refused refusal) _ c.in-Newer-None.ensures.means
     (unentered a b c.args.moment 1 (act.TheVariants.Hello c.args.client c.args.incarnation) refusal _ due same)))
-
