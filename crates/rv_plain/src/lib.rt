@@ -1,11 +1,10 @@
-//! A plain, slow reading of accounts beside the book, and worked rows that compare the two. It has tests alone.
+//! What the program does not print: the entries of its account after worked rows, and the rule that an
+//! account written by hand breaks. It has tests alone.
 #![tactic(auto)]
 
 #[cfg(test)]
-mod accounts;
+mod audit;
 #[cfg(test)]
-mod growths;
-#[cfg(test)]
-mod plain;
+mod line;
 #[cfg(test)]
 mod rows;

@@ -1,202 +1,109 @@
-//! Worked rows: what each message is told, then and later, and the plain reading of the account.
-use crate::accounts::{Line, Told, hello, put, take};
-use crate::plain::{first_fault, reply};
-use rv_book::{Account, Book, MAX_MOMENT};
+//! Worked rows, and the entries that a book has after each, also where a growth is refused. With ample memory
+//! none is; under `rt try --test --fail-alloc N` the Nth is, and what it stopped is asked again.
+use crate::audit::first_fault;
+use crate::line::{Line, hello, put, take};
+use rv_book::Book;
 use rv_text::{Answer, NoMemory, Refusal};
-use std::alloc::Global;
+use std::alloc::AllocGlobal;
 use std::process::Abort;
 use std::test::Fail;
 
-const LETTERS: &str = "xxxxxxxxxxxxxxxxxxxxxxxxxxxxxxxxxxxxxxxxxxxxxxxxxxxxxxxxxxxxxxxx\
-    xxxxxxxxxxxxxxxxxxxxxxxxxxxxxxxxxxxxxxxxxxxxxxxxxxxxxxxxxxxxxxxx\
-    xxxxxxxxxxxxxxxxxxxxxxxxxxxxxxxxxxxxxxxxxxxxxxxxxxxxxxxxxxxxxxxx\
-    xxxxxxxxxxxxxxxxxxxxxxxxxxxxxxxxxxxxxxxxxxxxxxxxxxxxxxxxxxxxxxxx\
-    xxxxxxxxxxxxxxxxxxxxxxxxxxxxxxxxxxxxxxxxxxxxxxxxxxxxxxxxxxxxxxxx\
-    xxxxxxxxxxxxxxxxxxxxxxxxxxxxxxxxxxxxxxxxxxxxxxxxxxxxxxxxxxxxxxxx\
-    xxxxxxxxxxxxxxxxxxxxxxxxxxxxxxxxxxxxxxxxxxxxxxxxxxxxxxxxxxxxxxxx\
-    xxxxxxxxxxxxxxxxxxxxxxxxxxxxxxxxxxxxxxxxxxxxxxxxxxxxxxxxxxxxxxxx";
-
-// Asserts that the book's answer to a line tells this.
-fn tells(
-    rt: &impl Abort,
-    alloc: Global,
-    book: &mut Book,
-    line: Line,
-    told: Told,
-) -> Result<(), NoMemory> {
-    let message = line.message(alloc)?;
-    assert!(rt; message.fits());
-    let verdict = book.handle(line.moment, message);
-    let answer = book.answer(alloc, &verdict)?;
-    assert_eq!(rt; Some(answer), line.answer(alloc, told)?);
-    Ok(())
-}
-
-// Asserts that the account is legal, and that the plain reading tells what the book did.
-fn still_tells(
-    rt: &impl Abort,
-    alloc: Global,
-    account: &Account,
-    answer: Option<Answer>,
-) -> Result<(), NoMemory> {
-    assert_eq!(rt; first_fault(account), None);
-    if let Some(Answer::Replied { key, reply: told }) = answer {
-        assert_eq!(rt; reply(alloc, account, &key)?, Some(told));
+// Sends the line, again where a growth was refused, which left the account.
+fn send(rt: &(impl Abort + AllocGlobal), book: &mut Book, line: &Line) -> Result<(), NoMemory> {
+    let before = book.account().len();
+    let refused = Answer::Refused(Refusal::NoMemory);
+    if line.ask(rt, book)? == refused {
+        assert_eq!(rt; book.account().len(), before);
+        assert!(rt; line.ask(rt, book)? != refused);
     }
     Ok(())
 }
 
-// Asserts that the lines are told so, each at once, and by the plain reading after each further line.
-fn runs(
-    rt: &impl Abort,
-    alloc: Global,
-    book: &mut Book,
-    row: &[(Line, Told)],
+// Asserts that a book of epoch 1, opened at this moment, has exactly these entries once the lines were
+// sent. A partner in what is sent says nothing.
+fn records(
+    rt: &(impl Abort + AllocGlobal),
+    opened: u64,
+    sent: &[Line],
+    entries: &[Line],
 ) -> Result<(), NoMemory> {
-    for (done, (line, told)) in row.iter().enumerate() {
-        tells(rt, alloc, book, *line, *told)?;
-        for (line, told) in row.iter().take(done).chain([(*line, *told)].iter()) {
-            still_tells(rt, alloc, book.account(), line.answer(alloc, *told)?)?;
-        }
+    let alloc = rt.alloc();
+    let mut book = Book::open(alloc, 1, opened).or_else(|_| Book::open(alloc, 1, opened))?;
+    for line in sent {
+        send(rt, &mut book, line)?;
     }
+    assert_eq!(rt; book.account().len(), entries.len());
+    for (place, line) in entries.iter().enumerate() {
+        let entry = line.entry(alloc).or_else(|_| line.entry(alloc))?;
+        assert!(rt; book.account().entry(place) == Some(&entry), "at {place}");
+    }
+    assert_eq!(rt; first_fault(book.account()), None);
     Ok(())
 }
 
-// A book of epoch 1 whose clients 1, 2 and 3 said hello.
-fn book_of_three(rt: &impl Abort, alloc: Global) -> Result<Book, NoMemory> {
-    let mut book = Book::open(alloc, 1, 0)?;
-    let hellos = [1, 2, 3].map(|client| (hello(client, 1), Told::Welcome));
-    runs(rt, alloc, &mut book, &hellos)?;
-    Ok(book)
-}
-
+// Long enough for each list to grow.
 #[test]
-fn a_poll_gets_the_item(rt: HostRuntime) -> Result<(), Fail> {
-    let mut book = Book::open(rt.alloc(), 1, 0)?;
+fn a_poll_names_the_put_that_it_takes(rt: HostRuntime) -> Result<(), Fail> {
     let row = [
-        (hello(1, 1), Told::Welcome),
-        (hello(2, 1), Told::Welcome),
-        (put(1, 1, "a"), Told::Done),
-        (take(2, 1), Told::Item("a")),
+        hello(1, 1),
+        hello(2, 1),
+        put(1, 1, "a"),
+        take(2, 1).meeting(2),
+        hello(2, 2),
+        put(1, 2, "b"),
+        put(1, 3, "c"),
+        put(1, 4, "d").on(4),
+        take(2, 1).by(2).meeting(5),
+        take(2, 2).by(2).meeting(6),
+        take(2, 3).by(2),
+        put(1, 5, "e"),
     ];
-    runs(&rt, rt.alloc(), &mut book, &row)?;
-    let mut book = book_of_three(&rt, rt.alloc())?;
-    runs(&rt, rt.alloc(), &mut book, &[(take(2, 1), Told::Empty)])?;
+    records(&rt, 0, &row, &row)?;
     Ok(())
 }
 
 #[test]
 fn a_put_outlives_its_session(rt: HostRuntime) -> Result<(), Fail> {
-    let mut book = book_of_three(&rt, rt.alloc())?;
-    let old = Told::Refused(Refusal::OldIncarnation(2));
-    let row = [
-        (hello(1, 2).at(1), Told::Welcome),
-        (take(2, 1).at(2), Told::Empty),
-        (put(1, 1, "a").at(3), old),
-        (hello(1, 1).at(3), old),
-        (hello(1, 2).at(4), Told::Welcome),
-        (
-            put(1, 1, "q").by(9).at(4),
-            Told::Refused(Refusal::NoSession),
-        ),
-        (put(1, 1, "b").by(2).at(5), Told::Done),
-        (hello(1, 3).at(6), Told::Welcome),
-        (take(2, 2).at(7), Told::Item("b")),
+    let [one, two, three] = [hello(1, 1), hello(2, 1), hello(3, 1)];
+    let [anew, again] = [hello(1, 2).at(1), hello(1, 3).at(6)];
+    let [empty, got] = [take(2, 1).at(2), take(2, 2).at(7)];
+    let [old, stranger] = [put(1, 1, "a").at(3), put(1, 1, "q").by(9).at(4)];
+    let b = put(1, 1, "b").by(2).at(5);
+    let sent = [
+        one,
+        two,
+        three,
+        anew,
+        empty,
+        old,
+        one.at(3),
+        anew.at(4),
+        stranger,
+        b,
+        again,
+        got,
     ];
-    runs(&rt, rt.alloc(), &mut book, &row)?;
+    let entries = [one, two, three, anew, empty, b, again, got.meeting(5)];
+    records(&rt, 0, &sent, &entries)?;
     Ok(())
 }
 
 #[test]
-fn numbers_go_up_by_one(rt: HostRuntime) -> Result<(), Fail> {
-    let mut book = book_of_three(&rt, rt.alloc())?;
-    let row = [
-        (put(1, 1, "a"), Told::Done),
-        (put(1, 3, "c"), Told::Refused(Refusal::Gap(1))),
-        (put(1, 2, "t").on(4), Told::Done),
-        (put(1, 1, "a"), Told::Refused(Refusal::OldNumber(2))),
-        (put(1, 2, "t").on(5), Told::Refused(Refusal::OldNumber(2))),
-        (put(1, 4, "c"), Told::Refused(Refusal::Gap(2))),
-        (put(9, 1, "a"), Told::Refused(Refusal::NoSession)),
-    ];
-    runs(&rt, rt.alloc(), &mut book, &row)?;
-    Ok(())
-}
-
-#[test]
-fn items_and_queues_have_limits(rt: HostRuntime) -> Result<(), Fail> {
-    let mut book = Book::open(rt.alloc(), 1, 0)?;
-    let row = [
-        (hello(1, 1), Told::Welcome),
-        (put(1, 1, LETTERS), Told::Done),
-        (put(1, 2, "").on(63), Told::Done),
-        (take(1, 3), Told::Item(LETTERS)),
-        (take(1, 4).on(63), Told::Item("")),
-    ];
-    assert_eq!(rt; LETTERS.len(), 512);
-    runs(&rt, rt.alloc(), &mut book, &row)?;
-    Ok(())
-}
-
-#[test]
-fn another_epoch_is_refused(rt: HostRuntime) -> Result<(), Fail> {
-    let mut book = Book::open(rt.alloc(), 2, 0)?;
-    let row = [
-        (put(1, 1, "a"), Told::Refused(Refusal::OtherEpoch(2))),
-        (
-            put(1, 1, "a").in_epoch(2),
-            Told::Refused(Refusal::NoSession),
-        ),
-        (hello(1, 1).in_epoch(2), Told::Welcome),
-        (put(1, 1, "a"), Told::Refused(Refusal::OtherEpoch(2))),
-    ];
-    runs(&rt, rt.alloc(), &mut book, &row)?;
-    assert_eq!(rt; book.account().epoch(), 2);
-    assert_eq!(rt; book.account().len(), 1);
+fn what_is_refused_is_not_recorded(rt: HostRuntime) -> Result<(), Fail> {
+    let [one, a, t] = [hello(1, 1), put(1, 1, "a"), put(1, 2, "t").on(4)];
+    let [c, d] = [put(1, 3, "c"), put(1, 4, "c")];
+    let sent = [one, a, c, t, t.on(5), a, d, c.in_epoch(2), put(9, 1, "a")];
+    records(&rt, 0, &sent, &[one, a, t])?;
     Ok(())
 }
 
 #[test]
 fn moments_never_fall(rt: HostRuntime) -> Result<(), Fail> {
-    let mut book = Book::open(rt.alloc(), 1, 4)?;
-    assert_eq!(rt; book.account().opened(), 4);
-    assert!(rt; book.account().is_empty());
-    let row = [
-        (hello(1, 1).at(3), Told::Welcome),
-        (hello(2, 1).at(8), Told::Welcome),
-        (put(1, 1, "a").at(2), Told::Done),
-        (take(2, 1).at(9), Told::Item("a")),
-        (take(2, 2).at(u64::MAX), Told::Empty),
-        (take(2, 3).at(9), Told::Empty),
-    ];
-    runs(&rt, rt.alloc(), &mut book, &row)?;
-    for (place, moment) in [4, 8, 8, 9, MAX_MOMENT, MAX_MOMENT].into_iter().enumerate() {
-        let found = book.account().entry(place).map(|entry| entry.moment);
-        assert_eq!(rt; found, Some(moment), "at {place}");
-    }
-    let late = Book::open(rt.alloc(), 1, MAX_MOMENT + 1)?;
-    assert_eq!(rt; late.account().opened(), 4_611_686_018_427_387_904);
-    Ok(())
-}
-
-#[test]
-fn an_epoch_has_room_for_100_000_entries(rt: HostRuntime) -> Result<(), Fail> {
-    let mut book = Book::open(rt.alloc(), 1, 0)?;
-    tells(&rt, rt.alloc(), &mut book, hello(1, 1), Told::Welcome)?;
-    for number in 1..100_000 {
-        tells(&rt, rt.alloc(), &mut book, put(1, number, ""), Told::Done)?;
-    }
-    let full = Told::Refused(Refusal::EpochFull);
-    let row = [
-        (put(1, 100_000, ""), full),
-        (hello(1, 2), full),
-        (hello(2, 1), full),
-        (hello(1, 1), Told::Welcome),
-        (put(1, 100_001, ""), Told::Refused(Refusal::Gap(99_999))),
-    ];
-    for (line, told) in row {
-        tells(&rt, rt.alloc(), &mut book, line, told)?;
-    }
-    assert_eq!(rt; book.account().len(), 100_000);
+    let [one, two, a] = [hello(1, 1), hello(2, 1), put(1, 1, "a")];
+    let [got, empty] = [take(2, 1).at(9), take(2, 2)];
+    let sent = [one.at(3), two.at(8), a.at(2), got, empty.at(u64::MAX)];
+    let last = empty.at(4_611_686_018_427_387_904);
+    let entries = [one.at(4), two.at(8), a.at(8), got.meeting(2), last];
+    records(&rt, 4, &sent, &entries)?;
     Ok(())
 }

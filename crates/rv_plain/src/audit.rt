@@ -1,0 +1,230 @@
+//! A plain, slow reading of accounts, each rule by its formula over places, and what it says of accounts that
+//! are broken by hand.
+use crate::line::{Line, hello, put, take};
+use rv_book::{Account, Act, Entry, Place};
+use rv_text::{Key, NoMemory, Side, Wait};
+use std::alloc::{AllocGlobal, Global};
+use std::process::Abort;
+use std::test::Fail;
+
+/// A rule of legal accounts, under the name that an audit gives it: those that calls of today can
+/// break, in the order in which an audit looks at them.
+#[derive(Clone, Copy, Debug, PartialEq, Eq)]
+pub(crate) enum Rule {
+    /// Moments never fall, and none is below the opening moment.
+    M1,
+    /// A hello's incarnation is above those of its client's earlier hellos.
+    N1,
+    /// An arrival has the account's epoch and the incarnation of its client's last hello.
+    N2,
+    /// An arrival has its session's next number.
+    N3,
+    /// Only a call that gives or takes names a partner: an earlier place that met nobody yet.
+    P1,
+    /// A partner is an open arrival of the other side of the same queue.
+    P2,
+    /// No open arrival of the partner's side and queue stands before the partner.
+    P3,
+    /// An arrival without a partner finds no open arrival of the other side of its queue.
+    P4,
+}
+
+/// The first place at which a rule is broken, and the first rule that is broken there; `None` where
+/// the account is legal. The cost grows with the third power of the entries.
+pub(crate) fn first_fault(account: &Account) -> Option<(Place, Rule)> {
+    (0..account.len()).find_map(|place| {
+        let rule = first_broken(account, place, account.entry(place)?)?;
+        Some((place, rule))
+    })
+}
+
+// The first rule that the entry at the place breaks. Each is read as where those above it hold.
+fn first_broken(account: &Account, place: Place, entry: &Entry) -> Option<Rule> {
+    let (numbers, other) = match &entry.act {
+        Act::Hello {
+            client,
+            incarnation,
+        } => (broken_by_hello(account, place, *client, *incarnation), None),
+        Act::Arrive { key, call } => (broken_by_key(account, place, key), opposite(call.side())),
+    };
+    broken_by_moment(account, place, entry.moment)
+        .or(numbers)
+        .or(broken_by_partner(account, place, other, entry.partner))
+}
+
+// ---- moments and numbers
+
+fn broken_by_moment(account: &Account, place: Place, moment: u64) -> Option<Rule> {
+    let before = place.checked_sub(1).and_then(|last| account.entry(last));
+    if moment < before.map_or(account.opened(), |last| last.moment) {
+        Some(Rule::M1)
+    } else {
+        None
+    }
+}
+
+// The incarnation of the client's last hello before the place, which is the greatest.
+fn last_incarnation(account: &Account, place: Place, of: u64) -> Option<u64> {
+    let hello_at = |earlier: Place| match account.entry(earlier)?.act {
+        Act::Hello {
+            client,
+            incarnation,
+        } if client == of => Some(incarnation),
+        _ => None,
+    };
+    (0..place).filter_map(hello_at).max()
+}
+
+fn broken_by_hello(account: &Account, place: Place, client: u64, number: u64) -> Option<Rule> {
+    match last_incarnation(account, place, client) {
+        Some(last) if number <= last => Some(Rule::N1),
+        _ => None,
+    }
+}
+
+// The last number before the place of the session that the key names, 0 if it has none yet.
+fn last_number(account: &Account, place: Place, of: &Key) -> u64 {
+    let number_at = |earlier: Place| match &account.entry(earlier)?.act {
+        Act::Arrive { key, .. } if (key.client, key.incarnation) == (of.client, of.incarnation) => {
+            Some(key.number)
+        }
+        _ => None,
+    };
+    (0..place).filter_map(number_at).max().unwrap_or(0)
+}
+
+fn broken_by_key(account: &Account, place: Place, key: &Key) -> Option<Rule> {
+    let incarnation = last_incarnation(account, place, key.client);
+    if key.epoch != account.epoch() || incarnation != Some(key.incarnation) {
+        Some(Rule::N2)
+    } else if last_number(account, place, key).checked_add(1) != Some(key.number) {
+        Some(Rule::N3)
+    } else {
+        None
+    }
+}
+
+// ---- pairs
+
+// The side whose arrivals one of this side meets.
+fn opposite(side: Side) -> Option<Side> {
+    match side {
+        Side::Gives(queue) => Some(Side::Takes(queue)),
+        Side::Takes(queue) => Some(Side::Gives(queue)),
+        Side::Looks(_) => None,
+    }
+}
+
+// The side of the arrival at a place, if it stays where no partner is there.
+fn staying_side(account: &Account, place: Place) -> Option<Side> {
+    match &account.entry(place)?.act {
+        Act::Arrive { call, .. } => match call.wait() {
+            None => Some(call.side()),
+            Some(Wait::Now) => None,
+        },
+        Act::Hello { .. } => None,
+    }
+}
+
+// Whether an entry before the place names the arrival, or the arrival is one that names a partner.
+fn met(account: &Account, arrival: Place, place: Place) -> bool {
+    (0..place).any(|later| {
+        let partner = account.entry(later).and_then(|entry| entry.partner);
+        partner.is_some_and(|earlier| arrival == later || arrival == earlier)
+    })
+}
+
+// Whether an arrival of this side stands before the place, stays, and was not met. What stays is a
+// put, and nothing stops a put.
+fn is_open(account: &Account, side: Side, arrival: Place, place: Place) -> bool {
+    arrival < place && staying_side(account, arrival) == Some(side) && !met(account, arrival, place)
+}
+
+// What an entry breaks that names this partner, or none, and may meet the arrivals of this side, or of none.
+fn broken_by_partner(
+    account: &Account,
+    place: Place,
+    other: Option<Side>,
+    partner: Option<Place>,
+) -> Option<Rule> {
+    let Some(side) = other else {
+        return partner.map(|_| Rule::P1);
+    };
+    let oldest = (0..place).find(|arrival| is_open(account, side, *arrival, place));
+    match partner {
+        None => oldest.map(|_| Rule::P4),
+        Some(p) if place <= p || met(account, p, place) => Some(Rule::P1),
+        Some(p) if !is_open(account, side, p, place) => Some(Rule::P2),
+        Some(p) if oldest != Some(p) => Some(Rule::P3),
+        Some(_) => None,
+    }
+}
+
+// ---- accounts broken by hand
+
+fn account_of(
+    alloc: Global,
+    opened: u64,
+    first: &[Line],
+    last: &Line,
+) -> Result<Account, NoMemory> {
+    let mut entries = Vec::new(alloc);
+    for line in first {
+        entries.push(line.entry(alloc)?)?;
+    }
+    entries.push(last.entry(alloc)?)?;
+    Ok(Account::from_entries(1, opened, entries))
+}
+
+// Asserts that the first entries make a legal account, and that each of the last ones behind them
+// breaks this rule, or none.
+fn breaks(
+    rt: &(impl Abort + AllocGlobal),
+    opened: u64,
+    first: &[Line],
+    lasts: &[(Line, Option<Rule>)],
+) -> Result<(), NoMemory> {
+    for (last, rule) in lasts {
+        let account = account_of(rt.alloc(), opened, first, last)?;
+        let fault = rule.map(|rule| (first.len(), rule));
+        assert_eq!(rt; first_fault(&account), fault);
+    }
+    Ok(())
+}
+
+#[test]
+fn each_rule_is_named_where_it_is_broken(rt: HostRuntime) -> Result<(), Fail> {
+    let [one, two, a, b] = [hello(1, 1), hello(2, 1), put(1, 1, "a"), put(1, 2, "b")];
+    let [poll, next] = [take(2, 1).at(1), put(1, 3, "c")];
+    let lasts = [
+        (poll.meeting(2), None),
+        (poll.meeting(3), Some(Rule::P3)),
+        (poll, Some(Rule::P4)),
+        (poll.meeting(1), Some(Rule::P2)),
+        (poll.meeting(4), Some(Rule::P1)),
+        (take(2, 2).at(1).meeting(2), Some(Rule::N3)),
+        (poll.on(4).meeting(2), Some(Rule::P2)),
+        (next.meeting(2), Some(Rule::P2)),
+        (next.in_epoch(2), Some(Rule::N2)),
+        (take(3, 1).meeting(2), Some(Rule::N2)),
+        (hello(3, 1).meeting(2), Some(Rule::P1)),
+        (hello(2, 1), Some(Rule::N1)),
+    ];
+    breaks(&rt, 0, &[one, two, a, b], &lasts)?;
+    breaks(&rt, 0, &[one], &[(one, Some(Rule::N1))])?;
+    breaks(&rt, 1, &[], &[(one, Some(Rule::M1))])?;
+    let [got, anew] = [poll.meeting(2), hello(1, 3).at(1)];
+    let poll = take(2, 2).at(1);
+    let lasts = [
+        (poll.meeting(3), None),
+        (poll.at(0).meeting(3), Some(Rule::M1)),
+        (hello(1, 2).at(1), Some(Rule::N1)),
+        (next.at(1), Some(Rule::N2)),
+        (next.by(3).at(1), Some(Rule::N3)),
+        (a.by(3).at(1), None),
+        (poll.meeting(2), Some(Rule::P1)),
+        (poll.meeting(4), Some(Rule::P1)),
+    ];
+    breaks(&rt, 0, &[one, two, a, b, got, anew], &lasts)?;
+    Ok(())
+}

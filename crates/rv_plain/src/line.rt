@@ -1,0 +1,139 @@
+//! A short way to write messages and entries by hand.
+use rv_book::{Act, Book, Entry, Place};
+use rv_text::{Answer, Call, Item, Key, Message, NoMemory, Wait};
+use std::alloc::{AllocGlobal, Global};
+use std::process::Abort;
+
+#[derive(Clone, Copy)]
+enum Does {
+    Hello,
+    Put(&'static str),
+    Take,
+}
+
+/// A message to a book, or an entry of an account. It is of epoch 1, incarnation 1 and queue 3, at
+/// moment 0 and without a partner, unless changed.
+#[derive(Clone, Copy)]
+pub(crate) struct Line {
+    moment: u64,
+    key: Key,
+    queue: u64,
+    does: Does,
+    partner: Option<Place>,
+}
+
+pub(crate) fn hello(client: u64, incarnation: u64) -> Line {
+    Line::of(client, 0, Does::Hello).by(incarnation)
+}
+
+pub(crate) fn put(client: u64, number: u64, text: &'static str) -> Line {
+    Line::of(client, number, Does::Put(text))
+}
+
+/// A take that does not wait.
+pub(crate) fn take(client: u64, number: u64) -> Line {
+    Line::of(client, number, Does::Take)
+}
+
+impl Line {
+    fn of(client: u64, number: u64, does: Does) -> Line {
+        let key = Key {
+            epoch: 1,
+            client,
+            incarnation: 1,
+            number,
+        };
+        Line {
+            moment: 0,
+            key,
+            queue: 3,
+            does,
+            partner: None,
+        }
+    }
+
+    /// The same line at this moment.
+    pub(crate) fn at(mut self, moment: u64) -> Line {
+        self.moment = moment;
+        self
+    }
+
+    /// The same line, which names this place as its partner.
+    pub(crate) fn meeting(mut self, place: Place) -> Line {
+        self.partner = Some(place);
+        self
+    }
+
+    /// The same line of another queue.
+    pub(crate) fn on(mut self, queue: u64) -> Line {
+        self.queue = queue;
+        self
+    }
+
+    /// The same line of another epoch.
+    pub(crate) fn in_epoch(mut self, epoch: u64) -> Line {
+        self.key.epoch = epoch;
+        self
+    }
+
+    /// The same line of another incarnation.
+    pub(crate) fn by(mut self, incarnation: u64) -> Line {
+        self.key.incarnation = incarnation;
+        self
+    }
+
+    fn message(&self, alloc: Global) -> Result<Message, NoMemory> {
+        let Line { key, queue, .. } = *self;
+        let call = match self.does {
+            Does::Hello => {
+                return Ok(Message::Hello {
+                    client: key.client,
+                    incarnation: key.incarnation,
+                });
+            }
+            Does::Put(text) => {
+                let item = Item::from_text(String::from_str(alloc, text)?);
+                Call::Put { queue, item }
+            }
+            Does::Take => {
+                let wait = Wait::Now;
+                Call::Take { queue, wait }
+            }
+        };
+        Ok(Message::Request { key, call })
+    }
+
+    pub(crate) fn entry(&self, alloc: Global) -> Result<Entry, NoMemory> {
+        let act = match self.message(alloc)? {
+            Message::Hello {
+                client,
+                incarnation,
+            } => Act::Hello {
+                client,
+                incarnation,
+            },
+            Message::Request { key, call } => Act::Arrive { key, call },
+        };
+        Ok(Entry {
+            moment: self.moment,
+            act,
+            partner: self.partner,
+        })
+    }
+
+    /// What the book answers when the message comes. What a refused growth stopped is asked again.
+    pub(crate) fn ask(
+        &self,
+        rt: &(impl Abort + AllocGlobal),
+        book: &mut Book,
+    ) -> Result<Answer, NoMemory> {
+        let alloc = rt.alloc();
+        let message = self.message(alloc).or_else(|_| self.message(alloc))?;
+        assert!(rt; message.fits());
+        let verdict = book.handle(self.moment, message);
+        match book.answer(alloc, &verdict) {
+            Ok(answer) => Ok(answer),
+            Err(_refused) => book.answer(alloc, &verdict),
+        }
+    }
+}
