@@ -7,5 +7,6 @@ pub mod Kept
 pub mod Readers
 pub mod Decoding
 pub mod Floats
+pub mod Encoding
 pub mod Fitting
 pub mod Written

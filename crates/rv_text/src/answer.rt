@@ -1,7 +1,9 @@
 //! What the server answers: welcomes, replies and refusals.
+ghost use Rattle.std.specs.Prelude.{◌≡◌, ◌↔◌, IsTrue};
+
 use crate::fault::NoMemory;
 use crate::item::Item;
-use crate::message::Key;
+use crate::message::{Key, MAX_IDENTIFIER, fits_identifier};
 use thiserror::Error;
 
 /// What became of a request. Once given, it stays the request's reply.
@@ -53,9 +55,43 @@ pub enum Refusal {
     NoMemory,
 }
 
+impl Reply {
+    ghost use Rattle.rv_text.specs.Limits.{FitsReply};
+
+    /// Whether its item, if it has one, has at most 512 bytes.
+    pub fn fits(&self) -> bool
+        ensures { IsTrue result ↔ FitsReply self.now }
+    {
+        match self {
+            Reply::Item(item) => item.fits(),
+            Reply::Done | Reply::Empty => true,
+        }
+    }
+}
+
 impl Refusal {
-    ghost use Rattle.std.specs.Prelude.{◌≡◌};
     ghost use Rattle.rv_text.specs.Rows.{code_of};
+    ghost use Rattle.rv_text.specs.Limits.{FitsRefusal};
+
+    /// Whether the number that it tells is within its limits: 1 to 2^53 - 1, and 0 too for a
+    /// session's last number.
+    pub fn fits(&self) -> bool
+        ensures { IsTrue result ↔ FitsRefusal self.now }
+    {
+        match self {
+            Refusal::OtherEpoch(current) => fits_identifier(*current),
+            Refusal::OldIncarnation(current) => fits_identifier(*current),
+            Refusal::Busy(number) => fits_identifier(*number),
+            Refusal::OldNumber(last) => *last <= MAX_IDENTIFIER,
+            Refusal::Gap(last) => *last <= MAX_IDENTIFIER,
+            Refusal::BadText
+            | Refusal::NoSession
+            | Refusal::OtherCall
+            | Refusal::ClientsFull
+            | Refusal::EpochFull
+            | Refusal::NoMemory => true,
+        }
+    }
 
     /// The refusal's number, 1 to 11: the place of its test among those that a message meets.
     pub fn code(&self) -> u64
@@ -95,8 +131,28 @@ pub enum Answer {
     Refused(Refusal),
 }
 
+impl Answer {
+    ghost use Rattle.rv_text.specs.Limits.{FitsAnswer};
+
+    /// Whether every number and the item are within their limits.
+    pub fn fits(&self) -> bool
+        ensures { IsTrue result ↔ FitsAnswer self.now }
+    {
+        match self {
+            Answer::Welcome {
+                epoch,
+                client,
+                incarnation,
+            } => {
+                fits_identifier(*epoch) && fits_identifier(*client) && fits_identifier(*incarnation)
+            }
+            Answer::Replied { key, reply } => key.fits() && reply.fits(),
+            Answer::Refused(refusal) => refusal.fits(),
+        }
+    }
+}
+
 impl From<NoMemory> for Refusal {
-    ghost use Rattle.std.specs.Prelude.{◌≡◌};
     ghost use Rattle.rv_text.specs.declared.answer.Refusal.TheVariants as refusals;
 
     ghost from_gives = { λ _ refusal. refusal ≡ refusals.NoMemory };

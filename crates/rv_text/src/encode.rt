@@ -1,14 +1,16 @@
-//! The one text that is written for an answer.
-ghost use Rattle.std.specs.Prelude.{◌≡◌, [], ◌∷◌, OnOk, IfOk, string_bytes};
+//! The one text that is written for a message or an answer.
+ghost use Rattle.std.specs.Prelude.{◌≡◌, [], ◌∷◌, Some, OnOk, IfOk, string_bytes};
 ghost use Rattle.serde_json.specs.Data.{string, number, unsigned};
-ghost use Rattle.rv_text.specs.Rows.{key_row, reply_row, detail_row, answer_row};
+ghost use Rattle.rv_text.specs.Rows.{key_row, wait_row, call_row, message_row};
+ghost use Rattle.rv_text.specs.Rows.{reply_row, detail_row, answer_row};
 ghost use Rattle.rv_text.specs.Reading.{Puts, PutsRow};
-ghost use Rattle.rv_text.specs.Bodies.{HasBodyLength, answer_text};
-ghost use Rattle.rv_text.specs.Limits.{FitsAnswer};
+ghost use Rattle.rv_text.specs.Bodies.{HasBodyLength, message_text, answer_text};
+ghost use Rattle.rv_text.specs.Limits.{FitsMessage, FitsAnswer};
 
 use crate::answer::{Answer, Refusal, Reply};
+use crate::call::{Call, Wait};
 use crate::fault::NoMemory;
-use crate::message::Key;
+use crate::message::{Key, Message};
 use serde_json::{Map, Value};
 use std::alloc::Global;
 
@@ -28,6 +30,67 @@ pub fn encode_answer(alloc: Global, answer: &Answer) -> Result<String, NoMemory>
     let mut members = Map::new(alloc);
     put_answer(&mut members, alloc, answer)?;
     Value::Object(members).to_string(alloc)
+}
+
+/// The body that is written for a message: JSON with no white space, its members in byte order of
+/// their names. A message within its limits has a body of at most 4,096 bytes. It fails only where
+/// memory was refused.
+pub fn encode_message(alloc: Global, message: &Message) -> Result<String, NoMemory>
+    ensures text { IfOk result (λ s. string_bytes s ≡ message_text message.now) }
+    ensures short { FitsMessage message.now → IfOk result (λ s. HasBodyLength (string_bytes s)) }
+{
+    let mut members = Map::new(alloc);
+    put_message(&mut members, alloc, message)?;
+    Value::Object(members).to_string(alloc)
+}
+
+fn put_message(
+    members: &mut Map<String, Value>,
+    alloc: Global,
+    message: &Message,
+) -> Result<(), NoMemory>
+    ensures { OnOk result (PutsRow (message_row message.now) members.old members.new) }
+{
+    match message {
+        Message::Hello {
+            client,
+            incarnation,
+        } => {
+            put_text(members, alloc, "kind", "hello")?;
+            put_whole(members, alloc, "client", *client)?;
+            put_whole(members, alloc, "incarnation", *incarnation)
+        }
+        Message::Request { key, call } => {
+            put_text(members, alloc, "kind", "request")?;
+            put_key(members, alloc, key)?;
+            put_call(members, alloc, call)
+        }
+    }
+}
+
+fn put_call(members: &mut Map<String, Value>, alloc: Global, call: &Call) -> Result<(), NoMemory>
+    ensures { OnOk result (PutsRow (call_row call.now) members.old members.new) }
+{
+    match call {
+        Call::Put { queue, item } => {
+            put_text(members, alloc, "call", "put")?;
+            put_whole(members, alloc, "queue", *queue)?;
+            put_text(members, alloc, "item", item.as_str())
+        }
+        Call::Take { queue, wait } => {
+            put_text(members, alloc, "call", "take")?;
+            put_whole(members, alloc, "queue", *queue)?;
+            put_wait(members, alloc, *wait)
+        }
+    }
+}
+
+fn put_wait(members: &mut Map<String, Value>, alloc: Global, wait: Wait) -> Result<(), NoMemory>
+    ensures { OnOk result (PutsRow (wait_row (Some wait)) members.old members.new) }
+{
+    match wait {
+        Wait::Now => put_text(members, alloc, "wait", "now"),
+    }
 }
 
 fn put_answer(
