@@ -11,7 +11,7 @@ use Rattle.rv_text.proofs.ByKind.{Each, row_is_flat, row_size}
 use Rattle.rv_text.proofs.Sizes.{length-object}
 use Rattle.rv_text.proofs.Sound.{IsSound, message_sound, message_within, answer_sound, answer_within}
 
-body_length : (row : List Member) → IsSound row → Each IsWithin row → HasBodyLength (compact_text (object_of row))
+pub body_length : (row : List Member) → IsSound row → Each IsWithin row → HasBodyLength (compact_text (object_of row))
 body_length row sound h =
     let flat = row_is_flat row sound.plain h in
     (omega arith, omega (arith, length-object (map field_of row) flat, row_size row sound.plain h, sound.room))

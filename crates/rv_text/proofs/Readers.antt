@@ -1,7 +1,7 @@
 -- A reader finds a value exactly where the members of its row are found.
 use Rattle.std.proofs.Common.{String, Global, BTreeMap, string_cmp, ◌≡◌, ℕ, List, [], ◌∷◌, ◌++◌, length, map, codes}
-use Rattle.std.proofs.Common.{Bool, true, false, cond, Option, Some, None, option_and_then, bytes_eq, refl, sym, ap, ◌∙◌, subst, inl, inr}
-use Rattle.std.proofs.lemmas.List.{length-map}
+use Rattle.std.proofs.Common.{Bool, true, false, cond, Option, Some, None, option_and_then, bytes_eq, nat_eq, refl, sym, ap, ◌∙◌, subst, inl, inr}
+use Rattle.std.proofs.lemmas.Bool.Decides.{Decides-eqb}
 use Rattle.std.proofs.lemmas.Option.{same_Some}
 use Rattle.std.proofs.lemmas.Slice.Eq.{bytes_eq-Decides}
 use Rattle.std.specs.Prelude.{◌⊎◌}
@@ -19,13 +19,19 @@ use Rattle.rv_text.specs.declared.call.Wait.{Wait}
 use Rattle.rv_text.specs.declared.call.Wait.TheVariants as wait
 use Rattle.rv_text.specs.declared.call.Call.{Call}
 use Rattle.rv_text.specs.declared.call.Call.TheVariants as call
-use Rattle.rv_text.specs.Members.{Member, Field, field_of, members_of, object_of}
-use Rattle.rv_text.specs.Rows.{key_row, wait_row, call_row, message_row}
-use Rattle.rv_text.specs.Limits.{FitsMessage}
-use Rattle.rv_text.specs.Reading.{◌>>=◌, Line, by_word, among, whole_among, text_among, queue_among, item_among, wait_lines, wait_among}
-use Rattle.rv_text.specs.Reading.{key_among, hello_among, request_among, call_lines, call_among, message_lines, message_among, IsAlone}
-use Rattle.rv_text.proofs.Objects.{HasFields, IsSorted-entries, with_fields-found, found-with_fields, members_len-with_fields}
-use Rattle.rv_text.proofs.Sound.{message_sound}
+use Rattle.rv_text.specs.declared.answer.Reply.{Reply}
+use Rattle.rv_text.specs.declared.answer.Reply.TheVariants as reply
+use Rattle.rv_text.specs.declared.answer.Refusal.{Refusal}
+use Rattle.rv_text.specs.declared.answer.Refusal.TheVariants as refusal
+use Rattle.rv_text.specs.declared.answer.Answer.{Answer}
+use Rattle.rv_text.specs.declared.answer.Answer.TheVariants as answer
+use Rattle.rv_text.specs.Members.{Member, whole, Field, field_of, code_numbers}
+use Rattle.rv_text.specs.Rows.{key_row, wait_row, call_row, message_row, reply_row, code_of, detail_row, answer_row}
+use Rattle.rv_text.specs.Reading.{◌>>=◌, Line, under, among, numbered_among, whole_among, text_among, queue_among, item_among, wait_lines, wait_among}
+use Rattle.rv_text.specs.Reading.{key_among, hello_among, request_among, call_lines, call_among, message_lines, message_among}
+use Rattle.rv_text.specs.Reading.{reply_lines, reply_among, telling, refusal_lines, refusal_among, welcome_among, replied_among, refused_among, answer_lines, answer_among, Shape, messages, answers}
+use Rattle.rv_text.proofs.Objects.{HasFields}
+use Rattle.rv_text.proofs.Sound.{IsSound, message_sound, answer_sound}
 
 -- ---- the steps of a reader
 
@@ -88,21 +94,30 @@ module _ (ms : Members) where
   text_found : (name s : List ℕ) → text_among name ms ≡ Some s → Has (name, string s)
   text_found name s e = string_found (get_member name ms) s e
 
-  -- each line finds what has P, where its word is found
-  abbrev AreLines : {A : Type 0} → (A → Type 0) → List ℕ → List (Line A) → Type 0
-  AreLines P name [] = Unit {0}
-  AreLines P name (line ∷ lines) = (Has (name, string line.0) → (x : _) → line.1 ms ≡ Some x → P x) × AreLines P name lines
+  -- each line finds what has P, where its word or number is found
+  abbrev AreLines : {K A : Type 0} → (A → Type 0) → (K → Type 0) → List (Line K A) → Type 0
+  AreLines P Is [] = Unit {0}
+  AreLines P Is (line ∷ lines) = (Is line.0 → (x : _) → line.1 ms ≡ Some x → P x) × AreLines P Is lines
 
-  line_found : {A : Type 0} (P : A → Type 0) (name : List ℕ) (lines : List (Line A)) → AreLines P name lines → (s : List ℕ) → text_among name ms ≡ Some s
-      → (x : A) → by_word s lines ms ≡ Some x → P x
-  line_found P name [] are s read x e = absurd (cc)
-  line_found P name (line ∷ lines) are s read x e = elim (chosen (bytes_eq s line.0) (line.1 ms) (by_word s lines ms) x e) [
-    | inl way ↦ are.0 (text_found name line.0 (read ∙ ap Some ((bytes_eq-Decides s line.0).0 way.0))) x way.1
-    | inr way ↦ line_found P name lines are.1 s read x way
+  line_found : {K A : Type 0} (same : K → K → Bool) → ((a b : K) → same a b ≡ true → a ≡ b) → (P : A → Type 0) (Is : K → Type 0) (lines : List (Line K A)) → AreLines P Is lines
+      → (key : K) → Is key → (x : A) → under same key lines ms ≡ Some x → P x
+  line_found same equal P Is [] are key is x e = absurd (cc)
+  line_found same equal P Is (line ∷ lines) are key is x e = elim (chosen (same key line.0) (line.1 ms) (under same key lines ms) x e) [
+    | inl way ↦ are.0 (subst Is (equal key line.0 way.0) is) x way.1
+    | inr way ↦ line_found same equal P Is lines are.1 key is x way
   ]
 
-  among_found : {A : Type 0} (P : A → Type 0) (name : List ℕ) (lines : List (Line A)) → AreLines P name lines → (x : A) → among name lines ms ≡ Some x → P x
-  among_found P name lines are = step_found P (text_among name ms) _ (λ s read. line_found P name lines are s read)
+  among_found : {A : Type 0} (P : A → Type 0) (name : List ℕ) (lines : List (Line (List ℕ) A)) → AreLines P (λ s. Has (name, string s)) lines
+      → (x : A) → among name lines ms ≡ Some x → P x
+  among_found P name lines are =
+      step_found P (text_among name ms) _ (λ s read.
+      line_found bytes_eq (λ a b. (bytes_eq-Decides a b).0) P (λ s. Has (name, string s)) lines are s (text_found name s read))
+
+  numbered_found : {A : Type 0} (P : A → Type 0) (name : List ℕ) (lines : List (Line ℕ A)) → AreLines P (λ n. Has (name, number (unsigned n))) lines
+      → (x : A) → numbered_among name lines ms ≡ Some x → P x
+  numbered_found P name lines are =
+      step_found P (whole_among name ms) _ (λ n read.
+      line_found nat_eq (λ a b. (Decides-eqb a b).0) P (λ n. Has (name, number (unsigned n))) lines are n (whole_found name n read))
 
   -- ---- keys and calls
 
@@ -183,25 +198,104 @@ module _ (ms : Members) where
       let of_key = find_key key (has.1.0, (has.1.1.0, (has.1.1.1.0, (has.1.1.1.1.0, tt)))) in
       rw (has.0, of_key, find_call call has.1.1.1.1.1) refl
 
--- in the object with the message's row the message is alone
-pub IsAlone-members_of : (message : Message) → FitsMessage message → IsAlone (members_of (message_row message)) message
-IsAlone-members_of message fits =
-    let fields = map field_of (message_row message) in
-    let distinct = (message_sound message).distinct in
-    record {
-      found = find_message (members_of (message_row message)) message (found-with_fields fields distinct);
-      counted = members_len-with_fields fields distinct ∙ length-map (message_row message) field_of;
-      fits = fits;
-    }
+  -- ---- answers
+
+  abbrev HasReply : Reply → Type 0
+  HasReply reply = HasRow (reply_row reply)
+
+  reply_found : (reply : Reply) → reply_among ms ≡ Some reply → HasReply reply
+  reply_found = among_found HasReply (codes "reply") reply_lines (
+    (λ word. last_found HasReply reply.Done (word, tt)),
+    (
+      (λ word. step_found HasReply (item_among ms) _ (λ item i. last_found HasReply (reply.Item item) (word, (text_found (codes "item") item i, tt)))),
+      ((λ word. last_found HasReply reply.Empty (word, tt)), tt),
+    ),
+  )
+
+  find_reply : (reply : Reply) → HasReply reply → reply_among ms ≡ Some reply
+  find_reply reply.Done has = rw has.0 refl
+  find_reply (reply.Item item) has = rw (has.0, has.1.0) refl
+  find_reply reply.Empty has = rw has.0 refl
+
+  abbrev HasRefusal : Refusal → Type 0
+  HasRefusal refusal = HasRow (whole (codes "code") code_numbers (code_of refusal) ∷ detail_row refusal)
+
+  told : (name : List ℕ) (refuses : ℕ → Refusal) → ((n : ℕ) → Has (name, number (unsigned n)) → HasRefusal (refuses n)) → (refusal : Refusal) → telling name refuses ms ≡ Some refusal → HasRefusal refusal
+  told name refuses each = step_found HasRefusal (whole_among name ms) _ (λ n is. last_found HasRefusal (refuses n) (each n (whole_found name n is)))
+
+  refusal_found : (refusal : Refusal) → refusal_among ms ≡ Some refusal → HasRefusal refusal
+  refusal_found = numbered_found HasRefusal (codes "code") refusal_lines (
+    (λ code. last_found HasRefusal refusal.BadText (code, tt)),
+    ((λ code. told (codes "current") (λ n. refusal.OtherEpoch n) (λ n is. (code, (is, tt)))),
+    ((λ code. last_found HasRefusal refusal.NoSession (code, tt)),
+    ((λ code. told (codes "current") (λ n. refusal.OldIncarnation n) (λ n is. (code, (is, tt)))),
+    ((λ code. told (codes "last") (λ n. refusal.OldNumber n) (λ n is. (code, (is, tt)))),
+    ((λ code. last_found HasRefusal refusal.OtherCall (code, tt)),
+    ((λ code. told (codes "open") (λ n. refusal.Busy n) (λ n is. (code, (is, tt)))),
+    ((λ code. told (codes "last") (λ n. refusal.Gap n) (λ n is. (code, (is, tt)))),
+    ((λ code. last_found HasRefusal refusal.ClientsFull (code, tt)),
+    ((λ code. last_found HasRefusal refusal.EpochFull (code, tt)),
+    ((λ code. last_found HasRefusal refusal.NoMemory (code, tt)),
+    tt)))))))))))
+
+  find_refusal : (refusal : Refusal) → HasRefusal refusal → refusal_among ms ≡ Some refusal
+  find_refusal refusal.BadText has = rw has.0 refl
+  find_refusal (refusal.OtherEpoch current) has = rw (has.0, has.1.0) refl
+  find_refusal refusal.NoSession has = rw has.0 refl
+  find_refusal (refusal.OldIncarnation current) has = rw (has.0, has.1.0) refl
+  find_refusal (refusal.OldNumber last) has = rw (has.0, has.1.0) refl
+  find_refusal refusal.OtherCall has = rw has.0 refl
+  find_refusal (refusal.Busy waiting) has = rw (has.0, has.1.0) refl
+  find_refusal (refusal.Gap last) has = rw (has.0, has.1.0) refl
+  find_refusal refusal.ClientsFull has = rw has.0 refl
+  find_refusal refusal.EpochFull has = rw has.0 refl
+  find_refusal refusal.NoMemory has = rw has.0 refl
+
+  abbrev HasAnswer : Answer → Type 0
+  HasAnswer answer = HasRow (answer_row answer)
+
+  welcome_found : Has (codes "kind", string (codes "welcome")) → (answer : Answer) → welcome_among ms ≡ Some answer → HasAnswer answer
+  welcome_found word =
+      step_found HasAnswer (whole_among (codes "epoch") ms) _ (λ epoch e.
+      step_found HasAnswer (whole_among (codes "client") ms) _ (λ client c.
+      step_found HasAnswer (whole_among (codes "incarnation") ms) _ (λ incarnation i.
+      last_found HasAnswer (answer.Welcome epoch client incarnation)
+      (word, (whole_found (codes "epoch") epoch e, (whole_found (codes "client") client c, (whole_found (codes "incarnation") incarnation i, tt)))))))
+
+  replied_found : Has (codes "kind", string (codes "reply")) → (answer : Answer) → replied_among ms ≡ Some answer → HasAnswer answer
+  replied_found word =
+      step_found HasAnswer (key_among ms) _ (λ key k.
+      step_found HasAnswer (reply_among ms) _ (λ reply r.
+      last_found HasAnswer (answer.Replied key reply)
+      (let has = key_found key k in (word, (has.0, (has.1.0, (has.1.1.0, (has.1.1.1.0, reply_found reply r))))))))
+
+  refused_found : Has (codes "kind", string (codes "refused")) → (answer : Answer) → refused_among ms ≡ Some answer → HasAnswer answer
+  refused_found word =
+      step_found HasAnswer (refusal_among ms) _ (λ refusal r. last_found HasAnswer (answer.Refused refusal) (word, refusal_found refusal r))
+
+  answer_found : (answer : Answer) → answer_among ms ≡ Some answer → HasAnswer answer
+  answer_found = among_found HasAnswer (codes "kind") answer_lines (welcome_found, (replied_found, (refused_found, tt)))
+
+  find_answer : (answer : Answer) → HasAnswer answer → answer_among ms ≡ Some answer
+  find_answer (answer.Welcome epoch client incarnation) has = rw (has.0, has.1.0, has.1.1.0, has.1.1.1.0) refl
+  find_answer (answer.Replied key reply) has =
+      let of_key = find_key key (has.1.0, (has.1.1.0, (has.1.1.1.0, (has.1.1.1.1.0, tt)))) in
+      rw (has.0, of_key, find_reply reply has.1.1.1.1.1) refl
+  find_answer (answer.Refused refusal) has = rw (has.0, find_refusal refusal has.1) refl
+
+-- ---- what is found is what the row says
+
+pub record IsReader (A : Type 0) (shape : Shape A) : Type 0 where
+  pub sound : (x : A) → IsSound (shape.row x)
+  pub has : (ms : Members) (x : A) → shape.found ms ≡ Some x → HasFields (map field_of (shape.row x)) ms
+  pub finds : (ms : Members) (x : A) → HasFields (map field_of (shape.row x)) ms → shape.found ms ≡ Some x
+
+pub message_reader : IsReader Message messages
+message_reader = record { sound = message_sound; has = message_found; finds = find_message }
+
+pub answer_reader : IsReader Answer answers
+answer_reader = record { sound = answer_sound; has = answer_found; finds = find_answer }
 
 -- as many members as the map has entries
 pub members_counted : (es : List (String Global × Value)) → members_len (members_view es) ≡ length es
 members_counted = members_len-members_view
-
--- where a message is alone, the object is that of its row
-pub alone_body : (m : BTreeMap (String Global) Value) (message : Message) → IsOrdered string_cmp m → IsAlone (members_view m.entries) message
-    → object (members_view m.entries) ≡ object_of (message_row message)
-alone_body m message ordered alone =
-    let row = message_row message in
-    ap object (with_fields-found (map field_of row) (members_view m.entries) (IsSorted-entries m.entries ordered) (message_sound message).distinct
-    (message_found (members_view m.entries) message alone.found) (alone.counted ∙ sym (length-map row field_of)))

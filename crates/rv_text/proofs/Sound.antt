@@ -18,7 +18,7 @@ use Rattle.rv_text.specs.Calls.{Nature, nature_of, item_of}
 use Rattle.rv_text.specs.Members.{Member, word, field_of, members_of, Keeps, code_numbers, IsWithin}
 use Rattle.rv_text.specs.Rows.{key_row, wait_row, item_row, nature_row, call_row, message_row, reply_row, code_of, detail_row, answer_row}
 use Rattle.rv_text.specs.Limits.{FitsKey, FitsMessage, FitsAnswer}
-use Rattle.rv_text.specs.Bodies.{HasUtf8}
+use Rattle.rv_text.specs.Bodies.{HasUtf8, ReplyHasUtf8, AnswerHasUtf8}
 use Rattle.rv_text.proofs.Objects.{are_distinct}
 use Rattle.rv_text.proofs.ByKind.{Each, Each-append, each_within, IsText, is_plain_word, are_plain, rooms}
 use Rattle.rv_text.proofs.Texts.{put_all}
@@ -103,3 +103,22 @@ pub answer_within : (answer : Answer) → FitsAnswer answer → Each IsWithin (a
 answer_within (answer.Welcome epoch client incarnation) fits = (tt, (fits.0, (fits.1, (fits.2, tt))))
 answer_within (answer.Replied key reply) fits = (tt, key_within key (reply_row reply) fits.0 (each_within (reply_row reply) fits.1))
 answer_within (answer.Refused refusal) fits = (tt, (code_within refusal, each_within (detail_row refusal) fits))
+
+reply_text : (reply : Reply) → ReplyHasUtf8 reply → Each IsText (reply_row reply)
+reply_text (reply.Item item) utf8 = (tt, (utf8, tt))
+reply_text _ utf8 = (tt, tt)
+
+detail_text : (refusal : Refusal) → Each IsText (detail_row refusal)
+detail_text refusal.BadText = tt
+detail_text (refusal.OtherEpoch current) = (tt, tt)
+detail_text refusal.NoSession = tt
+detail_text (refusal.OldIncarnation current) = (tt, tt)
+detail_text (refusal.OldNumber last) = (tt, tt)
+detail_text (refusal.Busy waiting) = (tt, tt)
+detail_text (refusal.Gap last) = (tt, tt)
+detail_text _ = tt
+
+pub answer_has_text : (answer : Answer) → AnswerHasUtf8 answer → Each IsText (answer_row answer)
+answer_has_text (answer.Welcome epoch client incarnation) utf8 = (tt, (tt, (tt, (tt, tt))))
+answer_has_text (answer.Replied key reply) utf8 = (tt, (tt, (tt, (tt, (tt, reply_text reply utf8)))))
+answer_has_text (answer.Refused refusal) utf8 = (tt, (tt, detail_text refusal))

@@ -1,24 +1,34 @@
--- What is written for a message that fits is a body of it.
-use Rattle.std.proofs.Common.{map}
-use Rattle.rv_text.specs.Laws.{WrittenBody}
-use Rattle.rv_text.specs.Members.{field_of, members_of}
-use Rattle.rv_text.specs.Rows.{message_row}
-use Rattle.rv_text.proofs.Fitting.{HasBodyLength-message_text}
-use Rattle.rv_text.proofs.ByKind.{row_is_flat, row_is_text}
+-- What is written for what fits is a body of it.
+use Rattle.std.proofs.Common.{ℕ, List, map}
+use Rattle.serde_json.specs.Written.{compact_text}
+use Rattle.rv_text.specs.Bodies.{HasBodyLength, Reads}
+use Rattle.rv_text.specs.Laws.{WrittenBody, WrittenAnswer}
+use Rattle.rv_text.specs.Members.{Member, field_of, members_of, object_of, IsWithin}
+use Rattle.rv_text.specs.Rows.{message_row, answer_row}
+use Rattle.rv_text.proofs.Fitting.{body_length}
+use Rattle.rv_text.proofs.ByKind.{Each, IsText, row_is_flat, row_is_text}
 use Rattle.rv_text.proofs.Objects.{AllMembers-with_fields}
 use Rattle.rv_text.proofs.Sizes.{IsFlatMember}
-use Rattle.rv_text.proofs.Sound.{message_sound, message_within, message_has_text}
+use Rattle.rv_text.proofs.Sound.{IsSound, message_sound, message_within, message_has_text, answer_sound, answer_within, answer_has_text}
 use Rattle.rv_text.proofs.Texts.{read-compact_text, IsTextMember, IsUtf8-compact_text}
+
+abbrev row_text : List Member → List ℕ
+row_text row = compact_text (object_of row)
+
+-- the text of a row is read back as its object
+written_row : (row : List Member) → IsSound row → Each IsWithin row → Each IsText row → HasBodyLength (row_text row) × Reads (row_text row) (object_of row)
+written_row row sound within text =
+    let fields = map field_of row in
+    let are_text = AllMembers-with_fields IsTextMember fields (row_is_text row sound.plain within text) in
+    let are_flat = AllMembers-with_fields IsFlatMember fields (row_is_flat row sound.plain within) in
+    (body_length row sound within, (IsUtf8-compact_text (members_of row) are_text, read-compact_text (members_of row) are_flat sound.in_order))
 
 pub written_body : WrittenBody
 written_body message fits utf8 =
-    let row = message_row message in
-    let sound = message_sound message in
-    let plain = sound.plain in
-    let within = message_within message fits in
-    let text = row_is_text row plain within (message_has_text message utf8) in
-    let flat = AllMembers-with_fields IsFlatMember (map field_of row) (row_is_flat row plain within) in (
-      HasBodyLength-message_text message fits,
-      (IsUtf8-compact_text (members_of row) (AllMembers-with_fields IsTextMember (map field_of row) text), read-compact_text (members_of row) flat sound.in_order),
-      fits,
-    )
+    let written = written_row (message_row message) (message_sound message) (message_within message fits) (message_has_text message utf8) in
+    (written.0, written.1, fits)
+
+pub written_answer : WrittenAnswer
+written_answer answer fits utf8 =
+    let written = written_row (answer_row answer) (answer_sound answer) (answer_within answer fits) (answer_has_text answer utf8) in
+    (written.0, written.1, fits)

@@ -6,11 +6,14 @@ use Rattle.serde_json.specs.Read.{read}
 use Rattle.serde_json.specs.Written.{compact_text}
 use Rattle.rv_text.specs.declared.message.Message.{Message}
 use Rattle.rv_text.specs.declared.message.Message.TheVariants as message
+use Rattle.rv_text.specs.declared.answer.Reply.{Reply}
+use Rattle.rv_text.specs.declared.answer.Reply.TheVariants as reply
 use Rattle.rv_text.specs.declared.answer.Answer.{Answer}
+use Rattle.rv_text.specs.declared.answer.Answer.TheVariants as answer
 use Rattle.rv_text.specs.Calls.{item_of}
-use Rattle.rv_text.specs.Members.{object_of}
+use Rattle.rv_text.specs.Members.{Member, object_of}
 use Rattle.rv_text.specs.Rows.{message_row, answer_row}
-use Rattle.rv_text.specs.Limits.{FitsMessage}
+use Rattle.rv_text.specs.Limits.{FitsMessage, FitsAnswer}
 
 -- 1 to 4,096 bytes
 abbrev pub HasBodyLength : List ℕ → Type 0
@@ -24,16 +27,32 @@ Reads bytes value = IsUtf8 bytes × (read bytes ≡ Some value)
 abbrev pub IsNotJson : List ℕ → Type 0
 IsNotJson bytes = (value : Data) → ¬ Reads bytes value
 
--- the bytes are a body of the message: they have a body's length, they read as the object with exactly the
--- message's members, and the message is within the limits
+-- the bytes are a body of x: they have a body's length, they read as the object with exactly the members of
+-- its row, and it is within its limits
+abbrev pub IsBody : {A : Type 0} → (A → List Member) → (A → Type 0) → List ℕ → A → Type 0
+IsBody row Fits bytes x = HasBodyLength bytes × Reads bytes (object_of (row x)) × Fits x
+
 abbrev pub IsMessageBody : List ℕ → Message → Type 0
-IsMessageBody bytes message =
-    HasBodyLength bytes × Reads bytes (object_of (message_row message)) × FitsMessage message
+IsMessageBody bytes message = IsBody message_row FitsMessage bytes message
+
+abbrev pub IsAnswerBody : List ℕ → Answer → Type 0
+IsAnswerBody bytes answer = IsBody answer_row FitsAnswer bytes answer
 
 -- the item is text; every `Item` is, and a variable of a law ranges over all lists of numbers
 abbrev pub HasUtf8 : Message → Type 0
 HasUtf8 (message.Hello client incarnation) = Unit {0}
 HasUtf8 (message.Request key call) = IfSome (item_of call) IsUtf8
+
+-- the same of an answer
+abbrev pub ReplyHasUtf8 : Reply → Type 0
+ReplyHasUtf8 reply.Done = Unit {0}
+ReplyHasUtf8 (reply.Item item) = IsUtf8 item
+ReplyHasUtf8 reply.Empty = Unit {0}
+
+abbrev pub AnswerHasUtf8 : Answer → Type 0
+AnswerHasUtf8 (answer.Welcome epoch client incarnation) = Unit {0}
+AnswerHasUtf8 (answer.Replied key reply) = ReplyHasUtf8 reply
+AnswerHasUtf8 (answer.Refused refusal) = Unit {0}
 
 -- the body that is written for a message
 abbrev pub message_text : Message → List ℕ

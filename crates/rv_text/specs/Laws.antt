@@ -1,13 +1,24 @@
--- What holds of messages and their bodies as such.
+-- What holds of messages, answers and their bodies as such.
 use Rattle.std.specs.Prelude.{◌≡◌, ℕ, List}
 use Rattle.rv_text.specs.declared.message.Message.{Message}
-use Rattle.rv_text.specs.Bodies.{IsMessageBody, HasUtf8, message_text}
-use Rattle.rv_text.specs.Limits.{FitsMessage}
+use Rattle.rv_text.specs.declared.answer.Answer.{Answer}
+use Rattle.rv_text.specs.Bodies.{IsMessageBody, HasUtf8, message_text, IsAnswerBody, AnswerHasUtf8, answer_text}
+use Rattle.rv_text.specs.Limits.{FitsMessage, FitsAnswer}
 
--- bytes are the body of at most one message
+-- bytes are the body of at most one
+abbrev pub AtMostOne : {A : Type 0} → (List ℕ → A → Type 0) → Type 0
+AtMostOne {A} IsBody = (bytes : List ℕ) (m n : A) → IsBody bytes m → IsBody bytes n → m ≡ n
+
 abbrev pub OneMessage : Type 0
-OneMessage = (bytes : List ℕ) (m n : Message) → IsMessageBody bytes m → IsMessageBody bytes n → m ≡ n
+OneMessage = AtMostOne IsMessageBody
+
+abbrev pub OneAnswer : Type 0
+OneAnswer = AtMostOne IsAnswerBody
 
 -- what is written for a message that fits is a body of it
 abbrev pub WrittenBody : Type 0
 WrittenBody = (m : Message) → FitsMessage m → HasUtf8 m → IsMessageBody (message_text m) m
+
+-- what is written for an answer that fits is a body of it
+abbrev pub WrittenAnswer : Type 0
+WrittenAnswer = (a : Answer) → FitsAnswer a → AnswerHasUtf8 a → IsAnswerBody (answer_text a) a

@@ -1,7 +1,7 @@
 -- For private clauses: what the decoder looks for among the members of an object, each by its name, and what
 -- the encoder puts there.
-use Rattle.std.specs.Prelude.{◌≡◌, ℕ, List, [], ◌∷◌, length, map, codes, if◌then◌else◌, Option, Some, None}
-use Rattle.std.specs.Prelude.{option_and_then, Result, Ok, Err, String}
+use Rattle.std.specs.Prelude.{◌≡◌, ℕ, Bool, List, [], ◌∷◌, length, map, codes, if◌then◌else◌, Option, Some, None}
+use Rattle.std.specs.Prelude.{option_and_then, nat_eq, Result, Ok, Err, String}
 use Rattle.std.specs.declared.alloc.Global.{Global}
 use Rattle.std.specs.BTreeMap.{BTreeMap}
 use Rattle.std.specs.Str.{bytes_eq}
@@ -19,9 +19,15 @@ use Rattle.rv_text.specs.declared.call.Wait.{Wait}
 use Rattle.rv_text.specs.declared.call.Wait.TheVariants as wait
 use Rattle.rv_text.specs.declared.call.Call.{Call}
 use Rattle.rv_text.specs.declared.call.Call.TheVariants as call
+use Rattle.rv_text.specs.declared.answer.Reply.{Reply}
+use Rattle.rv_text.specs.declared.answer.Reply.TheVariants as reply
+use Rattle.rv_text.specs.declared.answer.Refusal.{Refusal}
+use Rattle.rv_text.specs.declared.answer.Refusal.TheVariants as refusal
+use Rattle.rv_text.specs.declared.answer.Answer.{Answer}
+use Rattle.rv_text.specs.declared.answer.Answer.TheVariants as answer
 use Rattle.rv_text.specs.Members.{Member, Field, field_of, with_fields}
-use Rattle.rv_text.specs.Rows.{message_row}
-use Rattle.rv_text.specs.Limits.{FitsMessage}
+use Rattle.rv_text.specs.Rows.{message_row, answer_row}
+use Rattle.rv_text.specs.Limits.{FitsMessage, FitsAnswer}
 
 -- a JSON object in memory
 abbrev pub Map : Type 0
@@ -63,19 +69,25 @@ abbrev pub ◌>>=◌ : {A B : Type 0} → Option A → (A → Option B) → Opti
 None >>= next = None
 (Some x) >>= next = next x
 
--- what is found under a word, as its line says
-abbrev pub Line : Type 0 → Type 0
-Line A = List ℕ × (Members → Option A)
+-- what is found under a word or a number, as its line says
+abbrev pub Line : Type 0 → Type 0 → Type 0
+Line K A = K × (Members → Option A)
 
-abbrev pub by_word : {A : Type 0} → List ℕ → List (Line A) → Members → Option A
-by_word word [] object = None
-by_word word (line ∷ lines) object =
-    if bytes_eq word line.0 then line.1 object else by_word word lines object
+-- by the first line whose word or number is the same as this
+abbrev pub under : {K A : Type 0} → (K → K → Bool) → K → List (Line K A) → Members → Option A
+under same key [] object = None
+under same key (line ∷ lines) object =
+    if same key line.0 then line.1 object else under same key lines object
 
-abbrev pub among : {A : Type 0} → List ℕ → List (Line A) → Members → Option A
+abbrev pub among : {A : Type 0} → List ℕ → List (Line (List ℕ) A) → Members → Option A
 among name lines members = do
   word ← text_among name members
-  by_word word lines members
+  under bytes_eq word lines members
+
+abbrev pub numbered_among : {A : Type 0} → List ℕ → List (Line ℕ A) → Members → Option A
+numbered_among name lines members = do
+  number ← whole_among name members
+  under nat_eq number lines members
 
 -- ---- values
 
@@ -85,7 +97,7 @@ queue_among = whole_among (codes "queue")
 abbrev pub item_among : Members → Option (List ℕ)
 item_among = text_among (codes "item")
 
-abbrev pub wait_lines : List (Line Wait)
+abbrev pub wait_lines : List (Line (List ℕ) Wait)
 wait_lines = (codes "now", λ ms. Some wait.Now) ∷ []
 
 abbrev pub wait_among : Members → Option Wait
@@ -99,7 +111,7 @@ key_among members = do
   number ← whole_among (codes "number") members
   Some (record { epoch = epoch; client = client; incarnation = incarnation; number = number })
 
-abbrev pub call_lines : List (Line Call)
+abbrev pub call_lines : List (Line (List ℕ) Call)
 call_lines =
     (codes "put", λ ms. queue_among ms >>= λ queue. item_among ms >>= λ item. Some (call.Put queue item)) ∷
     (codes "take", λ ms. queue_among ms >>= λ queue. wait_among ms >>= λ wait. Some (call.Take queue wait)) ∷
@@ -120,25 +132,104 @@ request_among members = do
   call ← call_among members
   Some (message.Request key call)
 
-abbrev pub message_lines : List (Line Message)
+abbrev pub message_lines : List (Line (List ℕ) Message)
 message_lines = (codes "hello", hello_among) ∷ (codes "request", request_among) ∷ []
 
--- whatever other members stand beside the message's, and whatever the limits
 abbrev pub message_among : Members → Option Message
 message_among members = among (codes "kind") message_lines members
 
--- the message is found, with no other members and within the limits
-pub record IsAlone (members : Members) (message : Message) : Type 0 where
-  pub found : message_among members ≡ Some message
-  pub counted : members_len members ≡ length (message_row message)
-  pub fits : FitsMessage message
+abbrev pub reply_lines : List (Line (List ℕ) Reply)
+reply_lines =
+    (codes "done", λ ms. Some reply.Done) ∷
+    (codes "item", λ ms. item_among ms >>= λ item. Some (reply.Item item)) ∷
+    (codes "empty", λ ms. Some reply.Empty) ∷
+    []
 
--- a reader answers that message exactly where there is one, unless memory ran out
-abbrev pub FindsAlone : Result Message TextFault → Members → Type 0
-FindsAlone (Ok message) object = IsAlone object message
-FindsAlone (Err fault.NotJson) object = ⊥
-FindsAlone (Err fault.NotMessage) object = (message : Message) → ¬ IsAlone object message
-FindsAlone (Err fault.NoMemory) object = Unit {0}
+abbrev pub reply_among : Members → Option Reply
+reply_among members = among (codes "reply") reply_lines members
+
+-- a refusal that tells the number of this name
+abbrev pub telling : List ℕ → (ℕ → Refusal) → Members → Option Refusal
+telling name refuses members = do
+  number ← whole_among name members
+  Some (refuses number)
+
+abbrev pub refusal_lines : List (Line ℕ Refusal)
+refusal_lines =
+    (1, λ ms. Some refusal.BadText) ∷
+    (2, telling (codes "current") (λ current. refusal.OtherEpoch current)) ∷
+    (3, λ ms. Some refusal.NoSession) ∷
+    (4, telling (codes "current") (λ current. refusal.OldIncarnation current)) ∷
+    (5, telling (codes "last") (λ last. refusal.OldNumber last)) ∷
+    (6, λ ms. Some refusal.OtherCall) ∷
+    (7, telling (codes "open") (λ waiting. refusal.Busy waiting)) ∷
+    (8, telling (codes "last") (λ last. refusal.Gap last)) ∷
+    (9, λ ms. Some refusal.ClientsFull) ∷
+    (10, λ ms. Some refusal.EpochFull) ∷
+    (11, λ ms. Some refusal.NoMemory) ∷
+    []
+
+abbrev pub refusal_among : Members → Option Refusal
+refusal_among members = numbered_among (codes "code") refusal_lines members
+
+abbrev pub welcome_among : Members → Option Answer
+welcome_among members = do
+  epoch ← whole_among (codes "epoch") members
+  client ← whole_among (codes "client") members
+  incarnation ← whole_among (codes "incarnation") members
+  Some (answer.Welcome epoch client incarnation)
+
+abbrev pub replied_among : Members → Option Answer
+replied_among members = do
+  key ← key_among members
+  reply ← reply_among members
+  Some (answer.Replied key reply)
+
+abbrev pub refused_among : Members → Option Answer
+refused_among members = do
+  refusal ← refusal_among members
+  Some (answer.Refused refusal)
+
+abbrev pub answer_lines : List (Line (List ℕ) Answer)
+answer_lines =
+    (codes "welcome", welcome_among) ∷
+    (codes "reply", replied_among) ∷
+    (codes "refused", refused_among) ∷
+    []
+
+abbrev pub answer_among : Members → Option Answer
+answer_among members = among (codes "kind") answer_lines members
+
+-- ---- what is alone in an object
+
+-- what a body may be read as: how it is found, its members and its limits
+pub record Shape (A : Type 0) : Type 1 where
+  -- whatever other members stand beside, and whatever the limits
+  pub found : Members → Option A
+  pub row : A → List Member
+  pub Fits : A → Type 0
+
+abbrev pub messages : Shape Message
+messages = record { found = message_among; row = message_row; Fits = FitsMessage }
+
+abbrev pub answers : Shape Answer
+answers = record { found = answer_among; row = answer_row; Fits = FitsAnswer }
+
+-- it has as many members as the object, and is within the limits
+abbrev pub IsWhole : {A : Type 0} → Shape A → Members → A → Type 0
+IsWhole shape members x = (members_len members ≡ length (shape.row x)) × shape.Fits x
+
+-- it is found, with no other members and within the limits
+pub record IsAlone (A : Type 0) (shape : Shape A) (members : Members) (x : A) : Type 0 where
+  pub found : shape.found members ≡ Some x
+  pub whole : IsWhole shape members x
+
+-- a reader answers that value exactly where there is one, unless memory ran out
+abbrev pub FindsAlone : {A : Type 0} → Shape A → Result A TextFault → Members → Type 0
+FindsAlone {A} shape (Ok x) object = IsAlone A shape object x
+FindsAlone shape (Err fault.NotJson) object = ⊥
+FindsAlone {A} shape (Err fault.NotMessage) object = (x : A) → ¬ IsAlone A shape object x
+FindsAlone shape (Err fault.NoMemory) object = Unit {0}
 
 -- ---- what a writer puts
 

@@ -1,5 +1,5 @@
 //! What the server answers: welcomes, replies and refusals.
-ghost use Rattle.std.specs.Prelude.{◌≡◌, ◌↔◌, IsTrue};
+ghost use Rattle.std.specs.Prelude.{◌≡◌, ◌↔◌, IsTrue, length};
 
 use crate::fault::NoMemory;
 use crate::item::Item;
@@ -56,7 +56,18 @@ pub enum Refusal {
 }
 
 impl Reply {
+    ghost use Rattle.rv_text.specs.Rows.{reply_row};
     ghost use Rattle.rv_text.specs.Limits.{FitsReply};
+
+    // How many members the reply has in a body: its word and its item.
+    fn member_count(&self) -> usize
+        ensures { result ≡ length (reply_row self.now) }
+    {
+        match self {
+            Reply::Item(_) => 2,
+            Reply::Done | Reply::Empty => 1,
+        }
+    }
 
     /// Whether its item, if it has one, has at most 512 bytes.
     pub fn fits(&self) -> bool
@@ -70,8 +81,27 @@ impl Reply {
 }
 
 impl Refusal {
-    ghost use Rattle.rv_text.specs.Rows.{code_of};
+    ghost use Rattle.rv_text.specs.Rows.{code_of, detail_row};
     ghost use Rattle.rv_text.specs.Limits.{FitsRefusal};
+
+    // How many members the refusal has in a body beside its code.
+    fn detail_count(&self) -> usize
+        ensures { result ≡ length (detail_row self.now) }
+    {
+        match self {
+            Refusal::OtherEpoch(_)
+            | Refusal::OldIncarnation(_)
+            | Refusal::OldNumber(_)
+            | Refusal::Busy(_)
+            | Refusal::Gap(_) => 1,
+            Refusal::BadText
+            | Refusal::NoSession
+            | Refusal::OtherCall
+            | Refusal::ClientsFull
+            | Refusal::EpochFull
+            | Refusal::NoMemory => 0,
+        }
+    }
 
     /// Whether the number that it tells is within its limits: 1 to 2^53 - 1, and 0 too for a
     /// session's last number.
@@ -132,7 +162,19 @@ pub enum Answer {
 }
 
 impl Answer {
+    ghost use Rattle.rv_text.specs.Rows.{answer_row};
     ghost use Rattle.rv_text.specs.Limits.{FitsAnswer};
+
+    // How many members the answer has in its body.
+    pub(crate) fn member_count(&self) -> usize
+        ensures { result ≡ length (answer_row self.now) }
+    {
+        match self {
+            Answer::Welcome { .. } => 4,
+            Answer::Replied { reply, .. } => 5 + reply.member_count(),
+            Answer::Refused(refusal) => 2 + refusal.detail_count(),
+        }
+    }
 
     /// Whether every number and the item are within their limits.
     pub fn fits(&self) -> bool

@@ -1,7 +1,7 @@
-//! What holds of messages and their bodies as such: each contract is a law, and no body does anything.
+//! What holds of messages, answers and their bodies as such: each contract is a law, and no body does anything.
 ghost use Rattle.std.specs.Prelude.{◌≡◌};
 ghost use Rattle.rv_text.specs.Bodies.{answer_text};
-ghost use Rattle.rv_text.specs.Laws.{OneMessage, WrittenBody};
+ghost use Rattle.rv_text.specs.Laws.{OneMessage, WrittenBody, OneAnswer, WrittenAnswer};
 
 use crate::answer::{Answer, Refusal};
 use crate::encode::{BAD_TEXT_BODY, NO_MEMORY_BODY};
@@ -14,6 +14,16 @@ pub fn one_message()
 /// The text that is written for a message within the limits is a body of it.
 pub fn written_body()
     ensures { WrittenBody }
+{}
+
+/// Bytes are the body of at most one answer.
+pub fn one_answer()
+    ensures { OneAnswer }
+{}
+
+/// The text that is written for an answer within the limits is a body of it.
+pub fn written_answer()
+    ensures { WrittenAnswer }
 {}
 
 /// The constant bodies are what is written for their refusals.

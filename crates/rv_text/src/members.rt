@@ -4,7 +4,9 @@ ghost use Rattle.serde_json.specs.Find.{get_member};
 ghost use Rattle.serde_json.specs.View.{view, members_view};
 ghost use Rattle.rv_text.specs.Reading.{FindsAmong, FindsSeenAmong, whole_among, text_among};
 ghost use Rattle.rv_text.specs.Reading.{queue_among, item_among, wait_among, key_among, call_among};
+ghost use Rattle.rv_text.specs.Reading.{reply_among, refusal_among};
 
+use crate::answer::{Refusal, Reply};
 use crate::call::{Call, Wait};
 use crate::fault::TextFault;
 use crate::item::Item;
@@ -83,6 +85,36 @@ pub(crate) fn read_call(alloc: Global, members: &Map<String, Value>) -> Result<C
             queue: read_queue(members)?,
             wait: read_wait(members)?,
         }),
+        _ => Err(TextFault::NotMessage),
+    }
+}
+
+pub(crate) fn read_reply(alloc: Global, members: &Map<String, Value>) -> Result<Reply, TextFault>
+    ensures { FindsAmong members.now result reply_among }
+{
+    match read_text(members, "reply")? {
+        "done" => Ok(Reply::Done),
+        "item" => Ok(Reply::Item(read_item(alloc, members)?)),
+        "empty" => Ok(Reply::Empty),
+        _ => Err(TextFault::NotMessage),
+    }
+}
+
+pub(crate) fn read_refusal(members: &Map<String, Value>) -> Result<Refusal, TextFault>
+    ensures { FindsAmong members.now result refusal_among }
+{
+    match read_whole(members, "code")? {
+        1 => Ok(Refusal::BadText),
+        2 => Ok(Refusal::OtherEpoch(read_whole(members, "current")?)),
+        3 => Ok(Refusal::NoSession),
+        4 => Ok(Refusal::OldIncarnation(read_whole(members, "current")?)),
+        5 => Ok(Refusal::OldNumber(read_whole(members, "last")?)),
+        6 => Ok(Refusal::OtherCall),
+        7 => Ok(Refusal::Busy(read_whole(members, "open")?)),
+        8 => Ok(Refusal::Gap(read_whole(members, "last")?)),
+        9 => Ok(Refusal::ClientsFull),
+        10 => Ok(Refusal::EpochFull),
+        11 => Ok(Refusal::NoMemory),
         _ => Err(TextFault::NotMessage),
     }
 }
