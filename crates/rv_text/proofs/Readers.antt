@@ -1,11 +1,10 @@
 -- A reader finds a value exactly where the members of its row are found.
-use Rattle.std.proofs.Common.{String, Global, BTreeMap, string_cmp, ◌≡◌, ℕ, List, [], ◌∷◌, ◌++◌, length, map, codes}
-use Rattle.std.proofs.Common.{Bool, true, false, cond, Option, Some, None, option_and_then, bytes_eq, nat_eq, refl, sym, ap, ◌∙◌, subst, inl, inr}
+use Rattle.std.proofs.Common.{String, Global, ◌≡◌, ℕ, List, [], ◌∷◌, ◌++◌, length, map, codes}
+use Rattle.std.proofs.Common.{Bool, true, false, cond, Option, Some, None, option_and_then, bytes_eq, nat_eq, refl, ap, subst, inl, inr}
 use Rattle.std.proofs.lemmas.Bool.Decides.{Decides-eqb}
 use Rattle.std.proofs.lemmas.Option.{same_Some}
 use Rattle.std.proofs.lemmas.Slice.Eq.{bytes_eq-Decides}
 use Rattle.std.specs.Prelude.{◌⊎◌}
-use Rattle.std.specs.BTreeMap.{IsOrdered}
 use Rattle.serde_json.specs.Data.{unsigned, negative, float, Data, null, boolean, number, string, array, object, Members}
 use Rattle.serde_json.specs.View.{members_view}
 use Rattle.serde_json.specs.declared.value.Value.{Value}
@@ -226,17 +225,38 @@ module _ (ms : Members) where
   refusal_found : (refusal : Refusal) → refusal_among ms ≡ Some refusal → HasRefusal refusal
   refusal_found = numbered_found HasRefusal (codes "code") refusal_lines (
     (λ code. last_found HasRefusal refusal.BadText (code, tt)),
-    ((λ code. told (codes "current") (λ n. refusal.OtherEpoch n) (λ n is. (code, (is, tt)))),
-    ((λ code. last_found HasRefusal refusal.NoSession (code, tt)),
-    ((λ code. told (codes "current") (λ n. refusal.OldIncarnation n) (λ n is. (code, (is, tt)))),
-    ((λ code. told (codes "last") (λ n. refusal.OldNumber n) (λ n is. (code, (is, tt)))),
-    ((λ code. last_found HasRefusal refusal.OtherCall (code, tt)),
-    ((λ code. told (codes "open") (λ n. refusal.Busy n) (λ n is. (code, (is, tt)))),
-    ((λ code. told (codes "last") (λ n. refusal.Gap n) (λ n is. (code, (is, tt)))),
-    ((λ code. last_found HasRefusal refusal.ClientsFull (code, tt)),
-    ((λ code. last_found HasRefusal refusal.EpochFull (code, tt)),
-    ((λ code. last_found HasRefusal refusal.NoMemory (code, tt)),
-    tt)))))))))))
+    (
+      (λ code. told (codes "current") (λ n. refusal.OtherEpoch n) (λ n is. (code, (is, tt)))),
+      (
+        (λ code. last_found HasRefusal refusal.NoSession (code, tt)),
+        (
+          (λ code. told (codes "current") (λ n. refusal.OldIncarnation n) (λ n is. (code, (is, tt)))),
+          (
+            (λ code. told (codes "last") (λ n. refusal.OldNumber n) (λ n is. (code, (is, tt)))),
+            (
+              (λ code. last_found HasRefusal refusal.OtherCall (code, tt)),
+              (
+                (λ code. told (codes "open") (λ n. refusal.Busy n) (λ n is. (code, (is, tt)))),
+                (
+                  (λ code. told (codes "last") (λ n. refusal.Gap n) (λ n is. (code, (is, tt)))),
+                  (
+                    (λ code. last_found HasRefusal refusal.ClientsFull (code, tt)),
+                    (
+                      (λ code. last_found HasRefusal refusal.EpochFull (code, tt)),
+                      (
+                        (λ code. last_found HasRefusal refusal.NoMemory (code, tt)),
+                        tt,
+                      ),
+                    ),
+                  ),
+                ),
+              ),
+            ),
+          ),
+        ),
+      ),
+    ),
+  )
 
   find_refusal : (refusal : Refusal) → HasRefusal refusal → refusal_among ms ≡ Some refusal
   find_refusal refusal.BadText has = rw has.0 refl

@@ -2,7 +2,8 @@
 use Rattle.std.specs.Prelude.{◌≡◌, ℕ, List}
 use Rattle.rv_text.specs.declared.message.Message.{Message}
 use Rattle.rv_text.specs.declared.answer.Answer.{Answer}
-use Rattle.rv_text.specs.Bodies.{IsMessageBody, HasUtf8, message_text, IsAnswerBody, AnswerHasUtf8, answer_text}
+use Rattle.rv_text.specs.Bodies.{IsMessageBody, HasUtf8, message_text}
+use Rattle.rv_text.specs.Bodies.{IsAnswerBody, AnswerHasUtf8, answer_text}
 use Rattle.rv_text.specs.Limits.{FitsMessage, FitsAnswer}
 
 -- bytes are the body of at most one

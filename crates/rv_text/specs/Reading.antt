@@ -1,7 +1,7 @@
 -- For private clauses: what the decoder looks for among the members of an object, each by its name, and what
 -- the encoder puts there.
-use Rattle.std.specs.Prelude.{◌≡◌, ℕ, Bool, List, [], ◌∷◌, length, map, codes, if◌then◌else◌, Option, Some, None}
-use Rattle.std.specs.Prelude.{option_and_then, nat_eq, Result, Ok, Err, String}
+use Rattle.std.specs.Prelude.{◌≡◌, ℕ, Bool, List, [], ◌∷◌, length, map, codes, if◌then◌else◌}
+use Rattle.std.specs.Prelude.{Option, Some, None, option_and_then, nat_eq, Result, Ok, Err, String}
 use Rattle.std.specs.declared.alloc.Global.{Global}
 use Rattle.std.specs.BTreeMap.{BTreeMap}
 use Rattle.std.specs.Str.{bytes_eq}
@@ -26,6 +26,7 @@ use Rattle.rv_text.specs.declared.answer.Refusal.TheVariants as refusal
 use Rattle.rv_text.specs.declared.answer.Answer.{Answer}
 use Rattle.rv_text.specs.declared.answer.Answer.TheVariants as answer
 use Rattle.rv_text.specs.Members.{Member, Field, field_of, with_fields}
+use Rattle.rv_text.specs.Bodies.{HasBodyLength, IsNotJson}
 use Rattle.rv_text.specs.Rows.{message_row, answer_row}
 use Rattle.rv_text.specs.Limits.{FitsMessage, FitsAnswer}
 
@@ -53,6 +54,12 @@ FindsSeenAmong object view answer found = Finds view answer (found (members_view
 
 abbrev pub FindsAmong : {A : Type 0} → Map → Result A TextFault → (Members → Option A) → Type 0
 FindsAmong object answer found = FindsSeenAmong object (λ x. x) answer found
+
+-- why bytes give no value: each fault with what it tells of them
+abbrev pub Unread : List ℕ → TextFault → Type 0
+Unread bytes fault.NotJson = HasBodyLength bytes × IsNotJson bytes
+Unread bytes fault.NotMessage = ¬ HasBodyLength bytes
+Unread bytes fault.NoMemory = HasBodyLength bytes
 
 -- ---- one member
 

@@ -5,7 +5,7 @@ ghost use Rattle.serde_json.specs.View.{view, members_view};
 ghost use Rattle.rv_text.specs.Bodies.{HasBodyLength, Reads, IsNotJson};
 ghost use Rattle.rv_text.specs.Bodies.{IsMessageBody, IsAnswerBody};
 ghost use Rattle.rv_text.specs.Reading.{FindsAmong, message_among, answer_among};
-ghost use Rattle.rv_text.specs.Reading.{IsWhole, FindsAlone, messages, answers};
+ghost use Rattle.rv_text.specs.Reading.{Unread, IsWhole, FindsAlone, messages, answers};
 ghost use Rattle.rv_text.specs.declared.message.Message.{Message};
 ghost use Rattle.rv_text.specs.declared.answer.Answer.{Answer};
 
@@ -43,10 +43,7 @@ pub fn decode_message(alloc: Global, bytes: &[u8]) -> Result<Message, TextFault>
     ensures is_json { result ≡ Err TextFault.NotMessage
         → HasBodyLength bytes.now → ¬ IsNotJson bytes.now }
 {
-    if !has_body_length(bytes) {
-        return Err(TextFault::NotMessage);
-    }
-    let value = read_json(alloc, bytes)?;
+    let value = read_value(alloc, bytes)?;
     let members = value.as_object().ok_or(TextFault::NotMessage)?;
     read_message(alloc, members)
 }
@@ -75,12 +72,20 @@ pub fn decode_answer(alloc: Global, bytes: &[u8]) -> Result<Answer, TextFault>
     ensures is_json { result ≡ Err TextFault.NotMessage
         → HasBodyLength bytes.now → ¬ IsNotJson bytes.now }
 {
+    let value = read_value(alloc, bytes)?;
+    let members = value.as_object().ok_or(TextFault::NotMessage)?;
+    read_answer(alloc, members)
+}
+
+// The JSON value of bytes that have a body's length.
+fn read_value(alloc: Global, bytes: &[u8]) -> Result<Value, TextFault>
+    ensures value { IfOk result (λ value. HasBodyLength bytes.now × Reads bytes.now (view value)) }
+    ensures fault { IfErr result (Unread bytes.now) }
+{
     if !has_body_length(bytes) {
         return Err(TextFault::NotMessage);
     }
-    let value = read_json(alloc, bytes)?;
-    let members = value.as_object().ok_or(TextFault::NotMessage)?;
-    read_answer(alloc, members)
+    read_json(alloc, bytes)
 }
 
 fn has_body_length(bytes: &[u8]) -> bool

@@ -1,4 +1,4 @@
-//! What holds of messages, answers and their bodies as such: each contract is a law, and no body does anything.
+//! What holds of messages, answers and their bodies: each contract is a law, and no body does anything.
 ghost use Rattle.std.specs.Prelude.{◌≡◌};
 ghost use Rattle.rv_text.specs.Bodies.{answer_text};
 ghost use Rattle.rv_text.specs.Laws.{OneMessage, WrittenBody, OneAnswer, WrittenAnswer};

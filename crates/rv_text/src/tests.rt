@@ -1,9 +1,10 @@
 //! The texts of the format byte for byte, and what each bad input gives.
 use crate::{
     Answer, BAD_TEXT_BODY, Call, Item, Key, Message, NO_MEMORY_BODY, Refusal, Reply, TextFault,
-    Wait, decode_message, encode_answer,
+    Wait, decode_answer, decode_message, encode_answer, encode_message,
 };
-use std::alloc::{AllocError, Global};
+use std::alloc::{AllocError, AllocGlobal, Global};
+use std::process::Abort;
 use std::test::Fail;
 
 // The key of the client's first request.
@@ -27,8 +28,38 @@ fn replied(client: u64, reply: Reply) -> Answer {
     }
 }
 
+// Asserts that the answer is within its limits, that its text is this, and that this is read back.
+fn is_answer(
+    rt: &(impl Abort + AllocGlobal),
+    answer: &Answer,
+    text: &str,
+) -> Result<(), TextFault> {
+    assert!(rt; answer.fits(), "{text}");
+    assert_eq!(rt; encode_answer(rt.alloc(), answer)?.as_str(), text);
+    assert!(rt;
+        decode_answer(rt.alloc(), text.as_bytes())? == *answer,
+        "{text}"
+    );
+    Ok(())
+}
+
+// The same of a message.
+fn is_message(
+    rt: &(impl Abort + AllocGlobal),
+    message: &Message,
+    text: &str,
+) -> Result<(), TextFault> {
+    assert!(rt; message.fits(), "{text}");
+    assert_eq!(rt; encode_message(rt.alloc(), message)?.as_str(), text);
+    assert!(rt;
+        decode_message(rt.alloc(), text.as_bytes())? == *message,
+        "{text}"
+    );
+    Ok(())
+}
+
 #[test]
-fn answers_are_written(rt: HostRuntime) -> Result<(), Fail> {
+fn answers_are_written_and_read(rt: HostRuntime) -> Result<(), Fail> {
     let alloc = rt.alloc();
     let welcome = Answer::Welcome {
         epoch: 1,
@@ -36,24 +67,24 @@ fn answers_are_written(rt: HostRuntime) -> Result<(), Fail> {
         incarnation: 1,
     };
     let want = "{\"client\":1,\"epoch\":1,\"incarnation\":1,\"kind\":\"welcome\"}";
-    assert_eq!(rt; encode_answer(alloc, &welcome)?.as_str(), want);
+    is_answer(&rt, &welcome, want)?;
     let done = replied(1, Reply::Done);
     let want = "{\"client\":1,\"epoch\":1,\"incarnation\":1,\"kind\":\"reply\",\"number\":1,\
         \"reply\":\"done\"}";
-    assert_eq!(rt; encode_answer(alloc, &done)?.as_str(), want);
+    is_answer(&rt, &done, want)?;
     let taken = replied(2, Reply::Item(item(alloc, "a")?));
     let want = "{\"client\":2,\"epoch\":1,\"incarnation\":1,\"item\":\"a\",\"kind\":\"reply\",\
         \"number\":1,\"reply\":\"item\"}";
-    assert_eq!(rt; encode_answer(alloc, &taken)?.as_str(), want);
+    is_answer(&rt, &taken, want)?;
     let empty = replied(2, Reply::Empty);
     let want = "{\"client\":2,\"epoch\":1,\"incarnation\":1,\"kind\":\"reply\",\"number\":1,\
         \"reply\":\"empty\"}";
-    assert_eq!(rt; encode_answer(alloc, &empty)?.as_str(), want);
+    is_answer(&rt, &empty, want)?;
     Ok(())
 }
 
 #[test]
-fn refusals_are_written(rt: HostRuntime) -> Result<(), Fail> {
+fn refusals_are_written_and_read(rt: HostRuntime) -> Result<(), Fail> {
     for (refusal, want) in [
         (Refusal::BadText, BAD_TEXT_BODY),
         (Refusal::BadText, "{\"code\":1,\"kind\":\"refused\"}"),
@@ -84,8 +115,7 @@ fn refusals_are_written(rt: HostRuntime) -> Result<(), Fail> {
         (Refusal::NoMemory, "{\"code\":11,\"kind\":\"refused\"}"),
         (Refusal::NoMemory, NO_MEMORY_BODY),
     ] {
-        let body = encode_answer(rt.alloc(), &Answer::Refused(refusal))?;
-        assert_eq!(rt; body.as_str(), want);
+        is_answer(&rt, &Answer::Refused(refusal), want)?;
     }
     Ok(())
 }
@@ -138,8 +168,17 @@ fn hellos_are_read(rt: HostRuntime) -> Result<(), Fail> {
 }
 
 #[test]
-fn requests_are_read(rt: HostRuntime) -> Result<(), Fail> {
+fn messages_are_written_and_read(rt: HostRuntime) -> Result<(), Fail> {
     let alloc = rt.alloc();
+    let hello = Message::Hello {
+        client: 1,
+        incarnation: 1,
+    };
+    is_message(
+        &rt,
+        &hello,
+        "{\"client\":1,\"incarnation\":1,\"kind\":\"hello\"}",
+    )?;
     let body = "{\"call\":\"put\",\"client\":1,\"epoch\":1,\"incarnation\":1,\"item\":\"a\",\
         \"kind\":\"request\",\"number\":1,\"queue\":3}";
     let put = Message::Request {
@@ -149,7 +188,7 @@ fn requests_are_read(rt: HostRuntime) -> Result<(), Fail> {
             item: item(alloc, "a")?,
         },
     };
-    assert!(rt; decode_message(alloc, body.as_bytes())? == put);
+    is_message(&rt, &put, body)?;
     let body = "{\"call\":\"take\",\"client\":2,\"epoch\":1,\"incarnation\":1,\
         \"kind\":\"request\",\"number\":1,\"queue\":3,\"wait\":\"now\"}";
     let take = Message::Request {
@@ -159,7 +198,7 @@ fn requests_are_read(rt: HostRuntime) -> Result<(), Fail> {
             wait: Wait::Now,
         },
     };
-    assert!(rt; decode_message(alloc, body.as_bytes())? == take);
+    is_message(&rt, &take, body)?;
     Ok(())
 }
 
@@ -181,8 +220,15 @@ const NOT_JSON: Option<TextFault> = Some(TextFault::NotJson);
 
 const NOT_MESSAGE: Option<TextFault> = Some(TextFault::NotMessage);
 
-// What each body gives. A body is its pieces, each as often as its number says.
-const INPUTS: &[(&str, &[(&[u8], usize)], Option<TextFault>)] = &[
+// A body, as its pieces, each as often as its number says, and what it gives.
+type Input = (
+    &'static str,
+    &'static [(&'static [u8], usize)],
+    Option<TextFault>,
+);
+
+// What the decoder of messages gives.
+const MESSAGE_INPUTS: &[Input] = &[
     ("a hello", &[(HELLO, 1)], READ),
     ("no bytes", &[], NOT_MESSAGE),
     ("4,096 bytes", &[(HELLO, 1), (b" ", 4053)], READ),
@@ -264,6 +310,97 @@ const INPUTS: &[(&str, &[(&[u8], usize)], Option<TextFault>)] = &[
     ),
 ];
 
+const DONE: &[u8] = b"{\"client\":1,\"epoch\":1,\"incarnation\":1,\"kind\":\"reply\",\"number\":1,\
+    \"reply\":\"done\"}";
+
+// What stands before the word of a reply, before the text of a reply's item, and before a refusal's
+// code.
+const REPLY: &[u8] = b"{\"client\":1,\"epoch\":1,\"incarnation\":1,\"kind\":\"reply\",\"number\":1,\
+    \"reply\":";
+
+const TAKEN: &[u8] = b"{\"client\":1,\"epoch\":1,\"incarnation\":1,\"kind\":\"reply\",\"number\":1,\
+    \"reply\":\"item\",\"item\":\"";
+
+const REFUSED: &[u8] = b"{\"kind\":\"refused\",\"code\":";
+
+// What the decoder of answers gives.
+const ANSWER_INPUTS: &[Input] = &[
+    ("a reply", &[(DONE, 1)], READ),
+    ("no bytes", &[], NOT_MESSAGE),
+    ("4,096 bytes", &[(DONE, 1), (b" ", 4017)], READ),
+    ("4,097 bytes", &[(DONE, 1), (b" ", 4018)], NOT_MESSAGE),
+    ("4,097 bytes that are no JSON", &[(b"?", 4097)], NOT_MESSAGE),
+    ("not UTF-8", &[(b"{\"\xff\":1}", 1)], NOT_JSON),
+    ("127 arrays", &[(b"[", 127), (b"]", 127)], NOT_MESSAGE),
+    ("128 arrays", &[(b"[", 128), (b"]", 128)], NOT_JSON),
+    ("a message", &[(HELLO, 1)], NOT_MESSAGE),
+    ("code 0", &[(REFUSED, 1), (b"0}", 1)], NOT_MESSAGE),
+    ("code 1", &[(REFUSED, 1), (b"1}", 1)], READ),
+    ("code 1.0", &[(REFUSED, 1), (b"1.0}", 1)], NOT_MESSAGE),
+    ("code \"1\"", &[(REFUSED, 1), (b"\"1\"}", 1)], NOT_MESSAGE),
+    ("code 11", &[(REFUSED, 1), (b"11}", 1)], READ),
+    ("code 12", &[(REFUSED, 1), (b"12}", 1)], NOT_MESSAGE),
+    ("no code", &[(b"{\"kind\":\"refused\"}", 1)], NOT_MESSAGE),
+    ("a missing detail", &[(REFUSED, 1), (b"2}", 1)], NOT_MESSAGE),
+    (
+        "another code's detail",
+        &[(REFUSED, 1), (b"2,\"last\":2}", 1)],
+        NOT_MESSAGE,
+    ),
+    (
+        "two details",
+        &[(REFUSED, 1), (b"2,\"current\":2,\"last\":2}", 1)],
+        NOT_MESSAGE,
+    ),
+    (
+        "a detail where none is",
+        &[(REFUSED, 1), (b"3,\"current\":2}", 1)],
+        NOT_MESSAGE,
+    ),
+    (
+        "current 0",
+        &[(REFUSED, 1), (b"4,\"current\":0}", 1)],
+        NOT_MESSAGE,
+    ),
+    (
+        "open 0",
+        &[(REFUSED, 1), (b"7,\"open\":0}", 1)],
+        NOT_MESSAGE,
+    ),
+    ("last 0", &[(REFUSED, 1), (b"8,\"last\":0}", 1)], READ),
+    (
+        "the greatest last",
+        &[(REFUSED, 1), (b"5,\"last\":9007199254740991}", 1)],
+        READ,
+    ),
+    (
+        "last 2^53",
+        &[(REFUSED, 1), (b"5,\"last\":9007199254740992}", 1)],
+        NOT_MESSAGE,
+    ),
+    (
+        "a word of no reply",
+        &[(REPLY, 1), (b"\"put\"}", 1)],
+        NOT_MESSAGE,
+    ),
+    ("no item", &[(REPLY, 1), (b"\"item\"}", 1)], NOT_MESSAGE),
+    (
+        "done with an item",
+        &[(REPLY, 1), (b"\"done\",\"item\":\"\"}", 1)],
+        NOT_MESSAGE,
+    ),
+    (
+        "an item of 512 bytes",
+        &[(TAKEN, 1), (b"x", 512), (b"\"}", 1)],
+        READ,
+    ),
+    (
+        "an item of 513 bytes",
+        &[(TAKEN, 1), (b"x", 513), (b"\"}", 1)],
+        NOT_MESSAGE,
+    ),
+];
+
 fn joined(alloc: Global, pieces: &[(&[u8], usize)]) -> Result<Vec<u8>, AllocError> {
     let mut body = Vec::new(alloc);
     for (piece, times) in pieces {
@@ -275,8 +412,8 @@ fn joined(alloc: Global, pieces: &[(&[u8], usize)]) -> Result<Vec<u8>, AllocErro
 }
 
 #[test]
-fn each_input_has_its_answer(rt: HostRuntime) -> Result<(), Fail> {
-    for (name, pieces, want) in INPUTS {
+fn each_message_input_has_its_result(rt: HostRuntime) -> Result<(), Fail> {
+    for (name, pieces, want) in MESSAGE_INPUTS {
         let body = joined(rt.alloc(), pieces)?;
         let found = decode_message(rt.alloc(), body.as_slice()).err();
         assert_eq!(rt; found, *want, "{name}");
@@ -284,7 +421,37 @@ fn each_input_has_its_answer(rt: HostRuntime) -> Result<(), Fail> {
     Ok(())
 }
 
-// With ample memory these two calls succeed, as the tests above show. Under `rt try --test
+#[test]
+fn each_answer_input_has_its_result(rt: HostRuntime) -> Result<(), Fail> {
+    for (name, pieces, want) in ANSWER_INPUTS {
+        let body = joined(rt.alloc(), pieces)?;
+        let found = decode_answer(rt.alloc(), body.as_slice()).err();
+        assert_eq!(rt; found, *want, "{name}");
+    }
+    Ok(())
+}
+
+#[test]
+fn answers_know_their_limits(rt: HostRuntime) -> Result<(), Fail> {
+    let long = joined(rt.alloc(), &[(b"x", 513)])?;
+    let text = String::from_str(rt.alloc(), str::from_utf8(long.as_slice())?)?;
+    let taken = Reply::Item(Item::from_text(text));
+    assert!(rt; !taken.fits());
+    assert!(rt; !replied(1, taken).fits());
+    assert!(rt; !replied(0, Reply::Empty).fits());
+    for (refusal, want) in [
+        (Refusal::OtherEpoch(0), false),
+        (Refusal::Busy(9_007_199_254_740_992), false),
+        (Refusal::Gap(0), true),
+        (Refusal::OldNumber(9_007_199_254_740_992), false),
+    ] {
+        assert_eq!(rt; refusal.fits(), want);
+        assert_eq!(rt; Answer::Refused(refusal).fits(), want);
+    }
+    Ok(())
+}
+
+// With ample memory these four calls succeed, as the tests above show. Under `rt try --test
 // --fail-alloc N` the Nth growth is refused, and then they answer want of memory and nothing else.
 #[test]
 fn a_refused_growth_of_decode_message(rt: HostRuntime) {
@@ -305,5 +472,30 @@ fn a_refused_growth_of_encode_answer(rt: HostRuntime) {
     let answer = replied(2, Reply::Item(item));
     if let Ok(body) = encode_answer(rt.alloc(), &answer) {
         assert!(rt; body.as_str().ends_with("\"reply\":\"item\"}"));
+    }
+}
+
+#[test]
+fn a_refused_growth_of_decode_answer(rt: HostRuntime) {
+    let body =
+        b"{\"client\":1,\"epoch\":1,\"incarnation\":1,\"item\":\"a\\u0041\",\"kind\":\"reply\",\
+        \"number\":1,\"reply\":\"item\"}";
+    match decode_answer(rt.alloc(), body) {
+        Ok(answer) => assert!(rt; answer.fits()),
+        Err(fault) => assert_eq!(rt; fault, TextFault::NoMemory),
+    }
+}
+
+#[test]
+fn a_refused_growth_of_encode_message(rt: HostRuntime) {
+    let Ok(item) = item(rt.alloc(), "a") else {
+        return;
+    };
+    let message = Message::Request {
+        key: key(1),
+        call: Call::Put { queue: 3, item },
+    };
+    if let Ok(body) = encode_message(rt.alloc(), &message) {
+        assert!(rt; body.as_str().ends_with("\"number\":1,\"queue\":3}"));
     }
 }
