@@ -15,7 +15,7 @@ use Rattle.rv_text.specs.Bodies.{HasBodyLength, Reads, IsBody}
 use Rattle.rv_text.specs.Members.{Field, field_of, members_of, object_of}
 use Rattle.rv_text.specs.Laws.{AtMostOne}
 use Rattle.rv_text.specs.Reading.{Shape, IsAlone, FindsAlone}
-use Rattle.rv_text.proofs.Readers.{IsReader}
+use Rattle.rv_text.proofs.Steps.{IsReader}
 use Rattle.rv_text.proofs.Objects.{IsSorted-entries, with_fields-found, found-with_fields, members_len-with_fields}
 
 pub as_object_is : (d : Data) (ms : Members) → as_object d ≡ Some ms → d ≡ object ms

@@ -4,7 +4,9 @@ pub mod Texts
 pub mod ByKind
 pub mod Sound
 pub mod Kept
+pub mod Steps
 pub mod Readers
+pub mod AnswerReaders
 pub mod Decoding
 pub mod Floats
 pub mod Encoding

@@ -109,9 +109,7 @@ reply_text (reply.Item item) utf8 = (tt, (utf8, tt))
 reply_text _ utf8 = (tt, tt)
 
 detail_text : (refusal : Refusal) → Each IsText (detail_row refusal)
-detail_text refusal.BadText = tt
 detail_text (refusal.OtherEpoch current) = (tt, tt)
-detail_text refusal.NoSession = tt
 detail_text (refusal.OldIncarnation current) = (tt, tt)
 detail_text (refusal.OldNumber last) = (tt, tt)
 detail_text (refusal.Busy waiting) = (tt, tt)

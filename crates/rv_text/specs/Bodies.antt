@@ -45,9 +45,8 @@ HasUtf8 (message.Request key call) = IfSome (item_of call) IsUtf8
 
 -- the same of an answer
 abbrev pub ReplyHasUtf8 : Reply → Type 0
-ReplyHasUtf8 reply.Done = Unit {0}
 ReplyHasUtf8 (reply.Item item) = IsUtf8 item
-ReplyHasUtf8 reply.Empty = Unit {0}
+ReplyHasUtf8 _ = Unit {0}
 
 abbrev pub AnswerHasUtf8 : Answer → Type 0
 AnswerHasUtf8 (answer.Welcome epoch client incarnation) = Unit {0}

@@ -65,7 +65,7 @@ impl Reply {
     {
         match self {
             Reply::Item(_) => 2,
-            Reply::Done | Reply::Empty => 1,
+            _ => 1,
         }
     }
 
@@ -75,7 +75,7 @@ impl Reply {
     {
         match self {
             Reply::Item(item) => item.fits(),
-            Reply::Done | Reply::Empty => true,
+            _ => true,
         }
     }
 }

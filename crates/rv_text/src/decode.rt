@@ -1,17 +1,14 @@
-//! The message or answer whose body given bytes are.
+//! The message whose body given bytes are, and their JSON value.
 ghost use Rattle.std.specs.Prelude.{◌≡◌, ◌⊎◌, ◌↔◌, IsTrue, IfOk, IfErr, OnOk, string_cmp};
 ghost use Rattle.std.specs.BTreeMap.{IsOrdered};
 ghost use Rattle.serde_json.specs.View.{view, members_view};
-ghost use Rattle.rv_text.specs.Bodies.{HasBodyLength, Reads, IsNotJson};
-ghost use Rattle.rv_text.specs.Bodies.{IsMessageBody, IsAnswerBody};
-ghost use Rattle.rv_text.specs.Reading.{FindsAmong, message_among, answer_among};
-ghost use Rattle.rv_text.specs.Reading.{Unread, IsWhole, FindsAlone, messages, answers};
+ghost use Rattle.rv_text.specs.Bodies.{HasBodyLength, Reads, IsNotJson, IsMessageBody};
+ghost use Rattle.rv_text.specs.Reading.{FindsAmong, Unread, IsWhole, FindsAlone};
+ghost use Rattle.rv_text.specs.Reading.{message_among, messages};
 ghost use Rattle.rv_text.specs.declared.message.Message.{Message};
-ghost use Rattle.rv_text.specs.declared.answer.Answer.{Answer};
 
-use crate::answer::Answer;
 use crate::fault::TextFault;
-use crate::members::{read_call, read_key, read_refusal, read_reply, read_text, read_whole};
+use crate::members::{read_call, read_key, read_text, read_whole};
 use crate::message::Message;
 use serde_json::{Map, Value};
 use std::alloc::Global;
@@ -48,37 +45,8 @@ pub fn decode_message(alloc: Global, bytes: &[u8]) -> Result<Message, TextFault>
     read_message(alloc, members)
 }
 
-/// The answer whose body the bytes are.
-///
-/// The length is looked at first, without memory. Bytes of a body's length that are no JSON give
-/// [`TextFault::NotJson`], and all other bytes that are no answer's body give
-/// [`TextFault::NotMessage`]. A name that stands twice counts with its last value.
-/// [`TextFault::NoMemory`] comes only where a growth was refused.
-pub fn decode_answer(alloc: Global, bytes: &[u8]) -> Result<Answer, TextFault>
-    // With both: an answer comes exactly where the bytes are its body, unless memory ran out.
-    ensures found { IfOk result (IsAnswerBody bytes.now) }
-    ensures only { (a : Answer) → IsAnswerBody bytes.now a
-        → (result ≡ Ok a) ⊎ (result ≡ Err TextFault.NoMemory) }
-
-    ensures length_first { ¬ HasBodyLength bytes.now → result ≡ Err TextFault.NotMessage }
-
-    ensures not_json { result ≡ Err TextFault.NotJson
-        → HasBodyLength bytes.now × IsNotJson bytes.now }
-    ensures json_first { IsNotJson bytes.now → HasBodyLength bytes.now
-        → (result ≡ Err TextFault.NotJson) ⊎ (result ≡ Err TextFault.NoMemory) }
-
-    ensures not_message { result ≡ Err TextFault.NotMessage
-        → (a : Answer) → ¬ IsAnswerBody bytes.now a }
-    ensures is_json { result ≡ Err TextFault.NotMessage
-        → HasBodyLength bytes.now → ¬ IsNotJson bytes.now }
-{
-    let value = read_value(alloc, bytes)?;
-    let members = value.as_object().ok_or(TextFault::NotMessage)?;
-    read_answer(alloc, members)
-}
-
 // The JSON value of bytes that have a body's length.
-fn read_value(alloc: Global, bytes: &[u8]) -> Result<Value, TextFault>
+pub(crate) fn read_value(alloc: Global, bytes: &[u8]) -> Result<Value, TextFault>
     ensures value { IfOk result (λ value. HasBodyLength bytes.now × Reads bytes.now (view value)) }
     ensures fault { IfErr result (Unread bytes.now) }
 {
@@ -118,7 +86,7 @@ fn read_message(alloc: Global, members: &Map<String, Value>) -> Result<Message, 
 }
 
 // Whether an object that has the message's members has no others, and the message is within its limits.
-#[tactic(auto, using(crate::proofs::Readers::members_counted))]
+#[tactic(auto, using(crate::proofs::Steps::members_counted))]
 fn is_alone(members: &Map<String, Value>, message: &Message) -> bool
     ensures alone { IsTrue result ↔ IsWhole messages (members_view members.now.entries) message.now }
     ensures ordered { IsOrdered string_cmp members.now }
@@ -138,44 +106,6 @@ fn read_kind(alloc: Global, members: &Map<String, Value>) -> Result<Message, Tex
             key: read_key(members)?,
             call: read_call(alloc, members)?,
         }),
-        _ => Err(TextFault::NotMessage),
-    }
-}
-
-fn read_answer(alloc: Global, members: &Map<String, Value>) -> Result<Answer, TextFault>
-    ensures alone { FindsAlone answers result (members_view members.now.entries) }
-    ensures ordered { OnOk result (IsOrdered string_cmp members.now) }
-{
-    let answer = read_answer_kind(alloc, members)?;
-    if !is_answer_alone(members, &answer) {
-        return Err(TextFault::NotMessage);
-    }
-    Ok(answer)
-}
-
-// Whether an object that has the answer's members has no others, and the answer is within its limits.
-#[tactic(auto, using(crate::proofs::Readers::members_counted))]
-fn is_answer_alone(members: &Map<String, Value>, answer: &Answer) -> bool
-    ensures alone { IsTrue result ↔ IsWhole answers (members_view members.now.entries) answer.now }
-    ensures ordered { IsOrdered string_cmp members.now }
-{
-    members.len() == answer.member_count() && answer.fits()
-}
-
-fn read_answer_kind(alloc: Global, members: &Map<String, Value>) -> Result<Answer, TextFault>
-    ensures { FindsAmong members.now result answer_among }
-{
-    match read_text(members, "kind")? {
-        "welcome" => Ok(Answer::Welcome {
-            epoch: read_whole(members, "epoch")?,
-            client: read_whole(members, "client")?,
-            incarnation: read_whole(members, "incarnation")?,
-        }),
-        "reply" => Ok(Answer::Replied {
-            key: read_key(members)?,
-            reply: read_reply(alloc, members)?,
-        }),
-        "refused" => Ok(Answer::Refused(read_refusal(members)?)),
         _ => Err(TextFault::NotMessage),
     }
 }

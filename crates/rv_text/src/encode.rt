@@ -1,7 +1,7 @@
 //! The one text that is written for a message or an answer.
 ghost use Rattle.std.specs.Prelude.{◌≡◌, [], ◌∷◌, Some, OnOk, IfOk, string_bytes};
 ghost use Rattle.serde_json.specs.Data.{string, number, unsigned};
-ghost use Rattle.rv_text.specs.Rows.{key_row, wait_row, call_row, message_row};
+ghost use Rattle.rv_text.specs.Rows.{key_row, wait_row, item_row, call_row, message_row};
 ghost use Rattle.rv_text.specs.Rows.{reply_row, detail_row, answer_row};
 ghost use Rattle.rv_text.specs.Reading.{Puts, PutsRow};
 ghost use Rattle.rv_text.specs.Bodies.{HasBodyLength, message_text, answer_text};
@@ -10,6 +10,7 @@ ghost use Rattle.rv_text.specs.Limits.{FitsMessage, FitsAnswer};
 use crate::answer::{Answer, Refusal, Reply};
 use crate::call::{Call, Wait};
 use crate::fault::NoMemory;
+use crate::item::Item;
 use crate::message::{Key, Message};
 use serde_json::{Map, Value};
 use std::alloc::Global;
@@ -75,7 +76,7 @@ fn put_call(members: &mut Map<String, Value>, alloc: Global, call: &Call) -> Res
         Call::Put { queue, item } => {
             put_text(members, alloc, "call", "put")?;
             put_whole(members, alloc, "queue", *queue)?;
-            put_text(members, alloc, "item", item.as_str())
+            put_item(members, alloc, item)
         }
         Call::Take { queue, wait } => {
             put_text(members, alloc, "call", "take")?;
@@ -91,6 +92,12 @@ fn put_wait(members: &mut Map<String, Value>, alloc: Global, wait: Wait) -> Resu
     match wait {
         Wait::Now => put_text(members, alloc, "wait", "now"),
     }
+}
+
+fn put_item(members: &mut Map<String, Value>, alloc: Global, item: &Item) -> Result<(), NoMemory>
+    ensures { OnOk result (PutsRow (item_row (Some item.now)) members.old members.new) }
+{
+    put_text(members, alloc, "item", item.as_str())
 }
 
 fn put_answer(
@@ -140,7 +147,7 @@ fn put_reply(members: &mut Map<String, Value>, alloc: Global, reply: &Reply) -> 
         Reply::Done => put_text(members, alloc, "reply", "done"),
         Reply::Item(item) => {
             put_text(members, alloc, "reply", "item")?;
-            put_text(members, alloc, "item", item.as_str())
+            put_item(members, alloc, item)
         }
         Reply::Empty => put_text(members, alloc, "reply", "empty"),
     }

@@ -2,9 +2,9 @@
 use Rattle.std.proofs.Common.{option_map, sym, ap, ◌∙◌}
 use Rattle.serde_json.specs.View.{view, members_view}
 use Rattle.rv_text.specs.Reading.{answers}
-use Rattle.rv_text.proofs.Readers.{answer_reader}
+use Rattle.rv_text.proofs.AnswerReaders.{answer_reader}
 use Rattle.rv_text.proofs.Decoding.{as_object_is, decoded, decodes}
-use Rattle.rv_text.proofs.decode.decode_answer.Goals as goal
+use Rattle.rv_text.proofs.answer_body.decode_answer.Goals as goal
 
 pub returns-clause-found : goal.returns-clause-found
 returns-clause-found c =

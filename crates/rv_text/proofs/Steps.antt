@@ -1,0 +1,114 @@
+-- The steps of a reader: each finds just what stands in the object.
+use Rattle.std.proofs.Common.{String, Global, ◌≡◌, ℕ, List, [], ◌∷◌, length, map}
+use Rattle.std.proofs.Common.{Bool, true, false, cond, Option, Some, None, option_and_then, bytes_eq, nat_eq, refl, ap, subst, inl, inr}
+use Rattle.std.proofs.lemmas.Bool.Decides.{Decides-eqb}
+use Rattle.std.proofs.lemmas.Option.{same_Some}
+use Rattle.std.proofs.lemmas.Slice.Eq.{bytes_eq-Decides}
+use Rattle.std.specs.Prelude.{◌⊎◌}
+use Rattle.serde_json.specs.Data.{unsigned, negative, float, Data, null, boolean, number, string, array, object, Members}
+use Rattle.serde_json.specs.View.{members_view}
+use Rattle.serde_json.specs.declared.value.Value.{Value}
+use Rattle.serde_json.proofs.Views.{members_len-members_view}
+use Rattle.serde_json.specs.Events.{members_len}
+use Rattle.serde_json.specs.Find.{get_member, as_number, as_u64, as_str}
+use Rattle.rv_text.specs.Members.{Member, Field, field_of}
+use Rattle.rv_text.specs.Reading.{◌>>=◌, Line, under, among, numbered_among, whole_among, text_among}
+use Rattle.rv_text.specs.Reading.{Shape}
+use Rattle.rv_text.proofs.Objects.{HasFields}
+use Rattle.rv_text.proofs.Sound.{IsSound}
+
+-- ---- the steps of a reader
+
+-- a step that finds x goes on from it
+pub step_found : {A B : Type 0} (P : B → Type 0) (o : Option A) (next : A → Option B)
+    → ((x : A) → o ≡ Some x → (y : B) → next x ≡ Some y → P y) → (y : B) → (o >>= next) ≡ Some y → P y
+step_found P None next each y e = absurd (cc)
+step_found P (Some x) next each y e = each x refl y e
+
+-- the last step is the value
+pub last_found : {B : Type 0} (P : B → Type 0) (x : B) → P x → (y : B) → Some x ≡ Some y → P y
+last_found P x h y e = subst P (same_Some _ _ e) h
+
+-- which of two ways a test went
+chosen : {A : Type 0} (b : Bool) (x y : Option A) (z : A) → cond b x y ≡ Some z → ((b ≡ true) × (x ≡ Some z)) ⊎ (y ≡ Some z)
+chosen true x y z e = inl (refl, e)
+chosen false x y z e = inr e
+
+-- ---- one member
+
+as_u64_is : (d : Data) (n : ℕ) → option_and_then as_u64 (as_number d) ≡ Some n → d ≡ number (unsigned n)
+as_u64_is (number (unsigned m)) n e = ap (λ k. number (unsigned k)) (cc)
+as_u64_is (number (negative z)) n e = absurd (cc)
+as_u64_is (number (float x)) n e = absurd (cc)
+as_u64_is null n e = absurd (cc)
+as_u64_is (boolean b) n e = absurd (cc)
+as_u64_is (string s) n e = absurd (cc)
+as_u64_is (array ds) n e = absurd (cc)
+as_u64_is (object ms) n e = absurd (cc)
+
+as_str_is : (d : Data) (s : List ℕ) → as_str d ≡ Some s → d ≡ string s
+as_str_is (string t) s e = ap string (cc)
+as_str_is (number n) s e = absurd (cc)
+as_str_is null s e = absurd (cc)
+as_str_is (boolean b) s e = absurd (cc)
+as_str_is (array ds) s e = absurd (cc)
+as_str_is (object ms) s e = absurd (cc)
+
+number_found : (o : Option Data) (n : ℕ) → option_and_then as_u64 (option_and_then as_number o) ≡ Some n → o ≡ Some (number (unsigned n))
+number_found None n e = absurd (cc)
+number_found (Some d) n e = ap Some (as_u64_is d n e)
+
+string_found : (o : Option Data) (s : List ℕ) → option_and_then as_str o ≡ Some s → o ≡ Some (string s)
+string_found None s e = absurd (cc)
+string_found (Some d) s e = ap Some (as_str_is d s e)
+
+-- ---- rows of members
+
+module _ (ms : Members) where
+  abbrev pub Has : Field → Type 0
+  Has f = get_member f.0 ms ≡ Some f.1
+
+  -- the members of the row are found
+  abbrev pub HasRow : List Member → Type 0
+  HasRow row = HasFields (map field_of row) ms
+
+  pub whole_found : (name : List ℕ) (n : ℕ) → whole_among name ms ≡ Some n → Has (name, number (unsigned n))
+  whole_found name n e = number_found (get_member name ms) n e
+
+  pub text_found : (name s : List ℕ) → text_among name ms ≡ Some s → Has (name, string s)
+  text_found name s e = string_found (get_member name ms) s e
+
+  -- each line finds what has P, where its word or number is found
+  abbrev pub AreLines : {K A : Type 0} → (A → Type 0) → (K → Type 0) → List (Line K A) → Type 0
+  AreLines P Is [] = Unit {0}
+  AreLines P Is (line ∷ lines) = (Is line.0 → (x : _) → line.1 ms ≡ Some x → P x) × AreLines P Is lines
+
+  line_found : {K A : Type 0} (same : K → K → Bool) → ((a b : K) → same a b ≡ true → a ≡ b) → (P : A → Type 0) (Is : K → Type 0) (lines : List (Line K A)) → AreLines P Is lines
+      → (key : K) → Is key → (x : A) → under same key lines ms ≡ Some x → P x
+  line_found same equal P Is [] are key is x e = absurd (cc)
+  line_found same equal P Is (line ∷ lines) are key is x e = elim (chosen (same key line.0) (line.1 ms) (under same key lines ms) x e) [
+    | inl way ↦ are.0 (subst Is (equal key line.0 way.0) is) x way.1
+    | inr way ↦ line_found same equal P Is lines are.1 key is x way
+  ]
+
+  pub among_found : {A : Type 0} (P : A → Type 0) (name : List ℕ) (lines : List (Line (List ℕ) A)) → AreLines P (λ s. Has (name, string s)) lines
+      → (x : A) → among name lines ms ≡ Some x → P x
+  among_found P name lines are =
+      step_found P (text_among name ms) _ (λ s read.
+      line_found bytes_eq (λ a b. (bytes_eq-Decides a b).0) P (λ s. Has (name, string s)) lines are s (text_found name s read))
+
+  pub numbered_found : {A : Type 0} (P : A → Type 0) (name : List ℕ) (lines : List (Line ℕ A)) → AreLines P (λ n. Has (name, number (unsigned n))) lines
+      → (x : A) → numbered_among name lines ms ≡ Some x → P x
+  numbered_found P name lines are =
+      step_found P (whole_among name ms) _ (λ n read.
+      line_found nat_eq (λ a b. (Decides-eqb a b).0) P (λ n. Has (name, number (unsigned n))) lines are n (whole_found name n read))
+
+-- what is found is what the row says
+pub record IsReader (A : Type 0) (shape : Shape A) : Type 0 where
+  pub sound : (x : A) → IsSound (shape.row x)
+  pub has : (ms : Members) (x : A) → shape.found ms ≡ Some x → HasFields (map field_of (shape.row x)) ms
+  pub finds : (ms : Members) (x : A) → HasFields (map field_of (shape.row x)) ms → shape.found ms ≡ Some x
+
+-- as many members as the map has entries
+pub members_counted : (es : List (String Global × Value)) → members_len (members_view es) ≡ length es
+members_counted = members_len-members_view
