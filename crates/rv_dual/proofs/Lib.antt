@@ -1,0 +1,3 @@
+pub mod Removing
+pub mod Found
+pub mod Withdrawn
