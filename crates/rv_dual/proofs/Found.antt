@@ -1,5 +1,5 @@
 -- The request at a place, where it was found in a list, and the list without it.
-use Rattle.std.proofs.Common.{◌≡◌, ℕ, ◌==◌, ◌<◌, Bool, true, false, List, length, Option, Some, None, refl, sym, ap, ◌∙◌, arith}
+use Rattle.std.proofs.Common.{◌≡◌, ℕ, ◌==◌, Bool, true, false, List, Some, sym, ap, ◌∙◌, arith}
 use Rattle.std.specs.Prelude.{Contains, IfSome, IfNone, remove, slice_get}
 use Rattle.std.specs.List.{AllPairs}
 use Rattle.std.proofs.lemmas.Bool.{false≢true}

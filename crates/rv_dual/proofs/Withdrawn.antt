@@ -1,9 +1,8 @@
 -- A queue from which the request at a place was withdrawn.
-use Rattle.std.proofs.Common.{◌≡◌, ◌⊎◌, inl, inr, ℕ, [], List, Option, Some, None, refl, sym, ap, ◌∙◌, subst}
+use Rattle.std.proofs.Common.{◌≡◌, ◌⊎◌, inl, inr, ℕ, [], List, Option, Some, None, ap, ◌∙◌}
 use Rattle.std.specs.Prelude.{IfSome, IfNone, not}
 use Rattle.std.proofs.lemmas.Option.{slice_get-get_or}
 use Rattle.std.proofs.lemmas.List.Kept.{AllPairs-filter}
-use Rattle.std.specs.List.{AllPairs}
 use Rattle.rv_session.specs.Owed.{Owed}
 use Rattle.rv_dual.specs.declared.giver.Offer.{Offer}
 use Rattle.rv_dual.specs.declared.giver.Offer.TheVariants.{Waits}

@@ -1,5 +1,5 @@
 -- What it is to withdraw the request at a place.
-use Rattle.std.specs.Prelude.{◌≡◌, ◌≢◌, ◌⊎◌, ℕ, List, Option, IfSome, IfNone, Contains, not}
+use Rattle.std.specs.Prelude.{◌≡◌, ◌⊎◌, ℕ, List, Option, IfSome, IfNone, Contains, not}
 use Rattle.std.specs.List.{filter}
 use Rattle.rv_session.specs.Owed.{Owed}
 use Rattle.rv_dual.specs.declared.giver.Offer.{Offer}

@@ -152,23 +152,23 @@ impl Dual {
 
     /// A giver that doesn't wait arrives: it meets the consumer that waited longest, which leaves the
     /// queue, or nobody, and then nothing changes and its duty comes back.
-    pub fn try_give(&mut self, duty: Duty) -> Tried
-        ensures { TriedGive self.old self.new duty result }
+    pub fn try_give(&mut self, giver: Duty) -> Tried
+        ensures { TriedGive self.old self.new giver result }
     {
         match self.takers.pop_front() {
-            Some(taker) => Tried::Met(Pair::new(Giver::Waits(duty), taker.wake())),
-            None => Tried::Alone(duty),
+            Some(taker) => Tried::Met(Pair::new(Giver::Waits(giver), taker.wake())),
+            None => Tried::Alone(giver),
         }
     }
 
     /// A taker that doesn't wait arrives: it meets the oldest item, which leaves the queue, or none, and
     /// then nothing changes and its duty comes back.
-    pub fn try_take(&mut self, duty: Duty) -> Tried
-        ensures { TriedTake self.old self.new duty result }
+    pub fn try_take(&mut self, taker: Duty) -> Tried
+        ensures { TriedTake self.old self.new taker result }
     {
         match self.givers.pop_front() {
-            Some(offer) => Tried::Met(Pair::new(offer.wake(), duty)),
-            None => Tried::Alone(duty),
+            Some(offer) => Tried::Met(Pair::new(offer.wake(), taker)),
+            None => Tried::Alone(taker),
         }
     }
 

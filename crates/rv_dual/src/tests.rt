@@ -1,5 +1,5 @@
 //! Each call once, and a short story of each side.
-ghost use Rattle.std.specs.Prelude.{◌≡◌, ◌<◌, ◌++◌, ◌∷◌, [], IfOk, OnOk};
+ghost use Rattle.std.specs.Prelude.{◌≡◌, ◌<◌, ℕ, [], IfOk, OnOk};
 ghost use Rattle.rv_dual.specs.Offers.{offer_of, place_of};
 ghost use Rattle.rv_dual.specs.Queue.{IsAbove};
 
@@ -66,32 +66,40 @@ fn tried(tried: Tried) -> Result<Places, Place> {
     }
 }
 
-// A giver waits, where there is room and no consumer waits.
+// A giver waits, where there is room and no consumer waits, and then there is room for one more.
+#[tactic(auto, using(crate::proofs::Above::above_parked_giver))]
 fn park(queue: &mut Dual, giver: Giver) -> Result<(), Fail>
     requires room { 0 < queue.old.room }
     requires nobody { queue.old.takers ≡ [] }
     requires above { IsAbove queue.old (place_of (offer_of giver)) }
-    ensures givers { OnOk result (queue.new.givers ≡ queue.old.givers ++ offer_of giver ∷ []) }
-    ensures takers { OnOk result (queue.new.takers ≡ []) }
+    ensures room { OnOk result (0 < queue.new.room) }
+    ensures nobody { OnOk result (queue.new.takers ≡ []) }
+    ensures above { OnOk result ((later : ℕ) → place_of (offer_of giver) < later → IsAbove queue.new later) }
 {
     match queue.give(giver) {
-        Given::Parked => Ok(()),
-        Given::Met(pair) => Err(Fail::new(places(pair).2)),
+        Given::Parked => {}
+        Given::Met(pair) => return Err(Fail::new(places(pair).2)),
     }
+    queue.reserve()?;
+    Ok(())
 }
 
-// A taker waits, where there is room and no item waits.
+// A taker waits, where there is room and no item waits, and then there is room for one more.
+#[tactic(auto, using(crate::proofs::Above::above_parked_taker))]
 fn wait(queue: &mut Dual, duty: Duty) -> Result<(), Fail>
     requires room { 0 < queue.old.room }
     requires nobody { queue.old.givers ≡ [] }
     requires above { IsAbove queue.old duty.place }
-    ensures takers { OnOk result (queue.new.takers ≡ queue.old.takers ++ duty ∷ []) }
-    ensures givers { OnOk result (queue.new.givers ≡ []) }
+    ensures room { OnOk result (0 < queue.new.room) }
+    ensures nobody { OnOk result (queue.new.givers ≡ []) }
+    ensures above { OnOk result ((later : ℕ) → duty.place < later → IsAbove queue.new later) }
 {
     match queue.take(duty) {
-        Taken::Parked => Ok(()),
-        Taken::Met(pair) => Err(Fail::new(places(pair).2)),
+        Taken::Parked => {}
+        Taken::Met(pair) => return Err(Fail::new(places(pair).2)),
     }
+    queue.reserve()?;
+    Ok(())
 }
 
 #[test]
@@ -99,17 +107,13 @@ fn items_wait(rt: HostRuntime) -> Result<(), Fail> {
     let mut queue = Dual::new(rt.alloc());
     queue.reserve()?;
     park(&mut queue, Giver::Put(3))?;
-    queue.reserve()?;
     let second = request(rt.alloc(), 5)?;
     park(&mut queue, Giver::Waits(second))?;
-    queue.reserve()?;
     let third = request(rt.alloc(), 6)?;
     park(&mut queue, Giver::Waits(third))?;
-    queue.reserve()?;
     park(&mut queue, Giver::Put(7))?;
     assert_eq!(rt; (queue.items(), queue.consumers()), (4, 0));
     assert_eq!(rt; queue.front(), Some(3));
-    queue.reserve()?;
     let taker = request(rt.alloc(), 8)?;
     assert_eq!(rt; taken(queue.take(taker)), Some((None, 8, 3)));
     assert_eq!(rt; queue.withdraw(7).map(let_go), None);
@@ -132,15 +136,12 @@ fn consumers_wait(rt: HostRuntime) -> Result<(), Fail> {
     queue.reserve()?;
     let first = request(rt.alloc(), 2)?;
     wait(&mut queue, first)?;
-    queue.reserve()?;
     let second = request(rt.alloc(), 4)?;
     wait(&mut queue, second)?;
-    queue.reserve()?;
     let third = request(rt.alloc(), 7)?;
     wait(&mut queue, third)?;
     assert_eq!(rt; (queue.items(), queue.consumers()), (0, 3));
     assert_eq!(rt; queue.front(), None);
-    queue.reserve()?;
     assert_eq!(rt; given(queue.give(Giver::Put(8))), Some((None, 2, 8)));
     assert_eq!(rt; queue.withdraw(4).map(let_go), Some(4));
     let taker = request(rt.alloc(), 9)?;

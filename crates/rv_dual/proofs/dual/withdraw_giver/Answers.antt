@@ -1,5 +1,5 @@
 -- The item that was found is the one that goes.
-use Rattle.std.proofs.Common.{◌≡◌, Option, sym, subst, ◌∙◌}
+use Rattle.std.proofs.Common.{Option, sym, subst, ◌∙◌}
 use Rattle.std.specs.Prelude.{IfSome, IfNone}
 use Rattle.std.proofs.lemmas.Option.{slice_get_within}
 use Rattle.rv_session.specs.Owed.{Owed}

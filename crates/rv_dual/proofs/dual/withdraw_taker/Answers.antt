@@ -1,5 +1,5 @@
 -- The consumer that was found is the one that goes.
-use Rattle.std.proofs.Common.{◌≡◌, sym, subst, ◌∙◌}
+use Rattle.std.proofs.Common.{sym, subst, ◌∙◌}
 use Rattle.std.proofs.lemmas.Option.{slice_get_within}
 use Rattle.rv_session.specs.Owed.{Owed}
 use Rattle.rv_dual.specs.Withdrawing.{TakesAt}
