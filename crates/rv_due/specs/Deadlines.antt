@@ -28,7 +28,8 @@ Precedes a b = (a.0 < b.0) ⊎ ((a.0 ≡ b.0) × (a.1 < b.1))
 pub record IsLeastUntil (deadlines : Deadlines) (now : ℕ) (deadline : Deadline) : Type 0 where
   pub there : contains deadlines deadline ≡ true
   pub due : deadline.0 ≤ now
-  pub least : (other : Deadline) → contains deadlines other ≡ true → other ≢ deadline → Precedes deadline other
+  pub least : (other : Deadline) → contains deadlines other ≡ true → other ≢ deadline
+      → Precedes deadline other
 
 -- no deadline of the set is due at this moment
 abbrev pub AllAbove : Deadlines → ℕ → Type 0

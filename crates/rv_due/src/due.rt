@@ -46,9 +46,8 @@ impl Due {
     pub fn new(alloc: Global) -> Due
         ensures { result ≡ empty }
     {
-        Due {
-            deadlines: Vec::new(alloc),
-        }
+        let deadlines = Vec::new(alloc);
+        Due { deadlines }
     }
 
     /// Adds a deadline. Where it is there already nothing changes, and no memory is taken; else it fails

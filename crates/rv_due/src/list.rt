@@ -62,7 +62,8 @@ pub(crate) fn take_until(list: &mut Vec<(u64, Place)>, now: u64) -> Option<(u64,
     requires { Rises list.old.items }
     ensures rises { Rises list.new.items }
     ensures least { IfSome result (IsLeastUntil (set_of list.old.items) now) }
-    ensures taken { IfSome result (λ deadline. set_of list.new.items ≡ set.remove (set_of list.old.items) deadline) }
+    ensures taken { IfSome result (λ deadline.
+        set_of list.new.items ≡ set.remove (set_of list.old.items) deadline) }
     ensures none_due { IfNone result (AllAbove (set_of list.old.items) now) }
     ensures stays { IfNone result (set_of list.new.items ≡ set_of list.old.items) }
 {

@@ -6,4 +6,4 @@ use Rattle.rv_due.proofs.due.Due.new.Goals as goal
 
 pub invariant_of-result : goal.invariant_of-result
 unfolding IsStrictlySortedBy
-invariant_of-result c = subst Rises (sym c.new.ensures.items) tt
+invariant_of-result c = subst Rises (sym c.new-deadlines.ensures.items) tt
