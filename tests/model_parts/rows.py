@@ -95,6 +95,20 @@ ROWS = [
         @2 3#1 swap 63 "c" 0 => timedout
         @2 3#2 swap 63 "c" now => refused 1
         """),
+    ("a session's last number, and a hello anew", 1, """
+        hello 1/1 => welcome
+        1#1 put 3 "a" => done
+        1#1 put 3 "a" => done
+        1#1 put 3 "b" => refused 6
+        1#3 put 3 "c" => refused 8 1
+        hello 1/2 => welcome
+        1#1 put 3 "a" => refused 4 2
+        hello 1/1 => refused 4 2
+        1/2#1 take 3 now => item "a"
+        1/2#1 take 3 now => item "a"
+        1/2#2 take 3 now => empty
+        1/2#1 take 3 now => refused 5 2
+        """),
     ("refusals in their order", 1, THREE + """
         1#1 put 3 "a" => done
         1#1 put 3 "b" => refused 6

@@ -1,7 +1,8 @@
 """Random scripts: lines of `rv book`, good ones and bad ones, with what the model answers to each."""
 import json
 
-from model_parts.account import Account, Key, Request, first_fault, incarnation, last_number, reply, waiting_of
+from model_parts.account import (
+    MAX_CLIENTS, Account, Key, Request, first_fault, incarnation, last_number, reply, waiting_of)
 from model_parts.steps import TODAY, WHOLE, replied, told
 from model_parts.texts import KEY, MAX_BODY_BYTES, MAX_IDENTIFIER, written
 
@@ -17,6 +18,14 @@ FURTHER = ["x", "", "Kind", "item", "wait", "queue", "exchanger"]
 BYTES = [b"\xff", b"\xc0\x80", b"\xed\xa0\x80", b"\xc2\xa0", b"\x0b", b"\x00"]
 ESCAPES = [b"\\ud800", b"\\udc00", b"\\ud83d\\ude00", b"\\x", b"\\u12", b"\\"]
 WAITS = ["forever", "now", 0, 1, 2, 3, 5, 10, 20, 86_400_000, 86_400_001]
+# How far above its session's last number a key's number is: mostly one, or often a repeat, a stale one or a gap.
+STEPS = [
+    [1] * 16 + [0, 0, -1, 2, 3],
+    [1] * 5 + [0] * 5 + [-1],
+    [1] * 4 + [0, 0, -1, -1, -2, -5],
+    [1] * 4 + [0, 2, 2, 3, 9],
+]
+MOST_CROWD = MAX_CLIENTS + 76
 
 
 class Script:
@@ -29,9 +38,19 @@ class Script:
         self.now = 0
         self.clients = chance.sample([1, 2, 3, 4, 5, 6, 7, 8, 1000, MAX_IDENTIFIER], chance.randint(1, 6))
         self.queues = chance.sample(range(64), chance.randint(1, 3))
+        self.steps = chance.choice(STEPS)
+        self.restarts = chance.choice([0.05, 0.1, 0.3])
         self.gives = chance.choice([0.35, 0.5, 0.65])
         self.longs = chance.random() < 0.2
         self.leaps = chance.random() < 0.2
+        self.crowd = []
+        self.newcomers = []
+
+    def add_crowd(self, size):
+        """Further clients, so many with the others; most of the next lines are their first hellos."""
+        others = [client for client in range(1, 2 * size) if client not in self.clients]
+        self.crowd = self.chance.sample(others, size - len(self.clients))
+        self.newcomers = self.chance.sample(self.clients + self.crowd, size)
 
     def odds(self, likelihood):
         """True so often."""
@@ -39,12 +58,21 @@ class Script:
 
     def line(self):
         """One line more, and the text that answers it."""
+        line = self.newcomer() if self.newcomers and self.odds(0.95) else self.any_line()
+        self.account, text = told(self.account, line, self.have)
+        return line, text.encode()
+
+    def newcomer(self):
+        """The hello of the next newcomer."""
+        members = {"kind": "hello", "client": self.newcomers.pop(), "incarnation": self.chance.choice([1, 1, 2])}
+        return self.moment() + b" " + written(members).encode()
+
+    def any_line(self):
+        """A line, mostly a good one."""
         line = self.moment() + b" " + self.body()
         if self.odds(0.02):
             line = self.spoilt_line(line)
-        line = line.replace(b"\n", b" ")
-        self.account, text = told(self.account, line, self.have)
-        return line, text.encode()
+        return line.replace(b"\n", b" ")
 
     def moment(self):
         """A moment that mostly rises a little."""
@@ -65,15 +93,19 @@ class Script:
 
     def body(self):
         """A body, mostly that of a message."""
-        members = self.hello() if self.odds(0.1) or not self.account.entries else self.of_a_key()
+        members = self.hello() if self.odds(self.restarts) or not self.account.entries else self.of_a_key()
         if self.odds(0.03):
             self.spoil(members)
         text = self.text(members).encode()
         return self.spoilt_body(text) if self.odds(0.04) else text
 
+    def client(self):
+        """A client: one of the few who ask often, or now and then one of the crowd."""
+        return self.chance.choice(self.crowd if self.crowd and self.odds(0.3) else self.clients)
+
     def hello(self):
         """A hello: of a new incarnation, of this one again, or of an old one."""
-        client = self.chance.choice(self.clients)
+        client = self.client()
         current = incarnation(self.account.entries, client)
         number = self.chance.choice([1, 2]) if current is None else current + self.chance.choice([0, 0, 1, 1, 2, -1])
         if self.odds(0.01):
@@ -82,12 +114,12 @@ class Script:
 
     def of_a_key(self):
         """A request or cancel, mostly one that its session may send next."""
-        entries, client = self.account.entries, self.chance.choice(self.clients)
+        entries, client = self.account.entries, self.client()
         current = incarnation(entries, client)
         if current is None and self.odds(0.8):
             return {"kind": "hello", "client": client, "incarnation": 1}
         last = last_number(entries, client) if current else 0
-        step = 0 if waiting_of(entries, client) and self.odds(0.6) else self.chance.choice([1] * 16 + [0, 0, -1, 2, 3])
+        step = 0 if waiting_of(entries, client) and self.odds(0.6) else self.chance.choice(self.steps)
         number = max(1, last + step)
         key = {"epoch": self.account.epoch, "client": client, "incarnation": current or 1, "number": number}
         if self.odds(0.04):
@@ -95,7 +127,9 @@ class Script:
             key[name] = self.chance.choice([key[name] + 1, max(1, key[name] - 1), MAX_IDENTIFIER])
         if self.have["cancel"] and self.odds(0.12) or self.odds(0.01):
             return {"kind": "cancel", **key}
-        again = self.arrived(key) if self.odds(0.7) else None
+        again = self.arrived(key) if self.odds(0.8) else None
+        if again and self.odds(0.25):
+            self.change(again)
         return {"kind": "request", **key, **(again or self.call())}
 
     def arrived(self, key):
@@ -107,6 +141,12 @@ class Script:
                 more = {"item": call.item, "wait": call.wait}
                 return {**members, **{name: value for name, value in more.items() if value is not None}}
         return None
+
+    def change(self, call):
+        """Gives one member of a call another value, so that it is another call, or no message."""
+        name = self.chance.choice(list(call))
+        others = {"call": ["put", "take", "transfer"], "item": [self.item()], "wait": WAITS}
+        call[name] = self.chance.choice(others.get(name, range(65)))
 
     def call(self):
         """The members of a call, mostly of one that exists."""
@@ -210,6 +250,14 @@ def make_script(chance, epoch, count):
     """So many lines for a book of an epoch, each with the text that today's program must answer."""
     script = Script(chance, epoch, TODAY)
     return [script.line() for _ in range(count)]
+
+
+def make_crowd(chance, epoch):
+    """Lines for a book that as many clients come to as may, or some more, each with the text that answers it."""
+    script = Script(chance, epoch, TODAY)
+    size = chance.choice([MAX_CLIENTS - 1, MAX_CLIENTS, MAX_CLIENTS + 1, chance.randint(MAX_CLIENTS, MOST_CROWD)])
+    script.add_crowd(size)
+    return [script.line() for _ in range(size + chance.randint(200, 500))]
 
 
 def law_fault(chance):

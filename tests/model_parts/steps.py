@@ -28,8 +28,8 @@ TODAY = {
     "count": False,
     "peek": False,
     "cancel": False,
-    "kept replies": False,
-    "client limit": False,
+    "kept replies": True,
+    "client limit": True,
 }
 
 

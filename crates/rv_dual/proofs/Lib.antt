@@ -1,0 +1,4 @@
+pub mod Removing
+pub mod Found
+pub mod Withdrawn
+pub mod Above

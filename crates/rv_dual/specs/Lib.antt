@@ -1,0 +1,5 @@
+pub mod Offers
+pub mod Queue
+pub mod Meanings
+pub mod Withdrawing
+pub mod Entries

@@ -1,0 +1,65 @@
+-- What a queue does with an arrival, by what it says to it.
+use Rattle.std.specs.Prelude.{◌≡◌, ◌++◌, [], ◌∷◌}
+use Rattle.rv_session.specs.Owed.{Owed}
+use Rattle.rv_dual.specs.declared.giver.Offer.{Offer}
+use Rattle.rv_dual.specs.declared.giver.Offer.TheVariants.{Waits}
+use Rattle.rv_dual.specs.declared.pair.Given.{Given}
+use Rattle.rv_dual.specs.declared.pair.Given as given
+use Rattle.rv_dual.specs.declared.pair.Taken.{Taken}
+use Rattle.rv_dual.specs.declared.pair.Taken as taken
+use Rattle.rv_dual.specs.declared.pair.Tried.{Tried}
+use Rattle.rv_dual.specs.declared.pair.Tried as tried
+use Rattle.rv_dual.specs.Offers.{Meeting}
+use Rattle.rv_dual.specs.Queue.{Queue, SameLists}
+
+-- the offer met the first of the takers, which left
+pub record MeetsTaker (old new : Queue) (offer : Offer) (pair : Meeting) : Type 0 where
+  pub giver : pair.giver ≡ offer
+  pub oldest : old.takers ≡ pair.taker ∷ new.takers
+  pub givers : new.givers ≡ old.givers
+
+-- the taker met the first of the items, which left
+pub record MeetsGiver (old new : Queue) (duty : Owed) (pair : Meeting) : Type 0 where
+  pub taker : pair.taker ≡ duty
+  pub oldest : old.givers ≡ pair.giver ∷ new.givers
+  pub takers : new.takers ≡ old.takers
+
+-- no taker was there, and the offer is the last of the items
+pub record ParksGiver (old new : Queue) (offer : Offer) : Type 0 where
+  pub nobody : old.takers ≡ []
+  pub givers : new.givers ≡ old.givers ++ offer ∷ []
+  pub takers : new.takers ≡ old.takers
+
+-- no item was there, and the duty is the last of the takers
+pub record ParksTaker (old new : Queue) (duty : Owed) : Type 0 where
+  pub nobody : old.givers ≡ []
+  pub takers : new.takers ≡ old.takers ++ duty ∷ []
+  pub givers : new.givers ≡ old.givers
+
+-- no taker was there, the duty came back, and all that wait stay
+pub record FindsNoTaker (old new : Queue) (duty returned : Owed) : Type 0 where
+  pub nobody : old.takers ≡ []
+  pub back : returned ≡ duty
+  pub same : SameLists old new
+
+-- the same where no item was there
+pub record FindsNoGiver (old new : Queue) (duty returned : Owed) : Type 0 where
+  pub nobody : old.givers ≡ []
+  pub back : returned ≡ duty
+  pub same : SameLists old new
+
+abbrev pub GivenMeans : Queue → Queue → Offer → Given → Type 0
+GivenMeans old new offer (given.TheVariants.Met pair) = MeetsTaker old new offer pair
+GivenMeans old new offer given.TheVariants.Parked = ParksGiver old new offer
+
+abbrev pub TakenMeans : Queue → Queue → Owed → Taken → Type 0
+TakenMeans old new duty (taken.TheVariants.Met pair) = MeetsGiver old new duty pair
+TakenMeans old new duty taken.TheVariants.Parked = ParksTaker old new duty
+
+abbrev pub TriedGive : Queue → Queue → Owed → Tried → Type 0
+TriedGive old new duty (tried.TheVariants.Met pair) = MeetsTaker old new (Waits duty) pair
+TriedGive old new duty (tried.TheVariants.Alone returned) = FindsNoTaker old new duty returned
+
+abbrev pub TriedTake : Queue → Queue → Owed → Tried → Type 0
+TriedTake old new duty (tried.TheVariants.Met pair) = MeetsGiver old new duty pair
+TriedTake old new duty (tried.TheVariants.Alone returned) = FindsNoGiver old new duty returned

@@ -1,0 +1,17 @@
+//! The dual queue: items that wait for consumers, or consumers that wait for items, the oldest first, with
+//! the duties of the requests that wait laid aside in it. Whoever meets one of the other side gets a pair,
+//! which must be taken apart.
+#![tactic(auto)]
+
+mod dual;
+mod giver;
+mod pair;
+mod waiter;
+
+pub use dual::Dual;
+pub use giver::{Giver, Offer};
+pub use pair::{Given, Pair, Taken, Tried};
+pub use waiter::Waiter;
+
+#[cfg(test)]
+mod tests;

@@ -1,0 +1,11 @@
+//! The deadlines of the requests that wait: a set of moments with places, from which the least one is taken
+//! when its moment has come.
+#![tactic(auto)]
+
+mod due;
+mod list;
+
+pub use due::{Due, NoMemory, Place};
+
+#[cfg(test)]
+mod tests;

@@ -1,0 +1,10 @@
+//! One exchanger: at most one request waits at it, and the next one that arrives meets it.
+#![tactic(auto)]
+
+mod swap;
+mod waiting;
+
+pub use swap::{Arrived, Swap, Tried};
+
+#[cfg(test)]
+mod tests;

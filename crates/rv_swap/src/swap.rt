@@ -1,0 +1,99 @@
+//! The exchanger.
+ghost use Rattle.std.specs.Prelude.{◌≡◌};
+
+use crate::waiting::Waiting;
+use rv_session::{Duty, Place};
+use std::marker::Model;
+
+/// An exchanger, which contracts see as the duty that waits at it, if there is one: its place and the
+/// client whose session waits there.
+///
+/// No call takes memory, and each is done in constant time.
+#[derive(Drop)]
+pub struct Swap {
+    waiting: Option<Waiting>,
+}
+
+impl Model for Swap {
+    ghost use Rattle.std.specs.Prelude.{Option};
+    ghost use Rattle.rv_session.specs.Owed.{Owed};
+
+    ghost Value = { Option Owed };
+
+    ghost view = { λ s. s.waiting };
+}
+
+/// What comes of a duty that waits where there is no partner.
+pub enum Arrived {
+    /// It met the duty that waited: the earlier one, and the one that arrived.
+    Met(Duty, Duty),
+    /// It waits from now on.
+    Parked,
+}
+
+/// What comes of a duty that doesn't wait.
+pub enum Tried {
+    /// It met the duty that waited: the earlier one, and the one that arrived.
+    Met(Duty, Duty),
+    /// No duty waited, and it is handed back.
+    Alone(Duty),
+}
+
+impl Swap {
+    ghost use Rattle.std.specs.Prelude.{None, IfNone, IfSome, option_map};
+    ghost use Rattle.rv_swap.specs.Exchange.{ArrivesAt, NotWaiting, TriesAt, Withdraws};
+
+    /// An exchanger at which no duty waits.
+    pub fn new() -> Swap
+        ensures { result ≡ None }
+    {
+        Swap { waiting: None }
+    }
+
+    /// A duty arrives. It meets the one that waits, if there is one, and none waits any more; else it
+    /// waits itself.
+    pub fn arrive(&mut self, duty: Duty) -> Arrived
+        ensures { ArrivesAt self.old duty self.new result }
+    {
+        match self.waiting.take() {
+            Some(earlier) => Arrived::Met(earlier.wake(), duty),
+            None => {
+                self.waiting = Some(Waiting::new(duty));
+                Arrived::Parked
+            }
+        }
+    }
+
+    /// A duty arrives that doesn't wait. It meets the one that waits, if there is one, and none waits any
+    /// more; else it is handed back, and none waits.
+    pub fn try_arrive(&mut self, duty: Duty) -> Tried
+        ensures { TriesAt self.old duty self.new result }
+    {
+        match self.waiting.take() {
+            Some(earlier) => Tried::Met(earlier.wake(), duty),
+            None => Tried::Alone(duty),
+        }
+    }
+
+    /// Takes the duty of a place out, if it is the one that waits; else nothing changes.
+    pub fn withdraw(&mut self, place: Place) -> Option<Duty>
+        ensures taken { IfSome result (Withdraws self.old place self.new) }
+        ensures not_there { IfNone result (NotWaiting self.old place) }
+        ensures stays { IfNone result (self.new ≡ self.old) }
+    {
+        if self.waiting() != Some(place) {
+            return None;
+        }
+        self.waiting.take().map(Waiting::wake)
+    }
+
+    /// The place of the duty that waits, if there is one.
+    pub fn waiting(&self) -> Option<Place>
+        ensures { result ≡ option_map (λ duty. duty.place) self.now }
+    {
+        match &self.waiting {
+            Some(waiting) => Some(waiting.place()),
+            None => None,
+        }
+    }
+}
