@@ -1,7 +1,6 @@
 //! The queue of one side at a time.
-ghost use Rattle.std.specs.Prelude.{◌≡◌, ◌<◌, ◌++◌, ◌∷◌, [], OnOk, IfSome, IfNone, Some, length, remove, slice_get};
+ghost use Rattle.std.specs.Prelude.{◌≡◌, ◌<◌, [], OnOk, IfSome, IfNone, Some, length, remove, slice_get};
 ghost use Rattle.std.specs.List.{AllPairs};
-ghost use Rattle.rv_session.specs.Owed.{Owed};
 ghost use Rattle.rv_dual.specs.Offers.{place_of, waits_at, is_at, IsEarlier, IsEarlierTaker};
 ghost use Rattle.rv_dual.specs.Withdrawing.{GivesAt, TakesAt, without_giver, without_taker};
 ghost use Rattle.rv_dual.specs.Entries.{PassesAt, PassesNowhere};
@@ -37,7 +36,8 @@ impl Model for Dual {
     ghost view = { λ d. record {
       givers = d.givers.items;
       takers = d.takers.items;
-      room = min (deque_capacity d.givers - deque_len d.givers) (deque_capacity d.takers - deque_len d.takers);
+      room = min (deque_capacity d.givers - deque_len d.givers)
+          (deque_capacity d.takers - deque_len d.takers);
     } };
 
     ghost invariant = { λ d. IsDual d.givers.items d.takers.items };
