@@ -36,10 +36,8 @@ fn is_answer(
 ) -> Result<(), TextFault> {
     assert!(rt; answer.fits(), "{text}");
     assert_eq!(rt; encode_answer(rt.alloc(), answer)?.as_str(), text);
-    assert!(rt;
-        decode_answer(rt.alloc(), text.as_bytes())? == *answer,
-        "{text}"
-    );
+    let read = decode_answer(rt.alloc(), text.as_bytes())?;
+    assert!(rt; read == *answer, "{text}");
     Ok(())
 }
 
@@ -51,10 +49,8 @@ fn is_message(
 ) -> Result<(), TextFault> {
     assert!(rt; message.fits(), "{text}");
     assert_eq!(rt; encode_message(rt.alloc(), message)?.as_str(), text);
-    assert!(rt;
-        decode_message(rt.alloc(), text.as_bytes())? == *message,
-        "{text}"
-    );
+    let read = decode_message(rt.alloc(), text.as_bytes())?;
+    assert!(rt; read == *message, "{text}");
     Ok(())
 }
 
@@ -153,10 +149,8 @@ fn hellos_are_read(rt: HostRuntime) -> Result<(), Fail> {
             client: 7,
             incarnation: 1,
         };
-        assert!(rt;
-            decode_message(rt.alloc(), body.as_bytes())? == hello,
-            "{body}"
-        );
+        let read = decode_message(rt.alloc(), body.as_bytes())?;
+        assert!(rt; read == hello, "{body}");
     }
     let body = "{\"client\":9007199254740991,\"incarnation\":9007199254740991,\"kind\":\"hello\"}";
     let greatest = Message::Hello {
@@ -174,11 +168,8 @@ fn messages_are_written_and_read(rt: HostRuntime) -> Result<(), Fail> {
         client: 1,
         incarnation: 1,
     };
-    is_message(
-        &rt,
-        &hello,
-        "{\"client\":1,\"incarnation\":1,\"kind\":\"hello\"}",
-    )?;
+    let body = "{\"client\":1,\"incarnation\":1,\"kind\":\"hello\"}";
+    is_message(&rt, &hello, body)?;
     let body = "{\"call\":\"put\",\"client\":1,\"epoch\":1,\"incarnation\":1,\"item\":\"a\",\
         \"kind\":\"request\",\"number\":1,\"queue\":3}";
     let put = Message::Request {
@@ -214,99 +205,47 @@ const TAKE_REST: &[u8] = b",\"call\":\"take\",\"client\":2,\"epoch\":1,\"incarna
 const PUT: &[u8] = b"{\"call\":\"put\",\"client\":1,\"epoch\":1,\"incarnation\":1,\
     \"kind\":\"request\",\"number\":1,\"queue\":3,\"item\":\"";
 
-const READ: Option<TextFault> = None;
+// A body, as its pieces, each as often as its number says.
+type Input = (&'static str, &'static [(&'static [u8], usize)]);
 
-const NOT_JSON: Option<TextFault> = Some(TextFault::NotJson);
+// Bodies of messages.
+const MESSAGES: &[Input] = &[
+    ("a hello", &[(HELLO, 1)]),
+    ("4,096 bytes", &[(HELLO, 1), (b" ", 4053)]),
+    ("twice", &[(b"{\"client\":0,\"client\":7", 1), (REST, 1)]),
+    ("surrogates", &[(PUT, 1), (b"\\ud83d\\ude00\"}", 1)]),
+    ("512 bytes", &[(PUT, 1), (b"x", 512), (b"\"}", 1)]),
+    ("queue 63", &[(b"{\"queue\":63", 1), (TAKE_REST, 1)]),
+];
 
-const NOT_MESSAGE: Option<TextFault> = Some(TextFault::NotMessage);
+// Not JSON.
+const NO_JSON: &[Input] = &[
+    ("not UTF-8", &[(b"{\"x\xff\":1,\"client\":7", 1), (REST, 1)]),
+    ("128 arrays", &[(b"[", 128), (b"]", 128)]),
+    ("a lone surrogate", &[(PUT, 1), (b"\\ud800\"}", 1)]),
+];
 
-// A body, as its pieces, each as often as its number says, and what it gives.
-type Input = (
-    &'static str,
-    &'static [(&'static [u8], usize)],
-    Option<TextFault>,
-);
-
-// What the decoder of messages gives.
-const MESSAGE_INPUTS: &[Input] = &[
-    ("a hello", &[(HELLO, 1)], READ),
-    ("no bytes", &[], NOT_MESSAGE),
-    ("4,096 bytes", &[(HELLO, 1), (b" ", 4053)], READ),
-    ("4,097 bytes", &[(HELLO, 1), (b" ", 4054)], NOT_MESSAGE),
-    ("4,097 bytes that are no JSON", &[(b"?", 4097)], NOT_MESSAGE),
-    (
-        "not UTF-8",
-        &[(b"{\"x\xff\":1,\"client\":7", 1), (REST, 1)],
-        NOT_JSON,
-    ),
-    ("127 arrays", &[(b"[", 127), (b"]", 127)], NOT_MESSAGE),
-    ("128 arrays", &[(b"[", 128), (b"]", 128)], NOT_JSON),
-    (
-        "client 1.0",
-        &[(b"{\"client\":1.0", 1), (REST, 1)],
-        NOT_MESSAGE,
-    ),
-    (
-        "client -0",
-        &[(b"{\"client\":-0", 1), (REST, 1)],
-        NOT_MESSAGE,
-    ),
-    ("client 0", &[(b"{\"client\":0", 1), (REST, 1)], NOT_MESSAGE),
+// JSON, or too long, and no message.
+const NO_MESSAGES: &[Input] = &[
+    ("no bytes", &[]),
+    ("4,097 bytes", &[(HELLO, 1), (b" ", 4054)]),
+    ("4,097 bytes that are no JSON", &[(b"?", 4097)]),
+    ("127 arrays", &[(b"[", 127), (b"]", 127)]),
+    ("client 1.0", &[(b"{\"client\":1.0", 1), (REST, 1)]),
+    ("client -0", &[(b"{\"client\":-0", 1), (REST, 1)]),
+    ("client 0", &[(b"{\"client\":0", 1), (REST, 1)]),
     (
         "client 2^53",
         &[(b"{\"client\":9007199254740992", 1), (REST, 1)],
-        NOT_MESSAGE,
     ),
-    (
-        "a name twice",
-        &[(b"{\"client\":0,\"client\":7", 1), (REST, 1)],
-        READ,
-    ),
-    (
-        "a further member",
-        &[(b"{\"x\":1,\"client\":7", 1), (REST, 1)],
-        NOT_MESSAGE,
-    ),
-    (
-        "a missing member",
-        &[(b"{\"client\":7,\"kind\":\"hello\"}", 1)],
-        NOT_MESSAGE,
-    ),
-    (
-        "a lone surrogate",
-        &[(PUT, 1), (b"\\ud800\"}", 1)],
-        NOT_JSON,
-    ),
-    (
-        "a pair of surrogates",
-        &[(PUT, 1), (b"\\ud83d\\ude00\"}", 1)],
-        READ,
-    ),
-    (
-        "an item of 512 bytes",
-        &[(PUT, 1), (b"x", 512), (b"\"}", 1)],
-        READ,
-    ),
-    (
-        "an item of 513 bytes",
-        &[(PUT, 1), (b"x", 513), (b"\"}", 1)],
-        NOT_MESSAGE,
-    ),
-    (
-        "257 escapes of two bytes",
-        &[(PUT, 1), (b"\\u00e9", 257), (b"\"}", 1)],
-        NOT_MESSAGE,
-    ),
-    ("queue 63", &[(b"{\"queue\":63", 1), (TAKE_REST, 1)], READ),
-    (
-        "queue 64",
-        &[(b"{\"queue\":64", 1), (TAKE_REST, 1)],
-        NOT_MESSAGE,
-    ),
+    ("member x", &[(b"{\"x\":1,\"client\":7", 1), (REST, 1)]),
+    ("missing", &[(b"{\"client\":7,\"kind\":\"hello\"}", 1)]),
+    ("513 bytes", &[(PUT, 1), (b"x", 513), (b"\"}", 1)]),
+    ("257 escapes", &[(PUT, 1), (b"\\u00e9", 257), (b"\"}", 1)]),
+    ("queue 64", &[(b"{\"queue\":64", 1), (TAKE_REST, 1)]),
     (
         "a take with an item",
         &[(b"{\"item\":\"\",\"queue\":3", 1), (TAKE_REST, 1)],
-        NOT_MESSAGE,
     ),
 ];
 
@@ -323,82 +262,55 @@ const TAKEN: &[u8] = b"{\"client\":1,\"epoch\":1,\"incarnation\":1,\"kind\":\"re
 
 const REFUSED: &[u8] = b"{\"kind\":\"refused\",\"code\":";
 
-// What the decoder of answers gives.
-const ANSWER_INPUTS: &[Input] = &[
-    ("a reply", &[(DONE, 1)], READ),
-    ("no bytes", &[], NOT_MESSAGE),
-    ("4,096 bytes", &[(DONE, 1), (b" ", 4017)], READ),
-    ("4,097 bytes", &[(DONE, 1), (b" ", 4018)], NOT_MESSAGE),
-    ("4,097 bytes that are no JSON", &[(b"?", 4097)], NOT_MESSAGE),
-    ("not UTF-8", &[(b"{\"\xff\":1}", 1)], NOT_JSON),
-    ("127 arrays", &[(b"[", 127), (b"]", 127)], NOT_MESSAGE),
-    ("128 arrays", &[(b"[", 128), (b"]", 128)], NOT_JSON),
-    ("a message", &[(HELLO, 1)], NOT_MESSAGE),
-    ("code 0", &[(REFUSED, 1), (b"0}", 1)], NOT_MESSAGE),
-    ("code 1", &[(REFUSED, 1), (b"1}", 1)], READ),
-    ("code 1.0", &[(REFUSED, 1), (b"1.0}", 1)], NOT_MESSAGE),
-    ("code \"1\"", &[(REFUSED, 1), (b"\"1\"}", 1)], NOT_MESSAGE),
-    ("code 11", &[(REFUSED, 1), (b"11}", 1)], READ),
-    ("code 12", &[(REFUSED, 1), (b"12}", 1)], NOT_MESSAGE),
-    ("no code", &[(b"{\"kind\":\"refused\"}", 1)], NOT_MESSAGE),
-    ("a missing detail", &[(REFUSED, 1), (b"2}", 1)], NOT_MESSAGE),
-    (
-        "another code's detail",
-        &[(REFUSED, 1), (b"2,\"last\":2}", 1)],
-        NOT_MESSAGE,
-    ),
-    (
-        "two details",
-        &[(REFUSED, 1), (b"2,\"current\":2,\"last\":2}", 1)],
-        NOT_MESSAGE,
-    ),
-    (
-        "a detail where none is",
-        &[(REFUSED, 1), (b"3,\"current\":2}", 1)],
-        NOT_MESSAGE,
-    ),
-    (
-        "current 0",
-        &[(REFUSED, 1), (b"4,\"current\":0}", 1)],
-        NOT_MESSAGE,
-    ),
-    (
-        "open 0",
-        &[(REFUSED, 1), (b"7,\"open\":0}", 1)],
-        NOT_MESSAGE,
-    ),
-    ("last 0", &[(REFUSED, 1), (b"8,\"last\":0}", 1)], READ),
+// Bodies of answers.
+const ANSWERS: &[Input] = &[
+    ("a reply", &[(DONE, 1)]),
+    ("4,096 bytes", &[(DONE, 1), (b" ", 4017)]),
+    ("code 1", &[(REFUSED, 1), (b"1}", 1)]),
+    ("code 11", &[(REFUSED, 1), (b"11}", 1)]),
+    ("last 0", &[(REFUSED, 1), (b"8,\"last\":0}", 1)]),
     (
         "the greatest last",
         &[(REFUSED, 1), (b"5,\"last\":9007199254740991}", 1)],
-        READ,
     ),
+    ("512 bytes", &[(TAKEN, 1), (b"x", 512), (b"\"}", 1)]),
+];
+
+// Where an answer is wanted, not JSON.
+const NO_JSON_FOR_ANSWERS: &[Input] = &[
+    ("not UTF-8", &[(b"{\"\xff\":1}", 1)]),
+    ("128 arrays", &[(b"[", 128), (b"]", 128)]),
+];
+
+// JSON, or too long, and no answer.
+const NO_ANSWERS: &[Input] = &[
+    ("no bytes", &[]),
+    ("4,097 bytes", &[(DONE, 1), (b" ", 4018)]),
+    ("4,097 bytes that are no JSON", &[(b"?", 4097)]),
+    ("127 arrays", &[(b"[", 127), (b"]", 127)]),
+    ("a message", &[(HELLO, 1)]),
+    ("code 0", &[(REFUSED, 1), (b"0}", 1)]),
+    ("code 1.0", &[(REFUSED, 1), (b"1.0}", 1)]),
+    ("code \"1\"", &[(REFUSED, 1), (b"\"1\"}", 1)]),
+    ("code 12", &[(REFUSED, 1), (b"12}", 1)]),
+    ("no code", &[(b"{\"kind\":\"refused\"}", 1)]),
+    ("a missing detail", &[(REFUSED, 1), (b"2}", 1)]),
+    ("other detail", &[(REFUSED, 1), (b"2,\"last\":2}", 1)]),
+    (
+        "two details",
+        &[(REFUSED, 1), (b"2,\"current\":2,\"last\":2}", 1)],
+    ),
+    ("a detail", &[(REFUSED, 1), (b"3,\"current\":2}", 1)]),
+    ("current 0", &[(REFUSED, 1), (b"4,\"current\":0}", 1)]),
+    ("open 0", &[(REFUSED, 1), (b"7,\"open\":0}", 1)]),
     (
         "last 2^53",
         &[(REFUSED, 1), (b"5,\"last\":9007199254740992}", 1)],
-        NOT_MESSAGE,
     ),
-    (
-        "a word of no reply",
-        &[(REPLY, 1), (b"\"put\"}", 1)],
-        NOT_MESSAGE,
-    ),
-    ("no item", &[(REPLY, 1), (b"\"item\"}", 1)], NOT_MESSAGE),
-    (
-        "done with an item",
-        &[(REPLY, 1), (b"\"done\",\"item\":\"\"}", 1)],
-        NOT_MESSAGE,
-    ),
-    (
-        "an item of 512 bytes",
-        &[(TAKEN, 1), (b"x", 512), (b"\"}", 1)],
-        READ,
-    ),
-    (
-        "an item of 513 bytes",
-        &[(TAKEN, 1), (b"x", 513), (b"\"}", 1)],
-        NOT_MESSAGE,
-    ),
+    ("a word of no reply", &[(REPLY, 1), (b"\"put\"}", 1)]),
+    ("no item", &[(REPLY, 1), (b"\"item\"}", 1)]),
+    ("done, item", &[(REPLY, 1), (b"\"done\",\"item\":\"\"}", 1)]),
+    ("513 bytes", &[(TAKEN, 1), (b"x", 513), (b"\"}", 1)]),
 ];
 
 fn joined(alloc: Global, pieces: &[(&[u8], usize)]) -> Result<Vec<u8>, AllocError> {
@@ -411,23 +323,42 @@ fn joined(alloc: Global, pieces: &[(&[u8], usize)]) -> Result<Vec<u8>, AllocErro
     Ok(body)
 }
 
-#[test]
-fn each_message_input_has_its_result(rt: HostRuntime) -> Result<(), Fail> {
-    for (name, pieces, want) in MESSAGE_INPUTS {
+// Asserts what the decoder of messages gives for each of these.
+fn messages_give(
+    rt: &(impl Abort + AllocGlobal),
+    inputs: &[Input],
+    want: Option<TextFault>,
+) -> Result<(), AllocError> {
+    for (name, pieces) in inputs {
         let body = joined(rt.alloc(), pieces)?;
         let found = decode_message(rt.alloc(), body.as_slice()).err();
-        assert_eq!(rt; found, *want, "{name}");
+        assert_eq!(rt; found, want, "{name}");
+    }
+    Ok(())
+}
+
+// Asserts what the decoder of answers gives for each of these.
+fn answers_give(
+    rt: &(impl Abort + AllocGlobal),
+    inputs: &[Input],
+    want: Option<TextFault>,
+) -> Result<(), AllocError> {
+    for (name, pieces) in inputs {
+        let body = joined(rt.alloc(), pieces)?;
+        let found = decode_answer(rt.alloc(), body.as_slice()).err();
+        assert_eq!(rt; found, want, "{name}");
     }
     Ok(())
 }
 
 #[test]
-fn each_answer_input_has_its_result(rt: HostRuntime) -> Result<(), Fail> {
-    for (name, pieces, want) in ANSWER_INPUTS {
-        let body = joined(rt.alloc(), pieces)?;
-        let found = decode_answer(rt.alloc(), body.as_slice()).err();
-        assert_eq!(rt; found, *want, "{name}");
-    }
+fn each_input_has_its_result(rt: HostRuntime) -> Result<(), Fail> {
+    messages_give(&rt, MESSAGES, None)?;
+    messages_give(&rt, NO_JSON, Some(TextFault::NotJson))?;
+    messages_give(&rt, NO_MESSAGES, Some(TextFault::NotMessage))?;
+    answers_give(&rt, ANSWERS, None)?;
+    answers_give(&rt, NO_JSON_FOR_ANSWERS, Some(TextFault::NotJson))?;
+    answers_give(&rt, NO_ANSWERS, Some(TextFault::NotMessage))?;
     Ok(())
 }
 
