@@ -1,19 +1,16 @@
 -- What has to hold of a call's replies, whichever call it is.
-use Rattle.std.proofs.Common.{◌≡◌, ℕ, List, ◌++◌, Option, Some}
+use Rattle.std.proofs.Common.{◌≡◌, ◌⊎◌, ℕ, List, ◌++◌, Option, Some}
 use Rattle.rv_text.specs.declared.call.Call.{Call}
 use Rattle.rv_text.specs.declared.answer.Reply.{Reply}
 use Rattle.rv_text.specs.Limits.{FitsReply}
 use Rattle.rv_book.specs.declared.account.Entry.{Entry}
-use Rattle.rv_session.specs.declared.kept.Kept.{Kept}
 use Rattle.rv_book.specs.Account.{Account, call_at}
-use Rattle.rv_book.specs.Arriving.{WillReply}
 use Rattle.rv_book.specs.Legal.{Legal}
 use Rattle.rv_book.specs.Limits.{FitsAccount}
 use Rattle.rv_book.specs.Replies.{RepliesAt}
+use Rattle.rv_book.specs.Waiting.{Waiting}
 
 pub record ReplyLaws (call : Call) : Type 0 where
-  -- something is kept as the reply, whomever the call meets
-  pub is_kept : (a : Account) (partner : Option ℕ) → (said : Kept) × WillReply a call partner said
   -- the reply stays where the account goes on
   pub stays : (es more : List Entry) (epoch opened r : ℕ) (reply : Reply) → Legal (record { epoch = epoch; opened = opened; entries = es ++ more }) → call_at es r ≡ Some call
       → RepliesAt es r call reply → RepliesAt (es ++ more) r call reply
@@ -21,5 +18,7 @@ pub record ReplyLaws (call : Call) : Type 0 where
   pub one : (b : Account) (r : ℕ) (x y : Reply) → Legal b → RepliesAt b.entries r call x → RepliesAt b.entries r call y → y ≡ x
   -- it is within the limits
   pub fits : (a : Account) (r : ℕ) (reply : Reply) → FitsAccount a → RepliesAt a.entries r call reply → FitsReply reply
-  -- there is one of each arrival in a legal account
-  pub exists : (a : Account) (r : ℕ) → Legal a → call_at a.entries r ≡ Some call → (reply : Reply) × RepliesAt a.entries r call reply
+  -- each arrival in a legal account has one, or waits
+  pub exists : (a : Account) (r : ℕ) → Legal a → call_at a.entries r ≡ Some call → ((reply : Reply) × RepliesAt a.entries r call reply) ⊎ Waiting a.entries r
+  -- and not both
+  pub waits_not : (a : Account) (r : ℕ) (reply : Reply) → Legal a → call_at a.entries r ≡ Some call → Waiting a.entries r → RepliesAt a.entries r call reply → ⊥

@@ -4,19 +4,21 @@ use Rattle.rv_text.specs.declared.message.Key.{Key}
 use Rattle.rv_text.specs.declared.call.Side.{Side}
 use Rattle.rv_text.specs.declared.call.Call.{Call}
 use Rattle.rv_text.specs.declared.answer.Reply.{Reply}
-use Rattle.rv_text.specs.declared.answer.Answer as answer
+use Rattle.rv_text.specs.declared.answer.Answer.{Answer}
+use Rattle.rv_book.specs.declared.verdict.Said.{Said}
+use Rattle.rv_book.specs.declared.verdict.Said as said
 use Rattle.rv_book.specs.declared.account.Entry.{Entry}
 use Rattle.rv_book.specs.declared.account.Act.{Act}
 use Rattle.rv_book.specs.declared.account.Act.TheVariants.{Hello, Arrive}
 use Rattle.rv_session.specs.declared.kept.Kept.{Kept}
 use Rattle.rv_book.specs.Account.{Account, with_entry}
-use Rattle.rv_book.specs.Calls.{opposite, need_of}
-use Rattle.rv_book.specs.Waiting.{OpenAt}
+use Rattle.rv_book.specs.Calls.{opposite, need_of, IsPut, Stays}
+use Rattle.rv_book.specs.Waiting.{IsOldest, OpenAt}
 use Rattle.rv_book.specs.Sessions.{HasIncarnation, LastNumber}
 use Rattle.rv_book.specs.Legal.{HasWaiting, Legal}
 use Rattle.rv_book.specs.Replies.{RepliesAt}
-use Rattle.rv_book.specs.Steps.{Adds, Replies}
-use Rattle.rv_book.specs.Verdicts.{reply_of}
+use Rattle.rv_book.specs.Steps.{Adds, Answers}
+use Rattle.rv_book.specs.Verdicts.{answer_of, reply_of}
 
 abbrev pub entry : ℕ → Act → Option ℕ → Entry
 entry moment does partner = record { moment = moment; act = does; partner = partner }
@@ -35,11 +37,6 @@ pub record IsNext (a : Account) (key : Key) : Type 0 where
   pub next : key.number ≡ last + 1
   pub idle : ¬ HasWaiting a.entries key.client
 
--- the oldest open arrival of a side stands at p
-pub record IsOldest (entries : List Entry) (side : Side) (p : ℕ) : Type 0 where
-  pub there : OpenAt entries side p
-  pub oldest : (r : ℕ) → r < p → ¬ OpenAt entries side r
-
 -- the partner is the oldest open arrival of the side that a call of this side meets; none where none is open
 abbrev pub MeetsOldest : List Entry → Side → Option ℕ → Type 0
 MeetsOldest entries side None = (other : Side) (r : ℕ) → opposite side ≡ Some other → ¬ OpenAt entries other r
@@ -51,15 +48,27 @@ pub record IsKept (entries : List Entry) (r : ℕ) (call : Call) (kept : Kept) :
   pub is : reply_of entries kept ≡ Some reply
   pub replies : RepliesAt entries r call reply
 
+-- such a call waits where it arrives with this partner or with none, and a reply is told later
+pub record GoesOn (call : Call) (partner : Option ℕ) : Type 0 where
+  pub unmet : partner ≡ None
+  pub stays : Stays call
+  pub no_put : ¬ IsPut call
+
 -- what is kept will be the reply, where the call arrives behind the account with this partner
 abbrev pub WillReply : Account → Call → Option ℕ → Kept → Type 0
 WillReply a call partner kept = (moment : ℕ) (key : Key) → Legal a
     → let b = with_entry a (entry moment (Arrive key call) partner) in
     Legal b → IsKept b.entries (length a.entries) call kept
 
--- the request was recorded, and what is kept for it is its reply
-pub record IsRecorded (a b : Account) (moment : ℕ) (key : Key) (call : Call) (kept : Kept) : Type 0 where
-  pub reply : Reply
-  pub is : reply_of b.entries kept ≡ Some reply
+-- what is said to a request: the reply that is kept for it, or that it waits
+abbrev pub said_of : Key → Option Kept → Said
+said_of key None = said.TheVariants.Waiting key
+said_of key (Some kept) = said.TheVariants.Replied key kept
+
+-- the request was recorded, and this is said to it
+pub record IsRecorded (a b : Account) (moment : ℕ) (key : Key) (call : Call) (result : Option Kept)
+    : Type 0 where
+  pub answer : Answer
+  pub is : answer_of b.entries (said_of key result) ≡ Some answer
   pub adds : Adds a moment (Arrive key call) b
-  pub replies : Replies b key (answer.TheVariants.Replied key reply)
+  pub answers : Answers b key answer

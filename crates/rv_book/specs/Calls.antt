@@ -2,7 +2,7 @@
 -- (Java SE 21, `TransferQueue`).
 use Rattle.std.specs.Prelude.{◌≡◌, ℕ, Option, Some, None, IsSome, option_and_then}
 use Rattle.rv_text.specs.declared.call.Wait.{Wait}
-use Rattle.rv_text.specs.declared.call.Wait.TheVariants.{Now}
+use Rattle.rv_text.specs.declared.call.Wait.TheVariants.{Now, Forever}
 use Rattle.rv_text.specs.declared.call.Side.{Side}
 use Rattle.rv_text.specs.declared.call.Side.TheVariants.{Gives, Takes, Looks}
 use Rattle.rv_text.specs.declared.call.Call.{Call}
@@ -23,6 +23,7 @@ MayMeet call = IsSome (opposite (side_of call))
 abbrev pub Lasts : Option Wait → Type 0
 Lasts None = Unit {0}
 Lasts (Some Now) = ⊥
+Lasts (Some Forever) = Unit {0}
 
 -- where no partner is there, the call stays until it is met or stopped
 abbrev pub Stays : Call → Type 0
@@ -35,6 +36,7 @@ IsPut call = MayMeet call × (wait_of call ≡ None)
 -- the moment at which a wait that began at a moment has elapsed
 abbrev pub limit_after : ℕ → Wait → Option ℕ
 limit_after moment Now = None
+limit_after moment Forever = None
 
 -- the limit of a call that arrived at a moment
 abbrev pub limit_of : ℕ → Call → Option ℕ
@@ -44,6 +46,7 @@ limit_of moment call = option_and_then (limit_after moment) (wait_of call)
 abbrev pub need_by : Option Wait → ℕ
 need_by None = 1
 need_by (Some Now) = 1
+need_by (Some Forever) = 2
 
 abbrev pub need_of : Call → ℕ
 need_of call = need_by (wait_of call)

@@ -12,7 +12,7 @@ use Rattle.rv_book.specs.declared.verdict.Verdict.{Verdict}
 use Rattle.rv_book.specs.Account.{Account, Extends}
 use Rattle.rv_book.specs.Legal.{Legal}
 use Rattle.rv_book.specs.Replies.{HasReply}
-use Rattle.rv_book.specs.Steps.{HelloLines, RequestLines, Adds, Replies, Next, step_moment}
+use Rattle.rv_book.specs.Steps.{HelloLines, RequestLines, Adds, Answers, Next, step_moment}
 use Rattle.rv_book.specs.Order.{InOrder}
 use Rattle.rv_book.specs.Verdicts.{says}
 
@@ -22,18 +22,19 @@ RepliesStay = (a b : Account) (key : Key) (reply : Reply) → Legal a → Legal 
     → HasReply a.entries key reply
     → HasReply b.entries key reply × ((other : Reply) → HasReply b.entries key other → other ≡ reply)
 
--- a legal account exists in which the request's entry stands, and with it the request's reply
+-- a legal account exists in which the request's entry stands, and with it what the request is told: its reply,
+-- or that it waits
 pub record CanEnter (a : Account) (moment : ℕ) (key : Key) (call : Call) : Type 0 where
   pub after : Account
   pub answer : Answer
   pub adds : Adds a moment (Arrive key call) after
-  pub replies : Replies after key answer
+  pub answers : Answers after key answer
 
--- where no refusal of a request is due, it has its reply, or a legal account with its entry and its reply
--- exists
+-- where no refusal of a request is due, a repeat has its answer, or a legal account with the request's entry
+-- and its answer exists
 abbrev pub RequestsCanEnter : Type 0
 RequestsCanEnter = (a : Account) (now : ℕ) (key : Key) (call : Call) → Legal a
-    → RequestLines a key call (λ refusal. Unit {0}) ((x : Answer) × Replies a key x)
+    → RequestLines a key call (λ refusal. Unit {0}) ((x : Answer) × Answers a key x)
     (CanEnter a (step_moment a now) key call)
 
 -- where no refusal of a hello is due and it is no repeat, a legal account with its entry exists

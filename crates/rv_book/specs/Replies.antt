@@ -1,9 +1,10 @@
--- The reply of a request, as an account tells it: the first case that applies (Java SE 21:
--- `LinkedTransferQueue.put` and `poll`).
-use Rattle.std.specs.Prelude.{◌≡◌, ◌⊎◌, ℕ, List, Some}
+-- The reply of a request, as an account tells it: the first case that applies (Java SE 21, `TransferQueue`:
+-- `put`, `transfer`, `tryTransfer`, `take` and `poll`). Counts and peeks are of the account before them.
+use Rattle.std.specs.Prelude.{◌≡◌, ◌⊎◌, ℕ, List, Some, take}
 use Rattle.rv_text.specs.declared.message.Key.{Key}
 use Rattle.rv_text.specs.declared.call.Wait.{Wait}
-use Rattle.rv_text.specs.declared.call.Wait.TheVariants.{Now}
+use Rattle.rv_text.specs.declared.call.Wait.TheVariants.{Now, Forever}
+use Rattle.rv_text.specs.declared.call.Side.TheVariants.{Gives, Takes}
 use Rattle.rv_text.specs.declared.call.Call.{Call}
 use Rattle.rv_text.specs.declared.call.Call.TheVariants as call
 use Rattle.rv_text.specs.declared.answer.Reply.{Reply}
@@ -12,7 +13,8 @@ use Rattle.rv_book.specs.declared.account.Entry.{Entry}
 use Rattle.rv_book.specs.declared.account.Act.TheVariants.{Arrive}
 use Rattle.rv_book.specs.Account.{act_at, call_at}
 use Rattle.rv_text.specs.Calls.{item_of}
-use Rattle.rv_book.specs.Waiting.{NamesPartner, Met}
+use Rattle.rv_book.specs.Counting.{NumberOf}
+use Rattle.rv_book.specs.Waiting.{NamesPartner, Met, Stopped, OpenAt, IsOldest}
 
 -- the arrivals at r and at s are in one pair or swap
 abbrev pub Meet : List Entry → ℕ → ℕ → Type 0
@@ -26,16 +28,41 @@ pub record Gets (entries : List Entry) (r : ℕ) (item : List ℕ) : Type 0 wher
   pub arrived : call_at entries giver ≡ Some call
   pub hands_over : item_of call ≡ Some item
 
--- what the unmet request that arrived at r is told, by its wait: at once this reply
+-- what the unmet request that arrived at r is told, by its wait: at once this reply; or, once it was stopped,
+-- that it was cancelled
 abbrev pub RepliesUnmet : List Entry → ℕ → Wait → Reply → Reply → Type 0
-RepliesUnmet entries r Now at_once reply = reply ≡ at_once
+RepliesUnmet entries r Now at_once told = told ≡ at_once
+RepliesUnmet entries r Forever at_once told = Stopped entries r × (told ≡ reply.Cancelled)
+
+-- so many items and so many consumers of the queue are open
+pub record Counts (entries : List Entry) (queue items consumers : ℕ) : Type 0 where
+  pub items_are : NumberOf (OpenAt entries (Gives queue)) items
+  pub consumers_are : NumberOf (OpenAt entries (Takes queue)) consumers
+
+-- the queue's oldest open item
+pub record IsFront (entries : List Entry) (queue : ℕ) (item : List ℕ) : Type 0 where
+  pub place : ℕ
+  pub oldest : IsOldest entries (Gives queue) place
+  pub hands_over : item_of oldest.there.of_side.call ≡ Some item
+
+-- no item of the queue is open
+abbrev pub HasNoItem : List Entry → ℕ → Type 0
+HasNoItem entries queue = (r : ℕ) → ¬ OpenAt entries (Gives queue) r
 
 -- the reply of the request with this call that arrived at r
 abbrev pub RepliesAt : List Entry → ℕ → Call → Reply → Type 0
 RepliesAt entries r (call.Put queue item) told = told ≡ reply.Done
+RepliesAt entries r (call.Transfer queue item wait) told =
+    (Met entries r × (told ≡ reply.Received))
+    ⊎ ((¬ Met entries r) × RepliesUnmet entries r wait reply.Nobody told)
 RepliesAt entries r (call.Take queue wait) told =
     ((item : List ℕ) × Gets entries r item × (told ≡ reply.Item item))
     ⊎ ((¬ Met entries r) × RepliesUnmet entries r wait reply.Empty told)
+RepliesAt entries r (call.Count queue) told = (items consumers : ℕ)
+    × Counts (take r entries) queue items consumers × (told ≡ reply.Counted items consumers)
+RepliesAt entries r (call.Peek queue) told =
+    ((item : List ℕ) × IsFront (take r entries) queue item × (told ≡ reply.Peeked item))
+    ⊎ (HasNoItem (take r entries) queue × (told ≡ reply.Empty))
 
 -- the request with this key arrived, and it has this reply
 pub record RepliesToArrival (entries : List Entry) (key : Key) (reply : Reply) : Type 0 where

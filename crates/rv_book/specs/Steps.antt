@@ -12,6 +12,7 @@ use Rattle.rv_text.specs.declared.answer.Refusal.TheVariants.{OldNumber, OtherCa
 use Rattle.rv_text.specs.declared.answer.Refusal.TheVariants.{EpochFull, NoMemory}
 use Rattle.rv_text.specs.declared.answer.Answer.{Answer}
 use Rattle.rv_text.specs.declared.answer.Answer.TheVariants.{Welcome, Replied, Refused}
+use Rattle.rv_text.specs.declared.answer.Answer as answer
 use Rattle.rv_book.specs.declared.account.Entry.{Entry}
 use Rattle.rv_book.specs.declared.account.Act.{Act}
 use Rattle.rv_book.specs.declared.account.Act as act
@@ -177,11 +178,22 @@ pub record Replies (b : Account) (key : Key) (answer : Answer) : Type 0 where
   pub has : HasReply b.entries key reply
   pub is : answer ≡ Replied key reply
 
--- the account stays, and the answer is the reply of the request with this key, the only one
+-- the request with this key arrived, and it waits
+pub record KeyWaits (b : Account) (key : Key) : Type 0 where
+  pub place : ℕ
+  pub call : Call
+  pub arrived : act_at b.entries place ≡ Some (act.TheVariants.Arrive key call)
+  pub waits : Waiting b.entries place
+
+-- the answer is the reply of the request with this key, or that it waits
+abbrev pub Answers : Account → Key → Answer → Type 0
+Answers b key said = Replies b key said ⊎ (KeyWaits b key × (said ≡ answer.TheVariants.Waiting key))
+
+-- the account stays, and the answer is what the request with this key is told, and nothing else
 pub record Repeats (a b : Account) (key : Key) (answer : Answer) : Type 0 where
   pub account : b ≡ a
-  pub replies : Replies a key answer
-  pub only : (other : Answer) → Replies a key other → other ≡ answer
+  pub answers : Answers a key answer
+  pub only : (other : Answer) → Answers a key other → other ≡ answer
 
 -- where a growth was refused the account stays; else it gets the message's own entry
 abbrev pub EntersOrNoMemory : Account → ℕ → Act → Account → Answer → Type 0 → Type 0
@@ -199,7 +211,7 @@ NextAt a moment (Request key call) b answer =
     RequestLines a key call (Refuses a b answer)
     (Repeats a b key answer)
     (EntersOrNoMemory a moment (act.TheVariants.Arrive key call) b answer
-    (Replies b key answer))
+    (Answers b key answer))
 
 -- the account after the time-outs of a step: the same, where nothing can be due
 abbrev pub Ticks : Account → ℕ → Account → Type 0

@@ -23,11 +23,14 @@ use Rattle.rv_book.specs.Account.{Account, act_at, call_at}
 use Rattle.rv_book.specs.Arriving.{IsKept, need_for}
 use Rattle.rv_book.specs.Legal.{Legal, KeepsTime}
 use Rattle.rv_book.specs.Limits.{FitsAccount, FitsAct}
-use Rattle.rv_book.specs.Meeting.{HasRoomOn, waiting_on}
+use Rattle.rv_book.specs.Meeting.{AreParked, HasRoomOn}
 use Rattle.rv_book.specs.Sessions.{HasIncarnation, LastNumber, SaidHello}
 use Rattle.rv_book.specs.Steps.{EpochFullDue, NextAt, max_entries, max_moment}
 use Rattle.rv_book.specs.Verdicts.{answer_of}
-use Rattle.rv_book.specs.Views.{QueueLine, places_of}
+use Rattle.rv_book.specs.Views.{SameWaiting, waiting_on}
+use Rattle.rv_dual.specs.Queue.{Queue}
+use Rattle.rv_session.specs.Owed.{Owed}
+use Rattle.rv_book.specs.Counting.{NumberOf}
 use Rattle.rv_book.specs.Waiting.{OpenAt, Waiting}
 
 -- ---- sessions
@@ -82,8 +85,8 @@ pub record IsLine (entries : List Entry) (side : Side) (places : List ℕ) : Typ
   pub rising : (i j p q : ℕ) → i < j → slice_get places i ≡ Some p → slice_get places j ≡ Some q → p < q
 
 -- the table has each side's open arrivals
-abbrev pub AreQueues : List Entry → List QueueLine → Type 0
-AreQueues entries lines = (side : Side) → IsLine entries side (waiting_on lines side)
+abbrev pub AreQueues : List Entry → List Queue → Type 0
+AreQueues entries queues = (side : Side) → IsLine entries side (waiting_on queues side)
 
 -- ---- the state
 
@@ -91,12 +94,16 @@ AreQueues entries lines = (side : Side) → IsLine entries side (waiting_on line
 abbrev pub account_of : State → Account
 account_of state = state.account.account
 
--- the account is legal and within the limits, and each table is what the account says
+-- the account is legal and within the limits, and each table is what the account says; there is room for an
+-- entry of each request that waits
 pub record IsSound (state : State) : Type 0 where
   pub legal : Legal (account_of state)
   pub fits : FitsAccount (account_of state)
   pub sessions_are : AreSessions (account_of state) state.sessions
   pub queues_are : AreQueues (account_of state).entries state.queues
+  pub parked_are : AreParked (account_of state).entries state.queues
+  pub waiting_is : NumberOf (Waiting (account_of state).entries) state.waiting
+  pub spare : state.waiting ≤ state.account.room
 
 -- an act comes to a sound state: at a moment that keeps time, and within the limits
 pub record Comes (state : State) (moment : ℕ) (does : Act) : Type 0 where
@@ -114,14 +121,17 @@ HasRoomFor state (Arrive key call) = HasRoomOn state.queues (side_of call)
 pub record IsSame (old new : State) : Type 0 where
   pub account : account_of new ≡ account_of old
   pub sessions : new.sessions ≡ old.sessions
-  pub queues : (queue : ℕ) → places_of new.queues queue ≡ places_of old.queues queue
+  pub waiting : new.waiting ≡ old.waiting
+  pub queues : SameWaiting old.queues new.queues
+  pub parked : (entries : List Entry) → AreParked entries old.queues → AreParked entries new.queues
 
--- nothing changed but the room: the act's entry has its own, and what the act adds to the queues too
+-- nothing changed but the room: the act's entry has its own, that of each request which will wait too, and what
+-- the act adds to the queues
 pub record IsReady (old new : State) (does : Act) : Type 0 where
   pub same : IsSame old new
-  pub room : 0 < new.account.room
+  pub room : old.waiting + need_for does ≤ new.account.room
   pub queue_room : HasRoomFor new does
-  pub space : length (account_of old).entries + need_for does ≤ max_entries
+  pub space : length (account_of old).entries + old.waiting + need_for does ≤ max_entries
 
 -- why an entry that needs so many places was refused: the epoch is full; or it is not, and memory was refused
 abbrev pub NoEntryDue : Account → ℕ → Refusal → Type 0

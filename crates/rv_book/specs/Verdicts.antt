@@ -7,7 +7,7 @@ use Rattle.rv_text.specs.declared.answer.Answer as answer
 use Rattle.rv_session.specs.declared.kept.Kept.{Kept}
 use Rattle.rv_session.specs.declared.kept.Kept as kept
 use Rattle.rv_book.specs.declared.verdict.Said.{Said}
-use Rattle.rv_book.specs.declared.verdict.Said.TheVariants.{Welcome, Replied, Refused}
+use Rattle.rv_book.specs.declared.verdict.Said.TheVariants.{Welcome, Replied, Waiting, Refused}
 use Rattle.rv_book.specs.declared.verdict.Verdict.{Verdict}
 use Rattle.rv_book.specs.declared.account.Entry.{Entry}
 use Rattle.rv_text.specs.declared.message.Message.{Message}
@@ -24,12 +24,19 @@ abbrev pub reply_of : List Entry → Kept → Option Reply
 reply_of entries kept.TheVariants.Done = Some reply.TheVariants.Done
 reply_of entries (kept.TheVariants.Item place) = option_map reply.TheVariants.Item (item_at entries place)
 reply_of entries kept.TheVariants.Empty = Some reply.TheVariants.Empty
+reply_of entries kept.TheVariants.Received = Some reply.TheVariants.Received
+reply_of entries kept.TheVariants.Nobody = Some reply.TheVariants.Nobody
+reply_of entries kept.TheVariants.Cancelled = Some reply.TheVariants.Cancelled
+reply_of entries (kept.TheVariants.Counted items consumers) =
+    Some (reply.TheVariants.Counted items consumers)
+reply_of entries (kept.TheVariants.Peeked place) = option_map reply.TheVariants.Peeked (item_at entries place)
 reply_of entries _ = None
 
 abbrev pub answer_of : List Entry → Said → Option Answer
 answer_of entries (Welcome epoch client incarnation) =
     Some (answer.TheVariants.Welcome epoch client incarnation)
 answer_of entries (Replied key kept) = option_map (answer.TheVariants.Replied key) (reply_of entries kept)
+answer_of entries (Waiting key) = Some (answer.TheVariants.Waiting key)
 answer_of entries (Refused refusal) = Some (answer.TheVariants.Refused refusal)
 
 -- what the verdict says in the account

@@ -1,15 +1,28 @@
--- What contracts see of the table of queues: what waits in each, and how much more it has room for.
-use Rattle.std.specs.Prelude.{ℕ, List, [], option_map, unwrap_or, slice_get}
+-- What contracts see of the table of queues: for each side the places that wait on it.
+use Rattle.std.specs.Prelude.{◌≡◌, ℕ, List, [], map, unwrap_or, slice_get}
+use Rattle.rv_text.specs.declared.call.Side.{Side}
+use Rattle.rv_text.specs.declared.call.Side.TheVariants.{Gives, Takes, Looks}
+use Rattle.rv_session.specs.Owed.{Owed}
+use Rattle.rv_dual.specs.Offers.{places_of}
+use Rattle.rv_dual.specs.Queue.{Queue}
 
--- one queue: the places of its items, the oldest first
-pub record QueueLine : Type 0 where
-  pub places : List ℕ
-  pub spare : ℕ
+abbrev pub empty_queue : Queue
+empty_queue = record { givers = []; takers = []; room = 0 }
 
--- the places that wait in the queue of this number; none where there is no such queue
-abbrev pub places_of : List QueueLine → ℕ → List ℕ
-places_of lines queue = unwrap_or (option_map (λ line. line.places) (slice_get lines queue)) []
+-- the queue of this number; an empty one where there is no such queue
+abbrev pub queue_at : List Queue → ℕ → Queue
+queue_at queues queue = unwrap_or (slice_get queues queue) empty_queue
 
--- how many more places the queue of this number has room for
-abbrev pub spare_of : List QueueLine → ℕ → ℕ
-spare_of lines queue = unwrap_or (option_map (λ line. line.spare) (slice_get lines queue)) 0
+-- where the consumers arrived, in their order
+abbrev pub takers_places : List Owed → List ℕ
+takers_places takers = map (λ (duty : Owed). duty.place) takers
+
+-- the places that wait on a side, the oldest first
+abbrev pub waiting_on : List Queue → Side → List ℕ
+waiting_on queues (Gives queue) = places_of (queue_at queues queue).givers
+waiting_on queues (Takes queue) = takers_places (queue_at queues queue).takers
+waiting_on queues (Looks queue) = []
+
+-- each side has the places that it had
+abbrev pub SameWaiting : List Queue → List Queue → Type 0
+SameWaiting old new = (side : Side) → waiting_on new side ≡ waiting_on old side

@@ -70,6 +70,11 @@ pub record OpenAt (entries : List Entry) (side : Side) (r : ℕ) : Type 0 where
   pub of_side : SideAt entries side r
   pub is_open : Open entries r
 
+-- the oldest open arrival of a side stands at p
+pub record IsOldest (entries : List Entry) (side : Side) (p : ℕ) : Type 0 where
+  pub there : OpenAt entries side p
+  pub oldest : (r : ℕ) → r < p → ¬ OpenAt entries side r
+
 -- an open request other than a put
 pub record Waiting (entries : List Entry) (r : ℕ) : Type 0 where
   pub is_open : Open entries r
