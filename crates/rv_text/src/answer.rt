@@ -26,10 +26,7 @@ pub enum Reply {
     Cancelled,
     /// How many items wait in the queue, those of puts and of transfers, and how many consumers: 0 to
     /// 100,000 each.
-    Counted {
-        items: u64,
-        consumers: u64,
-    },
+    Counted { items: u64, consumers: u64 },
     /// A peek saw this item, the queue's oldest.
     Peeked(Item),
 }
