@@ -39,7 +39,7 @@ fn put(queue: &mut Dual, duty: Duty) -> Arrived
                 own: Some(duty),
                 other: Some(taker),
             },
-            (Some(_), ..) => unreachable!(),
+            (Some(_giver), _taker, _) => unreachable!(),
         },
         Given::Parked => Arrived {
             partner: None,
