@@ -8,6 +8,7 @@ pub mod Legality
 pub mod Fronts
 pub mod Histories
 pub mod Keys
+pub mod Waits
 pub mod Sides
 pub mod Waiters
 pub mod Following
