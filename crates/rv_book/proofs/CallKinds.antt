@@ -8,14 +8,17 @@ use Rattle.rv_text.specs.declared.call.Call as call
 use Rattle.rv_text.specs.Calls.{side_of, wait_of, item_of}
 
 abbrev pub IsKind : Side → Option Wait → Option (List ℕ) → Type 0
-IsKind (Gives queue) None (Some item) = Unit {0}
+IsKind (Gives queue) wait (Some item) = Unit {0}
 IsKind (Takes queue) (Some wait) None = Unit {0}
 IsKind (Looks queue) None None = Unit {0}
 IsKind _ _ _ = ⊥
 
 kind_of : (call : Call) → IsKind (side_of call) (wait_of call) (item_of call)
 kind_of (call.TheVariants.Put queue item) = tt
+kind_of (call.TheVariants.Transfer queue item wait) = tt
 kind_of (call.TheVariants.Take queue wait) = tt
+kind_of (call.TheVariants.Count queue) = tt
+kind_of (call.TheVariants.Peek queue) = tt
 
 pub kind_at : (call : Call) (side : Side) → side_of call ≡ side → IsKind side (wait_of call) (item_of call)
 kind_at call side is = subst (λ s. IsKind s (wait_of call) (item_of call)) is (kind_of call)
@@ -28,3 +31,11 @@ giver_has (Some wait) None queue kind = absurd kind
 -- what gives hands over an item
 pub gives_item : (call : Call) (queue : ℕ) → side_of call ≡ Gives queue → (item : List ℕ) × (item_of call ≡ Some item)
 gives_item call queue is = giver_has (wait_of call) (item_of call) queue (kind_at call (Gives queue) is)
+
+taker_has : (wait : Option Wait) (item : Option (List ℕ)) (queue : ℕ) → IsKind (Takes queue) wait item → (it : Wait) × (wait ≡ Some it)
+taker_has (Some wait) item queue kind = (wait, refl)
+taker_has None item queue kind = absurd kind
+
+-- what takes has a wait
+pub takes_wait : (call : Call) (queue : ℕ) → side_of call ≡ Takes queue → (wait : Wait) × (wait_of call ≡ Some wait)
+takes_wait call queue is = taker_has (wait_of call) (item_of call) queue (kind_at call (Takes queue) is)

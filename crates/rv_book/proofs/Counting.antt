@@ -1,5 +1,5 @@
--- How many places have a property: that there is such a number, that there is one alone, how great it can be, and how a list tells it.
-use Rattle.std.proofs.Common.{◌≡◌, ◌⊎◌, inl, inr, ℕ, zero, suc, ◌+◌, ◌-◌, ◌<◌, ◌≤◌, List, [], ◌∷◌, ◌++◌, length, Some, refl, ap, subst, ◌∙◌, arith}
+-- How many places have a property: that there is such a number, that there is one alone, how great it can be, how a list tells it, and what one place more or less makes of it.
+use Rattle.std.proofs.Common.{◌≡◌, ◌⊎◌, inl, inr, ℕ, zero, suc, ◌+◌, ◌-◌, ◌<◌, ◌≤◌, List, [], ◌∷◌, ◌++◌, length, Some, refl, sym, ap, subst, ◌∙◌, arith}
 use Rattle.std.specs.Prelude.{◌↔◌, Contains}
 use Rattle.std.specs.List.{slice_get, slice_index}
 use Rattle.std.specs.List.Sorted.{IsStrictlyIncreasing}
@@ -7,7 +7,8 @@ use Rattle.std.proofs.lemmas.Bool.{cases_lt}
 use Rattle.std.proofs.lemmas.List.{get_or_append_left, get_or_default, get_or_push, length_push}
 use Rattle.std.proofs.lemmas.List.Elements.{Contains-append_left, Contains-get_or, Contains-push, Contains-push_cases}
 use Rattle.std.proofs.lemmas.List.Kept.{AllPairs-from_increasing}
-use Rattle.std.proofs.lemmas.Option.{get_or_from_slice_get, slice_get-get_or}
+use Rattle.std.proofs.lemmas.Option.{get_or_from_slice_get, none-some, same_Some, slice_get-get_or}
+use Rattle.rv_book.proofs.Numbers.{first_below, same_or_not}
 use Rattle.rv_text.specs.declared.call.Side.{Side}
 use Rattle.rv_book.specs.declared.account.Entry.{Entry}
 use Rattle.rv_book.specs.Counting.{NumberOf}
@@ -78,16 +79,16 @@ no_more P n m not_here = same_number (Below P n) (Below P (suc n)) m (λ r. (
   ]),
 ))
 
+none_below : (P : ℕ → Type 0) → NumberOf (Below P zero) 0
+none_below P = record {
+  places = [];
+  rising = λ k less. absurd (omega arith);
+  are = λ r. ((λ there. absurd (omega arith)), (λ holds. absurd (omega arith)));
+  is = refl;
+}
+
 count_below : (P : ℕ → Type 0) → ((r : ℕ) → P r ⊎ (P r → ⊥)) → (n : ℕ) → (m : ℕ) × NumberOf (Below P n) m
-count_below P decide zero = (
-  0,
-  record {
-    places = [];
-    rising = λ k less. absurd (omega arith);
-    are = λ r. ((λ there. absurd (omega arith)), (λ holds. absurd (omega arith)));
-    is = refl;
-  },
-)
+count_below P decide zero = (0, none_below P)
 count_below P decide (suc n) =
     let before = count_below P decide n in
     elim (decide n) [
@@ -191,3 +192,114 @@ line_number es side places line = record {
   );
   is = refl;
 }
+
+-- ---- one place more, and one less
+
+-- a place behind all others
+pub number_push : (P Q : ℕ → Type 0) (m n : ℕ) → NumberOf P m → ((r : ℕ) → P r → r < n) → ((r : ℕ) → Q r ↔ (P r ⊎ (r ≡ n))) → NumberOf Q (m + 1)
+number_push P Q m n count below gains = record {
+  places = count.places ++ n ∷ [];
+  rising = rising_push count.places n count.rising (λ r there. below r ((count.are r).0 there));
+  are = λ r. (
+    (λ there. elim (Contains-push_cases count.places n r there) [
+      | inl before ↦ (gains r).1 (inl ((count.are r).0 before))
+      | inr is ↦ (gains r).1 (inr (sym is))
+    ]),
+    (λ holds. elim ((gains r).0 holds) [
+      | inl before ↦ Contains-append_left count.places (n ∷ []) r ((count.are r).1 before)
+      | inr is ↦ subst (Contains (count.places ++ n ∷ [])) (sym is) (Contains-push count.places n)
+    ]),
+  );
+  is = let is : m ≡ length count.places = count.is in let long : length (count.places ++ n ∷ []) ≡ length count.places + 1 = length_push count.places n in omega arith;
+}
+
+contains_or_not : (places : List ℕ) (r : ℕ) → Contains places r ⊎ (Contains places r → ⊥)
+contains_or_not places r = elim (first_below (λ i. slice_index places i ≡ r) (λ i. same_or_not (slice_index places i) r) (length places)) [
+  | inl found ↦ inl (found.0, found.1, sym (get_or_default places found.0 0 r found.1) ∙ found.2)
+  | inr none ↦ inr (λ there. none there.0 there.1 (get_or_default places there.0 0 r there.1 ∙ there.2))
+]
+
+-- a bound above all of a list
+abbrev above : List ℕ → ℕ
+above [] = 0
+above (x ∷ xs) = x + 1 + above xs
+
+all_below : (xs : List ℕ) (i r : ℕ) → slice_get xs i ≡ Some r → r < above xs
+all_below [] i r there = absurd (none-some r there)
+all_below (x ∷ xs) zero r there = let is : x ≡ r = same_Some _ _ there in omega arith
+all_below (x ∷ xs) (suc i) r there = let below : r < above xs = all_below xs i r there in omega arith
+
+-- the numbers of both below n, of which the second is one less where p is below n
+record Both (P Q : ℕ → Type 0) (p n : ℕ) : Type 0 where
+  m : ℕ
+  k : ℕ
+  count : NumberOf (Below P n) m
+  rest : NumberOf (Below Q n) k
+  are : ((n ≤ p) × (m ≡ k)) ⊎ ((p < n) × (m ≡ k + 1))
+
+module _ (P Q : ℕ → Type 0) (p : ℕ) (here : P p) (loses : (r : ℕ) → Q r ↔ (P r × (r ≡ p → ⊥))) where
+  both_neither : (n : ℕ) → (P n → ⊥) → Both P Q p n → Both P Q p (suc n)
+  both_neither n not_here before = record {
+    m = before.m;
+    k = before.k;
+    count = no_more P n before.m not_here before.count;
+    rest = no_more Q n before.k (λ holds. not_here ((loses n).0 holds).0) before.rest;
+    are = elim before.are [
+      | inl yet ↦ elim (same_or_not n p) [
+        | inl is ↦ absurd (not_here (subst P (sym is) here))
+        | inr apart ↦ elim (cases_lt n p) [ inl less ↦ inl (omega arith, yet.1) | inr most ↦ absurd (apart (omega arith)) ]
+      ]
+      | inr past ↦ inr (omega arith, past.1)
+    ];
+  }
+
+  both_at : (n : ℕ) → n ≡ p → Both P Q p n → Both P Q p (suc n)
+  both_at n is before = record {
+    m = suc before.m;
+    k = before.k;
+    count = one_more P n before.m (subst P (sym is) here) before.count;
+    rest = no_more Q n before.k (λ holds. ((loses n).0 holds).1 is) before.rest;
+    are = elim before.are [ inl yet ↦ inr (omega arith, omega arith) | inr past ↦ absurd (omega arith) ];
+  }
+
+  both_each : (n : ℕ) → (n ≡ p → ⊥) → P n → Both P Q p n → Both P Q p (suc n)
+  both_each n apart holds before = record {
+    m = suc before.m;
+    k = suc before.k;
+    count = one_more P n before.m holds before.count;
+    rest = one_more Q n before.k ((loses n).1 (holds, apart)) before.rest;
+    are = elim before.are [
+      | inl yet ↦ elim (cases_lt n p) [ inl less ↦ inl (omega arith, omega arith) | inr most ↦ absurd (apart (omega arith)) ]
+      | inr past ↦ inr (omega arith, omega arith)
+    ];
+  }
+
+  both_below : ((r : ℕ) → P r ⊎ (P r → ⊥)) → (n : ℕ) → Both P Q p n
+  both_below decide zero = record {
+    m = 0;
+    k = 0;
+    count = none_below P;
+    rest = none_below Q;
+    are = inl (omega arith, refl);
+  }
+  both_below decide (suc n) = elim (decide n) [
+    | inr not_here ↦ both_neither n not_here (both_below decide n)
+    | inl holds ↦ elim (same_or_not n p) [ inl is ↦ both_at n is (both_below decide n) | inr apart ↦ both_each n apart holds (both_below decide n) ]
+  ]
+
+-- a place less
+pub number_drop : (P Q : ℕ → Type 0) (m p : ℕ) → NumberOf P m → P p → ((r : ℕ) → Q r ↔ (P r × (r ≡ p → ⊥))) → (k : ℕ) × (m ≡ k + 1) × NumberOf Q k
+number_drop P Q m p count here loses =
+    let n : ℕ = above count.places in
+    let bound : (r : ℕ) → P r → r < n = λ r holds. let there = (count.are r).1 holds in all_below count.places there.0 r (slice_get-get_or count.places there.0 r there.1 ∙ ap Some there.2) in
+    let decide : (r : ℕ) → P r ⊎ (P r → ⊥) = λ r. by_places r (contains_or_not count.places r) in
+    let both = both_below P Q p here loses decide n in
+    let all = same_number (Below P n) P both.m (λ r. ((λ holds. holds.1), (λ holds. (bound r holds, holds)))) both.count in
+    let rest = same_number (Below Q n) Q both.k (λ r. ((λ holds. holds.1), (λ holds. (bound r ((loses r).0 holds).0, holds)))) both.rest in
+    let same : m ≡ both.m = one_number P m both.m count all in
+    let less : p < n = bound p here in
+    (both.k, elim both.are [ inl yet ↦ absurd (omega arith) | inr past ↦ omega arith ], rest)
+  where
+    by_places : (r : ℕ) → Contains count.places r ⊎ (Contains count.places r → ⊥) → P r ⊎ (P r → ⊥)
+    by_places r (inl there) = inl ((count.are r).0 there)
+    by_places r (inr none) = inr (λ holds. none ((count.are r).1 holds))

@@ -1,4 +1,4 @@
--- What any list of entries decides: a client's last hello and last number, who is met, and whom an arrival meets.
+-- What any list of entries decides: a client's last hello and last number, who is met, stopped, open or waiting, and whom an arrival meets.
 use Rattle.rv_book.specs.declared.account.Act.{Act}
 use Rattle.rv_book.specs.declared.account.Act.TheVariants.{Arrive, Hello}
 use Rattle.std.proofs.Common.{Bool, List, None, Option, Some, ap, arith, false, inl, inr, length, refl, subst, suc, sym, true, zero, ℕ, ◌<◌, ◌∙◌, ◌≡◌, ◌≤◌, ◌⊎◌, [], ◌+◌, ◌∷◌}
@@ -6,22 +6,23 @@ use Rattle.rv_text.specs.declared.call.Call.{Call}
 use Rattle.rv_book.specs.declared.account.Entry.{Entry}
 use Rattle.rv_text.specs.declared.call.Side.TheVariants.{Gives, Looks, Takes}
 use Rattle.rv_book.specs.Sessions.{HasIncarnation, LastHello, LastNumber, NamesKey, SaidHello}
-use Rattle.rv_book.specs.Arriving.{IsOldest, MeetsOldest}
+use Rattle.rv_book.specs.Arriving.{MeetsOldest}
 use Rattle.rv_text.specs.declared.message.Key.{Key}
-use Rattle.rv_book.specs.Calls.{Lasts, MayMeet, Stays, opposite}
-use Rattle.rv_book.specs.Waiting.{Met, NamesPartner, OpenAt}
-use Rattle.rv_text.specs.declared.call.Wait.TheVariants.{Now}
+use Rattle.rv_book.specs.Calls.{IsPut, Lasts, MayMeet, Stays, opposite}
+use Rattle.rv_book.specs.Waiting.{EndsWait, IsOldest, Met, NamesPartner, Open, OpenAt, Stopped, Waiting, limit_at}
+use Rattle.rv_text.specs.declared.call.Wait.TheVariants.{Now, Forever}
 use Rattle.rv_text.specs.declared.call.Side.{Side}
 use Rattle.rv_text.specs.declared.call.Wait.{Wait}
 use Rattle.rv_book.specs.Account.{act_at, call_at, key_at, partner_at}
-use Rattle.rv_book.proofs.Growing.{act_read, call_read, reads_within}
+use Rattle.rv_book.proofs.Growing.{act_read, call_read, read_there, reads_within}
 use Rattle.std.proofs.lemmas.Bool.{cases_lt}
 use Rattle.rv_book.proofs.Numbers.{first_below, last_below, same_or_not}
 use Rattle.std.specs.Prelude.{is_some}
 use Rattle.rv_book.proofs.Keys.{key_read, client_of, hello_is_own}
 use Rattle.std.proofs.lemmas.Option.{none-some, same_Some}
 use Rattle.rv_text.specs.Calls.{side_of, wait_of}
-use Rattle.rv_book.proofs.NotYet.{unstopped}
+use Rattle.rv_book.specs.Legal.{HasWaiting}
+use Rattle.std.specs.List.{slice_get}
 use Rattle.rv_book.specs.Counting.{NumberOf}
 use Rattle.rv_book.proofs.Counting.{find_number}
 
@@ -188,6 +189,72 @@ met_or_not es r = elim (first_below (PartAt es r) (part_at es r) (length es)) [
   | inr none ↦ inr (λ met. none met.later (reads_within call_read refl es met.later met.names.call met.names.arrived) (met.earlier, met.names, met.part))
 ]
 
+-- ---- who is stopped
+
+-- what ends a wait is a hello of its client
+ends_hello : (act : Act) (moment : ℕ) (key : Key) (limit : Option ℕ) → EndsWait act moment key limit → (i : ℕ) × (act ≡ Hello key.client i)
+ends_hello (Hello client i) moment key limit same = (i, ap (λ n. Hello n i) same)
+ends_hello (Arrive other call) moment key limit ends = absurd ends
+
+none_or_some : (wait : Option Wait) → (wait ≡ None) ⊎ (wait ≡ None → ⊥)
+none_or_some None = inl refl
+none_or_some (Some wait) = inr (λ is. none-some wait (sym is))
+
+pub put_or_not : (call : Call) → IsPut call ⊎ (IsPut call → ⊥)
+put_or_not call = elim (meets_or_not call) [
+  | inr alone ↦ inr (λ put. alone put.0)
+  | inl meets ↦ elim (none_or_some (wait_of call)) [ inl none ↦ inl (meets, none) | inr waits ↦ inr (λ put. waits put.1) ]
+]
+
+-- a hello of the client stands behind r
+abbrev HelloBehind : List Entry → ℕ → ℕ → ℕ → Type 0
+HelloBehind es client r s = (r < s) × HelloAt es client s
+
+hello_behind : (es : List Entry) (client r s : ℕ) → HelloBehind es client r s ⊎ (HelloBehind es client r s → ⊥)
+hello_behind es client r s = elim (cases_lt r s) [
+  | inr most ↦ inr (λ h. let later : r < s = h.0 in omega arith)
+  | inl later ↦ elim (hello_of client (act_at es s)) [ inl hello ↦ inl (later, hello) | inr none ↦ inr (λ h. none h.1) ]
+]
+
+same_parts : (key other : Key) (call more : Call) → Some (Arrive key call) ≡ Some (Arrive other more) → (key ≡ other) × (call ≡ more)
+same_parts key other call more e = (cc, cc)
+
+stopped_by : (es : List Entry) (r : ℕ) (key : Key) (call : Call) → act_at es r ≡ Some (Arrive key call) → (IsPut call → ⊥) → Stopped es r ⊎ (Stopped es r → ⊥)
+stopped_by es r key call arrived no_put = elim (first_below (HelloBehind es key.client r) (hello_behind es key.client r) (length es)) [
+  | inl found ↦
+      let s = found.0 in
+      let at = read_there act_read refl (slice_get es s) (Hello key.client found.2.1.0) found.2.1.1 in
+      let says : Hello key.client found.2.1.0 ≡ at.0.act = sym (same_Some _ _ at.2) in
+      inl (s, record {
+        key = key;
+        call = call;
+        stopper = at.0;
+        arrived = arrived;
+        no_put = no_put;
+        later = found.2.0;
+        there = at.1;
+        ends = subst (λ act. EndsWait act at.0.moment key (limit_at es r)) says refl;
+      })
+  | inr none ↦ inr (λ stopped.
+      let s = stopped.0 in
+      let h = stopped.1 in
+      let own : h.key ≡ key = (same_parts h.key key h.call call (sym h.arrived ∙ arrived)).0 in
+      let hello = ends_hello h.stopper.act h.stopper.moment h.key (limit_at es r) h.ends in
+      let says : act_at es s ≡ Some (Hello key.client hello.0) = ap act_read h.there ∙ ap Some hello.1 ∙ ap (λ (k : Key). Some (Hello k.client hello.0)) own in
+      none s (reads_within act_read refl es s (Hello key.client hello.0) says) (h.later, (hello.0, says)))
+]
+
+stopped_of : (es : List Entry) (r : ℕ) (o : Option Act) → act_at es r ≡ o → Stopped es r ⊎ (Stopped es r → ⊥)
+stopped_of es r None there = inr (λ stopped. none-some _ (sym there ∙ stopped.1.arrived))
+stopped_of es r (Some (Hello client i)) there = inr (λ stopped. arrives_no_hello stopped.1.key stopped.1.call client i (sym stopped.1.arrived ∙ there))
+stopped_of es r (Some (Arrive key call)) there = elim (put_or_not call) [
+  | inr no_put ↦ stopped_by es r key call there no_put
+  | inl put ↦ inr (λ stopped. stopped.1.no_put (subst IsPut (sym (same_parts stopped.1.key key stopped.1.call call (sym stopped.1.arrived ∙ there)).1) put))
+]
+
+pub stopped_or_not : (es : List Entry) (r : ℕ) → Stopped es r ⊎ (Stopped es r → ⊥)
+stopped_or_not es r = stopped_of es r (act_at es r) refl
+
 -- ---- who is open on a side
 
 gives_apart : (p q : ℕ) → (p ≡ q → ⊥) → Gives p ≡ Gives q → ⊥
@@ -213,6 +280,7 @@ same_side (Looks p) (Looks q) = elim (same_or_not p q) [ inl same ↦ inl (ap Lo
 lasts_or_not : (wait : Option Wait) → Lasts wait ⊎ (Lasts wait → ⊥)
 lasts_or_not None = inl tt
 lasts_or_not (Some Now) = inr (λ lasts. lasts)
+lasts_or_not (Some Forever) = inl tt
 
 stays_or_not : (call : Call) → Stays call ⊎ (Stays call → ⊥)
 stays_or_not call = elim (meets_or_not call) [
@@ -221,22 +289,67 @@ stays_or_not call = elim (meets_or_not call) [
 ]
 
 -- an arrival of this call is open there or not
-open_of : (es : List Entry) (side : Side) (r : ℕ) (call : Call) → call_at es r ≡ Some call → side_of call ≡ side → OpenAt es side r ⊎ (OpenAt es side r → ⊥)
-open_of es side r call arrived is = elim (stays_or_not call) [
-  | inr goes ↦ inr (λ h. goes (subst Stays (same_Some _ _ (sym h.is_open.arrived ∙ arrived)) h.is_open.stays))
+open_of : (es : List Entry) (r : ℕ) (call : Call) → call_at es r ≡ Some call → Open es r ⊎ (Open es r → ⊥)
+open_of es r call arrived = elim (stays_or_not call) [
+  | inr goes ↦ inr (λ h. goes (subst Stays (same_Some _ _ (sym h.arrived ∙ arrived)) h.stays))
   | inl stays ↦ elim (met_or_not es r) [
-    | inl met ↦ inr (λ h. h.is_open.unmet met)
-    | inr unmet ↦ inl (record {
-      of_side = record { call = call; arrived = arrived; is = is };
-      is_open = record { call = call; arrived = arrived; stays = stays; unmet = unmet; unstopped = λ stopped. unstopped es r stopped.0 call arrived stays stopped.1 };
-    })
+    | inl met ↦ inr (λ h. h.unmet met)
+    | inr unmet ↦ elim (stopped_or_not es r) [
+      | inl stopped ↦ inr (λ h. h.unstopped stopped)
+      | inr unstopped ↦ inl (record { call = call; arrived = arrived; stays = stays; unmet = unmet; unstopped = unstopped })
+    ]
   ]
+]
+
+called_or_not : (es : List Entry) (r : ℕ) (c : Option Call) → call_at es r ≡ c → ((call : Call) × (call_at es r ≡ Some call)) ⊎ ((call : Call) → call_at es r ≡ Some call → ⊥)
+called_or_not es r None calls = inr (λ call arrived. none-some call (sym calls ∙ arrived))
+called_or_not es r (Some call) calls = inl (call, calls)
+
+pub open_or_not : (es : List Entry) (r : ℕ) → Open es r ⊎ (Open es r → ⊥)
+open_or_not es r = elim (called_or_not es r (call_at es r) refl) [
+  | inl called ↦ open_of es r called.0 called.1
+  | inr none ↦ inr (λ h. none h.call h.arrived)
+]
+
+pub waits_or_not : (es : List Entry) (r : ℕ) → Waiting es r ⊎ (Waiting es r → ⊥)
+waits_or_not es r = elim (open_or_not es r) [
+  | inr closed ↦ inr (λ w. closed w.is_open)
+  | inl opened ↦ elim (put_or_not opened.call) [
+    | inl put ↦ inr (λ w. w.no_put (subst IsPut (same_Some _ _ (sym opened.arrived ∙ w.is_open.arrived)) put))
+    | inr no_put ↦ inl (record { is_open = opened; no_put = no_put })
+  ]
+]
+
+-- how many requests wait
+pub find_waiting : (es : List Entry) → (n : ℕ) × NumberOf (Waiting es) n
+find_waiting es = find_number (Waiting es) (waits_or_not es) (length es) (λ r w. reads_within call_read refl es r w.is_open.call w.is_open.arrived)
+
+-- a request of the client waits at r
+abbrev pub WaitsAt : List Entry → ℕ → ℕ → Type 0
+WaitsAt es client r = (key : Key) × Waiting es r × NamesKey es client r key
+
+waits_at : (es : List Entry) (client r : ℕ) → WaitsAt es client r ⊎ (WaitsAt es client r → ⊥)
+waits_at es client r = elim (waits_or_not es r) [
+  | inr not_here ↦ inr (λ h. not_here h.1)
+  | inl waits ↦ elim (key_of client (key_at es r)) [
+    | inl found ↦ inl (found.0, waits, record { named = found.1; of_client = found.2 })
+    | inr none ↦ inr (λ h. none h.0 h.2.named h.2.of_client)
+  ]
+]
+
+pub has_waiting_or_not : (es : List Entry) (client : ℕ) → HasWaiting es client ⊎ (HasWaiting es client → ⊥)
+has_waiting_or_not es client = elim (first_below (WaitsAt es client) (waits_at es client) (length es)) [
+  | inl found ↦ inl (record { place = found.0; key = found.2.0; waits = found.2.1; names = found.2.2 })
+  | inr none ↦ inr (λ h. none h.place (reads_within call_read refl es h.place h.waits.is_open.call h.waits.is_open.arrived) (h.key, h.waits, h.names))
 ]
 
 pub open_by : (es : List Entry) (side : Side) (r : ℕ) (c : Option Call) → call_at es r ≡ c → OpenAt es side r ⊎ (OpenAt es side r → ⊥)
 open_by es side r None calls = inr (λ h. none-some h.of_side.call (sym calls ∙ h.of_side.arrived))
 open_by es side r (Some call) calls = elim (same_side (side_of call) side) [
-  | inl same ↦ open_of es side r call calls same
+  | inl same ↦ elim (open_of es r call calls) [
+    | inl opened ↦ inl (record { of_side = record { call = call; arrived = calls; is = same }; is_open = opened })
+    | inr closed ↦ inr (λ h. closed h.is_open)
+  ]
   | inr apart ↦ inr (λ h. apart (ap side_of (same_Some _ _ (sym calls ∙ h.of_side.arrived)) ∙ h.of_side.is))
 ]
 

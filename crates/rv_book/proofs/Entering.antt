@@ -87,11 +87,6 @@ step_keeps_time a now legal =
 
 -- ---- the arrival of a session's last number
 
-act_named : (o : Option Act) (key : Key) → option_and_then key_in o ≡ Some key → (call : Call) × (o ≡ Some (Arrive key call))
-act_named None key is = absurd (none-some key is)
-act_named (Some (Hello client incarnation)) key is = absurd (none-some key is)
-act_named (Some (Arrive other call)) key is = (call, ap (λ k. Some (Arrive k call)) (same_Some _ _ is))
-
 -- the last hello is the last of each front that has it
 hello_in_front : (es : List Entry) (n c i h : ℕ) → h < n → LastHello es c i h → LastHello (take n es) c i h
 hello_in_front es n c i h less last = record {

@@ -1,5 +1,5 @@
 -- Which entries may stand behind an account: a hello, and an arrival that meets the oldest; each by its moments, its numbers and its pairs.
-use Rattle.std.proofs.Common.{◌≡◌, ℕ, List, Option, Some, None, refl, sym, ap, subst, ◌∙◌, arith}
+use Rattle.std.proofs.Common.{◌≡◌, ℕ, List, Option, Some, None, option_and_then, refl, sym, ap, subst, ◌∙◌, arith}
 use Rattle.rv_book.specs.Account.{Account, call_in}
 use Rattle.rv_book.specs.declared.account.Act.{Act}
 use Rattle.rv_book.specs.declared.account.Act.TheVariants.{Arrive, Hello}
@@ -8,17 +8,40 @@ use Rattle.rv_book.specs.declared.account.Entry.{Entry}
 use Rattle.rv_text.specs.declared.message.Key.{Key}
 use Rattle.std.specs.Prelude.{is_some}
 use Rattle.std.proofs.lemmas.Option.{none-some, same_Some}
-use Rattle.rv_text.specs.Calls.{side_of}
+use Rattle.rv_text.specs.Calls.{side_of, wait_of}
+use Rattle.rv_text.specs.declared.call.Wait.{Wait}
+use Rattle.rv_text.specs.declared.call.Wait.TheVariants.{Now, Forever}
+use Rattle.std.specs.List.{slice_get}
 use Rattle.rv_book.specs.Sessions.{HasIncarnation, HasOnlyLower}
-use Rattle.rv_book.specs.Legal.{IsFreePartner, IsNextNumber, IsOpenOpposite, KeepsMoments, KeepsNumbers, KeepsPairs, KeepsTime, MayFollow}
+use Rattle.rv_book.specs.Legal.{IsFreePartner, IsNextNumber, IsOpenOpposite, KeepsLimits, KeepsMoments, KeepsNumbers, KeepsPairs, KeepsTime, MayFollow, NothingDue}
 use Rattle.rv_book.specs.Arriving.{IsNext, MeetsOldest, entry}
-use Rattle.rv_book.specs.Calls.{MayMeet}
-use Rattle.rv_book.specs.Waiting.{OpenAt, SideAt}
+use Rattle.rv_book.specs.Calls.{MayMeet, limit_after, limit_of}
+use Rattle.rv_book.specs.Waiting.{OpenAt, SideAt, limit_in}
 use Rattle.rv_book.proofs.Growing.{call_read, reads_within}
-use Rattle.rv_book.proofs.NotYet.{keeps_limits, nobody, nobody_waits}
 use Rattle.rv_book.proofs.Sides.{one_side}
 
 -- ---- moments
+
+-- no wait has a limit: one that is over at once, and one that never is
+no_limit_after : (moment : ℕ) (wait : Option Wait) → option_and_then (limit_after moment) wait ≡ None
+no_limit_after moment None = refl
+no_limit_after moment (Some Now) = refl
+no_limit_after moment (Some Forever) = refl
+
+no_limit_of : (moment : ℕ) (call : Option Call) → option_and_then (limit_of moment) call ≡ None
+no_limit_of moment None = refl
+no_limit_of moment (Some call) = no_limit_after moment (wait_of call)
+
+no_limit_in : (o : Option Entry) → option_and_then limit_in o ≡ None
+no_limit_in None = refl
+no_limit_in (Some e) = no_limit_of e.moment (call_in e.act)
+
+nothing_due : (es : List Entry) (moment : ℕ) → NothingDue es moment
+nothing_due es moment r limit waits is = absurd (none-some limit (sym (no_limit_in (slice_get es r)) ∙ is))
+
+keeps_limits : (es : List Entry) (moment : ℕ) (does : Act) → KeepsLimits es moment does
+keeps_limits es moment (Hello client incarnation) = nothing_due es moment
+keeps_limits es moment (Arrive key call) = nothing_due es moment
 
 keeps_moments : (a : Account) (moment : ℕ) (does : Act) → KeepsTime a moment → KeepsMoments a moment does
 keeps_moments a moment does time = record { keeps_time = time; keeps_limits = keeps_limits a.entries moment does }

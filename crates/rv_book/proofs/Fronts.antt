@@ -3,10 +3,11 @@ use Rattle.std.proofs.Common.{◌≡◌, ℕ, zero, suc, ◌<◌, ◌≤◌, Lis
 use Rattle.std.specs.List.{slice_get}
 use Rattle.rv_book.specs.declared.account.Entry.{Entry}
 use Rattle.rv_book.specs.Account.{Account}
-use Rattle.rv_book.specs.Waiting.{NamesPartner, Open}
+use Rattle.rv_book.specs.Waiting.{Met, NamesPartner, Open, Stopped, Waiting}
 use Rattle.rv_book.specs.Legal.{Legal, MayFollow, before}
 use Rattle.rv_book.proofs.Places.{get-take}
-use Rattle.rv_book.proofs.Growing.{call_read, partner_read, read_there, reads_within, Open-back}
+use Rattle.std.proofs.lemmas.List.{take-append-drop}
+use Rattle.rv_book.proofs.Growing.{Met-on, Open-back, Stopped-on, call_read, partner_read, read_there, reads_within}
 
 -- a front and what follows it up to a longer front
 pub longer_front : {X : Type 0} (xs : List X) (m n : ℕ) → m ≤ n → take m xs ++ drop m (take n xs) ≡ take n xs
@@ -43,6 +44,20 @@ open_in_shorter es m n r less inside opened =
     let longer : Open (take m es ++ drop m (take n es)) r = subst (λ (xs : List Entry). Open xs r) (sym (longer_front es m n less)) opened in
     let whole = read_whole call_read refl es n r opened.call opened.arrived in
     Open-back (take m es) (drop m (take n es)) r longer (read_front call_read es m r opened.call inside whole.1)
+
+-- who is open in the whole is open in each front that has it
+unfoldable pub open_in_front : (es : List Entry) (n r : ℕ) → r < n → Open es r → Open (take n es) r
+open_in_front es n r inside opened = record {
+  call = opened.call;
+  arrived = read_front call_read es n r opened.call inside opened.arrived;
+  stays = opened.stays;
+  unmet = λ met. opened.unmet (subst (λ (xs : List Entry). Met xs r) (take-append-drop n es) (Met-on (take n es) (drop n es) r met));
+  unstopped = λ stopped. opened.unstopped (subst (λ (xs : List Entry). Stopped xs r) (take-append-drop n es) (Stopped-on (take n es) (drop n es) r stopped));
+}
+
+pub waiting_in_front : (es : List Entry) (n r : ℕ) → r < n → Waiting es r → Waiting (take n es) r
+unfolding open_in_front
+waiting_in_front es n r inside w = record { is_open = open_in_front es n r inside w.is_open; no_put = w.no_put }
 
 -- the entry that names a partner, and that it may follow those before it
 pub record Naming (a : Account) (p q : ℕ) : Type 0 where

@@ -128,7 +128,7 @@ Stopped-back es e r h =
 
 -- ---- who is open
 
-pub Open-on : (es : List Entry) (e : Entry) (r : ℕ) → Open es r → (e.partner ≡ Some r → ⊥) → (StoppedAt (es ++ e ∷ []) r (length es) → ⊥) → Open (es ++ e ∷ []) r
+unfoldable pub Open-on : (es : List Entry) (e : Entry) (r : ℕ) → Open es r → (e.partner ≡ Some r → ⊥) → (StoppedAt (es ++ e ∷ []) r (length es) → ⊥) → Open (es ++ e ∷ []) r
 Open-on es e r h unnamed unstopped = record {
   call = h.call;
   arrived = reads_on call_read refl es (e ∷ []) r h.call h.arrived;
@@ -143,7 +143,7 @@ Open-on es e r h unnamed unstopped = record {
   unstopped = λ stopped. elim (Stopped-back es e r stopped) [ inl before ↦ h.unstopped before | inr new ↦ unstopped new ];
 }
 
-pub Open-back : (es more : List Entry) (r : ℕ) (h : Open (es ++ more) r) → call_at es r ≡ Some h.call → Open es r
+unfoldable pub Open-back : (es more : List Entry) (r : ℕ) (h : Open (es ++ more) r) → call_at es r ≡ Some h.call → Open es r
 Open-back es more r h arrived = record {
   call = h.call;
   arrived = arrived;

@@ -21,6 +21,18 @@ abbrev pub client_of : Act → ℕ
 client_of (Hello client incarnation) = client
 client_of (Arrive key call) = key.client
 
+-- ---- where a key or a call stands, an arrival does
+
+pub act_named : (o : Option Act) (key : Key) → option_and_then key_in o ≡ Some key → (call : Call) × (o ≡ Some (Arrive key call))
+act_named None key is = absurd (none-some key is)
+act_named (Some (Hello client incarnation)) key is = absurd (none-some key is)
+act_named (Some (Arrive other call)) key is = (call, ap (λ k. Some (Arrive k call)) (same_Some _ _ is))
+
+pub act_called : (o : Option Act) (call : Call) → option_and_then call_in o ≡ Some call → (key : Key) × (o ≡ Some (Arrive key call))
+act_called None call is = absurd (none-some call is)
+act_called (Some (Hello client incarnation)) call is = absurd (none-some call is)
+act_called (Some (Arrive key other)) call is = (key, ap (λ c. Some (Arrive key c)) (same_Some _ _ is))
+
 -- ---- one more entry
 
 pub no_hello : (key : Key) (call : Call) (c i : ℕ) → Some (Arrive key call) ≡ Some (Hello c i) → ⊥

@@ -8,6 +8,7 @@ pub mod Legality
 pub mod Fronts
 pub mod Histories
 pub mod Keys
+pub mod Waits
 pub mod Sides
 pub mod Waiters
 pub mod Following
@@ -16,8 +17,13 @@ pub mod OnePartner
 pub mod Leaving
 pub mod Limits
 pub mod ReplyLaws
+pub mod Unmet
 pub mod Puts
 pub mod Takes
+pub mod Transfers
+pub mod Looking
+pub mod Counts
+pub mod Peeks
 pub mod Replying
 pub mod SessionTable
 pub mod Deciding

@@ -6,7 +6,9 @@ use Rattle.rv_book.specs.Sessions.{HasIncarnation, HasOnlyLower, LastNumber}
 use Rattle.rv_text.specs.declared.message.Key.{Key}
 use Rattle.rv_text.specs.declared.answer.Refusal.{Refusal}
 use Rattle.std.proofs.Common.{arith, inl, length, refl, ℕ, ◌+◌, ◌<◌, ◌≡◌, ◌≤◌, inr, ◌⊎◌}
-use Rattle.rv_book.proofs.NotYet.{nobody, none_waits}
+use Rattle.rv_book.specs.Counting.{NumberOf}
+use Rattle.rv_book.specs.Waiting.{Waiting}
+use Rattle.rv_book.proofs.Counting.{one_number}
 use Rattle.rv_book.proofs.Histories.{one_incarnation, one_last_number}
 use Rattle.rv_book.specs.Legal.{HasWaiting}
 use Rattle.rv_book.specs.Arriving.{IsNext}
@@ -146,11 +148,11 @@ WhereElse-elim C T O G f g (inr h) = g h.1
 
 -- ---- room
 
-pub room_left : (a : Account) (need : ℕ) → length a.entries + need ≤ 100000 → (refusal : Refusal) → EpochFullDue a need refusal → ⊥
-room_left a need room refusal due =
-    let none : due.waiting ≡ 0 = nobody a.entries due.waiting due.count in
+pub room_left : (a : Account) (waiting need : ℕ) → NumberOf (Waiting a.entries) waiting → length a.entries + waiting + need ≤ 100000 → (refusal : Refusal) → EpochFullDue a need refusal → ⊥
+room_left a waiting need count room refusal due =
+    let same : due.waiting ≡ waiting = one_number (Waiting a.entries) due.waiting waiting due.count count in
     let over : 100000 < length a.entries + due.waiting + need = due.full in
     omega arith
 
-pub no_room : (a : Account) (need : ℕ) → 100000 < length a.entries + need → EpochFullDue a need EpochFull
-no_room a need full = record { waiting = 0; count = none_waits a.entries; full = omega arith; is = refl }
+pub no_room : (a : Account) (waiting need : ℕ) → NumberOf (Waiting a.entries) waiting → 100000 < length a.entries + waiting + need → EpochFullDue a need EpochFull
+no_room a waiting need count full = record { waiting = waiting; count = count; full = full; is = refl }

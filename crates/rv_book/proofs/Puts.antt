@@ -1,10 +1,14 @@
 -- The reply of a put: done.
-use Rattle.std.proofs.Common.{ℕ, List, Option, refl, sym, subst, ◌∙◌}
+use Rattle.std.proofs.Common.{◌≡◌, inl, ℕ, List, Option, Some, refl, sym, subst, ◌∙◌}
+use Rattle.std.proofs.lemmas.Option.{same_Some}
 use Rattle.rv_text.specs.declared.answer.Reply as reply
 use Rattle.rv_text.specs.declared.call.Call.TheVariants.{Put}
 use Rattle.rv_text.specs.Limits.{FitsReply}
 use Rattle.rv_session.specs.declared.kept.Kept as kept
-use Rattle.rv_book.specs.Account.{Account}
+use Rattle.rv_book.specs.Account.{Account, call_at}
+use Rattle.rv_book.specs.Calls.{IsPut}
+use Rattle.rv_book.specs.Waiting.{Waiting}
+use Rattle.rv_text.proofs.Kept.{done_fits}
 use Rattle.rv_book.specs.Arriving.{WillReply}
 use Rattle.rv_book.proofs.ReplyLaws.{ReplyLaws}
 use Rattle.rv_book.specs.Legal.{before}
@@ -12,11 +16,16 @@ use Rattle.rv_book.specs.Legal.{before}
 pub put_replies : (a : Account) (queue : ℕ) (item : List ℕ) (partner : Option ℕ) → WillReply a (Put queue item) partner kept.TheVariants.Done
 put_replies a queue item partner moment key before after = record { reply = reply.TheVariants.Done; is = refl; replies = refl }
 
+waits_not : (queue : ℕ) (item : List ℕ) (a : Account) (r : ℕ) → call_at a.entries r ≡ Some (Put queue item) → Waiting a.entries r → ⊥
+waits_not queue item a r arrived w =
+    let same : Put queue item ≡ w.is_open.call = same_Some _ _ (sym arrived ∙ w.is_open.arrived) in
+    w.no_put (subst IsPut same (refl, refl))
+
 pub puts : (queue : ℕ) (item : List ℕ) → ReplyLaws (Put queue item)
 puts queue item = record {
-  is_kept = λ a partner. (kept.TheVariants.Done, put_replies a queue item partner);
   stays = λ es more epoch opened r reply legal arrived is. is;
   one = λ b r x y legal first second. second ∙ sym first;
-  fits = λ a r reply fits is. subst FitsReply (sym is) tt;
-  exists = λ a r legal arrived. (reply.TheVariants.Done, refl);
+  fits = λ a r reply fits is. subst FitsReply (sym is) done_fits;
+  exists = λ a r legal arrived. inl (reply.TheVariants.Done, refl);
+  waits_not = λ a r reply legal arrived w is. waits_not queue item a r arrived w;
 }

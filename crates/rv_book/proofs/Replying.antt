@@ -1,5 +1,5 @@
--- What is kept for an arrival is its reply, once its entry stands.
-use Rattle.std.proofs.Common.{◌≡◌, ℕ, length, Option, Some, refl, sym, ap, subst, ◌∙◌}
+-- What is kept for an arrival is its reply, once its entry stands, or it waits.
+use Rattle.std.proofs.Common.{◌≡◌, inl, inr, ℕ, length, Option, Some, None, option_map, refl, sym, ap, subst, ◌∙◌}
 use Rattle.rv_text.specs.declared.call.Call as call
 use Rattle.rv_text.specs.declared.call.Call.{Call}
 use Rattle.rv_text.specs.declared.message.Key.{Key}
@@ -7,12 +7,17 @@ use Rattle.rv_book.specs.declared.account.Act.TheVariants.{Arrive}
 use Rattle.rv_book.specs.declared.account.Entry.{Entry}
 use Rattle.rv_session.specs.declared.kept.Kept.{Kept}
 use Rattle.rv_book.specs.Account.{Account, act_at, with_entry}
-use Rattle.rv_book.specs.Arriving.{IsRecorded, WillReply, entry}
+use Rattle.rv_book.specs.Arriving.{GoesOn, IsRecorded, WillReply, entry}
 use Rattle.rv_book.specs.Legal.{Legal}
 use Rattle.rv_book.specs.Replies.{HasReply}
 use Rattle.rv_book.proofs.Growing.{act_read}
 use Rattle.rv_book.proofs.Places.{get-append_end}
+use Rattle.rv_book.proofs.Counts.{counts}
+use Rattle.rv_book.proofs.Peeks.{peeks}
 use Rattle.rv_book.proofs.Puts.{puts}
+use Rattle.rv_book.proofs.Transfers.{transfers}
+use Rattle.rv_book.proofs.Sides.{Waiting-last}
+use Rattle.rv_text.specs.declared.answer.Answer as answer
 use Rattle.rv_book.proofs.ReplyLaws.{ReplyLaws}
 use Rattle.rv_book.proofs.Takes.{takes}
 
@@ -22,19 +27,36 @@ arrived_last a e key call is = ap act_read (get-append_end a.entries e) ∙ ap S
 -- the laws of each call's replies: the one place of these proofs that lists the calls for them
 pub reply_laws : (call : Call) → ReplyLaws call
 reply_laws (call.TheVariants.Put queue item) = puts queue item
+reply_laws (call.TheVariants.Transfer queue item wait) = transfers queue item wait
 reply_laws (call.TheVariants.Take queue wait) = takes queue wait
+reply_laws (call.TheVariants.Count queue) = counts queue
+reply_laws (call.TheVariants.Peek queue) = peeks queue
 
 -- what is kept is told as the reply of the key
 pub recorded : (a b : Account) (moment : ℕ) (key : Key) (call : Call) (partner : Option ℕ) (said : Kept) → WillReply a call partner said → Legal a → Legal b
-    → b ≡ with_entry a (entry moment (Arrive key call) partner) → IsRecorded a b moment key call said
+    → b ≡ with_entry a (entry moment (Arrive key call) partner) → IsRecorded a b moment key call (Some said)
 recorded a b moment key call partner said will before after follows =
     let e = entry moment (Arrive key call) partner in
     let there = will moment key before (subst Legal follows after) in
     let has : HasReply (with_entry a e).entries key there.reply = record { place = length a.entries; call = call; arrived = arrived_last a e key call refl; replies = there.replies } in
-    let P : Account → Type 0 = λ c. IsRecorded a c moment key call said in
+    let P : Account → Type 0 = λ c. IsRecorded a c moment key call (Some said) in
     subst P (sym follows) (record {
-      reply = there.reply;
-      is = there.is;
+      answer = answer.TheVariants.Replied key there.reply;
+      is = ap (option_map (answer.TheVariants.Replied key)) there.is;
       adds = record { entry = e; moment_is = refl; act_is = refl; follows = refl; legal = subst Legal follows after };
-      replies = record { reply = there.reply; has = has; is = refl };
+      answers = inl (record { reply = there.reply; has = has; is = refl });
+    })
+
+-- a request that goes on is told that it waits
+pub recorded_waits : (a b : Account) (moment : ℕ) (key : Key) (call : Call) (partner : Option ℕ) → GoesOn call partner → Legal a → Legal b
+    → b ≡ with_entry a (entry moment (Arrive key call) partner) → IsRecorded a b moment key call None
+recorded_waits a b moment key call partner goes before after follows =
+    let e = entry moment (Arrive key call) partner in
+    let waits = Waiting-last a e before goes.unmet (record { call = call; arrives = refl; stays = goes.stays; no_put = goes.no_put }) in
+    let P : Account → Type 0 = λ c. IsRecorded a c moment key call None in
+    subst P (sym follows) (record {
+      answer = answer.TheVariants.Waiting key;
+      is = refl;
+      adds = record { entry = e; moment_is = refl; act_is = refl; follows = refl; legal = subst Legal follows after };
+      answers = inr (record { place = length a.entries; call = call; arrived = arrived_last a e key call refl; waits = waits }, refl);
     })

@@ -1,17 +1,19 @@
 -- What stands on a side, with one entry more: who was open there before, and whether the entry is.
 use Rattle.std.proofs.Common.{◌≡◌, ◌⊎◌, inl, inr, ℕ, ◌<◌, List, [], ◌∷◌, ◌++◌, length, take, Some, None, refl, sym, ap, subst, ◌∙◌, arith, length-take}
-use Rattle.rv_book.specs.Account.{Account, call_at, call_in}
+use Rattle.rv_book.specs.Account.{Account, act_at, call_at, call_in}
 use Rattle.rv_text.specs.declared.call.Call.{Call}
 use Rattle.rv_book.specs.declared.account.Entry.{Entry}
 use Rattle.rv_text.specs.declared.call.Side.{Side}
 use Rattle.std.proofs.lemmas.Option.{none-some, same_Some}
 use Rattle.rv_text.specs.Calls.{side_of}
 use Rattle.rv_book.specs.Legal.{Legal, NamesFreePartner}
-use Rattle.rv_book.specs.Waiting.{Met, NamesPartner, OpenAt, SideAt, Stopped}
-use Rattle.rv_book.proofs.Growing.{NamesPartner-back, Open-back, Open-on, call_read, partner_read, read_there, reads_back, reads_on, reads_within}
-use Rattle.rv_book.specs.Calls.{Stays}
+use Rattle.rv_book.specs.Waiting.{EndsWait, Met, NamesPartner, Open, OpenAt, SideAt, Stopped, StoppedAt, Waiting, limit_at}
+use Rattle.rv_book.proofs.Growing.{NamesPartner-back, Open-back, Open-on, act_read, call_read, partner_read, read_there, reads_back, reads_on, reads_within}
+use Rattle.rv_book.specs.Calls.{IsPut, Stays}
+use Rattle.rv_book.specs.declared.account.Act.{Act}
+use Rattle.rv_book.specs.declared.account.Act.TheVariants.{Arrive, Hello}
+use Rattle.rv_text.specs.declared.message.Key.{Key}
 use Rattle.rv_book.proofs.Places.{get-append_cases, get-append_end}
-use Rattle.rv_book.proofs.NotYet.{unstopped}
 
 pub SideAt-on : (es more : List Entry) (side : Side) (r : ℕ) → SideAt es side r → SideAt (es ++ more) side r
 SideAt-on es more side r h = record { call = h.call; arrived = reads_on call_read refl es more r h.call h.arrived; is = h.is }
@@ -29,15 +31,56 @@ pub record IsNewOn (e : Entry) (side : Side) : Type 0 where
   pub is : side_of call ≡ side
   pub stays : Stays call
 
--- an open arrival that the entry does not name stays open
-pub OpenAt-on : (es : List Entry) (e : Entry) (side : Side) (r : ℕ) → OpenAt es side r → (e.partner ≡ Some r → ⊥) → OpenAt (es ++ e ∷ []) side r
-OpenAt-on es e side r h unnamed =
-    let opened = h.is_open in
-    let arrived = reads_on call_read refl es (e ∷ []) r opened.call opened.arrived in
+-- ---- whom an entry stops
+
+-- an arrival stops nobody
+pub arrival_stops_nobody : (es : List Entry) (e : Entry) (key : Key) (call : Call) (r : ℕ) → e.act ≡ Arrive key call → StoppedAt (es ++ e ∷ []) r (length es) → ⊥
+arrival_stops_nobody es e key call r arrives stopped =
+    let own : e ≡ stopped.stopper = same_Some _ _ (sym (get-append_end es e) ∙ stopped.there) in
+    subst (λ act. EndsWait act stopped.stopper.moment stopped.key (limit_at (es ++ e ∷ []) r)) (sym (ap (λ (x : Entry). x.act) own) ∙ arrives) stopped.ends
+
+-- a request of the client other than a put arrived at r
+pub record IsRequestOf (es : List Entry) (client r : ℕ) : Type 0 where
+  pub key : Key
+  pub call : Call
+  pub arrived : act_at es r ≡ Some (Arrive key call)
+  pub of_client : client ≡ key.client
+  pub no_put : IsPut call → ⊥
+
+-- a hello stops the requests of its client that are no puts
+pub hello_stops : (es : List Entry) (e : Entry) (client incarnation r : ℕ) → e.act ≡ Hello client incarnation → IsRequestOf es client r → StoppedAt (es ++ e ∷ []) r (length es)
+hello_stops es e client incarnation r says request = record {
+  key = request.key;
+  call = request.call;
+  stopper = e;
+  arrived = reads_on act_read refl es (e ∷ []) r (Arrive request.key request.call) request.arrived;
+  no_put = request.no_put;
+  later = reads_within act_read refl es r (Arrive request.key request.call) request.arrived;
+  there = get-append_end es e;
+  ends = subst (λ act. EndsWait act e.moment request.key (limit_at (es ++ e ∷ []) r)) (sym says) request.of_client;
+}
+
+-- and no others
+pub stopped_by_hello : (es : List Entry) (e : Entry) (client incarnation r : ℕ) → e.act ≡ Hello client incarnation → StoppedAt (es ++ e ∷ []) r (length es) → IsRequestOf es client r
+stopped_by_hello es e client incarnation r says stopped =
+    let own : e ≡ stopped.stopper = same_Some _ _ (sym (get-append_end es e) ∙ stopped.there) in
+    let later : r < length es = stopped.later in
     record {
-      of_side = SideAt-on es (e ∷ []) side r h.of_side;
-      is_open = Open-on es e r opened unnamed (unstopped (es ++ e ∷ []) r (length es) opened.call arrived opened.stays);
+      key = stopped.key;
+      call = stopped.call;
+      arrived = elim (reads_back act_read refl es e r (Arrive stopped.key stopped.call) stopped.arrived) [ inl inside ↦ inside.1 | inr last ↦ absurd (omega arith) ];
+      of_client = subst (λ act. EndsWait act stopped.stopper.moment stopped.key (limit_at (es ++ e ∷ []) r)) (sym (ap (λ (x : Entry). x.act) own) ∙ says) stopped.ends;
+      no_put = stopped.no_put;
     }
+
+-- ---- who stays open, and who was
+
+-- an open arrival that the entry neither names nor stops stays open
+pub OpenAt-on : (es : List Entry) (e : Entry) (side : Side) (r : ℕ) → OpenAt es side r → (e.partner ≡ Some r → ⊥) → (StoppedAt (es ++ e ∷ []) r (length es) → ⊥) → OpenAt (es ++ e ∷ []) side r
+OpenAt-on es e side r h unnamed unstopped = record {
+  of_side = SideAt-on es (e ∷ []) side r h.of_side;
+  is_open = Open-on es e r h.is_open unnamed unstopped;
+}
 
 -- the partner of the last entry is met
 pub names_last : (es : List Entry) (e : Entry) (p : ℕ) → NamesFreePartner es e → e.partner ≡ Some p → Met (es ++ e ∷ []) p
@@ -55,10 +98,11 @@ names_last es e p free named =
       part = inr refl;
     }
 
--- the open arrival was so before, and the entry does not name it
+-- the open arrival was so before, and the entry neither names nor stops it
 pub record WasOpen (es : List Entry) (e : Entry) (side : Side) (r : ℕ) : Type 0 where
   pub there : OpenAt es side r
   pub unnamed : e.partner ≡ Some r → ⊥
+  pub unstopped : StoppedAt (es ++ e ∷ []) r (length es) → ⊥
 
 -- who is open on a side with one entry more was so before, or is that entry
 pub OpenAt-back : (es : List Entry) (e : Entry) (side : Side) (r : ℕ) → NamesFreePartner es e → OpenAt (es ++ e ∷ []) side r → WasOpen es e side r ⊎ ((r ≡ length es) × IsNewOn e side)
@@ -73,6 +117,7 @@ OpenAt-back es e side r free h =
           is_open = Open-back es (e ∷ []) r opened (inside.1 ∙ ap Some same);
         };
         unnamed = λ named. opened.unmet (names_last es e r free named);
+        unstopped = λ stopped. opened.unstopped (length es, stopped);
       })
       | inr last ↦ inr (last.0, record { call = at.call; arrives = last.1; is = at.is; stays = subst Stays (sym same) opened.stays })
     ]
@@ -111,3 +156,52 @@ OpenAt-last a e side legal none new =
       of_side = record { call = new.call; arrived = arrived; is = new.is };
       is_open = record { call = new.call; arrived = arrived; stays = new.stays; unmet = last_unmet a e legal none; unstopped = last_unstopped es e };
     }
+
+-- ---- who waits
+
+-- the entry arrives, stays, and is no put
+pub record IsNewRequest (e : Entry) : Type 0 where
+  pub call : Call
+  pub arrives : call_in e.act ≡ Some call
+  pub stays : Stays call
+  pub no_put : IsPut call → ⊥
+
+-- a waiting request that the entry neither names nor stops still waits
+pub Waiting-on : (es : List Entry) (e : Entry) (r : ℕ) → Waiting es r → (e.partner ≡ Some r → ⊥) → (StoppedAt (es ++ e ∷ []) r (length es) → ⊥) → Waiting (es ++ e ∷ []) r
+unfolding Open-on
+Waiting-on es e r h unnamed unstopped = record { is_open = Open-on es e r h.is_open unnamed unstopped; no_put = h.no_put }
+
+-- the request waited before, and the entry neither names nor stops it
+pub record WasWaiting (es : List Entry) (e : Entry) (r : ℕ) : Type 0 where
+  pub there : Waiting es r
+  pub unnamed : e.partner ≡ Some r → ⊥
+  pub unstopped : StoppedAt (es ++ e ∷ []) r (length es) → ⊥
+
+-- who waits with one entry more waited before, or is that entry
+pub Waiting-back : (es : List Entry) (e : Entry) (r : ℕ) → NamesFreePartner es e → Waiting (es ++ e ∷ []) r → WasWaiting es e r ⊎ ((r ≡ length es) × IsNewRequest e)
+unfolding Open-back
+Waiting-back es e r free h =
+    let opened = h.is_open in
+    elim (reads_back call_read refl es e r opened.call opened.arrived) [
+      | inl inside ↦ inl (record {
+        there = record { is_open = Open-back es (e ∷ []) r opened inside.1; no_put = h.no_put };
+        unnamed = λ named. opened.unmet (names_last es e r free named);
+        unstopped = λ stopped. opened.unstopped (length es, stopped);
+      })
+      | inr last ↦ inr (last.0, record { call = opened.call; arrives = last.1; stays = opened.stays; no_put = h.no_put })
+    ]
+
+-- a request that arrives, stays and names nobody waits
+pub Waiting-last : (a : Account) (e : Entry) → Legal a → e.partner ≡ None → IsNewRequest e → Waiting (a.entries ++ e ∷ []) (length a.entries)
+Waiting-last a e legal none new =
+    let es : List Entry = a.entries in
+    let arrived : call_at (es ++ e ∷ []) (length es) ≡ Some new.call = ap call_read (get-append_end es e) ∙ new.arrives in
+    let opened : Open (es ++ e ∷ []) (length es) = record { call = new.call; arrived = arrived; stays = new.stays; unmet = last_unmet a e legal none; unstopped = last_unstopped es e } in
+    record { is_open = opened; no_put = new.no_put }
+
+-- a waiting request is open on its call's side
+pub waiting_is_open : (es : List Entry) (r : ℕ) (w : Waiting es r) → OpenAt es (side_of w.is_open.call) r
+waiting_is_open es r w = record {
+  of_side = record { call = w.is_open.call; arrived = w.is_open.arrived; is = refl };
+  is_open = w.is_open;
+}

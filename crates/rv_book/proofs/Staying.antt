@@ -1,4 +1,4 @@
--- Replies and verdicts stay where an account is extended, and a key has one reply.
+-- Replies and verdicts stay where an account is extended, and a key is told one thing.
 use Rattle.rv_text.specs.declared.answer.Reply as reply
 use Rattle.rv_text.specs.declared.answer.Answer as answer
 use Rattle.rv_book.specs.declared.account.Act as act
@@ -7,7 +7,8 @@ use Rattle.rv_book.specs.declared.verdict.Said as said
 use Rattle.rv_text.specs.declared.message.Message.TheVariants.{Hello, Request}
 use Rattle.rv_book.specs.Account.{Account, Extends, act_at, call_in}
 use Rattle.rv_book.specs.declared.account.Act.{Act}
-use Rattle.rv_book.specs.Steps.{Adds, EntersOrNoMemory, NextAt, Refuses, Replies}
+use Rattle.rv_book.specs.Steps.{Adds, Answers, EntersOrNoMemory, KeyWaits, NextAt, Refuses, Replies}
+use Rattle.rv_book.specs.Waiting.{Waiting}
 use Rattle.rv_text.specs.declared.answer.Answer.{Answer}
 use Rattle.rv_text.specs.declared.call.Call.{Call}
 use Rattle.rv_book.specs.declared.account.Entry.{Entry}
@@ -29,7 +30,6 @@ use Rattle.rv_book.proofs.Replying.{reply_laws}
 use Rattle.rv_text.specs.Calls.{item_of}
 use Rattle.std.proofs.lemmas.Option.{none-some}
 use Rattle.std.specs.List.{slice_get}
-use Rattle.rv_book.proofs.Stepping.{entered}
 
 -- ---- a step only adds
 
@@ -57,7 +57,7 @@ step_extends a b moment (Hello client incarnation) x next =
     entered))) next
 step_extends a b moment (Request key call) x next =
     let refused = λ (D : Refusal → Type 0) (refusal : Refusal) (due : D refusal) (refuses : Refuses a b x refusal). same_extends a b refuses.0 in
-    let entered = λ (h : EntersOrNoMemory a moment (act.TheVariants.Arrive key call) b x (Replies b key x)). entered_extends a b moment _ x _ h in
+    let entered = λ (h : EntersOrNoMemory a moment (act.TheVariants.Arrive key call) b x (Answers b key x)). entered_extends a b moment _ x _ h in
     RefuseOr-elim _ _ _ (Extends a b) (refused _)
     (RefuseOr-elim _ _ _ (Extends a b) (refused _)
     (RefuseOr-elim _ _ _ (Extends a b) (refused _)
@@ -85,13 +85,18 @@ kept_stays a b (kept.TheVariants.Item place) r extends is =
     let item = mapped reply.TheVariants.Item (item_at a.entries place) r is in
     let there : item_at b.entries place ≡ Some item.0 = reading_on (λ o. option_and_then item_of (call_read o)) refl a b place item.0 extends item.1 in
     ap (option_map reply.TheVariants.Item) (there ∙ sym item.1) ∙ is
+kept_stays a b (kept.TheVariants.Peeked place) r extends is =
+    let item = mapped reply.TheVariants.Peeked (item_at a.entries place) r is in
+    let there : item_at b.entries place ≡ Some item.0 = reading_on (λ o. option_and_then item_of (call_read o)) refl a b place item.0 extends item.1 in
+    ap (option_map reply.TheVariants.Peeked) (there ∙ sym item.1) ∙ is
 kept_stays a b k r extends is = is
 
-said_stays : (a b : Account) (s : Said) (x : Answer) → Extends a b → answer_of a.entries s ≡ Some x → answer_of b.entries s ≡ Some x
+pub said_stays : (a b : Account) (s : Said) (x : Answer) → Extends a b → answer_of a.entries s ≡ Some x → answer_of b.entries s ≡ Some x
 said_stays a b (said.TheVariants.Welcome epoch client incarnation) x extends is = is
 said_stays a b (said.TheVariants.Replied key k) x extends is =
     let r = mapped (answer.TheVariants.Replied key) (reply_of a.entries k) x is in
     ap (option_map (answer.TheVariants.Replied key)) (kept_stays a b k r.0 extends r.1 ∙ sym r.1) ∙ is
+said_stays a b (said.TheVariants.Waiting key) x extends is = is
 said_stays a b (said.TheVariants.Refused refusal) x extends is = is
 
 pub verdicts_stay : VerdictsStay
@@ -108,6 +113,20 @@ one_reply b key x y legal first second =
     let call : second.call ≡ first.call = one_call key second.call first.call (sym second.arrived ∙ ap (act_at b.entries) place ∙ first.arrived) in
     let moved = subst (λ r. RepliesAt b.entries r first.call y) place (subst (λ c. RepliesAt b.entries second.place c y) call second.replies) in
     (reply_laws first.call).one b first.place x y legal first.replies moved
+
+-- who waits has no reply
+pub reply_or_waits : (b : Account) (key : Key) (reply : Reply) → Legal b → HasReply b.entries key reply → KeyWaits b key → ⊥
+reply_or_waits b key reply legal has waits =
+    let place : waits.place ≡ has.place = arrives_once b waits.place has.place key waits.call has.call legal waits.arrived has.arrived in
+    let there : Waiting b.entries has.place = subst (Waiting b.entries) place waits.waits in
+    (reply_laws has.call).waits_not b has.place reply legal (ap (option_and_then call_in) has.arrived) there has.replies
+
+-- a key is told one thing
+pub one_told : (b : Account) (key : Key) (x y : Answer) → Legal b → Answers b key x → Answers b key y → y ≡ x
+one_told b key x y legal (inl first) (inl second) = second.is ∙ ap (answer.TheVariants.Replied key) (one_reply b key first.reply second.reply legal first.has second.has) ∙ sym first.is
+one_told b key x y legal (inl first) (inr second) = absurd (reply_or_waits b key first.reply legal first.has second.0)
+one_told b key x y legal (inr first) (inl second) = absurd (reply_or_waits b key second.reply legal second.has first.0)
+one_told b key x y legal (inr first) (inr second) = second.1 ∙ sym first.1
 
 reply_on : (es more : List Entry) (epoch opened : ℕ) (key : Key) (reply : Reply) → Legal (record { epoch = epoch; opened = opened; entries = es ++ more }) → HasReply es key reply → HasReply (es ++ more) key reply
 reply_on es more epoch opened key reply legal has = record {

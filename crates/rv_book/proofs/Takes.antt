@@ -1,13 +1,13 @@
 -- The reply of a take: the item of whom it meets; unmet, what its wait tells.
-use Rattle.std.proofs.Common.{◌≡◌, inl, inr, ℕ, ◌<◌, List, ◌∷◌, [], ◌++◌, length, Option, Some, None, option_and_then, option_map, refl, sym, ap, subst, ◌∙◌}
+use Rattle.std.proofs.Common.{◌≡◌, ◌⊎◌, inl, inr, ℕ, ◌<◌, List, ◌∷◌, [], ◌++◌, length, Option, Some, None, option_and_then, option_map, refl, sym, ap, subst, ◌∙◌}
 use Rattle.std.specs.List.{slice_get}
-use Rattle.std.proofs.lemmas.Option.{same_Some}
+use Rattle.std.proofs.lemmas.Option.{none-some, same_Some}
 use Rattle.rv_text.specs.declared.answer.Reply as reply
 use Rattle.rv_text.specs.declared.answer.Reply.{Reply}
 use Rattle.rv_text.specs.declared.call.Call.{Call}
 use Rattle.rv_text.specs.declared.call.Call.TheVariants.{Take}
 use Rattle.rv_text.specs.declared.call.Side.{Side}
-use Rattle.rv_text.specs.declared.call.Side.TheVariants.{Gives, Takes}
+use Rattle.rv_text.specs.declared.call.Side.TheVariants.{Gives, Looks, Takes}
 use Rattle.rv_text.specs.declared.call.Wait.{Wait}
 use Rattle.rv_text.specs.declared.call.Wait.TheVariants.{Now}
 use Rattle.rv_text.specs.Calls.{item_of, side_of}
@@ -24,7 +24,9 @@ use Rattle.rv_book.specs.Legal.{Legal, before}
 use Rattle.rv_book.specs.Limits.{FitsAccount}
 use Rattle.rv_book.specs.Replies.{Gets, Meet, RepliesAt, RepliesUnmet}
 use Rattle.rv_book.specs.Verdicts.{item_at}
-use Rattle.rv_book.specs.Waiting.{Met, NamesPartner}
+use Rattle.rv_book.specs.Waiting.{Met, NamesPartner, Waiting}
+use Rattle.rv_book.proofs.Unmet.{one_unmet, still_unmet, unmet_exists, unmet_fits, unmet_stays, unmet_waits_not}
+use Rattle.rv_text.proofs.Kept.{empty_fits}
 use Rattle.rv_book.proofs.Growing.{NamesPartner-on, call_read, partner_read, reads_on, reads_within}
 use Rattle.rv_book.proofs.CallKinds.{gives_item}
 use Rattle.rv_book.proofs.Legality.{follows_itself}
@@ -36,22 +38,24 @@ use Rattle.rv_book.proofs.Sides.{last_unmet}
 use Rattle.rv_book.proofs.Deciding.{met_or_not}
 use Rattle.rv_book.proofs.Fronts.{read_whole}
 
+-- what an unmet take is told that does not wait
+abbrev empty : Reply
+empty = reply.TheVariants.Empty
+
 -- ---- what is kept
 
-told_empty : (wait : Wait) (es : List Entry) (r : ℕ) → RepliesUnmet es r wait reply.TheVariants.Empty reply.TheVariants.Empty
-told_empty Now es r = refl
-
-pub poll_replies : (a : Account) (queue : ℕ) (wait : Wait) → WillReply a (Take queue wait) None kept.TheVariants.Empty
-poll_replies a queue wait moment key before after =
-    let e = entry moment (Arrive key (Take queue wait)) None in
-    record {
-      reply = reply.TheVariants.Empty;
-      is = refl;
-      replies = inr (last_unmet a e before refl, told_empty wait (with_entry a e).entries (length a.entries));
-    }
+pub poll_replies : (a : Account) (queue : ℕ) → WillReply a (Take queue Now) None kept.TheVariants.Empty
+poll_replies a queue moment key before after =
+    let e = entry moment (Arrive key (Take queue Now)) None in
+    record { reply = reply.TheVariants.Empty; is = refl; replies = inr (last_unmet a e before refl, refl) }
 
 takes_meet_givers : (queue : ℕ) (side : Side) → opposite (Takes queue) ≡ Some side → side ≡ Gives queue
 takes_meet_givers queue side opposes = cc
+
+givers_meet_takers : (side : Side) (queue : ℕ) → opposite side ≡ Some (Takes queue) → side ≡ Gives queue
+givers_meet_takers (Gives other) queue opposes = cc
+givers_meet_takers (Takes other) queue opposes = absurd (let no : ⊥ = cc in no)
+givers_meet_takers (Looks other) queue opposes = absurd (none-some _ opposes)
 
 pub take_replies : (a : Account) (queue : ℕ) (wait : Wait) (place : ℕ) → WillReply a (Take queue wait) (Some place) (kept.TheVariants.Item place)
 take_replies a queue wait place moment key before after =
@@ -75,10 +79,6 @@ take_replies a queue wait place moment key before after =
       replies = inl (gives.0, gets, refl);
     }
 
-is_kept : (queue : ℕ) (wait : Wait) (a : Account) (partner : Option ℕ) → (said : Kept) × WillReply a (Take queue wait) partner said
-is_kept queue wait a None = (kept.TheVariants.Empty, poll_replies a queue wait)
-is_kept queue wait a (Some place) = (kept.TheVariants.Item place, take_replies a queue wait place)
-
 -- ---- the reply stays
 
 Meet-on : (es more : List Entry) (r s : ℕ) → Meet es r s → Meet (es ++ more) r s
@@ -100,40 +100,12 @@ gets_met es r item gets = elim gets.meet [
   | inr names ↦ record { later = r; earlier = gets.giver; names = names; part = inl refl }
 ]
 
--- an arrival that does not stay and was not met is not met in any legal account that goes on
-still_unmet : (es more : List Entry) (epoch opened r : ℕ) (call : Call) → Legal (record { epoch = epoch; opened = opened; entries = es ++ more }) → call_at es r ≡ Some call
-    → (Stays call → ⊥) → (Met es r → ⊥) → Met (es ++ more) r → ⊥
-still_unmet es more epoch opened r call legal arrived goes unmet met =
-    let b : Account = record { epoch = epoch; opened = opened; entries = es ++ more } in
-    elim met.part [
-      | inr named ↦
-          let names = subst (NamesPartner (es ++ more) met.later) (sym named) met.names in
-          goes_unnamed b met.later r call legal (reads_on call_read refl es more r call arrived) goes names
-      | inl own ↦
-          let names = subst (λ p. NamesPartner (es ++ more) p met.earlier) (sym own) met.names in
-          let inside : r < length es = reads_within call_read refl es r call arrived in
-          let same : slice_get (es ++ more) r ≡ slice_get es r = get-append_within es more r inside in
-          unmet (record {
-            later = r;
-            earlier = met.earlier;
-            names = record { call = names.call; arrived = sym (ap call_read same) ∙ names.arrived; meets = names.meets; named = sym (ap partner_read same) ∙ names.named };
-            part = inl refl;
-          })
-    ]
-
--- what is told at once is told of a call that does not stay
-at_once : (queue : ℕ) (wait : Wait) (es more : List Entry) (r : ℕ) (reply other : Reply) → RepliesUnmet es r wait reply other → Stays (Take queue wait) → ⊥
-at_once queue Now es more r reply other unmet stays = stays.1
-
-unmet_on : (wait : Wait) (es more : List Entry) (r : ℕ) (reply other : Reply) → RepliesUnmet es r wait reply other → RepliesUnmet (es ++ more) r wait reply other
-unmet_on Now es more r reply other unmet = unmet
-
 stays : (queue : ℕ) (wait : Wait) (es more : List Entry) (epoch opened r : ℕ) (reply : Reply) → Legal (record { epoch = epoch; opened = opened; entries = es ++ more }) → call_at es r ≡ Some (Take queue wait)
     → RepliesAt es r (Take queue wait) reply → RepliesAt (es ++ more) r (Take queue wait) reply
 stays queue wait es more epoch opened r reply legal arrived (inl gets) = inl (gets.0, gets_on es more r gets.0 gets.1, gets.2)
 stays queue wait es more epoch opened r reply legal arrived (inr unmet) = inr (
-  still_unmet es more epoch opened r (Take queue wait) legal arrived (at_once queue wait es more r _ reply unmet.1) unmet.0,
-  unmet_on wait es more r _ reply unmet.1,
+  still_unmet wait es more epoch opened r (Take queue wait) empty reply legal arrived refl unmet.0 unmet.1,
+  unmet_stays wait es more r empty reply unmet.1,
 )
 
 -- ---- it is the only one
@@ -144,14 +116,11 @@ one_item b r x y legal first second =
     let call : first.call ≡ second.call = same_Some _ _ (sym first.arrived ∙ ap (call_at b.entries) giver ∙ second.arrived) in
     same_Some _ _ (sym first.hands_over ∙ ap item_of call ∙ second.hands_over)
 
-one_unmet : (wait : Wait) (es : List Entry) (r : ℕ) (at_once x y : Reply) → RepliesUnmet es r wait at_once x → RepliesUnmet es r wait at_once y → y ≡ x
-one_unmet Now es r at_once x y first second = second ∙ sym first
-
 one : (queue : ℕ) (wait : Wait) (b : Account) (r : ℕ) (x y : Reply) → Legal b → RepliesAt b.entries r (Take queue wait) x → RepliesAt b.entries r (Take queue wait) y → y ≡ x
 one queue wait b r x y legal (inl first) (inl second) = second.2 ∙ ap reply.TheVariants.Item (one_item b r second.0 first.0 legal second.1 first.1) ∙ sym first.2
 one queue wait b r x y legal (inl first) (inr second) = absurd (second.0 (gets_met b.entries r first.0 first.1))
 one queue wait b r x y legal (inr first) (inl second) = absurd (first.0 (gets_met b.entries r second.0 second.1))
-one queue wait b r x y legal (inr first) (inr second) = one_unmet wait b.entries r reply.TheVariants.Empty x y first.1 second.1
+one queue wait b r x y legal (inr first) (inr second) = one_unmet wait b.entries r empty x y first.1 second.1
 
 -- ---- it is within the limits
 
@@ -160,39 +129,57 @@ given_fits a r item fits gets =
     let does = act_there call_in (act_at a.entries gets.giver) gets.call gets.arrived in
     item_fits gets.call item (call_of_act does.0 gets.call (act_fits a gets.giver does.0 fits does.1) does.2) gets.hands_over
 
-unmet_fits : (wait : Wait) (es : List Entry) (r : ℕ) (told : Reply) → RepliesUnmet es r wait reply.TheVariants.Empty told → FitsReply told
-unmet_fits Now es r reply is = subst FitsReply (sym is) tt
-
 fits : (queue : ℕ) (wait : Wait) (a : Account) (r : ℕ) (reply : Reply) → FitsAccount a → RepliesAt a.entries r (Take queue wait) reply → FitsReply reply
 fits queue wait a r reply within (inl gets) = subst FitsReply (sym gets.2) (given_fits a r gets.0 within gets.1)
-fits queue wait a r reply within (inr unmet) = unmet_fits wait a.entries r reply unmet.1
+fits queue wait a r reply within (inr unmet) = unmet_fits wait a.entries r empty reply empty_fits unmet.1
 
--- what gives the taking arrival its item, if it is met
-taken : (a : Account) (r queue : ℕ) (wait : Wait) → Legal a → call_at a.entries r ≡ Some (Take queue wait) → (Stays (Take queue wait) → ⊥) → Met a.entries r → (item : List ℕ) × Gets a.entries r item
-taken a r queue wait legal arrived goes met = elim met.part [
-  | inr named ↦ absurd (goes_unnamed a met.later r (Take queue wait) legal arrived goes (subst (NamesPartner a.entries met.later) (sym named) met.names))
-  | inl own ↦
-      let names = subst (λ p. NamesPartner a.entries p met.earlier) (sym own) met.names in
-      let partner = partner_open a r met.earlier legal names in
-      let takes : names.call ≡ Take queue wait = same_Some _ _ (sym names.arrived ∙ arrived) in
-      let side : partner.side ≡ Gives queue = takes_meet_givers queue partner.side (subst (λ c. opposite (side_of c) ≡ Some partner.side) takes partner.opposes) in
-      let giver = partner.there.of_side in
-      let gives = gives_item giver.call queue (giver.is ∙ side) in
-      let whole = read_whole call_read refl a.entries r met.earlier giver.call giver.arrived in
-      (gives.0, record { giver = met.earlier; call = giver.call; meet = inr names; arrived = whole.1; hands_over = gives.1 })
+-- ---- each has one, or waits
+
+-- what gives the taking arrival its item, if it is met: whom it names, or who names it
+named_by : (a : Account) (r p queue : ℕ) (wait : Wait) → Legal a → call_at a.entries r ≡ Some (Take queue wait) → NamesPartner a.entries p r → (item : List ℕ) × Gets a.entries r item
+named_by a r p queue wait legal arrived names =
+    let partner = partner_open a p r legal names in
+    let taker = partner.there.of_side in
+    let whole = read_whole call_read refl a.entries p r taker.call taker.arrived in
+    let takes : taker.call ≡ Take queue wait = same_Some _ _ (sym whole.1 ∙ arrived) in
+    let side : partner.side ≡ Takes queue = sym taker.is ∙ ap side_of takes in
+    let gives = gives_item names.call queue (givers_meet_takers (side_of names.call) queue (partner.opposes ∙ ap Some side)) in
+    (gives.0, record { giver = p; call = names.call; meet = inl names; arrived = names.arrived; hands_over = gives.1 })
+
+names_giver : (a : Account) (r g queue : ℕ) (wait : Wait) → Legal a → call_at a.entries r ≡ Some (Take queue wait) → NamesPartner a.entries r g → (item : List ℕ) × Gets a.entries r item
+names_giver a r g queue wait legal arrived names =
+    let partner = partner_open a r g legal names in
+    let takes : names.call ≡ Take queue wait = same_Some _ _ (sym names.arrived ∙ arrived) in
+    let side : partner.side ≡ Gives queue = takes_meet_givers queue partner.side (subst (λ c. opposite (side_of c) ≡ Some partner.side) takes partner.opposes) in
+    let giver = partner.there.of_side in
+    let gives = gives_item giver.call queue (giver.is ∙ side) in
+    let whole = read_whole call_read refl a.entries r g giver.call giver.arrived in
+    (gives.0, record { giver = g; call = giver.call; meet = inr names; arrived = whole.1; hands_over = gives.1 })
+
+taken : (a : Account) (r queue : ℕ) (wait : Wait) → Legal a → call_at a.entries r ≡ Some (Take queue wait) → Met a.entries r → (item : List ℕ) × Gets a.entries r item
+taken a r queue wait legal arrived met = elim met.part [
+  | inr named ↦ named_by a r met.later queue wait legal arrived (subst (NamesPartner a.entries met.later) (sym named) met.names)
+  | inl own ↦ names_giver a r met.earlier queue wait legal arrived (subst (λ p. NamesPartner a.entries p met.earlier) (sym own) met.names)
 ]
 
-exists_at : (queue : ℕ) (wait : Wait) (a : Account) (r : ℕ) → Legal a → call_at a.entries r ≡ Some (Take queue wait) → (told : Reply) × RepliesAt a.entries r (Take queue wait) told
-exists_at queue Now a r legal arrived = elim (met_or_not a.entries r) [
-  | inl met ↦ let item = taken a r queue Now legal arrived (λ stays. stays.1) met in (reply.TheVariants.Item item.0, inl (item.0, item.1, refl))
-  | inr unmet ↦ (reply.TheVariants.Empty, inr (unmet, refl))
+exists_at : (queue : ℕ) (wait : Wait) (a : Account) (r : ℕ) → Legal a → call_at a.entries r ≡ Some (Take queue wait) → ((told : Reply) × RepliesAt a.entries r (Take queue wait) told) ⊎ Waiting a.entries r
+exists_at queue wait a r legal arrived = elim (met_or_not a.entries r) [
+  | inl met ↦ let item = taken a r queue wait legal arrived met in inl (reply.TheVariants.Item item.0, inl (item.0, item.1, refl))
+  | inr unmet ↦ elim (unmet_exists wait a.entries r (Take queue wait) empty refl arrived refl unmet) [
+    | inl told ↦ inl (told.0, inr (unmet, told.1))
+    | inr waits ↦ inr waits
+  ]
 ]
+
+waits_not : (queue : ℕ) (wait : Wait) (a : Account) (r : ℕ) (told : Reply) → call_at a.entries r ≡ Some (Take queue wait) → Waiting a.entries r → RepliesAt a.entries r (Take queue wait) told → ⊥
+waits_not queue wait a r told arrived w (inl gets) = w.is_open.unmet (gets_met a.entries r gets.0 gets.1)
+waits_not queue wait a r told arrived w (inr unmet) = unmet_waits_not wait a.entries r (Take queue wait) empty told arrived refl w unmet.1
 
 pub takes : (queue : ℕ) (wait : Wait) → ReplyLaws (Take queue wait)
 takes queue wait = record {
-  is_kept = is_kept queue wait;
   stays = stays queue wait;
   one = one queue wait;
   fits = fits queue wait;
   exists = exists_at queue wait;
+  waits_not = λ a r told legal. waits_not queue wait a r told;
 }

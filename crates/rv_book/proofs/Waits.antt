@@ -1,0 +1,133 @@
+-- What a legal account says of the requests that wait: each is its session's last, and a client has one at most.
+use Rattle.std.proofs.Common.{◌≡◌, inl, inr, ℕ, ◌+◌, ◌<◌, ◌≤◌, take, Some, option_and_then, refl, sym, ap, subst, ◌∙◌, arith}
+use Rattle.std.specs.List.{slice_get}
+use Rattle.std.proofs.lemmas.Bool.{cases_order}
+use Rattle.std.proofs.lemmas.Option.{same_Some}
+use Rattle.rv_text.specs.declared.message.Key.{Key}
+use Rattle.rv_text.specs.declared.call.Call.{Call}
+use Rattle.rv_book.specs.declared.account.Act.TheVariants.{Hello, Arrive}
+use Rattle.rv_book.specs.Account.{Account, act_at, key_in, call_in}
+use Rattle.rv_book.specs.Calls.{IsPut}
+use Rattle.rv_book.specs.Sessions.{HasIncarnation, LastHello, LastNumber, NamesKey}
+use Rattle.rv_book.specs.Legal.{HasWaiting, IsNextNumber, Legal, before}
+use Rattle.rv_book.specs.Waiting.{EndsWait, Waiting, limit_at}
+use Rattle.rv_book.proofs.Growing.{act_read, read_there}
+use Rattle.rv_book.proofs.Histories.{one_last_hello}
+use Rattle.rv_book.proofs.Keys.{act_called, act_named, key_read, no_hello}
+use Rattle.rv_book.proofs.Fronts.{read_front, read_whole, waiting_in_front}
+
+-- what a legal account says of the arrival at r, of those before it
+pub record IsArrival (a : Account) (r : ℕ) (key : Key) : Type 0 where
+  pub epoch : key.epoch ≡ a.epoch
+  pub incarnation : HasIncarnation (take r a.entries) key.client key.incarnation
+  pub next : IsNextNumber (take r a.entries) key
+
+pub arrival : (a : Account) (r : ℕ) (key : Key) (call : Call) → Legal a → act_at a.entries r ≡ Some (Arrive key call) → IsArrival a r key
+arrival a r key call legal arrived =
+    let at = read_there act_read refl (slice_get a.entries r) (Arrive key call) arrived in
+    let does = same_Some _ _ at.2 in
+    let numbers = (legal r at.0 at.1).numbers in
+    let session = numbers.of_session key (ap key_in does) in
+    record { epoch = session.0; incarnation = session.1; next = numbers.counts_up key call does }
+
+-- the key of a request that waits
+pub key_of_waiting : (a : Account) (r : ℕ) → Waiting a.entries r → (key : Key) × (call : Call) × (act_at a.entries r ≡ Some (Arrive key call))
+key_of_waiting a r w = let named = act_called (act_at a.entries r) w.is_open.call w.is_open.arrived in (named.0, w.is_open.call, named.1)
+
+-- ---- what stands behind a request that waits
+
+-- no hello of its client, which would have stopped it
+pub no_hello_behind : (a : Account) (r h : ℕ) (key : Key) (call : Call) (incarnation : ℕ) → Waiting a.entries r → act_at a.entries r ≡ Some (Arrive key call)
+    → act_at a.entries h ≡ Some (Hello key.client incarnation) → r < h → ⊥
+no_hello_behind a r h key call incarnation w arrived hello later =
+    let at = read_there act_read refl (slice_get a.entries h) (Hello key.client incarnation) hello in
+    let same : w.is_open.call ≡ call = same_Some _ _ (sym w.is_open.arrived ∙ ap (option_and_then call_in) arrived) in
+    let says : Hello key.client incarnation ≡ at.0.act = sym (same_Some _ _ at.2) in
+    w.is_open.unstopped (h, record {
+      key = key;
+      call = call;
+      stopper = at.0;
+      arrived = arrived;
+      no_put = λ put. w.no_put (subst IsPut (sym same) put);
+      later = later;
+      there = at.1;
+      ends = subst (λ act. EndsWait act at.0.moment key (limit_at a.entries r)) says refl;
+    })
+
+-- no arrival of its client, which would have found it waiting
+pub no_key_behind : (a : Account) (r s client : ℕ) (key other : Key) → Legal a → Waiting a.entries r → NamesKey a.entries client r key → NamesKey a.entries client s other → r < s → ⊥
+no_key_behind a r s client key other legal w names later_names later =
+    let does = act_named (act_at a.entries s) other later_names.named in
+    let own : client ≡ other.client = sym later_names.of_client in
+    (arrival a s other does.0 legal does.1).next.idle (record {
+      place = r;
+      key = key;
+      waits = waiting_in_front a.entries s r later w;
+      names = record { named = read_front key_read a.entries s r key later names.named; of_client = names.of_client ∙ own };
+    })
+
+-- ---- its session
+
+-- a hello before the request is its client's last
+still_last : (a : Account) (r h incarnation : ℕ) (key : Key) (call : Call) → Waiting a.entries r → act_at a.entries r ≡ Some (Arrive key call)
+    → LastHello (take r a.entries) key.client incarnation h → LastHello a.entries key.client incarnation h
+still_last a r h incarnation key call w arrived last = record {
+  hello = (read_whole act_read refl a.entries r h (Hello key.client incarnation) last.hello).1;
+  last = λ s other behind hello. elim (cases_order s r) [
+    | inl is ↦ no_hello key call key.client other (sym arrived ∙ ap (act_at a.entries) (sym is) ∙ hello)
+    | inr differ ↦ elim differ [
+      | inl less ↦ last.last s other behind (read_front act_read a.entries r s (Hello key.client other) less hello)
+      | inr more ↦ no_hello_behind a r s key call other w arrived hello more
+    ]
+  ];
+}
+
+-- what a legal account says of a request that waits
+pub record IsLast (a : Account) (key : Key) : Type 0 where
+  pub epoch : key.epoch ≡ a.epoch
+  pub incarnation : HasIncarnation a.entries key.client key.incarnation
+  pub number : LastNumber a.entries key.client key.number
+
+-- the request that waits is its session's last
+pub waiting_is_last : (a : Account) (r : ℕ) (key : Key) (call : Call) → Legal a → Waiting a.entries r → act_at a.entries r ≡ Some (Arrive key call) → IsLast a key
+waiting_is_last a r key call legal w arrived =
+    let at = arrival a r key call legal arrived in
+    let is_last = at.next.is_last in
+    let hello = is_last.hello in
+    let before_it : is_last.h < r = (read_whole act_read refl a.entries r is_last.h (Hello key.client is_last.incarnation) hello.hello).0 in
+    let number : key.number ≡ at.next.last + 1 = at.next.next in
+    let names : NamesKey a.entries key.client r key = record { named = ap (option_and_then key_in) arrived; of_client = refl } in
+    record {
+      epoch = at.epoch;
+      incarnation = (at.incarnation.0, still_last a r at.incarnation.0 key.incarnation key call w arrived at.incarnation.1);
+      number = record {
+        incarnation = is_last.incarnation;
+        h = is_last.h;
+        hello = still_last a r is_last.h is_last.incarnation key call w arrived hello;
+        greatest = λ s other behind also. elim (cases_order s r) [
+          | inl is ↦
+              let same : other ≡ key = same_Some _ _ (sym also.named ∙ ap (λ n. key_read (slice_get a.entries n)) is ∙ names.named) in
+              let equal : other.number ≡ key.number = ap (λ (k : Key). k.number) same in
+              omega arith
+          | inr differ ↦ elim differ [
+            | inl less ↦
+                let there : NamesKey (take r a.entries) key.client s other = record { named = read_front key_read a.entries r s other less also.named; of_client = also.of_client } in
+                let most : other.number ≤ at.next.last = is_last.greatest s other behind there in
+                omega arith
+            | inr more ↦ absurd (no_key_behind a r s key.client key other legal w names also more)
+          ]
+        ];
+        reached = inr (r, key, before_it, names, refl);
+      };
+    }
+
+-- ---- a client has one at most
+
+pub one_waits : (a : Account) (client r s : ℕ) (key other : Key) → Legal a → Waiting a.entries r → Waiting a.entries s → NamesKey a.entries client r key → NamesKey a.entries client s other → r ≡ s
+one_waits a client r s key other legal first second names also = elim (cases_order r s) [
+  | inl same ↦ same
+  | inr differ ↦ elim differ [
+    | inl less ↦ absurd (no_key_behind a r s client key other legal first names also less)
+    | inr more ↦ absurd (no_key_behind a s r client other key legal second also names more)
+  ]
+]
