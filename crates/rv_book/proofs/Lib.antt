@@ -10,6 +10,8 @@ pub mod Histories
 pub mod Keys
 pub mod Waits
 pub mod Sides
+pub mod Tabled
+pub mod Withdrawn
 pub mod Waiters
 pub mod Following
 pub mod Lines

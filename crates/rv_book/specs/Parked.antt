@@ -29,12 +29,16 @@ owed_in place (Arrive key call) = owed_by place key (wait_of call)
 abbrev pub owed_at : List Entry → ℕ → Option Owed
 owed_at entries place = option_and_then (owed_in place) (act_at entries place)
 
--- the duties that are parked in the queues are those to settle what arrived at their places
-pub record AreParked (entries : List Entry) (queues : List Queue) : Type 0 where
-  pub givers : (queue i : ℕ) (offer : Offer) → slice_get (queue_at queues queue).givers i ≡ Some offer
+-- the duties that are parked in a queue are those to settle what arrived at their places
+pub record IsParked (entries : List Entry) (q : Queue) : Type 0 where
+  pub givers : (i : ℕ) (offer : Offer) → slice_get q.givers i ≡ Some offer
       → owed_at entries (place_of offer) ≡ duty_of offer
-  pub takers : (queue i : ℕ) (duty : Owed) → slice_get (queue_at queues queue).takers i ≡ Some duty
+  pub takers : (i : ℕ) (duty : Owed) → slice_get q.takers i ≡ Some duty
       → owed_at entries duty.place ≡ Some duty
+
+-- and in each queue
+abbrev pub AreParked : List Entry → List Queue → Type 0
+AreParked entries queues = (queue : ℕ) → IsParked entries (queue_at queues queue)
 
 -- ---- queues
 

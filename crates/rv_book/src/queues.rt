@@ -2,7 +2,7 @@
 ghost use Rattle.std.specs.Prelude.{◌≡◌, ◌<◌, List, None, Some, OnOk, IfOk, length, slice_get};
 ghost use Rattle.rv_session.specs.Owed.{Owed};
 ghost use Rattle.rv_text.specs.Calls.{queue_of, side_of, wait_of};
-ghost use Rattle.rv_text.specs.Limits.{FitsCall, FitsQueue};
+ghost use Rattle.rv_text.specs.Limits.{FitsQueue};
 ghost use Rattle.rv_text.specs.declared.call.Side.TheVariants.{Gives, Takes};
 ghost use Rattle.rv_text.specs.declared.call.Wait.TheVariants.{Now, Forever};
 ghost use Rattle.rv_dual.specs.Offers.{duty_of, place_of};
@@ -33,14 +33,18 @@ fn put(queue: &mut Dual, duty: Duty) -> Arrived
     ensures { Gave queue.old queue.new None duty result }
 {
     match queue.give(Giver::Put(duty.place())) {
-        Given::Met(pair) => match pair.part() {
-            (None, taker, _) => Arrived {
+        Given::Met(pair) => {
+            let (giver, taker, _) = pair.part();
+            let own = match giver {
+                None => duty,
+                Some(_giver) => unreachable!(),
+            };
+            Arrived {
                 partner: Some(taker.place()),
-                own: Some(duty),
+                own: Some(own),
                 other: Some(taker),
-            },
-            (Some(_giver), _taker, _) => unreachable!(),
-        },
+            }
+        }
         Given::Parked => Arrived {
             partner: None,
             own: Some(duty),
@@ -133,6 +137,31 @@ fn poll(queue: &mut Dual, duty: Duty) -> Arrived
     }
 }
 
+// Who gives arrives.
+fn give(queue: &mut Dual, wait: Option<Wait>, duty: Duty) -> Arrived
+    requires room { 0 < queue.old.room }
+    requires above { IsAbove queue.old duty.place }
+    ensures { Gave queue.old queue.new wait duty result }
+{
+    match wait {
+        None => put(queue, duty),
+        Some(Wait::Now) => try_transfer(queue, duty),
+        Some(Wait::Forever) => transfer(queue, duty),
+    }
+}
+
+// Who takes arrives.
+fn receive(queue: &mut Dual, wait: Wait, duty: Duty) -> Arrived
+    requires room { 0 < queue.old.room }
+    requires above { IsAbove queue.old duty.place }
+    ensures { Took queue.old queue.new (Some wait) duty result }
+{
+    match wait {
+        Wait::Now => poll(queue, duty),
+        Wait::Forever => take(queue, duty),
+    }
+}
+
 /// All queues, by their numbers.
 #[derive(Drop)]
 pub(crate) struct Queues {
@@ -204,27 +233,17 @@ impl Queues {
     /// The request of a call arrives with its duty: it meets the oldest of the other side, which leaves its
     /// queue; or, where nobody is there, waits behind the others of its side, if its wait lasts.
     pub(crate) fn arrive(&mut self, call: &Call, duty: Duty) -> Arrived
-        requires fits { FitsCall call.now }
+        requires fits { FitsQueue (queue_of (side_of call.now)) }
         requires room { HasRoomOn self.old (side_of call.now) }
         requires above { AreBelow self.old duty.place }
         ensures { ArrivedOn self.old self.new (side_of call.now) (wait_of call.now) duty result }
     {
         match call.side() {
-            Side::Gives(queue) => {
-                let queue = &mut self.queues[queue as usize];
-                match call.wait() {
-                    None => put(queue, duty),
-                    Some(Wait::Now) => try_transfer(queue, duty),
-                    Some(Wait::Forever) => transfer(queue, duty),
-                }
-            }
-            Side::Takes(queue) => {
-                let queue = &mut self.queues[queue as usize];
-                match call.wait() {
-                    Some(Wait::Now) => poll(queue, duty),
-                    _ => take(queue, duty),
-                }
-            }
+            Side::Gives(queue) => give(&mut self.queues[queue as usize], call.wait(), duty),
+            Side::Takes(queue) => match call.wait() {
+                Some(wait) => receive(&mut self.queues[queue as usize], wait, duty),
+                None => unreachable!(),
+            },
             Side::Looks(_) => Arrived {
                 partner: None,
                 own: Some(duty),
@@ -239,7 +258,8 @@ impl Queues {
         ensures { Withdrew self.old self.new side place result }
     {
         match side {
-            Side::Gives(queue) | Side::Takes(queue) => self.queues[queue as usize].withdraw(place),
+            Side::Gives(queue) => self.queues[queue as usize].withdraw(place),
+            Side::Takes(queue) => self.queues[queue as usize].withdraw(place),
             Side::Looks(_) => None,
         }
     }

@@ -1,0 +1,279 @@
+-- What a change of one queue is to the table of queues, side by side.
+use Rattle.std.proofs.Common.{◌≡◌, inl, inr, ℕ, zero, suc, ◌<◌, List, [], ◌∷◌, ◌++◌, length, Option, Some, None, refl, sym, ap, subst, ◌∙◌, arith, option_and_then}
+use Rattle.std.specs.List.{All, slice_get}
+use Rattle.std.specs.Prelude.{IsSome, option_map, slice_set, unwrap_or}
+use Rattle.std.proofs.lemmas.Option.{none-some, same_Some, slice_get-map, slice_get-get_or, unwrap_or-slice_get}
+use Rattle.std.proofs.Math.ListN.{get_or}
+use Rattle.std.proofs.lemmas.List.{get_or-set_same, get_or-set_other}
+use Rattle.rv_text.specs.declared.call.Side.{Side}
+use Rattle.rv_text.specs.declared.call.Side.TheVariants.{Gives, Looks, Takes}
+use Rattle.rv_text.specs.declared.call.Wait.{Wait}
+use Rattle.rv_session.specs.Owed.{Owed}
+use Rattle.rv_dual.specs.Offers.{duty_of, place_of, places_of}
+use Rattle.rv_dual.specs.Queue.{IsAbove, Queue, SameLists}
+use Rattle.rv_dual.specs.declared.giver.Offer.{Offer}
+use Rattle.rv_book.specs.declared.account.Entry.{Entry}
+use Rattle.rv_book.specs.declared.queues.Arrived.{Arrived}
+use Rattle.rv_book.specs.Calls.{Lasts, opposite}
+use Rattle.rv_book.specs.Meeting.{ArrivedOn, FindsNobody, Gave, GaveNobody, GaveTo, LaysDown, MayWait, OwnDuty, StandsBy, Took, TookFrom, TookNothing, offer_by, own_by}
+use Rattle.rv_book.specs.Parked.{AreParked, IsParked, owed_at}
+use Rattle.rv_book.specs.Views.{AllEmpty, AreBelow, SameQueues, empty_queue, queue_at, takers_places, waiting_on}
+use Rattle.rv_book.proofs.Numbers.{same_or_not}
+use Rattle.rv_book.proofs.Places.{get-append_cases}
+use Rattle.std.proofs.lemmas.List.{map-append}
+
+-- ---- one queue of the table
+
+-- the second table has this queue at the number, and else it is the first
+pub record ChangedAt (old new : List Queue) (queue : ℕ) (q : Queue) : Type 0 where
+  pub here : queue_at new queue ≡ q
+  pub others : (other : ℕ) → (other ≡ queue → ⊥) → queue_at new other ≡ queue_at old other
+
+pub set_at : (queues : List Queue) (queue : ℕ) (q : Queue) → queue < length queues → ChangedAt queues (slice_set queues queue q) queue q
+set_at queues queue q inside = record {
+  here = unwrap_or-slice_get (slice_set queues queue q) queue empty_queue ∙ get_or-set_same queues queue q empty_queue inside;
+  others = λ other apart. unwrap_or-slice_get (slice_set queues queue q) other empty_queue ∙ get_or-set_other queues queue other q empty_queue apart ∙ sym (unwrap_or-slice_get queues other empty_queue);
+}
+
+-- the queue that an index gives
+pub indexed : (queues : List Queue) (queue : ℕ) (q d : Queue) → queue < length queues → q ≡ get_or queues queue d → queue_at queues queue ≡ q
+indexed queues queue q d inside is = ap (λ o. unwrap_or o empty_queue) (slice_get-get_or queues queue d inside) ∙ sym is
+
+-- ---- sides
+
+module _ (old new : List Queue) (queue : ℕ) (q : Queue) (changed : ChangedAt old new queue q) where
+  givers_elsewhere : (other : ℕ) → (other ≡ queue → ⊥) → waiting_on new (Gives other) ≡ waiting_on old (Gives other)
+  givers_elsewhere other apart = ap (λ (r : Queue). places_of r.givers) (changed.others other apart)
+
+  takers_elsewhere : (other : ℕ) → (other ≡ queue → ⊥) → waiting_on new (Takes other) ≡ waiting_on old (Takes other)
+  takers_elsewhere other apart = ap (λ (r : Queue). takers_places r.takers) (changed.others other apart)
+
+  givers_same : q.givers ≡ (queue_at old queue).givers → (other : ℕ) → waiting_on new (Gives other) ≡ waiting_on old (Gives other)
+  givers_same same other = elim (same_or_not other queue) [
+    | inl is ↦ subst (λ n. waiting_on new (Gives n) ≡ waiting_on old (Gives n)) (sym is) (ap (λ (r : Queue). places_of r.givers) changed.here ∙ ap places_of same)
+    | inr apart ↦ givers_elsewhere other apart
+  ]
+
+  takers_same : q.takers ≡ (queue_at old queue).takers → (other : ℕ) → waiting_on new (Takes other) ≡ waiting_on old (Takes other)
+  takers_same same other = elim (same_or_not other queue) [
+    | inl is ↦ subst (λ n. waiting_on new (Takes n) ≡ waiting_on old (Takes n)) (sym is) (ap (λ (r : Queue). takers_places r.takers) changed.here ∙ ap takers_places same)
+    | inr apart ↦ takers_elsewhere other apart
+  ]
+
+  -- where the givers stay, all sides stay but that of the takers
+  pub takers_change : q.givers ≡ (queue_at old queue).givers → (third : Side) → (third ≡ Takes queue → ⊥) → waiting_on new third ≡ waiting_on old third
+  takers_change same (Gives other) apart = givers_same same other
+  takers_change same (Takes other) apart = takers_elsewhere other (λ is. apart (ap Takes is))
+  takers_change same (Looks other) apart = refl
+
+  pub givers_change : q.takers ≡ (queue_at old queue).takers → (third : Side) → (third ≡ Gives queue → ⊥) → waiting_on new third ≡ waiting_on old third
+  givers_change same (Takes other) apart = takers_same same other
+  givers_change same (Gives other) apart = givers_elsewhere other (λ is. apart (ap Gives is))
+  givers_change same (Looks other) apart = refl
+
+  pub nothing_changed : SameLists (queue_at old queue) q → SameQueues old new
+  nothing_changed same other = elim (same_or_not other queue) [
+    | inl is ↦ subst (λ n. SameLists (queue_at old n) (queue_at new n)) (sym is) (subst (SameLists (queue_at old queue)) (sym changed.here) same)
+    | inr apart ↦ record { givers = ap (λ (r : Queue). r.givers) (changed.others other apart); takers = ap (λ (r : Queue). r.takers) (changed.others other apart) }
+  ]
+
+  pub parked_changed : (es : List Entry) → AreParked es old → (IsParked es (queue_at old queue) → IsParked es q) → AreParked es new
+  parked_changed es parked step other = elim (same_or_not other queue) [
+    | inl is ↦ subst (λ n. IsParked es (queue_at new n)) (sym is) (subst (IsParked es) (sym changed.here) (step (parked queue)))
+    | inr apart ↦ subst (IsParked es) (sym (changed.others other apart)) (parked other)
+  ]
+
+-- ---- with nothing changed
+
+pub same_waiting : (old new : List Queue) → SameQueues old new → (side : Side) → waiting_on new side ≡ waiting_on old side
+same_waiting old new same (Gives queue) = ap places_of (same queue).givers
+same_waiting old new same (Takes queue) = ap takers_places (same queue).takers
+same_waiting old new same (Looks queue) = refl
+
+parked_lists : (es : List Entry) (p q : Queue) → SameLists p q → IsParked es p → IsParked es q
+parked_lists es p q same is = record {
+  givers = λ i offer at. is.givers i offer (sym (ap (λ (xs : List Offer). slice_get xs i) same.givers) ∙ at);
+  takers = λ i duty at. is.takers i duty (sym (ap (λ (xs : List Owed). slice_get xs i) same.takers) ∙ at);
+}
+
+pub same_parked : (es : List Entry) (old new : List Queue) → SameQueues old new → AreParked es old → AreParked es new
+same_parked es old new same parked queue = parked_lists es (queue_at old queue) (queue_at new queue) (same queue) (parked queue)
+
+-- ---- above all that wait
+
+pub above : (queues : List Queue) (queue place : ℕ) → AreBelow queues place → IsAbove (queue_at queues queue) place
+above queues queue place below =
+    let q = queue_at queues queue in
+    record {
+      givers = λ k d inside. below (Gives queue) k _ (slice_get-map place_of q.givers k ∙ ap (λ o. option_map place_of o) (slice_get-get_or q.givers k d inside));
+      takers = λ k d inside. below (Takes queue) k _ (slice_get-map (λ (duty : Owed). duty.place) q.takers k ∙ ap (λ o. option_map (λ (duty : Owed). duty.place) o) (slice_get-get_or q.takers k d inside));
+    }
+
+-- ---- an arrival that gives
+
+takes_only : (queue : ℕ) (other : Side) → opposite (Gives queue) ≡ Some other → other ≡ Takes queue
+takes_only queue other opposes = sym (same_Some _ _ opposes)
+
+gives_only : (queue : ℕ) (other : Side) → opposite (Takes queue) ≡ Some other → other ≡ Gives queue
+gives_only queue other opposes = sym (same_Some _ _ opposes)
+
+no_takers : (queues : List Queue) (queue : ℕ) → (queue_at queues queue).takers ≡ [] → FindsNobody queues (Gives queue)
+no_takers queues queue none other opposes = subst (λ side. waiting_on queues side ≡ []) (sym (takes_only queue other opposes)) (ap takers_places none)
+
+no_givers : (queues : List Queue) (queue : ℕ) → (queue_at queues queue).givers ≡ [] → FindsNobody queues (Takes queue)
+no_givers queues queue none other opposes = subst (λ side. waiting_on queues side ≡ []) (sym (gives_only queue other opposes)) (ap places_of none)
+
+some_is_none : {X : Type 0} (x : X) → Some x ≡ None → ⊥
+some_is_none x is = none-some x (sym is)
+
+duty_of_offer_by : (wait : Option Wait) (duty : Owed) → duty_of (offer_by wait duty) ≡ option_and_then (λ w. Some duty) wait
+duty_of_offer_by None duty = refl
+duty_of_offer_by (Some wait) duty = refl
+
+place_of_offer_by : (wait : Option Wait) (duty : Owed) → place_of (offer_by wait duty) ≡ duty.place
+place_of_offer_by None duty = refl
+place_of_offer_by (Some wait) duty = refl
+
+-- who is told to be at the front of a list
+first_of : {X : Type 0} (xs ys : List X) (x : X) → xs ≡ x ∷ ys → slice_get xs 0 ≡ Some x
+first_of xs ys x is = ap (λ l. slice_get l 0) is
+
+module _ (old new : List Queue) (queue : ℕ) (q : Queue) (changed : ChangedAt old new queue q) (duty : Owed) where
+  abbrev pub before : Queue
+  before = queue_at old queue
+
+  gave_to : (wait : Option Wait) (result : Arrived) → GaveTo before q duty result → ArrivedOn old new (Gives queue) wait duty result
+  gave_to wait result gave = subst (ArrivedOn old new (Gives queue) wait duty) (sym gave.is) (record {
+    meets = record {
+      other = Takes queue;
+      opposes = refl;
+      first = ap takers_places gave.oldest ∙ ap (λ (r : Queue). gave.taker.place ∷ takers_places r.takers) (sym changed.here);
+      others = takers_change old new queue q changed gave.givers;
+    };
+    own = (refl, λ is. absurd (some_is_none gave.taker.place is));
+    other = λ es parked. sym ((parked queue).takers 0 gave.taker (first_of before.takers q.takers gave.taker gave.oldest));
+    parked = λ es parked owed. parked_changed old new queue q changed es parked (λ was. record {
+      givers = λ i offer at. was.givers i offer (sym (ap (λ l. slice_get l i) gave.givers) ∙ at);
+      takers = λ i other at. was.takers (suc i) other (ap (λ l. slice_get l (suc i)) gave.oldest ∙ at);
+    });
+  })
+
+  own_of : (wait : Option Wait) → Lasts wait → OwnDuty (Gives queue) wait None duty (own_by wait duty)
+  own_of None lasts = (refl, λ unmet may. refl)
+  own_of (Some wait) lasts = (refl, (refl, lasts), refl)
+
+  pushed_givers : (es : List Entry) (wait : Option Wait) → owed_at es duty.place ≡ option_and_then (λ w. Some duty) wait → q.givers ≡ before.givers ++ offer_by wait duty ∷ [] → q.takers ≡ before.takers → IsParked es before → IsParked es q
+  pushed_givers es wait owed givers takers was = record {
+    givers = λ i offer at. elim (get-append_cases before.givers (offer_by wait duty) offer i (sym (ap (λ l. slice_get l i) givers) ∙ at)) [
+      | inl inside ↦ was.givers i offer inside.1
+      | inr last ↦ subst (λ (o : Offer). owed_at es (place_of o) ≡ duty_of o) last.1 (ap (owed_at es) (place_of_offer_by wait duty) ∙ owed ∙ sym (duty_of_offer_by wait duty))
+    ];
+    takers = λ i other at. was.takers i other (sym (ap (λ l. slice_get l i) takers) ∙ at);
+  }
+
+  lays_down : (wait : Option Wait) (result : Arrived) → Lasts wait → LaysDown before q wait duty result → ArrivedOn old new (Gives queue) wait duty result
+  lays_down wait result lasts lays = subst (ArrivedOn old new (Gives queue) wait duty) (sym lays.is) (record {
+    meets = inl ((refl, lasts), record {
+      nobody = no_takers old queue lays.nobody;
+      last = ap (λ (r : Queue). places_of r.givers) changed.here ∙ ap places_of lays.givers ∙ map-append place_of before.givers (offer_by wait duty ∷ []) ∙ ap (λ p. waiting_on old (Gives queue) ++ p ∷ []) (place_of_offer_by wait duty);
+      others = givers_change old new queue q changed lays.takers;
+    });
+    own = own_of wait lasts;
+    other = λ es parked. refl;
+    parked = λ es parked owed. parked_changed old new queue q changed es parked (pushed_givers es wait owed lays.givers lays.takers);
+  })
+
+  gave_nobody : (wait : Option Wait) (result : Arrived) → (Lasts wait → ⊥) → GaveNobody before q duty result → ArrivedOn old new (Gives queue) wait duty result
+  gave_nobody wait result goes gave =
+      let same = nothing_changed old new queue q changed gave.same in
+      subst (ArrivedOn old new (Gives queue) wait duty) (sym gave.is) (record {
+        meets = inr ((λ may. goes may.1), no_takers old queue gave.nobody, same);
+        own = (refl, λ unmet may. absurd (goes may.1));
+        other = λ es parked. refl;
+        parked = λ es parked owed. same_parked es old new same parked;
+      })
+
+  pub arrived_gives : (wait : Option Wait) (result : Arrived) → Gave before q wait duty result → ArrivedOn old new (Gives queue) wait duty result
+  arrived_gives wait result (inl gave) = gave_to wait result gave
+  arrived_gives wait result (inr (inl lays)) = lays_down wait result lays.0 lays.1
+  arrived_gives wait result (inr (inr goes)) = gave_nobody wait result goes.0 goes.1
+
+  -- ---- an arrival that takes
+
+  took_from : (wait : Option Wait) (result : Arrived) → TookFrom before q duty result → ArrivedOn old new (Takes queue) wait duty result
+  took_from wait result took = subst (ArrivedOn old new (Takes queue) wait duty) (sym took.is) (record {
+    meets = record {
+      other = Gives queue;
+      opposes = refl;
+      first = ap places_of took.oldest ∙ ap (λ (r : Queue). place_of took.offer ∷ places_of r.givers) (sym changed.here);
+      others = givers_change old new queue q changed took.takers;
+    };
+    own = (refl, λ is. absurd (some_is_none (place_of took.offer) is));
+    other = λ es parked. sym ((parked queue).givers 0 took.offer (first_of before.givers q.givers took.offer took.oldest));
+    parked = λ es parked owed. parked_changed old new queue q changed es parked (λ was. record {
+      givers = λ i offer at. was.givers (suc i) offer (ap (λ l. slice_get l (suc i)) took.oldest ∙ at);
+      takers = λ i other at. was.takers i other (sym (ap (λ l. slice_get l i) took.takers) ∙ at);
+    });
+  })
+
+  pushed_takers : (es : List Entry) → owed_at es duty.place ≡ Some duty → q.takers ≡ before.takers ++ duty ∷ [] → q.givers ≡ before.givers → IsParked es before → IsParked es q
+  pushed_takers es owed takers givers was = record {
+    givers = λ i offer at. was.givers i offer (sym (ap (λ l. slice_get l i) givers) ∙ at);
+    takers = λ i other at. elim (get-append_cases before.takers duty other i (sym (ap (λ l. slice_get l i) takers) ∙ at)) [
+      | inl inside ↦ was.takers i other inside.1
+      | inr last ↦ subst (λ (d : Owed). owed_at es d.place ≡ Some d) last.1 owed
+    ];
+  }
+
+  stands_by : (wait : Wait) (result : Arrived) → Lasts (Some wait) → StandsBy before q duty result → ArrivedOn old new (Takes queue) (Some wait) duty result
+  stands_by wait result lasts stands = subst (ArrivedOn old new (Takes queue) (Some wait) duty) (sym stands.is) (record {
+    meets = inl ((refl, lasts), record {
+      nobody = no_givers old queue stands.nobody;
+      last = ap (λ (r : Queue). takers_places r.takers) changed.here ∙ ap takers_places stands.takers ∙ map-append (λ (d : Owed). d.place) before.takers (duty ∷ []);
+      others = takers_change old new queue q changed stands.givers;
+    });
+    own = (refl, (refl, lasts), refl);
+    other = λ es parked. refl;
+    parked = λ es parked owed. parked_changed old new queue q changed es parked (pushed_takers es owed stands.takers stands.givers);
+  })
+
+  took_nothing : (wait : Option Wait) (result : Arrived) → (Lasts wait → ⊥) → TookNothing before q duty result → ArrivedOn old new (Takes queue) wait duty result
+  took_nothing wait result goes took =
+      let same = nothing_changed old new queue q changed took.same in
+      subst (ArrivedOn old new (Takes queue) wait duty) (sym took.is) (record {
+        meets = inr ((λ may. goes may.1), no_givers old queue took.nobody, same);
+        own = (refl, λ unmet may. absurd (goes may.1));
+        other = λ es parked. refl;
+        parked = λ es parked owed. same_parked es old new same parked;
+      })
+
+  pub arrived_takes : (wait : Wait) (result : Arrived) → Took before q (Some wait) duty result → ArrivedOn old new (Takes queue) (Some wait) duty result
+  arrived_takes wait result (inl took) = took_from (Some wait) result took
+  arrived_takes wait result (inr (inl stands)) = stands_by wait result stands.0 stands.1
+  arrived_takes wait result (inr (inr goes)) = took_nothing (Some wait) result goes.0 goes.1
+
+-- ---- an arrival that looks
+
+pub looked_on : (queues : List Queue) (queue : ℕ) (wait : Option Wait) (duty : Owed) (result : Arrived) → result ≡ record { partner = None; own = Some duty; other = None }
+    → ArrivedOn queues queues (Looks queue) wait duty result
+looked_on queues queue wait duty result is =
+    let no_wait = λ (may : MayWait (Looks queue) wait). let no : IsSome (opposite (Looks queue)) = may.0 in absurd (cc) in
+    let same : SameQueues queues queues = λ other. record { givers = refl; takers = refl } in
+    subst (ArrivedOn queues queues (Looks queue) wait duty) (sym is) (record {
+      meets = inr (no_wait, (λ other opposes. absurd (none-some other opposes)), same);
+      own = (refl, λ unmet may. absurd (no_wait may));
+      other = λ es parked. refl;
+      parked = λ es parked owed. parked;
+    })
+
+-- ---- empty queues
+
+pub none_empty : AllEmpty []
+none_empty queue = record { givers = refl; takers = refl }
+
+-- a queue more in which nobody waits
+pub append_empty : (queues : List Queue) (q : Queue) → q.givers ≡ [] → q.takers ≡ [] → AllEmpty queues → AllEmpty (queues ++ q ∷ [])
+append_empty [] q givers takers all zero = record { givers = givers; takers = takers }
+append_empty [] q givers takers all (suc queue) = record { givers = refl; takers = refl }
+append_empty (first ∷ queues) q givers takers all zero = all zero
+append_empty (first ∷ queues) q givers takers all (suc queue) = append_empty queues q givers takers (λ other. all (suc other)) queue
