@@ -54,7 +54,7 @@ named_once a p q r legal first second =
       | inr differ ↦ elim differ [ inl less ↦ absurd (named_before a p q r legal first second less) | inr more ↦ absurd (named_before a q p r legal second first more) ]
     ]
 
-names_and_named : (a : Account) (p r s : ℕ) → Legal a → NamesPartner a.entries r s → NamesPartner a.entries p r → ⊥
+pub names_and_named : (a : Account) (p r s : ℕ) → Legal a → NamesPartner a.entries r s → NamesPartner a.entries p r → ⊥
 names_and_named a p r s legal names named =
     let less : r < p = partner_before a p r legal named in
     partner_unmet a p r legal named (record { later = r; earlier = s; names = names_in_front a.entries p r s less names; part = inl refl })
