@@ -1,6 +1,5 @@
 -- Where an own entry is due, a legal next account exists.
-use Rattle.rv_text.specs.declared.call.Call.TheVariants.{Put, Take}
-use Rattle.rv_book.specs.Account.{Account, with_entry, act_at, call_at, call_in, key_in}
+use Rattle.rv_book.specs.Account.{Account, with_entry, act_at, call_in, key_in}
 use Rattle.rv_book.specs.Steps.{Adds, EpochFullDue, HelloLines, KeyLines, RefuseOr, max_entries, own_moment, step_moment, ClientsFullDue, OtherCallDue, Answers}
 use Rattle.rv_book.specs.declared.account.Act.TheVariants.{Arrive, Hello}
 use Rattle.rv_text.specs.declared.call.Call.{Call}
@@ -8,8 +7,8 @@ use Rattle.rv_book.specs.Laws.{CanEnter, HellosCanEnter, RequestsCanEnter}
 use Rattle.rv_book.specs.declared.account.Entry.{Entry}
 use Rattle.rv_text.specs.declared.answer.Refusal.TheVariants.{EpochFull}
 use Rattle.rv_book.specs.Sessions.{HasIncarnation, HasOnlyLower, LastHello, LastNumber, SaidHello}
-use Rattle.rv_book.specs.Arriving.{IsNext, WillReply, entry}
-use Rattle.rv_book.specs.Legal.{KeepsTime, Legal, before, HasWaiting}
+use Rattle.rv_book.specs.Arriving.{IsNext, entry}
+use Rattle.rv_book.specs.Legal.{KeepsTime, Legal, before}
 use Rattle.rv_text.specs.declared.message.Key.{Key}
 use Rattle.rv_book.proofs.Legality.{Legal-with_entry}
 use Rattle.std.proofs.Common.{None, Option, Some, ap, arith, inl, inr, length, option_map, refl, subst, sym, ℕ, ◌+◌, ◌-◌, ◌<◌, ◌∙◌, ◌≡◌, ◌≤◌, List, option_and_then, take}
@@ -19,8 +18,8 @@ use Rattle.std.proofs.lemmas.Bool.{cases_lt, cases_order}
 use Rattle.rv_book.proofs.Deciding.{find_hello, find_last, find_partner, find_clients, find_waiting, has_waiting_or_not, said_or_not}
 use Rattle.rv_book.proofs.Histories.{hellos_at_most, one_incarnation}
 use Rattle.rv_book.proofs.Lines.{line_again, line_busy, line_gap, line_newer, line_next, line_no_session, line_old_hello, line_old_incarnation, line_old_number, line_other_epoch, no_room, room_left}
-use Rattle.rv_book.proofs.Growing.{moment_read, reads_within, act_read, call_read, read_there}
-use Rattle.rv_book.specs.Calls.{need_of, Stays, opposite}
+use Rattle.rv_book.proofs.Growing.{moment_read, reads_within, act_read, read_there}
+use Rattle.rv_book.specs.Calls.{need_of}
 use Rattle.std.proofs.lemmas.Option.{none-some, same_Some, slice_get_cases}
 use Rattle.rv_book.proofs.Keys.{act_named}
 use Rattle.rv_book.proofs.Places.{get-append_end}
@@ -29,23 +28,12 @@ use Rattle.rv_book.proofs.Fronts.{read_front, read_whole}
 use Rattle.rv_text.specs.Calls.{side_of}
 use Rattle.std.specs.List.{slice_get}
 use Rattle.std.specs.Prelude.{unwrap_or}
-use Rattle.rv_session.specs.declared.kept.Kept as kept
 use Rattle.rv_text.proofs.Kept.{same_call}
-use Rattle.rv_text.specs.declared.answer.Reply.{Reply}
-use Rattle.rv_text.specs.declared.answer.Reply.TheVariants.{Done, Item, Empty}
-use Rattle.rv_text.specs.declared.call.Wait.TheVariants.{Now}
 use Rattle.rv_text.specs.declared.answer.Refusal.TheVariants.{OtherCall, ClientsFull}
 use Rattle.rv_book.proofs.Lines.{line_last}
-use Rattle.rv_book.specs.declared.account.Act.{Act}
 use Rattle.rv_text.specs.declared.answer.Answer.{Answer}
-use Rattle.rv_book.specs.Replies.{Gets, HasReply, RepliesAt}
-use Rattle.rv_text.specs.declared.call.Side.TheVariants.{Gives}
-use Rattle.rv_session.specs.declared.kept.Kept.{Kept}
-use Rattle.rv_book.specs.Waiting.{Met, NamesPartner}
 use Rattle.rv_text.specs.declared.answer.Refusal.{Refusal}
-use Rattle.rv_text.specs.declared.call.Wait.{Wait}
-use Rattle.rv_book.proofs.OnePartner.{arrives_once, goes_unnamed, partner_open}
-use Rattle.rv_book.proofs.CallKinds.{gives_item}
+use Rattle.rv_book.proofs.OnePartner.{arrives_once}
 use Rattle.rv_book.proofs.Staying.{one_call}
 use Rattle.rv_book.proofs.Counting.{one_number}
 

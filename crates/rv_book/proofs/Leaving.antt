@@ -5,10 +5,9 @@ use Rattle.rv_text.specs.declared.call.Side.TheVariants.{Gives, Takes}
 use Rattle.rv_book.specs.Laws.{ItemsLeaveInOrder}
 use Rattle.rv_book.specs.Legal.{IsOpenOpposite, Legal}
 use Rattle.std.proofs.Common.{List, None, Option, Some, ap, arith, inl, inr, refl, subst, sym, take, ℕ, ◌<◌, ◌∙◌, ◌≡◌, ◌≤◌}
-use Rattle.rv_book.specs.Waiting.{Met, NamesPartner, OpenAt, SideAt}
+use Rattle.rv_book.specs.Waiting.{NamesPartner, OpenAt, SideAt}
 use Rattle.rv_book.specs.Order.{PairAt}
 use Rattle.rv_text.specs.declared.call.Side.{Side}
-use Rattle.rv_text.specs.Calls.{side_of}
 use Rattle.rv_book.specs.Calls.{opposite}
 use Rattle.rv_book.proofs.Growing.{call_read, partner_read, read_there}
 use Rattle.std.proofs.lemmas.Bool.{cases_lt, cases_order}

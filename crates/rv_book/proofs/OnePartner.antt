@@ -12,7 +12,6 @@ use Rattle.rv_book.specs.Waiting.{Met, NamesPartner}
 use Rattle.rv_book.specs.Calls.{Stays}
 use Rattle.rv_book.proofs.Growing.{act_read, call_read, read_there}
 use Rattle.std.proofs.lemmas.Bool.{cases_order}
-use Rattle.rv_book.specs.Arriving.{entry}
 use Rattle.rv_book.proofs.Keys.{key_read}
 use Rattle.rv_book.proofs.Fronts.{names_in_front, naming, read_front, read_whole}
 use Rattle.rv_book.proofs.Histories.{one_last_hello}

@@ -8,7 +8,6 @@ use Rattle.rv_text.specs.declared.answer.Answer.{Answer}
 use Rattle.rv_text.specs.declared.call.Call.{Call}
 use Rattle.rv_book.specs.declared.account.Entry.{Entry}
 use Rattle.rv_text.specs.declared.answer.Refusal.TheVariants.{Busy, Gap, NoMemory, OldIncarnation, OldNumber}
-use Rattle.rv_book.specs.Replies.{HasReply}
 use Rattle.rv_book.specs.Legal.{IsOpenOpposite, Legal, MayFollow}
 use Rattle.rv_text.specs.declared.message.Key.{Key}
 use Rattle.rv_book.specs.Calls.{MayMeet}

@@ -1,5 +1,5 @@
 -- The reply of a transfer: received, once it meets a consumer; unmet, what its wait tells.
-use Rattle.std.proofs.Common.{◌≡◌, ◌⊎◌, inl, inr, ℕ, List, ◌++◌, length, Option, Some, None, refl, sym, ap, subst, ◌∙◌}
+use Rattle.std.proofs.Common.{◌≡◌, ◌⊎◌, inl, inr, ℕ, List, ◌++◌, length, Some, None, refl, sym, ap, subst, ◌∙◌}
 use Rattle.rv_text.specs.declared.answer.Reply as reply
 use Rattle.rv_text.specs.declared.answer.Reply.{Reply}
 use Rattle.rv_text.specs.declared.call.Call.TheVariants.{Transfer}
@@ -13,9 +13,8 @@ use Rattle.rv_session.specs.declared.kept.Kept as kept
 use Rattle.rv_book.specs.Account.{Account, call_at, with_entry}
 use Rattle.rv_book.specs.Arriving.{WillReply, entry}
 use Rattle.rv_book.specs.Legal.{Legal}
-use Rattle.rv_book.specs.Limits.{FitsAccount}
 use Rattle.rv_book.specs.Replies.{RepliesAt}
-use Rattle.rv_book.specs.Waiting.{Met, NamesPartner, Waiting}
+use Rattle.rv_book.specs.Waiting.{NamesPartner, Waiting}
 use Rattle.rv_book.proofs.Deciding.{met_or_not}
 use Rattle.rv_book.proofs.Growing.{Met-on, call_read, partner_read}
 use Rattle.rv_book.proofs.Places.{get-append_end}

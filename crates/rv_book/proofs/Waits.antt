@@ -9,10 +9,9 @@ use Rattle.rv_book.specs.declared.account.Act.TheVariants.{Hello, Arrive}
 use Rattle.rv_book.specs.Account.{Account, act_at, key_in, call_in}
 use Rattle.rv_book.specs.Calls.{IsPut}
 use Rattle.rv_book.specs.Sessions.{HasIncarnation, LastHello, LastNumber, NamesKey}
-use Rattle.rv_book.specs.Legal.{HasWaiting, IsNextNumber, Legal, before}
+use Rattle.rv_book.specs.Legal.{IsNextNumber, Legal}
 use Rattle.rv_book.specs.Waiting.{EndsWait, Waiting, limit_at}
 use Rattle.rv_book.proofs.Growing.{act_read, read_there}
-use Rattle.rv_book.proofs.Histories.{one_last_hello}
 use Rattle.rv_book.proofs.Keys.{act_called, act_named, key_read, no_hello}
 use Rattle.rv_book.proofs.Fronts.{read_front, read_whole, waiting_in_front}
 
