@@ -23,11 +23,6 @@ use Rattle.rv_book.specs.Verdicts.{answer_of, reply_of}
 abbrev pub entry : ℕ → Act → Option ℕ → Entry
 entry moment does partner = record { moment = moment; act = does; partner = partner }
 
--- how many entries an act may come to need: its own, and one that ends its wait
-abbrev pub need_for : Act → ℕ
-need_for (Hello client incarnation) = 1
-need_for (Arrive key call) = need_of call
-
 -- the key is of its client's session in this epoch, with the next number
 pub record IsNext (a : Account) (key : Key) : Type 0 where
   pub epoch : key.epoch ≡ a.epoch

@@ -13,6 +13,7 @@ pub mod Order
 pub mod Laws
 -- What only private clauses and proofs cite.
 pub mod Views
+pub mod Parked
 pub mod Meeting
 pub mod Arriving
 pub mod Tables

@@ -1,48 +1,89 @@
 -- What an arrival does in the table of queues, by its side and its wait.
-use Rattle.std.specs.Prelude.{◌≡◌, ◌≢◌, ◌⊎◌, ◌<◌, ℕ, List, [], ◌∷◌, ◌++◌, Option, Some, None, IsSome}
-use Rattle.std.specs.Prelude.{option_and_then, slice_get, not, ◌==◌}
+use Rattle.std.specs.Prelude.{◌≡◌, ◌≢◌, ◌⊎◌, ◌<◌, ◌==◌, ℕ, List, [], ◌∷◌, ◌++◌, not, Option, Some, None, IsSome}
+use Rattle.std.specs.Prelude.{option_and_then}
 use Rattle.std.specs.List.{filter}
 use Rattle.rv_text.specs.declared.call.Wait.{Wait}
 use Rattle.rv_text.specs.declared.call.Side.{Side}
 use Rattle.rv_text.specs.declared.call.Side.TheVariants.{Gives, Takes, Looks}
 use Rattle.rv_session.specs.Owed.{Owed}
 use Rattle.rv_dual.specs.Offers.{duty_of, place_of}
-use Rattle.rv_dual.specs.Queue.{Queue}
+use Rattle.rv_dual.specs.Queue.{Queue, SameLists}
 use Rattle.rv_dual.specs.declared.giver.Offer.{Offer}
-use Rattle.rv_text.specs.declared.message.Key.{Key}
-use Rattle.rv_text.specs.Calls.{wait_of}
-use Rattle.rv_book.specs.declared.account.Act.{Act}
-use Rattle.rv_book.specs.declared.account.Act.TheVariants.{Hello, Arrive}
+use Rattle.rv_dual.specs.declared.giver.Offer.TheVariants.{Put, Waits}
 use Rattle.rv_book.specs.declared.account.Entry.{Entry}
 use Rattle.rv_book.specs.declared.queues.Arrived.{Arrived}
-use Rattle.rv_book.specs.Account.{act_at}
+use Rattle.rv_book.specs.Parked.{AreParked, AreQueues, owed_at}
+use Rattle.rv_book.specs.Waiting.{OpenAt}
 use Rattle.rv_book.specs.Calls.{Lasts, opposite}
-use Rattle.rv_book.specs.Views.{SameWaiting, queue_at, waiting_on}
+use Rattle.rv_book.specs.Views.{SameQueues, queue_at, waiting_on}
 
--- ---- who is owed what
+-- ---- one queue
 
--- the duty to settle what arrived at a place with this wait; a put needs none
-abbrev pub owed_by : ℕ → Key → Option Wait → Option Owed
-owed_by place key None = None
-owed_by place key (Some wait) = Some (record { place = place; client = key.client })
+-- the duty with which an item waits; a put has none
+abbrev pub offer_by : Option Wait → Owed → Offer
+offer_by None duty = Put duty.place
+offer_by (Some wait) duty = Waits duty
 
-abbrev pub owed_in : ℕ → Act → Option Owed
-owed_in place (Hello client incarnation) = None
-owed_in place (Arrive key call) = owed_by place key (wait_of call)
+-- the duty that comes back to an arrival that waits: a put's, which is settled at once
+abbrev pub own_by : Option Wait → Owed → Option Owed
+own_by None duty = Some duty
+own_by (Some wait) duty = None
 
-abbrev pub owed_at : List Entry → ℕ → Option Owed
-owed_at entries place = option_and_then (owed_in place) (act_at entries place)
+-- it gave to the first of the consumers, which left
+pub record GaveTo (old new : Queue) (duty : Owed) (result : Arrived) : Type 0 where
+  pub taker : Owed
+  pub oldest : old.takers ≡ taker ∷ new.takers
+  pub givers : new.givers ≡ old.givers
+  pub is : result ≡ record { partner = Some taker.place; own = Some duty; other = Some taker }
 
--- the duties that are parked in the queues are those to settle what arrived at their places
-pub record AreParked (entries : List Entry) (queues : List Queue) : Type 0 where
-  pub givers : (queue i : ℕ) (offer : Offer) → slice_get (queue_at queues queue).givers i ≡ Some offer
-      → owed_at entries (place_of offer) ≡ duty_of offer
-  pub takers : (queue i : ℕ) (duty : Owed) → slice_get (queue_at queues queue).takers i ≡ Some duty
-      → owed_at entries duty.place ≡ Some duty
+-- no consumer is there: its item waits behind the others
+pub record LaysDown (old new : Queue) (wait : Option Wait) (duty : Owed) (result : Arrived) : Type 0 where
+  pub nobody : old.takers ≡ []
+  pub givers : new.givers ≡ old.givers ++ offer_by wait duty ∷ []
+  pub takers : new.takers ≡ old.takers
+  pub is : result ≡ record { partner = None; own = own_by wait duty; other = None }
+
+-- no consumer is there, and it leaves nothing
+pub record GaveNobody (old new : Queue) (duty : Owed) (result : Arrived) : Type 0 where
+  pub nobody : old.takers ≡ []
+  pub same : SameLists old new
+  pub is : result ≡ record { partner = None; own = Some duty; other = None }
+
+-- it took the first of the items, which left
+pub record TookFrom (old new : Queue) (duty : Owed) (result : Arrived) : Type 0 where
+  pub offer : Offer
+  pub oldest : old.givers ≡ offer ∷ new.givers
+  pub takers : new.takers ≡ old.takers
+  pub is : result ≡ record { partner = Some (place_of offer); own = Some duty; other = duty_of offer }
+
+-- no item is there: it waits behind the other consumers
+pub record StandsBy (old new : Queue) (duty : Owed) (result : Arrived) : Type 0 where
+  pub nobody : old.givers ≡ []
+  pub takers : new.takers ≡ old.takers ++ duty ∷ []
+  pub givers : new.givers ≡ old.givers
+  pub is : result ≡ record { partner = None; own = None; other = None }
+
+-- no item is there, and it goes
+pub record TookNothing (old new : Queue) (duty : Owed) (result : Arrived) : Type 0 where
+  pub nobody : old.givers ≡ []
+  pub same : SameLists old new
+  pub is : result ≡ record { partner = None; own = Some duty; other = None }
+
+-- where nobody of the other side is there, by the wait: it stays, or it goes
+abbrev pub ByWait : Option Wait → Type 0 → Type 0 → Type 0
+ByWait wait stays goes = (Lasts wait × stays) ⊎ ((¬ Lasts wait) × goes)
+
+abbrev pub Gave : Queue → Queue → Option Wait → Owed → Arrived → Type 0
+Gave old new wait duty result =
+    GaveTo old new duty result ⊎ ByWait wait (LaysDown old new wait duty result) (GaveNobody old new duty result)
+
+abbrev pub Took : Queue → Queue → Option Wait → Owed → Arrived → Type 0
+Took old new wait duty result =
+    TookFrom old new duty result ⊎ ByWait wait (StandsBy old new duty result) (TookNothing old new duty result)
 
 -- ---- what an arrival does
 
--- such an arrival waits where nobody is there
+-- such an arrival stays where nobody is there
 abbrev pub MayWait : Side → Option Wait → Type 0
 MayWait side wait = IsSome (opposite side) × Lasts wait
 
@@ -68,7 +109,7 @@ abbrev pub Meets : List Queue → List Queue → Side → Option Wait → ℕ �
 Meets old new side wait place (Some partner) = MeetsFirst old new side partner
 Meets old new side wait place None =
     (MayWait side wait × StartsToWait old new side place)
-    ⊎ ((¬ MayWait side wait) × FindsNobody old side × SameWaiting old new)
+    ⊎ ((¬ MayWait side wait) × FindsNobody old side × SameQueues old new)
 
 -- its own duty comes back, but where it is a request that waits now
 abbrev pub OwnDuty : Side → Option Wait → Option ℕ → Owed → Option Owed → Type 0
@@ -94,11 +135,17 @@ pub record ArrivedOn (old new : List Queue) (side : Side) (wait : Option Wait) (
 
 -- ---- what is taken out
 
--- the request that waits at the place left its side, and its duty came back
-pub record Leaves (old new : List Queue) (side : Side) (duty : Owed) : Type 0 where
+-- the request that waits on the side left it, and its duty came back
+pub record Leaves (old new : List Queue) (side : Side) (duty : Owed) (result : Option Owed) : Type 0 where
+  pub is : result ≡ Some duty
   pub places : waiting_on new side ≡ filter (λ r. not (r == duty.place)) (waiting_on old side)
   pub others : (third : Side) → third ≢ side → waiting_on new third ≡ waiting_on old third
   pub parked : (entries : List Entry) → AreParked entries old → AreParked entries new
+
+-- whose duty is parked at the place, by whatever entries the table is true of, left its side
+abbrev pub Withdrew : List Queue → List Queue → Side → ℕ → Option Owed → Type 0
+Withdrew old new side place result = (entries : List Entry) (duty : Owed) → AreQueues entries old
+    → OpenAt entries side place → owed_at entries place ≡ Some duty → Leaves old new side duty result
 
 -- ---- room
 

@@ -3,6 +3,7 @@ use Rattle.std.specs.Prelude.{◌≡◌, ◌⊎◌, ◌<◌, ◌≤◌, ◌+◌,
 use Rattle.rv_text.specs.declared.message.Key.{Key}
 use Rattle.rv_text.specs.declared.message.Message.{Message}
 use Rattle.rv_text.specs.declared.call.Side.{Side}
+use Rattle.rv_text.specs.declared.call.Side.TheVariants.{Gives, Takes, Looks}
 use Rattle.rv_text.specs.declared.call.Call.{Call}
 use Rattle.rv_text.specs.declared.answer.Answer.{Answer}
 use Rattle.rv_text.specs.declared.answer.Refusal.{Refusal}
@@ -12,7 +13,11 @@ use Rattle.rv_session.specs.declared.kept.Kept.{Kept}
 use Rattle.rv_session.specs.declared.session.Session.{Session}
 use Rattle.rv_session.specs.declared.session.State as state
 use Rattle.rv_session.specs.declared.session.State.{State as StateOf}
-use Rattle.rv_session.specs.Table.{Table, session_of}
+use Rattle.rv_session.specs.Meanings.{HasNext}
+use Rattle.rv_session.specs.Standings.{standing_of}
+use Rattle.rv_session.specs.Table.{OnlySettles, Table, session_of, waiting_of}
+use Rattle.rv_session.specs.declared.standing.Standing.TheVariants as standing
+use Rattle.rv_session.specs.declared.kept.Kept.TheVariants as kept
 use Rattle.rv_book.specs.declared.account.Entry.{Entry}
 use Rattle.rv_book.specs.declared.account.Act.{Act}
 use Rattle.rv_book.specs.declared.account.Act.TheVariants.{Hello, Arrive}
@@ -20,17 +25,18 @@ use Rattle.rv_book.specs.declared.state.State.{State}
 use Rattle.rv_book.specs.declared.verdict.Said.{Said}
 use Rattle.rv_book.specs.declared.verdict.Said.TheVariants.{Refused}
 use Rattle.rv_book.specs.Account.{Account, act_at, call_at}
-use Rattle.rv_book.specs.Arriving.{IsKept, need_for}
+use Rattle.rv_book.specs.Arriving.{IsKept}
 use Rattle.rv_book.specs.Legal.{Legal, KeepsTime}
 use Rattle.rv_book.specs.Limits.{FitsAccount, FitsAct}
-use Rattle.rv_book.specs.Meeting.{AreParked, HasRoomOn}
+use Rattle.rv_book.specs.Calls.{MayMeet, need_of}
+use Rattle.rv_book.specs.Counting.{NumberOf}
+use Rattle.rv_book.specs.Meeting.{HasRoomOn, Leaves}
+use Rattle.rv_book.specs.Parked.{AreQueues, owed_at}
 use Rattle.rv_book.specs.Sessions.{HasIncarnation, LastNumber, SaidHello}
 use Rattle.rv_book.specs.Steps.{EpochFullDue, NextAt, max_entries, max_moment}
 use Rattle.rv_book.specs.Verdicts.{answer_of}
-use Rattle.rv_book.specs.Views.{SameWaiting, waiting_on}
-use Rattle.rv_dual.specs.Queue.{Queue}
+use Rattle.rv_book.specs.Views.{SameQueues}
 use Rattle.rv_session.specs.Owed.{Owed}
-use Rattle.rv_book.specs.Counting.{NumberOf}
 use Rattle.rv_book.specs.Waiting.{OpenAt, Waiting}
 
 -- ---- sessions
@@ -76,18 +82,6 @@ pub record AreSessions (a : Account) (t : Table) : Type 0 where
   pub epoch : t.epoch ≡ a.epoch
   pub each : (client : ℕ) → IsSessionOf a client (session_of t client)
 
--- ---- queues
-
--- the places are those of a side's open arrivals, the oldest first
-pub record IsLine (entries : List Entry) (side : Side) (places : List ℕ) : Type 0 where
-  pub are : (i r : ℕ) → slice_get places i ≡ Some r → OpenAt entries side r
-  pub each : (r : ℕ) → OpenAt entries side r → (i : ℕ) × (slice_get places i ≡ Some r)
-  pub rising : (i j p q : ℕ) → i < j → slice_get places i ≡ Some p → slice_get places j ≡ Some q → p < q
-
--- the table has each side's open arrivals
-abbrev pub AreQueues : List Entry → List Queue → Type 0
-AreQueues entries queues = (side : Side) → IsLine entries side (waiting_on queues side)
-
 -- ---- the state
 
 -- the state's account
@@ -101,7 +95,6 @@ pub record IsSound (state : State) : Type 0 where
   pub fits : FitsAccount (account_of state)
   pub sessions_are : AreSessions (account_of state) state.sessions
   pub queues_are : AreQueues (account_of state).entries state.queues
-  pub parked_are : AreParked (account_of state).entries state.queues
   pub waiting_is : NumberOf (Waiting (account_of state).entries) state.waiting
   pub spare : state.waiting ≤ state.account.room
 
@@ -112,26 +105,74 @@ pub record Comes (state : State) (moment : ℕ) (does : Act) : Type 0 where
   pub moment_fits : moment ≤ max_moment
   pub act_fits : FitsAct does
 
--- what the act adds to the table of queues has room
-abbrev pub HasRoomFor : State → Act → Type 0
-HasRoomFor state (Hello client incarnation) = Unit {0}
-HasRoomFor state (Arrive key call) = HasRoomOn state.queues (side_of call)
+-- what an arrival of the side adds to the table of queues has room; a hello adds nothing
+abbrev pub HasRoomFor : State → Option Side → Type 0
+HasRoomFor state None = Unit {0}
+HasRoomFor state (Some side) = HasRoomOn state.queues side
 
--- the account and what the tables hold are as they were; their room may be another
+-- the account and what the tables hold are as they were; their room may have grown
 pub record IsSame (old new : State) : Type 0 where
   pub account : account_of new ≡ account_of old
+  pub room : old.account.room ≤ new.account.room
   pub sessions : new.sessions ≡ old.sessions
+  pub queues : SameQueues old.queues new.queues
   pub waiting : new.waiting ≡ old.waiting
-  pub queues : SameWaiting old.queues new.queues
-  pub parked : (entries : List Entry) → AreParked entries old.queues → AreParked entries new.queues
 
--- nothing changed but the room: the act's entry has its own, that of each request which will wait too, and what
--- the act adds to the queues
-pub record IsReady (old new : State) (does : Act) : Type 0 where
+-- the epoch has room for so many entries more, beside one for each request that waits
+abbrev pub HasSpace : State → ℕ → Type 0
+HasSpace state need = length (account_of state).entries + state.waiting + need ≤ max_entries
+
+-- nothing changed but the room: so many entries have their own, each request that waits has too, and so has what
+-- an arrival of the side adds to the queues
+pub record IsReady (old new : State) (need : ℕ) (side : Option Side) : Type 0 where
   pub same : IsSame old new
-  pub room : old.waiting + need_for does ≤ new.account.room
-  pub queue_room : HasRoomFor new does
-  pub space : length (account_of old).entries + old.waiting + need_for does ≤ max_entries
+  pub room : old.waiting + need ≤ new.account.room
+  pub queue_room : HasRoomFor new side
+  pub space : HasSpace old need
+
+-- a request that has its session's next number comes to a sound state, and all that it adds has room
+pub record MayRecord (state : State) (moment : ℕ) (key : Key) (call : Call) : Type 0 where
+  pub comes : Comes state moment (Arrive key call)
+  pub stands : standing_of state.sessions key ≡ standing.Next
+  pub next : HasNext state.sessions key
+  pub room : state.waiting + need_of call ≤ state.account.room
+  pub queue_room : HasRoomOn state.queues (side_of call)
+  pub space : HasSpace state (need_of call)
+
+-- what a call that looks at its queue sees there is what the account says
+abbrev pub Sees : State → Call → Type 0
+Sees state call = ¬ MayMeet call → AreQueues (account_of state).entries state.queues
+
+-- ---- who is settled
+
+-- the session of the duty waits at the duty's place
+abbrev pub IsDueIn : Table → Owed → Type 0
+IsDueIn t duty = waiting_of t duty.client ≡ Some duty.place
+
+-- the request of the duty was settled with this, if there is one
+abbrev pub SettlesIf : Table → Table → Option Owed → Kept → Type 0
+SettlesIf old new None kept = new ≡ old
+SettlesIf old new (Some duty) kept = OnlySettles old new duty.client duty.place kept
+
+-- what is kept as the reply of the request that an arrival of the side, at the place, met: who gives hands its
+-- own item over, and who takes received the other's
+abbrev pub partners_reply : Side → ℕ → Kept
+partners_reply (Gives queue) place = kept.Item place
+partners_reply (Takes queue) place = kept.Received
+partners_reply (Looks queue) place = kept.Received
+
+-- the request that waited at the place was taken out of its queue and settled with this
+pub record EndsAt (old new : State) (place : ℕ) (kept : Kept) : Type 0 where
+  pub duty : Owed
+  pub is_at : duty.place ≡ place
+  pub owed : owed_at (account_of old).entries place ≡ Some duty
+  pub call : Call
+  pub arrived : call_at (account_of old).entries place ≡ Some call
+  pub leaves : Leaves old.queues new.queues (side_of call) duty (Some duty)
+  pub settles : OnlySettles old.sessions new.sessions duty.client place kept
+  pub counted : old.waiting ≡ new.waiting + 1
+
+-- ---- what became of a message
 
 -- why an entry that needs so many places was refused: the epoch is full; or it is not, and memory was refused
 abbrev pub NoEntryDue : Account → ℕ → Refusal → Type 0

@@ -4,7 +4,7 @@ ghost use Rattle.std.specs.Option.{option_copied};
 ghost use Rattle.rv_book.specs.Account.{with_entry};
 
 use rv_session::Place;
-use rv_text::{Call, Item, Key, NoMemory, Wait};
+use rv_text::{Call, Item, Key, NoMemory};
 use std::alloc::Global;
 use std::marker::Model;
 
@@ -50,30 +50,11 @@ impl Model for Account {
     } };
 }
 
-impl Act {
-    ghost use Rattle.std.specs.Prelude.{◌≤◌};
-    ghost use Rattle.rv_book.specs.Arriving.{need_for};
-
-    // How many entries the act may come to need: its own, and one that ends its wait.
-    pub(crate) fn need(&self) -> usize
-        ensures exact { result ≡ need_for self.now }
-        ensures small { result ≤ 2 }
-    {
-        match self {
-            Act::Hello { .. } => 1,
-            Act::Arrive { call, .. } => match call.wait() {
-                None => 1,
-                Some(Wait::Now) => 1,
-            },
-        }
-    }
-}
-
 impl Account {
     ghost use Rattle.std.specs.Prelude.{option_map};
     ghost use Rattle.rv_book.specs.Account.{call_at};
     ghost use Rattle.rv_book.specs.Arriving.{entry};
-    ghost use Rattle.std.specs.Prelude.{◌↔◌, ◌<◌, IsTrue};
+    ghost use Rattle.std.specs.Prelude.{◌↔◌, ◌<◌, ◌≤◌, ◌+◌, IsTrue};
     ghost use Rattle.rv_book.specs.Steps.{own_moment};
     ghost use Rattle.rv_book.specs.Verdicts.{item_at};
     ghost use Rattle.std.specs.Prelude.{Some, IsSome};
@@ -133,6 +114,14 @@ impl Account {
         }
     }
 
+    // The call of the arrival that stands at a place.
+    pub(crate) fn call_of(&self, place: Place) -> &Call
+        requires { IsSome (call_at self.now.account.entries place) }
+        ensures { call_at self.now.account.entries place ≡ Some result.now }
+    {
+        self.call(place).unwrap()
+    }
+
     // The item that the arrival at a place hands over.
     pub(crate) fn item(&self, place: Place) -> &Item
         requires { IsSome (item_at self.now.account.entries place) }
@@ -164,18 +153,21 @@ impl Account {
         }
     }
 
-    // Makes room for one entry more. Where its growth is refused the account stays.
-    pub(crate) fn reserve(&mut self) -> Result<(), NoMemory>
+    // Makes room for so many entries more. Where its growth is refused the account stays, and so does the room
+    // that it had.
+    pub(crate) fn reserve(&mut self, more: usize) -> Result<(), NoMemory>
         ensures same { self.new.account ≡ self.old.account }
-        ensures room { OnOk result (0 < self.new.room) }
+        ensures kept { self.old.room ≤ self.new.room }
+        ensures room { OnOk result (more ≤ self.new.room) }
     {
-        self.entries.reserve(1)
+        self.entries.reserve(more)
     }
 
     // Records one entry more, which has its room.
     pub(crate) fn push(&mut self, moment: u64, act: Act, partner: Option<Place>)
         requires { 0 < self.old.room }
-        ensures { self.new.account ≡ with_entry self.old.account (entry moment act partner) }
+        ensures entry { self.new.account ≡ with_entry self.old.account (entry moment act partner) }
+        ensures room { self.old.room ≤ self.new.room + 1 }
     {
         let entry = Entry {
             moment,

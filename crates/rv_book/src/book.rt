@@ -15,7 +15,7 @@ use std::marker::Model;
 /// The book of an epoch, which contracts see as its [`Account`].
 ///
 /// The account is always legal and within the limits; what the book keeps beside it, one session for
-/// each client and the items that wait, is what the account says.
+/// each client and 64 queues of who waits, is what the account says.
 #[derive(Drop)]
 pub struct Book {
     state: State,
@@ -92,6 +92,7 @@ impl Book {
                 let reply = reply_of(alloc, self.state.account(), kept)?;
                 Ok(Answer::Replied { key, reply })
             }
+            Said::Waiting { key } => Ok(Answer::Waiting { key }),
             Said::Refused(refusal) => Ok(Answer::Refused(refusal)),
         }
     }
@@ -106,6 +107,14 @@ fn reply_of(alloc: Global, account: &Account, kept: Kept) -> Result<Reply, NoMem
         Kept::Done => Ok(Reply::Done),
         Kept::Item(place) => Ok(Reply::Item(account.item(place).copy(alloc)?)),
         Kept::Empty => Ok(Reply::Empty),
+        Kept::Received => Ok(Reply::Received),
+        Kept::Nobody => Ok(Reply::Nobody),
+        Kept::Cancelled => Ok(Reply::Cancelled),
+        Kept::Counted { items, consumers } => Ok(Reply::Counted {
+            items: items as u64,
+            consumers: consumers as u64,
+        }),
+        Kept::Peeked(place) => Ok(Reply::Peeked(account.item(place).copy(alloc)?)),
         _ => unreachable!(),
     }
 }

@@ -1,85 +1,149 @@
-//! The queues: which items wait in each, the oldest first.
-ghost use Rattle.std.specs.Prelude.{◌≡◌, ◌<◌, ◌≤◌, ◌++◌, ◌∷◌, [], ℕ, drop, OnOk, IfOk, length};
-ghost use Rattle.rv_book.specs.Views.{places_of};
-ghost use Rattle.rv_text.specs.Calls.{queue_of};
-ghost use Rattle.rv_text.specs.Limits.{FitsQueue};
-ghost use Rattle.rv_book.specs.Meeting.{HasRoomOn, ArrivedOn, partner_on};
+//! The queues: who waits in each, the oldest first.
+ghost use Rattle.std.specs.Prelude.{◌≡◌, ◌<◌, List, None, Some, OnOk, IfOk, length, slice_get};
+ghost use Rattle.rv_session.specs.Owed.{Owed};
+ghost use Rattle.rv_text.specs.Calls.{queue_of, side_of, wait_of};
+ghost use Rattle.rv_text.specs.Limits.{FitsCall, FitsQueue};
+ghost use Rattle.rv_text.specs.declared.call.Side.TheVariants.{Gives, Takes};
+ghost use Rattle.rv_text.specs.declared.call.Wait.TheVariants.{Now, Forever};
+ghost use Rattle.rv_dual.specs.Offers.{duty_of, place_of};
+ghost use Rattle.rv_dual.specs.Queue.{IsAbove};
+ghost use Rattle.rv_book.specs.Meeting.{ArrivedOn, Gave, HasRoomOn, Took, Withdrew};
+ghost use Rattle.rv_book.specs.Views.{AllEmpty, AreBelow, SameQueues, queue_at, waiting_on};
 
-use rv_session::Place;
-use rv_text::{MAX_QUEUE, NoMemory, Side};
+use rv_dual::{Dual, Given, Giver, Pair, Taken, Tried};
+use rv_session::{Duty, Place};
+use rv_text::{Call, MAX_QUEUE, NoMemory, Side, Wait};
 use std::alloc::Global;
-use std::collections::VecDeque;
 use std::marker::Model;
 
-/// The items that wait in one queue, by the places of their arrivals.
-#[derive(Drop)]
-pub(crate) struct Queue {
-    places: VecDeque<Place>,
+/// What became of an arrival in its queue. The duties in it are to be settled.
+pub(crate) struct Arrived {
+    /// The place of the earlier arrival that it met.
+    pub(crate) partner: Option<Place>,
+    /// Its own duty, where it doesn't wait.
+    pub(crate) own: Option<Duty>,
+    /// The duty of the request that it met; a put has none.
+    pub(crate) other: Option<Duty>,
 }
 
-impl Model for Queue {
-    ghost use Rattle.rv_book.specs.Views.{QueueLine};
-    ghost use Rattle.std.specs.Prelude.{◌-◌};
-    ghost use Rattle.std.specs.VecDeque.{deque_capacity, deque_len};
-
-    ghost Value = { QueueLine };
-
-    ghost view = { λ q. record {
-      places = q.places.items;
-      spare = deque_capacity q.places - deque_len q.places;
-    } };
+// A put arrives: its duty comes back, whether a consumer waits or not.
+fn put(queue: &mut Dual, duty: Duty) -> Arrived
+    requires room { 0 < queue.old.room }
+    requires above { IsAbove queue.old duty.place }
+    ensures { Gave queue.old queue.new None duty result }
+{
+    match queue.give(Giver::Put(duty.place())) {
+        Given::Met(pair) => match pair.part() {
+            (None, taker, _) => Arrived {
+                partner: Some(taker.place()),
+                own: Some(duty),
+                other: Some(taker),
+            },
+            (Some(_giver), _taker, _) => unreachable!(),
+        },
+        Given::Parked => Arrived {
+            partner: None,
+            own: Some(duty),
+            other: None,
+        },
+    }
 }
 
-impl Queue {
-    ghost use Rattle.std.specs.Prelude.{slice_get};
-
-    fn empty(alloc: Global) -> Queue
-        ensures { result.places ≡ [] }
-    {
-        Queue {
-            places: VecDeque::new(alloc),
-        }
+// What became of a giver that met a consumer.
+fn gave(pair: Pair) -> Arrived
+    ensures { result ≡ record { partner = Some pair.taker.place; own = duty_of pair.giver; other = Some pair.taker } }
+{
+    let (own, taker, _) = pair.part();
+    Arrived {
+        partner: Some(taker.place()),
+        own,
+        other: Some(taker),
     }
+}
 
-    fn front(&self) -> Option<Place>
-        ensures { result ≡ slice_get self.now.places 0 }
-    {
-        self.places.front().copied()
+// What became of a taker that met a giver.
+fn took(pair: Pair) -> Arrived
+    ensures { result ≡ record { partner = Some (place_of pair.giver); own = Some pair.taker; other = duty_of pair.giver } }
+{
+    let (other, own, place) = pair.part();
+    Arrived {
+        partner: Some(place),
+        own: Some(own),
+        other,
     }
+}
 
-    // Makes room for one place more. Where its growth is refused nothing changes.
-    fn reserve(&mut self) -> Result<(), NoMemory>
-        ensures same { self.new.places ≡ self.old.places }
-        ensures room { OnOk result (0 < self.new.spare) }
-    {
-        self.places.reserve(1)
+// A request that gives arrives, and waits where no consumer is there.
+fn transfer(queue: &mut Dual, duty: Duty) -> Arrived
+    requires room { 0 < queue.old.room }
+    requires above { IsAbove queue.old duty.place }
+    ensures { Gave queue.old queue.new (Some Forever) duty result }
+{
+    match queue.give(Giver::Waits(duty)) {
+        Given::Met(pair) => gave(pair),
+        Given::Parked => Arrived {
+            partner: None,
+            own: None,
+            other: None,
+        },
     }
+}
 
-    fn append(&mut self, place: Place)
-        requires { 0 < self.old.spare }
-        ensures { self.new.places ≡ self.old.places ++ place ∷ [] }
-    {
-        self.places.push_back(place).unwrap();
+// A request that gives arrives, and goes where no consumer is there.
+fn try_transfer(queue: &mut Dual, duty: Duty) -> Arrived
+    ensures { Gave queue.old queue.new (Some Now) duty result }
+{
+    match queue.try_give(duty) {
+        Tried::Met(pair) => gave(pair),
+        Tried::Alone(duty) => Arrived {
+            partner: None,
+            own: Some(duty),
+            other: None,
+        },
     }
+}
 
-    fn remove_front(&mut self)
-        ensures { self.new.places ≡ drop 1 self.old.places }
-    {
-        self.places.pop_front();
+// Who takes arrives, and waits where no item is there.
+fn take(queue: &mut Dual, duty: Duty) -> Arrived
+    requires room { 0 < queue.old.room }
+    requires above { IsAbove queue.old duty.place }
+    ensures { Took queue.old queue.new (Some Forever) duty result }
+{
+    match queue.take(duty) {
+        Taken::Met(pair) => took(pair),
+        Taken::Parked => Arrived {
+            partner: None,
+            own: None,
+            other: None,
+        },
+    }
+}
+
+// Who takes arrives, and goes where no item is there.
+fn poll(queue: &mut Dual, duty: Duty) -> Arrived
+    ensures { Took queue.old queue.new (Some Now) duty result }
+{
+    match queue.try_take(duty) {
+        Tried::Met(pair) => took(pair),
+        Tried::Alone(duty) => Arrived {
+            partner: None,
+            own: Some(duty),
+            other: None,
+        },
     }
 }
 
 /// All queues, by their numbers.
 #[derive(Drop)]
 pub(crate) struct Queues {
-    queues: Vec<Queue>,
+    queues: Vec<Dual>,
 }
 
 impl Model for Queues {
-    ghost use Rattle.rv_book.specs.Views.{QueueLine};
+    ghost use Rattle.rv_dual.specs.Queue.{Queue};
     ghost use Rattle.std.specs.Prelude.{◌≡◌, List, length};
 
-    ghost Value = { List QueueLine };
+    ghost Value = { List Queue };
 
     ghost view = { λ q. q.queues.items };
 
@@ -87,53 +151,96 @@ impl Model for Queues {
 }
 
 impl Queues {
-    /// 64 queues in which nothing waits.
+    /// 64 queues in which nobody waits.
     pub(crate) fn empty(alloc: Global) -> Result<Queues, NoMemory>
-        ensures { IfOk result (λ queues. (queue : ℕ) → places_of queues queue ≡ []) }
+        ensures { IfOk result AllEmpty }
     {
         let count = MAX_QUEUE as usize + 1;
         let mut queues = Vec::new(alloc);
         for _ in 0..count {
-            queues.push(Queue::empty(alloc))?;
+            queues.push(Dual::new(alloc))?;
         }
         Ok(Queues { queues })
     }
 
-    /// The oldest open arrival that an arrival of this side meets.
-    pub(crate) fn partner(&self, side: Side) -> Option<Place>
-        ensures { result ≡ partner_on self.now side }
+    // The queue of this number.
+    fn queue(&self, queue: u64) -> &Dual
+        requires { FitsQueue queue }
+        ensures { result.now ≡ queue_at self.now queue }
     {
-        match side {
-            Side::Takes(queue) => self.queues.get(queue as usize).and_then(Queue::front),
-            Side::Gives(_) => None,
-            Side::Looks(_) => None,
-        }
+        &self.queues[queue as usize]
+    }
+
+    /// The place of the oldest item of a queue.
+    pub(crate) fn front(&self, queue: u64) -> Option<Place>
+        requires { FitsQueue queue }
+        ensures { result ≡ slice_get (waiting_on self.now (Gives queue)) 0 }
+    {
+        self.queue(queue).front()
+    }
+
+    /// How many items and how many consumers wait in a queue.
+    pub(crate) fn count(&self, queue: u64) -> (usize, usize)
+        requires { FitsQueue queue }
+        ensures items { result.0 ≡ length (waiting_on self.now (Gives queue)) }
+        ensures consumers { result.1 ≡ length (waiting_on self.now (Takes queue)) }
+    {
+        let dual = self.queue(queue);
+        (dual.items(), dual.consumers())
     }
 
     /// Makes room for an arrival of this side. Where a growth is refused nothing changes.
     pub(crate) fn reserve(&mut self, side: Side) -> Result<(), NoMemory>
         requires { FitsQueue (queue_of side) }
-        ensures same { (queue : ℕ) → places_of self.new queue ≡ places_of self.old queue }
+        ensures same { SameQueues self.old self.new }
         ensures room { OnOk result (HasRoomOn self.new side) }
     {
         match side {
-            Side::Gives(queue) => self.queues[queue as usize].reserve(),
-            Side::Takes(_) => Ok(()),
+            Side::Gives(queue) | Side::Takes(queue) => self.queues[queue as usize].reserve(),
             Side::Looks(_) => Ok(()),
         }
     }
 
-    /// The arrival of this side that stands at a place meets the oldest of the other side, which leaves its
-    /// queue, or, if it gives and nobody is there, waits behind the others of its side.
-    pub(crate) fn arrive(&mut self, side: Side, place: Place)
-        requires queue { FitsQueue (queue_of side) }
-        requires room { HasRoomOn self.old side }
-        ensures { ArrivedOn self.old self.new side place }
+    /// The request of a call arrives with its duty: it meets the oldest of the other side, which leaves its
+    /// queue; or, where nobody is there, waits behind the others of its side, if its wait lasts.
+    pub(crate) fn arrive(&mut self, call: &Call, duty: Duty) -> Arrived
+        requires fits { FitsCall call.now }
+        requires room { HasRoomOn self.old (side_of call.now) }
+        requires above { AreBelow self.old duty.place }
+        ensures { ArrivedOn self.old self.new (side_of call.now) (wait_of call.now) duty result }
+    {
+        match call.side() {
+            Side::Gives(queue) => {
+                let queue = &mut self.queues[queue as usize];
+                match call.wait() {
+                    None => put(queue, duty),
+                    Some(Wait::Now) => try_transfer(queue, duty),
+                    Some(Wait::Forever) => transfer(queue, duty),
+                }
+            }
+            Side::Takes(queue) => {
+                let queue = &mut self.queues[queue as usize];
+                match call.wait() {
+                    Some(Wait::Now) => poll(queue, duty),
+                    _ => take(queue, duty),
+                }
+            }
+            Side::Looks(_) => Arrived {
+                partner: None,
+                own: Some(duty),
+                other: None,
+            },
+        }
+    }
+
+    /// The request that waits at a place on this side leaves it, and gives its duty back.
+    pub(crate) fn withdraw(&mut self, side: Side, place: Place) -> Option<Duty>
+        requires { FitsQueue (queue_of side) }
+        ensures { Withdrew self.old self.new side place result }
     {
         match side {
-            Side::Gives(queue) => self.queues[queue as usize].append(place),
-            Side::Takes(queue) => self.queues[queue as usize].remove_front(),
-            Side::Looks(_) => {}
+            Side::Gives(queue) | Side::Takes(queue) => self.queues[queue as usize].withdraw(place),
+            Side::Looks(_) => None,
         }
     }
 }

@@ -1,13 +1,16 @@
 //! The account with the tables that answer for it, and the steps that change them together.
-ghost use Rattle.std.specs.Prelude.{◌≡◌, ◌≤◌, ◌+◌, [], length, OnOk, OnErr, IfOk, IfErr};
-ghost use Rattle.rv_text.specs.Limits.{FitsIdentifier};
-ghost use Rattle.rv_book.specs.Arriving.{IsRecorded, WillReply, need_for};
+ghost use Rattle.std.specs.Prelude.{◌≡◌, ◌≤◌, [], None, OnOk, OnErr, IfOk, IfErr, IfSome};
+ghost use Rattle.rv_text.specs.Calls.{queue_of};
+ghost use Rattle.rv_text.specs.Limits.{FitsCall, FitsIdentifier, FitsQueue};
+ghost use Rattle.rv_book.specs.Arriving.{GoesOn, IsRecorded, WillReply, said_of};
+ghost use Rattle.rv_book.specs.Calls.{need_of};
+ghost use Rattle.rv_book.specs.Tables.{partners_reply};
 
 use crate::account::{Account, Act};
-use crate::queues::Queues;
+use crate::queues::{Arrived, Queues};
 use crate::verdict::Said;
-use rv_session::{Greeting, Kept, Place, Sessions, Standing};
-use rv_text::{Call, Key, Message, NoMemory, Refusal};
+use rv_session::{Duty, Greeting, Kept, Place, Sessions, Standing};
+use rv_text::{Call, Key, Message, NoMemory, Refusal, Side, Wait};
 use std::alloc::Global;
 
 /// The most entries of an epoch.
@@ -21,6 +24,31 @@ pub(crate) struct State {
     account: Account,
     sessions: Sessions,
     queues: Queues,
+    // How many requests wait.
+    waiting: usize,
+}
+
+// How many entries a call may come to need: its own, and one that ends its wait.
+fn needed(call: &Call) -> usize
+    ensures exact { result ≡ need_of call.now }
+    ensures small { result ≤ 2 }
+{
+    match call.wait() {
+        None => 1,
+        Some(Wait::Now) => 1,
+        Some(Wait::Forever) => 2,
+    }
+}
+
+// What is kept as the reply of the request that an arrival of this side, at this place, met.
+fn reply_to_partner(side: Side, place: Place) -> Kept
+    ensures { result ≡ partners_reply side place }
+{
+    match side {
+        Side::Gives(_) => Kept::Item(place),
+        Side::Takes(_) => Kept::Received,
+        Side::Looks(_) => Kept::Received,
+    }
 }
 
 impl State {
@@ -29,19 +57,17 @@ impl State {
     ghost use Rattle.rv_text.specs.declared.answer.Answer.TheVariants.{Welcome};
     ghost use Rattle.rv_text.specs.Limits.{FitsMessage};
     ghost use Rattle.rv_book.specs.declared.account.Act.TheVariants.{Hello, Arrive};
-    ghost use Rattle.rv_book.specs.Calls.{need_of};
-    ghost use Rattle.rv_book.specs.Limits.{FitsAct};
     ghost use Rattle.rv_book.specs.Legal.{KeepsTime};
-    ghost use Rattle.rv_book.specs.Sessions.{HasOnlyLower};
-    ghost use Rattle.rv_book.specs.Steps.{Adds, NextAt, max_entries, max_moment, step_moment};
-    ghost use Rattle.rv_book.specs.Tables.{Becomes, Comes, HasRoomFor, IsReady, IsRefused, IsRepeat};
-    ghost use Rattle.rv_book.specs.Tables.{IsSame, IsSound, NoEntryDue};
-    ghost use Rattle.rv_book.specs.Tables.{account_of};
-    ghost use Rattle.rv_session.specs.Meanings.{HasNext};
+    ghost use Rattle.rv_book.specs.Waiting.{Waiting};
+    ghost use Rattle.rv_book.specs.Steps.{Adds, NextAt, max_moment, step_moment};
+    ghost use Rattle.rv_book.specs.Tables.{Becomes, Comes, EndsAt, HasRoomFor, HasSpace, IsDueIn, IsReady};
+    ghost use Rattle.rv_book.specs.Tables.{IsRefused, IsRepeat, IsSame, IsSound, MayRecord, NoEntryDue, Sees};
+    ghost use Rattle.rv_book.specs.Tables.{SettlesIf, account_of};
+    ghost use Rattle.rv_session.specs.Meanings.{HasNext, IsNewer};
+    ghost use Rattle.rv_session.specs.Table.{session_of};
     ghost use Rattle.rv_session.specs.Standings.{MayEnter, standing_of};
     ghost use Rattle.rv_session.specs.declared.standing.Standing.TheVariants as standing;
     ghost use Rattle.rv_text.specs.declared.answer.Refusal.TheVariants.{OtherCall};
-    ghost use Rattle.rv_book.specs.declared.verdict.Said.TheVariants as said;
 
     /// An empty account of an epoch, opened at a moment, and tables with nothing in them.
     pub(crate) fn open(alloc: Global, epoch: u64, opened: u64) -> Result<State, NoMemory>
@@ -55,6 +81,7 @@ impl State {
             account: Account::empty(alloc, epoch, opened),
             sessions: Sessions::open(alloc, epoch),
             queues: Queues::empty(alloc)?,
+            waiting: 0,
         })
     }
 
@@ -65,75 +92,121 @@ impl State {
         &self.account
     }
 
-    // What is kept as the reply of a call that arrives with this partner.
+    // What is kept as the reply of a call that arrived with this partner and doesn't wait.
     fn reply_to(&self, call: &Call, partner: Option<Place>) -> Kept
-        ensures { WillReply (account_of self.now) call.now partner result }
+        requires { FitsCall call.now }
+        ensures { Sees self.now call.now → ¬ GoesOn call.now partner
+            → WillReply (account_of self.now) call.now partner result }
     {
         match call {
             Call::Put { .. } => Kept::Done,
+            Call::Transfer { .. } => match partner {
+                Some(_) => Kept::Received,
+                None => Kept::Nobody,
+            },
             Call::Take { .. } => match partner {
                 Some(place) => Kept::Item(place),
+                None => Kept::Empty,
+            },
+            Call::Count { queue } => {
+                let (items, consumers) = self.queues.count(*queue);
+                Kept::Counted { items, consumers }
+            }
+            Call::Peek { queue } => match self.queues.front(*queue) {
+                Some(place) => Kept::Peeked(place),
                 None => Kept::Empty,
             },
         }
     }
 
-    // Makes room in the queues for what an act adds to them. Where a growth is refused nothing changes.
-    fn reserve(&mut self, does: &Act) -> Result<(), NoMemory>
-        requires { FitsAct does.now }
+    // Makes room in the queues for what an arrival adds to them. Where a growth is refused nothing changes.
+    fn reserve(&mut self, side: Option<Side>) -> Result<(), NoMemory>
+        requires { IfSome side (λ s. FitsQueue (queue_of s)) }
         ensures account { self.new.account ≡ self.old.account }
         ensures same { IsSame self.old self.new }
-        ensures room { OnOk result (HasRoomFor self.new does.now) }
+        ensures room { OnOk result (HasRoomFor self.new side) }
     {
-        match does {
-            Act::Hello { .. } => Ok(()),
-            Act::Arrive { call, .. } => self.queues.reserve(call.side()),
+        match side {
+            Some(side) => self.queues.reserve(side),
+            None => Ok(()),
         }
     }
 
-    // Tests the epoch's room for an act, and makes all growths that its entry and the queues need. It changes
-    // nothing but room; what follows it can't fail, but for a new client's session.
-    fn make_room(&mut self, does: &Act) -> Result<(), Refusal>
+    // Tests the epoch's room for an entry that may need one more later, and makes all growths that the entry and
+    // the queues need. It changes nothing but room; what follows it can't fail, but for a new client's session.
+    fn make_room(&mut self, need: usize, side: Option<Side>) -> Result<(), Refusal>
         requires sound { IsSound self.old }
-        requires fits { FitsAct does.now }
+        requires small { need ≤ 2 }
+        requires fits { IfSome side (λ s. FitsQueue (queue_of s)) }
         ensures same { IsSame self.old self.new }
-        ensures ok { OnOk result (IsReady self.old self.new does.now) }
-        ensures err { IfErr result (NoEntryDue (account_of self.old) (need_for does.now)) }
+        ensures ok { OnOk result (IsReady self.old self.new need side) }
+        ensures err { IfErr result (NoEntryDue (account_of self.old) need) }
     {
-        if self.account.len() + does.need() > MAX_ENTRIES {
+        let more = self.waiting + need;
+        if self.account.len() + more > MAX_ENTRIES {
             return Err(Refusal::EpochFull);
         }
-        self.account.reserve()?;
-        self.reserve(does)?;
+        self.account.reserve(more)?;
+        self.reserve(side)?;
         Ok(())
     }
 
-    // Records a request that has its session's next number, and says its reply.
-    fn arrive(&mut self, moment: u64, key: Key, call: Call) -> Result<Kept, Refusal>
+    // Settles the request that a duty is for, if there is one.
+    fn settle(&mut self, duty: Option<Duty>, kept: Kept)
+        requires { IfSome duty (IsDueIn self.old.sessions) }
+        ensures sessions { SettlesIf self.old.sessions self.new.sessions duty kept }
+        ensures account { self.new.account ≡ self.old.account }
+        ensures queues { self.new.queues ≡ self.old.queues }
+        ensures waiting { self.new.waiting ≡ self.old.waiting }
+    {
+        if let Some(duty) = duty {
+            self.sessions.settle(duty, kept);
+        }
+    }
+
+    // Records a request that has its session's next number, for which there is room, and gives its reply; none
+    // where it waits.
+    fn record(&mut self, moment: u64, key: Key, call: Call) -> Option<Kept>
+        requires { MayRecord self.old moment key call }
+        ensures sound { IsSound self.new }
+        ensures recorded { IsRecorded (account_of self.old) (account_of self.new) moment key call result }
+    {
+        let place = self.account.len();
+        let others = reply_to_partner(call.side(), place);
+        let duty = self.sessions.begin(&key, place);
+        let Arrived {
+            partner,
+            own,
+            other,
+        } = self.queues.arrive(&call, duty);
+        let kept = self.reply_to(&call, partner);
+        let result = own.as_ref().map(|_| kept);
+        self.waiting = self.waiting + usize::from(own.is_none()) - usize::from(other.is_some());
+        self.account.push(moment, Act::Arrive { key, call }, partner);
+        self.settle(other, others);
+        self.settle(own, kept);
+        result
+    }
+
+    // Records a request that has its session's next number, where there is room, and gives its reply; none where
+    // it waits.
+    fn arrive(&mut self, moment: u64, key: Key, call: Call) -> Result<Option<Kept>, Refusal>
         requires comes { Comes self.old moment (Arrive key call) }
         requires stands { standing_of self.old.sessions key ≡ standing.Next }
         requires next { HasNext self.old.sessions key }
         ensures sound { IsSound self.new }
         ensures ok { IfOk result (IsRecorded (account_of self.old) (account_of self.new) moment key call) }
-        ensures space { OnOk result (length (account_of self.old).entries + need_of call ≤ max_entries) }
+        ensures space { OnOk result (HasSpace self.old (need_of call)) }
         ensures same { OnErr result (account_of self.new ≡ account_of self.old) }
         ensures err { IfErr result (NoEntryDue (account_of self.old) (need_of call)) }
     {
-        let side = call.side();
-        let place = self.account.len();
-        let partner = self.queues.partner(side);
-        let kept = self.reply_to(&call, partner);
-        let arrival = Act::Arrive { key, call };
-        self.make_room(&arrival)?;
-        self.account.push(moment, arrival, partner);
-        self.queues.arrive(side, place);
-        let duty = self.sessions.begin(&key, place);
-        self.sessions.settle(duty, kept);
-        Ok(kept)
+        self.make_room(needed(&call), Some(call.side()))?;
+        Ok(self.record(moment, key, call))
     }
 
-    // The reply that is kept for a request that arrived at a place, if it came with this call.
-    fn repeat(&self, place: Option<Place>, call: &Call, kept: Kept) -> Result<Kept, Refusal>
+    // What a request is told that arrived at a place, if it came with this call: the reply that is kept, or that
+    // it waits.
+    fn repeat(&self, place: Option<Place>, call: &Call, kept: Option<Kept>) -> Result<Option<Kept>, Refusal>
         ensures ok { IfOk result (λ again. (again ≡ kept) × IsRepeat (account_of self.now) place call.now) }
         ensures err { IfErr result (λ refusal. (refusal ≡ OtherCall)
             × ¬ IsRepeat (account_of self.now) place call.now) }
@@ -149,41 +222,86 @@ impl State {
     }
 
     // Answers a request, and records it where it is no repeat and no refusal is due.
-    fn request(&mut self, moment: u64, key: Key, call: Call) -> Result<Kept, Refusal>
+    fn request(&mut self, moment: u64, key: Key, call: Call) -> Result<Option<Kept>, Refusal>
         requires { Comes self.old moment (Arrive key call) }
         ensures sound { IsSound self.new }
         ensures ok { IfOk result (λ kept. Becomes (account_of self.old) moment (Request key call)
-            (account_of self.new) (said.Replied key kept)) }
+            (account_of self.new) (said_of key kept)) }
         ensures err { IfErr result (IsRefused (account_of self.old) moment (Request key call)
             (account_of self.new)) }
     {
         match self.sessions.look(&key) {
             Standing::Refused(refusal) => Err(refusal),
-            Standing::Waits(_) => unreachable!(),
-            Standing::Settled { place, kept } => self.repeat(place, &call, kept),
+            Standing::Waits(place) => self.repeat(Some(place), &call, None),
+            Standing::Settled { place, kept } => self.repeat(place, &call, Some(kept)),
             Standing::Next => self.arrive(moment, key, call),
         }
     }
 
-    // Records the hello of a client that said none before, or only lower ones.
+    // Ends the request that waits at a place: it leaves its queue, and this is kept as its reply.
+    fn end(&mut self, place: Place, kept: Kept)
+        requires sound { IsSound self.old }
+        requires waits { Waiting (account_of self.old).entries place }
+        ensures account { self.new.account ≡ self.old.account }
+        ensures ended { EndsAt self.old self.new place kept }
+    {
+        let side = self.account.call_of(place).side();
+        let duty = self.queues.withdraw(side, place);
+        self.settle(duty, kept);
+        self.waiting -= 1;
+    }
+
+    // Records the first hello of a client.
     fn admit(&mut self, moment: u64, client: u64, incarnation: u64) -> Result<(), Refusal>
         requires comes { Comes self.old moment (Hello client incarnation) }
         requires enters { MayEnter self.old.sessions client incarnation }
-        requires lower { HasOnlyLower (account_of self.old).entries client incarnation }
+        requires unknown { session_of self.old.sessions client ≡ None }
         ensures sound { IsSound self.new }
         ensures ok { OnOk result (Adds (account_of self.old) moment (Hello client incarnation)
             (account_of self.new)) }
-        ensures space { OnOk result (length (account_of self.old).entries + 1 ≤ max_entries) }
+        ensures space { OnOk result (HasSpace self.old 1) }
         ensures same { OnErr result (account_of self.new ≡ account_of self.old) }
         ensures err { IfErr result (NoEntryDue (account_of self.old) 1) }
+    {
+        self.make_room(1, None)?;
+        self.sessions.enter(client, incarnation)?;
+        self.push_hello(moment, client, incarnation);
+        Ok(())
+    }
+
+    fn push_hello(&mut self, moment: u64, client: u64, incarnation: u64)
     {
         let hello = Act::Hello {
             client,
             incarnation,
         };
-        self.make_room(&hello)?;
-        self.sessions.enter(client, incarnation)?;
         self.account.push(moment, hello, None);
+    }
+
+    // Records a client's hello of a greater incarnation. The request that waits in its session, if one does, is
+    // cancelled.
+    fn renew(
+        &mut self,
+        moment: u64,
+        client: u64,
+        incarnation: u64,
+        waiting: Option<Place>,
+    ) -> Result<(), Refusal>
+        requires comes { Comes self.old moment (Hello client incarnation) }
+        requires newer { IsNewer self.old.sessions client incarnation waiting }
+        ensures sound { IsSound self.new }
+        ensures ok { OnOk result (Adds (account_of self.old) moment (Hello client incarnation)
+            (account_of self.new)) }
+        ensures space { OnOk result (HasSpace self.old 1) }
+        ensures same { OnErr result (account_of self.new ≡ account_of self.old) }
+        ensures err { IfErr result (NoEntryDue (account_of self.old) 1) }
+    {
+        self.make_room(1, None)?;
+        if let Some(place) = waiting {
+            self.end(place, Kept::Cancelled);
+        }
+        self.sessions.enter(client, incarnation).unwrap();
+        self.push_hello(moment, client, incarnation);
         Ok(())
     }
 
@@ -201,8 +319,7 @@ impl State {
             Greeting::Older(current) => Err(Refusal::OldIncarnation(current)),
             Greeting::Full => Err(Refusal::ClientsFull),
             Greeting::Unknown => self.admit(moment, client, incarnation),
-            Greeting::Newer { waiting: None } => self.admit(moment, client, incarnation),
-            Greeting::Newer { waiting: Some(_) } => unreachable!(),
+            Greeting::Newer { waiting } => self.renew(moment, client, incarnation, waiting),
         }
     }
 
@@ -239,7 +356,7 @@ impl State {
                 Err(refusal) => Said::Refused(refusal),
             },
             Message::Request { key, call } => match self.request(moment, key, call) {
-                Ok(kept) => Said::Replied { key, kept },
+                Ok(kept) => Said::of(key, kept),
                 Err(refusal) => Said::Refused(refusal),
             },
         }

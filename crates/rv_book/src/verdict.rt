@@ -13,7 +13,25 @@ pub(crate) enum Said {
         key: Key,
         kept: Kept,
     },
+    Waiting {
+        key: Key,
+    },
     Refused(Refusal),
+}
+
+impl Said {
+    ghost use Rattle.rv_book.specs.Arriving.{said_of};
+    ghost use Rattle.std.specs.Prelude.{◌≡◌};
+
+    // What is said to a request: the reply that is kept for it, or that it waits.
+    pub(crate) fn of(key: Key, kept: Option<Kept>) -> Said
+        ensures { result ≡ said_of key kept }
+    {
+        match kept {
+            Some(kept) => Said::Replied { key, kept },
+            None => Said::Waiting { key },
+        }
+    }
 }
 
 /// What [`Book::handle`](crate::Book::handle) said to a message. It takes no memory;

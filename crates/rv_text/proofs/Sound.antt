@@ -1,5 +1,5 @@
 -- What holds of the row of each message and answer: no name stands twice, all is plain, and there is room for it.
-use Rattle.std.proofs.Common.{◌≡◌, ℕ, ◌≤◌, List, ◌∷◌, ◌++◌, map, codes, true, Option, Some, None, IfSome, IsUtf8, refl, arith}
+use Rattle.std.proofs.Common.{◌≡◌, ℕ, ◌≤◌, List, [], ◌∷◌, ◌++◌, map, codes, true, Option, Some, None, IfSome, IsUtf8, refl, arith}
 use Rattle.rv_text.specs.declared.message.Key.{Key}
 use Rattle.rv_text.specs.declared.message.Message.{Message}
 use Rattle.rv_text.specs.declared.message.Message.TheVariants as message
@@ -49,6 +49,8 @@ request_sound key name at None None plain = record { distinct = refl; plain = rw
 request_sound key name at None (Some item) plain = record { distinct = refl; plain = rw plain refl; room = omega arith; in_order = refl }
 request_sound key name at (Some wait.Now) None plain = record { distinct = refl; plain = rw plain refl; room = omega arith; in_order = refl }
 request_sound key name at (Some wait.Now) (Some item) plain = record { distinct = refl; plain = rw plain refl; room = omega arith; in_order = refl }
+request_sound key name at (Some wait.Forever) None plain = record { distinct = refl; plain = rw plain refl; room = omega arith; in_order = refl }
+request_sound key name at (Some wait.Forever) (Some item) plain = record { distinct = refl; plain = rw plain refl; room = omega arith; in_order = refl }
 
 pub message_sound : (message : Message) → IsSound (message_row message)
 message_sound (message.Hello client incarnation) = record { distinct = refl; plain = refl; room = omega arith; in_order = refl }
@@ -66,6 +68,7 @@ message_within (message.Request key call) fits = (tt, key_within key (call_row c
 wait_text : (waits : Option Wait) → Each IsText (wait_row waits)
 wait_text None = tt
 wait_text (Some wait.Now) = (tt, tt)
+wait_text (Some wait.Forever) = (tt, tt)
 
 item_is_text : (gives : Option (List ℕ)) → IfSome gives IsUtf8 → Each IsText (item_row gives)
 item_is_text None utf8 = tt
@@ -93,6 +96,7 @@ refusal_sound _ = record { distinct = refl; plain = refl; room = omega arith; in
 pub answer_sound : (answer : Answer) → IsSound (answer_row answer)
 answer_sound (answer.Welcome epoch client incarnation) = record { distinct = refl; plain = refl; room = omega arith; in_order = refl }
 answer_sound (answer.Replied key reply) = reply_sound key reply
+answer_sound (answer.Waiting key) = record { distinct = refl; plain = refl; room = omega arith; in_order = refl }
 answer_sound (answer.Refused refusal) = refusal_sound refusal
 
 code_within : (refusal : Refusal) → Keeps code_numbers (code_of refusal)
@@ -102,10 +106,13 @@ code_within _ = (omega arith, omega arith)
 pub answer_within : (answer : Answer) → FitsAnswer answer → Each IsWithin (answer_row answer)
 answer_within (answer.Welcome epoch client incarnation) fits = (tt, (fits.0, (fits.1, (fits.2, tt))))
 answer_within (answer.Replied key reply) fits = (tt, key_within key (reply_row reply) fits.0 (each_within (reply_row reply) fits.1))
+answer_within (answer.Waiting key) fits = (tt, key_within key [] fits tt)
 answer_within (answer.Refused refusal) fits = (tt, (code_within refusal, each_within (detail_row refusal) fits))
 
 reply_text : (reply : Reply) → ReplyHasUtf8 reply → Each IsText (reply_row reply)
 reply_text (reply.Item item) utf8 = (tt, (utf8, tt))
+reply_text (reply.Peeked item) utf8 = (tt, (utf8, tt))
+reply_text (reply.Counted items consumers) utf8 = (tt, (tt, (tt, tt)))
 reply_text _ utf8 = (tt, tt)
 
 detail_text : (refusal : Refusal) → Each IsText (detail_row refusal)
@@ -119,4 +126,5 @@ detail_text _ = tt
 pub answer_has_text : (answer : Answer) → AnswerHasUtf8 answer → Each IsText (answer_row answer)
 answer_has_text (answer.Welcome epoch client incarnation) utf8 = (tt, (tt, (tt, (tt, tt))))
 answer_has_text (answer.Replied key reply) utf8 = (tt, (tt, (tt, (tt, (tt, reply_text reply utf8)))))
+answer_has_text (answer.Waiting key) utf8 = (tt, (tt, (tt, (tt, (tt, tt)))))
 answer_has_text (answer.Refused refusal) utf8 = (tt, (tt, detail_text refusal))

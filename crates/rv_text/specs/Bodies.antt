@@ -46,11 +46,13 @@ HasUtf8 (message.Request key call) = IfSome (item_of call) IsUtf8
 -- the same of an answer
 abbrev pub ReplyHasUtf8 : Reply → Type 0
 ReplyHasUtf8 (reply.Item item) = IsUtf8 item
+ReplyHasUtf8 (reply.Peeked item) = IsUtf8 item
 ReplyHasUtf8 _ = Unit {0}
 
 abbrev pub AnswerHasUtf8 : Answer → Type 0
 AnswerHasUtf8 (answer.Welcome epoch client incarnation) = Unit {0}
 AnswerHasUtf8 (answer.Replied key reply) = ReplyHasUtf8 reply
+AnswerHasUtf8 (answer.Waiting key) = Unit {0}
 AnswerHasUtf8 (answer.Refused refusal) = Unit {0}
 
 -- the body that is written for a message

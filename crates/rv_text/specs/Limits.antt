@@ -46,4 +46,5 @@ abbrev pub FitsAnswer : Answer → Type 0
 FitsAnswer (answer.Welcome epoch client incarnation) =
     FitsIdentifier epoch × FitsIdentifier client × FitsIdentifier incarnation
 FitsAnswer (answer.Replied key reply) = FitsKey key × FitsReply reply
+FitsAnswer (answer.Waiting key) = FitsKey key
 FitsAnswer (answer.Refused refusal) = FitsRefusal refusal

@@ -105,7 +105,7 @@ abbrev pub item_among : Members → Option (List ℕ)
 item_among = text_among (codes "item")
 
 abbrev pub wait_lines : List (Line (List ℕ) Wait)
-wait_lines = (codes "now", λ ms. Some wait.Now) ∷ []
+wait_lines = (codes "now", λ ms. Some wait.Now) ∷ (codes "forever", λ ms. Some wait.Forever) ∷ []
 
 abbrev pub wait_among : Members → Option Wait
 wait_among members = among (codes "wait") wait_lines members
@@ -118,10 +118,20 @@ key_among members = do
   number ← whole_among (codes "number") members
   Some (record { epoch = epoch; client = client; incarnation = incarnation; number = number })
 
+abbrev pub transfer_among : Members → Option Call
+transfer_among members = do
+  queue ← queue_among members
+  item ← item_among members
+  wait ← wait_among members
+  Some (call.Transfer queue item wait)
+
 abbrev pub call_lines : List (Line (List ℕ) Call)
 call_lines =
     (codes "put", λ ms. queue_among ms >>= λ queue. item_among ms >>= λ item. Some (call.Put queue item)) ∷
+    (codes "transfer", transfer_among) ∷
     (codes "take", λ ms. queue_among ms >>= λ queue. wait_among ms >>= λ wait. Some (call.Take queue wait)) ∷
+    (codes "count", λ ms. queue_among ms >>= λ queue. Some (call.Count queue)) ∷
+    (codes "peek", λ ms. queue_among ms >>= λ queue. Some (call.Peek queue)) ∷
     []
 
 abbrev pub call_among : Members → Option Call
@@ -145,11 +155,22 @@ message_lines = (codes "hello", hello_among) ∷ (codes "request", request_among
 abbrev pub message_among : Members → Option Message
 message_among members = among (codes "kind") message_lines members
 
+abbrev pub counted_among : Members → Option Reply
+counted_among members = do
+  items ← whole_among (codes "items") members
+  consumers ← whole_among (codes "consumers") members
+  Some (reply.Counted items consumers)
+
 abbrev pub reply_lines : List (Line (List ℕ) Reply)
 reply_lines =
     (codes "done", λ ms. Some reply.Done) ∷
+    (codes "received", λ ms. Some reply.Received) ∷
+    (codes "nobody", λ ms. Some reply.Nobody) ∷
     (codes "item", λ ms. item_among ms >>= λ item. Some (reply.Item item)) ∷
     (codes "empty", λ ms. Some reply.Empty) ∷
+    (codes "cancelled", λ ms. Some reply.Cancelled) ∷
+    (codes "counted", counted_among) ∷
+    (codes "peeked", λ ms. item_among ms >>= λ item. Some (reply.Peeked item)) ∷
     []
 
 abbrev pub reply_among : Members → Option Reply
@@ -192,6 +213,11 @@ replied_among members = do
   reply ← reply_among members
   Some (answer.Replied key reply)
 
+abbrev pub waiting_among : Members → Option Answer
+waiting_among members = do
+  key ← key_among members
+  Some (answer.Waiting key)
+
 abbrev pub refused_among : Members → Option Answer
 refused_among members = do
   refusal ← refusal_among members
@@ -201,6 +227,7 @@ abbrev pub answer_lines : List (Line (List ℕ) Answer)
 answer_lines =
     (codes "welcome", welcome_among) ∷
     (codes "reply", replied_among) ∷
+    (codes "waiting", waiting_among) ∷
     (codes "refused", refused_among) ∷
     []
 

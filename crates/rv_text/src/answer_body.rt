@@ -76,6 +76,9 @@ fn read_kind(alloc: Global, members: &Map<String, Value>) -> Result<Answer, Text
             key: read_key(members)?,
             reply: read_reply(alloc, members)?,
         }),
+        "waiting" => Ok(Answer::Waiting {
+            key: read_key(members)?,
+        }),
         "refused" => Ok(Answer::Refused(read_refusal(members)?)),
         _ => Err(TextFault::NotMessage),
     }

@@ -11,6 +11,8 @@ pub const MAX_QUEUE: u64 = 63;
 pub enum Wait {
     /// Not at all, as Java's untimed `poll`.
     Now,
+    /// Until it is met, cancelled, or its client says hello anew, as Java's `take`.
+    Forever,
 }
 
 /// What a request asks of a queue.
@@ -18,8 +20,14 @@ pub enum Wait {
 pub enum Call {
     /// Appends the item at the queue's tail and never waits (Java's `TransferQueue.put`).
     Put { queue: u64, item: Item },
-    /// Takes the queue's oldest item (Java's `poll`).
+    /// Hands the item over to a consumer, and may wait for one (Java's `transfer` and `tryTransfer`).
+    Transfer { queue: u64, item: Item, wait: Wait },
+    /// Takes the queue's oldest item, and may wait for one (Java's `take` and `poll`).
     Take { queue: u64, wait: Wait },
+    /// Counts the items and the consumers that are there.
+    Count { queue: u64 },
+    /// Shows the oldest item and removes nothing.
+    Peek { queue: u64 },
 }
 
 /// Where a call acts, and on which side of it: whom it may meet.
@@ -58,7 +66,10 @@ impl Call {
     {
         match self {
             Call::Put { queue, .. } => Side::Gives(*queue),
+            Call::Transfer { queue, .. } => Side::Gives(*queue),
             Call::Take { queue, .. } => Side::Takes(*queue),
+            Call::Count { queue } => Side::Looks(*queue),
+            Call::Peek { queue } => Side::Looks(*queue),
         }
     }
 
@@ -67,6 +78,7 @@ impl Call {
         ensures { result ≡ wait_of self.now }
     {
         match self {
+            Call::Transfer { wait, .. } => Some(*wait),
             Call::Take { wait, .. } => Some(*wait),
             _ => None,
         }
@@ -78,6 +90,7 @@ impl Call {
     {
         match self {
             Call::Put { item, .. } => Some(item),
+            Call::Transfer { item, .. } => Some(item),
             _ => None,
         }
     }

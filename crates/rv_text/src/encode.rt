@@ -78,10 +78,24 @@ fn put_call(members: &mut Map<String, Value>, alloc: Global, call: &Call) -> Res
             put_whole(members, alloc, "queue", *queue)?;
             put_item(members, alloc, item)
         }
+        Call::Transfer { queue, item, wait } => {
+            put_text(members, alloc, "call", "transfer")?;
+            put_whole(members, alloc, "queue", *queue)?;
+            put_wait(members, alloc, *wait)?;
+            put_item(members, alloc, item)
+        }
         Call::Take { queue, wait } => {
             put_text(members, alloc, "call", "take")?;
             put_whole(members, alloc, "queue", *queue)?;
             put_wait(members, alloc, *wait)
+        }
+        Call::Count { queue } => {
+            put_text(members, alloc, "call", "count")?;
+            put_whole(members, alloc, "queue", *queue)
+        }
+        Call::Peek { queue } => {
+            put_text(members, alloc, "call", "peek")?;
+            put_whole(members, alloc, "queue", *queue)
         }
     }
 }
@@ -91,6 +105,7 @@ fn put_wait(members: &mut Map<String, Value>, alloc: Global, wait: Wait) -> Resu
 {
     match wait {
         Wait::Now => put_text(members, alloc, "wait", "now"),
+        Wait::Forever => put_text(members, alloc, "wait", "forever"),
     }
 }
 
@@ -123,6 +138,10 @@ fn put_answer(
             put_key(members, alloc, key)?;
             put_reply(members, alloc, reply)
         }
+        Answer::Waiting { key } => {
+            put_text(members, alloc, "kind", "waiting")?;
+            put_key(members, alloc, key)
+        }
         Answer::Refused(refusal) => {
             put_text(members, alloc, "kind", "refused")?;
             put_whole(members, alloc, "code", refusal.code())?;
@@ -145,11 +164,23 @@ fn put_reply(members: &mut Map<String, Value>, alloc: Global, reply: &Reply) -> 
 {
     match reply {
         Reply::Done => put_text(members, alloc, "reply", "done"),
+        Reply::Received => put_text(members, alloc, "reply", "received"),
+        Reply::Nobody => put_text(members, alloc, "reply", "nobody"),
         Reply::Item(item) => {
             put_text(members, alloc, "reply", "item")?;
             put_item(members, alloc, item)
         }
         Reply::Empty => put_text(members, alloc, "reply", "empty"),
+        Reply::Cancelled => put_text(members, alloc, "reply", "cancelled"),
+        Reply::Counted { items, consumers } => {
+            put_text(members, alloc, "reply", "counted")?;
+            put_whole(members, alloc, "items", *items)?;
+            put_whole(members, alloc, "consumers", *consumers)
+        }
+        Reply::Peeked(item) => {
+            put_text(members, alloc, "reply", "peeked")?;
+            put_item(members, alloc, item)
+        }
     }
 }
 

@@ -12,7 +12,7 @@ pub mod laws;
 mod members;
 mod message;
 
-pub use answer::{Answer, Refusal, Reply};
+pub use answer::{Answer, MAX_COUNTED, Refusal, Reply};
 pub use answer_body::decode_answer;
 pub use call::{Call, MAX_QUEUE, Side, Wait};
 pub use decode::{MAX_BODY_BYTES, decode_message};

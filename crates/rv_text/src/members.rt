@@ -58,6 +58,7 @@ fn read_wait(members: &Map<String, Value>) -> Result<Wait, TextFault>
 {
     match read_text(members, "wait")? {
         "now" => Ok(Wait::Now),
+        "forever" => Ok(Wait::Forever),
         _ => Err(TextFault::NotMessage),
     }
 }
@@ -81,9 +82,20 @@ pub(crate) fn read_call(alloc: Global, members: &Map<String, Value>) -> Result<C
             queue: read_queue(members)?,
             item: read_item(alloc, members)?,
         }),
+        "transfer" => Ok(Call::Transfer {
+            queue: read_queue(members)?,
+            item: read_item(alloc, members)?,
+            wait: read_wait(members)?,
+        }),
         "take" => Ok(Call::Take {
             queue: read_queue(members)?,
             wait: read_wait(members)?,
+        }),
+        "count" => Ok(Call::Count {
+            queue: read_queue(members)?,
+        }),
+        "peek" => Ok(Call::Peek {
+            queue: read_queue(members)?,
         }),
         _ => Err(TextFault::NotMessage),
     }
@@ -94,8 +106,16 @@ pub(crate) fn read_reply(alloc: Global, members: &Map<String, Value>) -> Result<
 {
     match read_text(members, "reply")? {
         "done" => Ok(Reply::Done),
+        "received" => Ok(Reply::Received),
+        "nobody" => Ok(Reply::Nobody),
         "item" => Ok(Reply::Item(read_item(alloc, members)?)),
         "empty" => Ok(Reply::Empty),
+        "cancelled" => Ok(Reply::Cancelled),
+        "counted" => Ok(Reply::Counted {
+            items: read_whole(members, "items")?,
+            consumers: read_whole(members, "consumers")?,
+        }),
+        "peeked" => Ok(Reply::Peeked(read_item(alloc, members)?)),
         _ => Err(TextFault::NotMessage),
     }
 }

@@ -1,0 +1,50 @@
+-- What the table of queues says of a list of entries: who is open, in which order, and which duties are parked.
+use Rattle.std.specs.Prelude.{◌≡◌, ◌<◌, ℕ, List, Option, Some, None, option_and_then, slice_get}
+use Rattle.rv_text.specs.declared.message.Key.{Key}
+use Rattle.rv_text.specs.declared.call.Wait.{Wait}
+use Rattle.rv_text.specs.declared.call.Side.{Side}
+use Rattle.rv_text.specs.Calls.{wait_of}
+use Rattle.rv_session.specs.Owed.{Owed}
+use Rattle.rv_dual.specs.Offers.{duty_of, place_of}
+use Rattle.rv_dual.specs.Queue.{Queue}
+use Rattle.rv_dual.specs.declared.giver.Offer.{Offer}
+use Rattle.rv_book.specs.declared.account.Act.{Act}
+use Rattle.rv_book.specs.declared.account.Act.TheVariants.{Hello, Arrive}
+use Rattle.rv_book.specs.declared.account.Entry.{Entry}
+use Rattle.rv_book.specs.Account.{act_at}
+use Rattle.rv_book.specs.Views.{queue_at, waiting_on}
+use Rattle.rv_book.specs.Waiting.{OpenAt}
+
+-- ---- who is owed what
+
+-- the duty to settle what arrived at a place with this wait; a put needs none
+abbrev pub owed_by : ℕ → Key → Option Wait → Option Owed
+owed_by place key None = None
+owed_by place key (Some wait) = Some (record { place = place; client = key.client })
+
+abbrev pub owed_in : ℕ → Act → Option Owed
+owed_in place (Hello client incarnation) = None
+owed_in place (Arrive key call) = owed_by place key (wait_of call)
+
+abbrev pub owed_at : List Entry → ℕ → Option Owed
+owed_at entries place = option_and_then (owed_in place) (act_at entries place)
+
+-- the duties that are parked in the queues are those to settle what arrived at their places
+pub record AreParked (entries : List Entry) (queues : List Queue) : Type 0 where
+  pub givers : (queue i : ℕ) (offer : Offer) → slice_get (queue_at queues queue).givers i ≡ Some offer
+      → owed_at entries (place_of offer) ≡ duty_of offer
+  pub takers : (queue i : ℕ) (duty : Owed) → slice_get (queue_at queues queue).takers i ≡ Some duty
+      → owed_at entries duty.place ≡ Some duty
+
+-- ---- queues
+
+-- the places are those of a side's open arrivals, the oldest first
+pub record IsLine (entries : List Entry) (side : Side) (places : List ℕ) : Type 0 where
+  pub are : (i r : ℕ) → slice_get places i ≡ Some r → OpenAt entries side r
+  pub each : (r : ℕ) → OpenAt entries side r → (i : ℕ) × (slice_get places i ≡ Some r)
+  pub rising : (i j p q : ℕ) → i < j → slice_get places i ≡ Some p → slice_get places j ≡ Some q → p < q
+
+-- the table has each side's open arrivals, and parked with them the duties to settle them
+pub record AreQueues (entries : List Entry) (queues : List Queue) : Type 0 where
+  pub lines : (side : Side) → IsLine entries side (waiting_on queues side)
+  pub parked : AreParked entries queues
