@@ -56,7 +56,7 @@ number_fits a r side n fits count =
     let room : length a.entries + waiting.0 ≤ 100000 = fits.room waiting.0 waiting.1 in
     let short : length (take r a.entries) ≤ length a.entries = omega (arith, length-take r a.entries) in
     let most : n ≤ length (take r a.entries) = number_below (OpenAt (take r a.entries) side) n (length (take r a.entries))
-        (λ p opened. reads_within call_read refl (take r a.entries) p opened.of_side.call opened.of_side.arrived) count in
+    (λ p opened. reads_within call_read refl (take r a.entries) p opened.of_side.call opened.of_side.arrived) count in
     omega arith
 
 fits : (queue : ℕ) (a : Account) (r : ℕ) (told : Reply) → FitsAccount a → RepliesAt a.entries r (Count queue) told → FitsReply told

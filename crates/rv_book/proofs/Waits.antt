@@ -42,16 +42,19 @@ no_hello_behind a r h key call incarnation w arrived hello later =
     let at = read_there act_read refl (slice_get a.entries h) (Hello key.client incarnation) hello in
     let same : w.is_open.call ≡ call = same_Some _ _ (sym w.is_open.arrived ∙ ap (option_and_then call_in) arrived) in
     let says : Hello key.client incarnation ≡ at.0.act = sym (same_Some _ _ at.2) in
-    w.is_open.unstopped (h, record {
-      key = key;
-      call = call;
-      stopper = at.0;
-      arrived = arrived;
-      no_put = λ put. w.no_put (subst IsPut (sym same) put);
-      later = later;
-      there = at.1;
-      ends = subst (λ act. EndsWait act at.0.moment key (limit_at a.entries r)) says refl;
-    })
+    w.is_open.unstopped (
+      h,
+      record {
+        key = key;
+        call = call;
+        stopper = at.0;
+        arrived = arrived;
+        no_put = λ put. w.no_put (subst IsPut (sym same) put);
+        later = later;
+        there = at.1;
+        ends = subst (λ act. EndsWait act at.0.moment key (limit_at a.entries r)) says refl;
+      },
+    )
 
 -- no arrival of its client, which would have found it waiting
 pub no_key_behind : (a : Account) (r s client : ℕ) (key other : Key) → Legal a → Waiting a.entries r → NamesKey a.entries client r key → NamesKey a.entries client s other → r < s → ⊥
