@@ -7,7 +7,7 @@ use Rattle.rv_text.specs.declared.call.Call.TheVariants.{Take}
 use Rattle.rv_text.specs.declared.call.Side.{Side}
 use Rattle.rv_text.specs.declared.call.Side.TheVariants.{Gives, Looks, Takes}
 use Rattle.rv_text.specs.declared.call.Wait.{Wait}
-use Rattle.rv_text.specs.declared.call.Wait.TheVariants.{Now}
+use Rattle.rv_text.specs.declared.call.Wait.TheVariants.{Now, Forever}
 use Rattle.rv_text.specs.Calls.{item_of, side_of}
 use Rattle.rv_text.specs.Limits.{FitsItem, FitsReply}
 use Rattle.rv_text.proofs.Kept.{item_fits}
@@ -16,7 +16,7 @@ use Rattle.rv_book.specs.declared.account.Entry.{Entry}
 use Rattle.rv_session.specs.declared.kept.Kept as kept
 use Rattle.rv_session.specs.declared.kept.Kept.{Kept}
 use Rattle.rv_book.specs.Account.{Account, act_at, call_at, call_in, with_entry}
-use Rattle.rv_book.specs.Arriving.{WillReply, entry}
+use Rattle.rv_book.specs.Arriving.{GoesOn, WillReply, entry}
 use Rattle.rv_book.specs.Calls.{opposite}
 use Rattle.rv_book.specs.Legal.{Legal, before}
 use Rattle.rv_book.specs.Limits.{FitsAccount}
@@ -46,6 +46,11 @@ pub poll_replies : (a : Account) (queue : ℕ) → WillReply a (Take queue Now) 
 poll_replies a queue moment key before after =
     let e = entry moment (Arrive key (Take queue Now)) None in
     record { reply = reply.TheVariants.Empty; is = refl; replies = inr (last_unmet a e before refl, refl) }
+
+-- an unmet take that does not go on is one that never waits
+pub take_unmet : (a : Account) (queue : ℕ) (wait : Wait) → (GoesOn (Take queue wait) None → ⊥) → WillReply a (Take queue wait) None kept.TheVariants.Empty
+take_unmet a queue Now ends = poll_replies a queue
+take_unmet a queue Forever ends = absurd (ends (record { unmet = refl; stays = (refl, tt); no_put = λ put. none-some Forever (sym put.1) }))
 
 takes_meet_givers : (queue : ℕ) (side : Side) → opposite (Takes queue) ≡ Some side → side ≡ Gives queue
 takes_meet_givers queue side opposes = cc
