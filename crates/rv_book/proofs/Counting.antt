@@ -12,7 +12,7 @@ use Rattle.rv_book.proofs.Numbers.{first_below, same_or_not}
 use Rattle.rv_text.specs.declared.call.Side.{Side}
 use Rattle.rv_book.specs.declared.account.Entry.{Entry}
 use Rattle.rv_book.specs.Counting.{NumberOf}
-use Rattle.rv_book.specs.Tables.{IsLine}
+use Rattle.rv_book.specs.Parked.{IsLine}
 use Rattle.rv_book.specs.Waiting.{OpenAt}
 use Rattle.rv_book.proofs.Places.{within}
 

@@ -1,5 +1,5 @@
 -- The reply of a count: how many items and consumers were open before it.
-use Rattle.std.proofs.Common.{◌≡◌, inl, ℕ, ◌+◌, ◌<◌, ◌≤◌, List, [], ◌∷◌, ◌++◌, length, take, Option, Some, refl, sym, ap, subst, ◌∙◌, arith, length-take}
+use Rattle.std.proofs.Common.{◌≡◌, inl, ℕ, ◌+◌, ◌≤◌, List, [], ◌∷◌, ◌++◌, length, take, Option, Some, refl, sym, subst, ◌∙◌, arith, length-take}
 use Rattle.std.proofs.Math.Seq.{take-append_seam}
 use Rattle.rv_text.specs.declared.answer.Reply as reply
 use Rattle.rv_text.specs.declared.answer.Reply.{Reply}
@@ -10,7 +10,7 @@ use Rattle.rv_text.specs.Limits.{FitsReply}
 use Rattle.rv_book.specs.declared.account.Act.TheVariants.{Arrive}
 use Rattle.rv_book.specs.declared.account.Entry.{Entry}
 use Rattle.rv_session.specs.declared.kept.Kept as kept
-use Rattle.rv_book.specs.Account.{Account, call_at, with_entry}
+use Rattle.rv_book.specs.Account.{Account, call_at}
 use Rattle.rv_book.specs.Arriving.{WillReply, entry}
 use Rattle.rv_book.specs.Counting.{NumberOf}
 use Rattle.rv_book.specs.Legal.{before}
@@ -56,7 +56,7 @@ number_fits a r side n fits count =
     let room : length a.entries + waiting.0 ≤ 100000 = fits.room waiting.0 waiting.1 in
     let short : length (take r a.entries) ≤ length a.entries = omega (arith, length-take r a.entries) in
     let most : n ≤ length (take r a.entries) = number_below (OpenAt (take r a.entries) side) n (length (take r a.entries))
-        (λ p opened. reads_within call_read refl (take r a.entries) p opened.of_side.call opened.of_side.arrived) count in
+    (λ p opened. reads_within call_read refl (take r a.entries) p opened.of_side.call opened.of_side.arrived) count in
     omega arith
 
 fits : (queue : ℕ) (a : Account) (r : ℕ) (told : Reply) → FitsAccount a → RepliesAt a.entries r (Count queue) told → FitsReply told

@@ -225,16 +225,19 @@ stopped_by es r key call arrived no_put = elim (first_below (HelloBehind es key.
       let s = found.0 in
       let at = read_there act_read refl (slice_get es s) (Hello key.client found.2.1.0) found.2.1.1 in
       let says : Hello key.client found.2.1.0 ≡ at.0.act = sym (same_Some _ _ at.2) in
-      inl (s, record {
-        key = key;
-        call = call;
-        stopper = at.0;
-        arrived = arrived;
-        no_put = no_put;
-        later = found.2.0;
-        there = at.1;
-        ends = subst (λ act. EndsWait act at.0.moment key (limit_at es r)) says refl;
-      })
+      inl (
+        s,
+        record {
+          key = key;
+          call = call;
+          stopper = at.0;
+          arrived = arrived;
+          no_put = no_put;
+          later = found.2.0;
+          there = at.1;
+          ends = subst (λ act. EndsWait act at.0.moment key (limit_at es r)) says refl;
+        },
+      )
   | inr none ↦ inr (λ stopped.
       let s = stopped.0 in
       let h = stopped.1 in

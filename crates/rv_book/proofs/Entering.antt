@@ -1,50 +1,39 @@
 -- Where an own entry is due, a legal next account exists.
-use Rattle.rv_text.specs.declared.call.Call.TheVariants.{Put, Take}
-use Rattle.rv_book.specs.Account.{Account, with_entry, act_at, call_at, call_in, key_in}
-use Rattle.rv_book.specs.Steps.{Adds, EpochFullDue, HelloLines, KeyLines, RefuseOr, max_entries, own_moment, step_moment, ClientsFullDue, OtherCallDue, Replies}
+use Rattle.rv_book.specs.Account.{Account, with_entry, act_at, call_in, key_in}
+use Rattle.rv_book.specs.Steps.{Adds, EpochFullDue, HelloLines, KeyLines, RefuseOr, max_entries, own_moment, step_moment, ClientsFullDue, OtherCallDue, Answers}
 use Rattle.rv_book.specs.declared.account.Act.TheVariants.{Arrive, Hello}
 use Rattle.rv_text.specs.declared.call.Call.{Call}
 use Rattle.rv_book.specs.Laws.{CanEnter, HellosCanEnter, RequestsCanEnter}
 use Rattle.rv_book.specs.declared.account.Entry.{Entry}
 use Rattle.rv_text.specs.declared.answer.Refusal.TheVariants.{EpochFull}
 use Rattle.rv_book.specs.Sessions.{HasIncarnation, HasOnlyLower, LastHello, LastNumber, SaidHello}
-use Rattle.rv_book.specs.Arriving.{IsNext, WillReply, entry}
-use Rattle.rv_book.specs.Legal.{KeepsTime, Legal, before, HasWaiting}
+use Rattle.rv_book.specs.Arriving.{IsNext, entry}
+use Rattle.rv_book.specs.Legal.{KeepsTime, Legal, before}
 use Rattle.rv_text.specs.declared.message.Key.{Key}
 use Rattle.rv_book.proofs.Legality.{Legal-with_entry}
 use Rattle.std.proofs.Common.{None, Option, Some, ap, arith, inl, inr, length, option_map, refl, subst, sym, ℕ, ◌+◌, ◌-◌, ◌<◌, ◌∙◌, ◌≡◌, ◌≤◌, List, option_and_then, take}
-use Rattle.rv_text.specs.declared.answer.Answer.TheVariants.{Replied}
+use Rattle.rv_text.specs.declared.answer.Answer.TheVariants.{Replied, Waiting}
 use Rattle.rv_book.proofs.Following.{arrival_follows, hello_follows}
 use Rattle.std.proofs.lemmas.Bool.{cases_lt, cases_order}
-use Rattle.rv_book.proofs.Deciding.{find_hello, find_last, find_partner, find_clients, met_or_not, said_or_not}
+use Rattle.rv_book.proofs.Deciding.{find_hello, find_last, find_partner, find_clients, find_waiting, has_waiting_or_not, said_or_not}
 use Rattle.rv_book.proofs.Histories.{hellos_at_most, one_incarnation}
-use Rattle.rv_book.proofs.Lines.{line_again, line_gap, line_newer, line_next, line_no_session, line_old_hello, line_old_incarnation, line_old_number, line_other_epoch, no_room, room_left}
-use Rattle.rv_book.proofs.Growing.{moment_read, reads_within, act_read, call_read, read_there}
-use Rattle.rv_book.specs.Calls.{need_of, Stays, opposite}
+use Rattle.rv_book.proofs.Lines.{line_again, line_busy, line_gap, line_newer, line_next, line_no_session, line_old_hello, line_old_incarnation, line_old_number, line_other_epoch, no_room, room_left}
+use Rattle.rv_book.proofs.Growing.{moment_read, reads_within, act_read, read_there}
+use Rattle.rv_book.specs.Calls.{need_of}
 use Rattle.std.proofs.lemmas.Option.{none-some, same_Some, slice_get_cases}
-use Rattle.rv_book.proofs.Replying.{reply_laws, recorded}
+use Rattle.rv_book.proofs.Keys.{act_named}
+use Rattle.rv_book.proofs.Places.{get-append_end}
+use Rattle.rv_book.proofs.Replying.{reply_laws}
 use Rattle.rv_book.proofs.Fronts.{read_front, read_whole}
 use Rattle.rv_text.specs.Calls.{side_of}
 use Rattle.std.specs.List.{slice_get}
 use Rattle.std.specs.Prelude.{unwrap_or}
-use Rattle.rv_session.specs.declared.kept.Kept as kept
 use Rattle.rv_text.proofs.Kept.{same_call}
-use Rattle.rv_text.specs.declared.answer.Reply.{Reply}
-use Rattle.rv_text.specs.declared.answer.Reply.TheVariants.{Done, Item, Empty}
-use Rattle.rv_text.specs.declared.call.Wait.TheVariants.{Now}
 use Rattle.rv_text.specs.declared.answer.Refusal.TheVariants.{OtherCall, ClientsFull}
 use Rattle.rv_book.proofs.Lines.{line_last}
-use Rattle.rv_book.specs.declared.account.Act.{Act}
 use Rattle.rv_text.specs.declared.answer.Answer.{Answer}
-use Rattle.rv_book.specs.Replies.{Gets, HasReply, RepliesAt}
-use Rattle.rv_text.specs.declared.call.Side.TheVariants.{Gives}
-use Rattle.rv_session.specs.declared.kept.Kept.{Kept}
-use Rattle.rv_book.specs.Waiting.{Met, NamesPartner}
 use Rattle.rv_text.specs.declared.answer.Refusal.{Refusal}
-use Rattle.rv_text.specs.declared.call.Wait.{Wait}
-use Rattle.rv_book.proofs.OnePartner.{arrives_once, goes_unnamed, partner_open}
-use Rattle.rv_book.proofs.CallKinds.{gives_item}
-use Rattle.rv_book.proofs.NotYet.{nobody_waits}
+use Rattle.rv_book.proofs.OnePartner.{arrives_once}
 use Rattle.rv_book.proofs.Staying.{one_call}
 use Rattle.rv_book.proofs.Counting.{one_number}
 
@@ -127,21 +116,35 @@ last_arrival a key legal epoch has is positive = elim is.reached [
 
 -- ---- requests
 
+-- each arrival in a legal account is told something
+answer_at : (a : Account) (place : ℕ) (key : Key) (call : Call) → Legal a → act_at a.entries place ≡ Some (Arrive key call) → (x : Answer) × Answers a key x
+answer_at a place key call legal arrived = elim ((reply_laws call).exists a place legal (ap (option_and_then call_in) arrived)) [
+  | inl told ↦ (Replied key told.0, inl (record { reply = told.0; has = record { place = place; call = call; arrived = arrived; replies = told.1 }; is = refl }))
+  | inr waits ↦ (Waiting key, inr (record { place = place; call = call; arrived = arrived; waits = waits }, refl))
+]
+
 enters : (a : Account) (moment : ℕ) (key : Key) (call : Call) → Legal a → KeepsTime a moment → IsNext a key → CanEnter a moment key call
 enters a moment key call legal time next =
     let partner = find_partner a.entries (side_of call) in
     let e = entry moment (Arrive key call) partner.0 in
     let after = Legal-with_entry a e legal (arrival_follows a moment key call partner.0 time next partner.1) in
-    let reply = (reply_laws call).is_kept a partner.0 in
-    let is = recorded a (with_entry a e) moment key call partner.0 reply.0 reply.1 legal after refl in
-    record { after = with_entry a e; answer = Replied key is.reply; adds = is.adds; replies = is.replies }
+    let arrived : act_at (with_entry a e).entries (length a.entries) ≡ Some (Arrive key call) = ap act_read (get-append_end a.entries e) in
+    let told = answer_at (with_entry a e) (length a.entries) key call after arrived in
+    record {
+      after = with_entry a e;
+      answer = told.0;
+      adds = record { entry = e; moment_is = refl; act_is = refl; follows = refl; legal = after };
+      answers = told.1;
+    }
 
 -- where there is room, the entry; else the refusal
 room_or : (a : Account) (need : ℕ) (G : Type 0) → G → RefuseOr (EpochFullDue a need) (λ refusal. Unit {0}) G
-room_or a need G goes_on = elim (cases_lt max_entries (length a.entries + need)) [
-  | inl full ↦ inl (record { refusal = EpochFull; is_due = no_room a need full; refuses_it = tt })
-  | inr room ↦ inr (room_left a need room, goes_on)
-]
+room_or a need G goes_on =
+    let waiting = find_waiting a.entries in
+    elim (cases_lt max_entries (length a.entries + waiting.0 + need)) [
+      | inl full ↦ inl (record { refusal = EpochFull; is_due = no_room a waiting.0 need waiting.1 full; refuses_it = tt })
+      | inr room ↦ inr (room_left a waiting.0 need waiting.1 room, goes_on)
+    ]
 
 no_other_call : (a : Account) (key : Key) (call : Call) (there : Arrived a key) → Legal a → there.call ≡ call → (refusal : Refusal) → OtherCallDue a key call refusal → ⊥
 no_other_call a key call there legal same refusal due =
@@ -149,22 +152,18 @@ no_other_call a key call there legal same refusal due =
     let other : due.other ≡ there.call = one_call key due.other there.call (sym due.arrived ∙ ap (act_at a.entries) place ∙ there.arrived) in
     due.differs (other ∙ same)
 
--- what a repeat is told: its reply, or that it came with another call
-at_last : (a : Account) (key : Key) (call : Call) → Legal a → Arrived a key → RefuseOr (OtherCallDue a key call) (λ refusal. Unit {0}) ((x : Answer) × Replies a key x)
+-- what a repeat is told: its answer, or that it came with another call
+at_last : (a : Account) (key : Key) (call : Call) → Legal a → Arrived a key → RefuseOr (OtherCallDue a key call) (λ refusal. Unit {0}) ((x : Answer) × Answers a key x)
 at_last a key call legal there = elim (same_call there.call call) [
   | inr differs ↦ inl (record { refusal = OtherCall; is_due = record { place = there.place; other = there.call; arrived = there.arrived; differs = differs; is = refl }; refuses_it = tt })
-  | inl same ↦
-      let reply = (reply_laws there.call).exists a there.place legal (ap (option_and_then call_in) there.arrived) in
-      let has : HasReply a.entries key reply.0 = record { place = there.place; call = there.call; arrived = there.arrived; replies = reply.1 } in
-      inr (no_other_call a key call there legal same, (Replied key reply.0, record { reply = reply.0; has = has; is = refl }))
+  | inl same ↦ inr (no_other_call a key call there legal same, answer_at a there.place key there.call legal there.arrived)
 ]
 
 -- the session of the key's client decides which line applies
 by_session : (a : Account) (key : Key) (call : Call) (G : Type 0) → Legal a → key.epoch ≡ a.epoch → (IsNext a key → G)
-    → KeyLines a key (λ refusal. Unit {0}) (RefuseOr (OtherCallDue a key call) (λ refusal. Unit {0}) ((x : Answer) × Replies a key x)) G
+    → KeyLines a key (λ refusal. Unit {0}) (RefuseOr (OtherCallDue a key call) (λ refusal. Unit {0}) ((x : Answer) × Answers a key x)) G
 by_session a key call G legal epoch goes_on =
-    let L : Type 0 = RefuseOr (OtherCallDue a key call) (λ refusal. Unit {0}) ((x : Answer) × Replies a key x) in
-    let none_waits_there = λ (h : HasWaiting a.entries key.client). nobody_waits a.entries h.place h.waits in
+    let L : Type 0 = RefuseOr (OtherCallDue a key call) (λ refusal. Unit {0}) ((x : Answer) × Answers a key x) in
     elim (find_hello a.entries key.client) [
       | inr none ↦ line_no_session (λ refusal. Unit {0}) L G a key epoch (λ r incarnation hello. absurd (none r incarnation hello)) tt
       | inl found ↦ elim (cases_order found.0 key.incarnation) [
@@ -185,12 +184,15 @@ by_session a key call G legal epoch goes_on =
               ]
               | inr differ ↦ elim differ [
                 | inl below ↦ line_old_number (λ refusal. Unit {0}) L G a key last.0 epoch has last.1 (inl below) tt
-                | inr above ↦ elim (cases_lt (last.0 + 1) key.number) [
-                  | inl gap ↦ line_gap (λ refusal. Unit {0}) L G a key last.0 epoch has last.1 gap none_waits_there tt
-                  | inr next ↦
-                      let is : key.number ≡ last.0 + 1 = omega arith in
-                      let next_one : IsNext a key = record { epoch = epoch; incarnation = has; last = last.0; is_last = last.1; next = is; idle = none_waits_there } in
-                      line_next (λ refusal. Unit {0}) L G a key next_one (goes_on next_one)
+                | inr above ↦ elim (has_waiting_or_not a.entries key.client) [
+                  | inl waits ↦ line_busy (λ refusal. Unit {0}) L G a key last.0 epoch has last.1 above waits tt
+                  | inr idle ↦ elim (cases_lt (last.0 + 1) key.number) [
+                    | inl gap ↦ line_gap (λ refusal. Unit {0}) L G a key last.0 epoch has last.1 gap idle tt
+                    | inr next ↦
+                        let is : key.number ≡ last.0 + 1 = omega arith in
+                        let next_one : IsNext a key = record { epoch = epoch; incarnation = has; last = last.0; is_last = last.1; next = is; idle = idle } in
+                        line_next (λ refusal. Unit {0}) L G a key next_one (goes_on next_one)
+                  ]
                 ]
               ]
             ]
@@ -200,7 +202,7 @@ by_session a key call G legal epoch goes_on =
 pub requests_can_enter : RequestsCanEnter
 requests_can_enter a now key call legal =
     let G : Type 0 = CanEnter a (step_moment a now) key call in
-    let L : Type 0 = RefuseOr (OtherCallDue a key call) (λ refusal. Unit {0}) ((x : Answer) × Replies a key x) in
+    let L : Type 0 = RefuseOr (OtherCallDue a key call) (λ refusal. Unit {0}) ((x : Answer) × Answers a key x) in
     let R : Type 0 = RefuseOr (EpochFullDue a (need_of call)) (λ refusal. Unit {0}) G in
     elim (cases_order key.epoch a.epoch) [
       | inl same ↦ by_session a key call R legal same

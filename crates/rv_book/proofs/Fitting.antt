@@ -4,21 +4,23 @@ use Rattle.rv_text.specs.declared.message.Message.TheVariants.{Hello, Request}
 use Rattle.rv_book.specs.Account.{Account, act_at, key_in}
 use Rattle.rv_book.specs.declared.account.Act.{Act}
 use Rattle.rv_text.specs.declared.answer.Answer.{Answer}
-use Rattle.rv_book.specs.Steps.{EntersOrNoMemory, EpochFullDue, GapDue, NextAt, NoSessionDue, OldIncarnationDue, OldNumberDue, OtherEpochDue, RefuseOr, Refuses, Replies, BusyDue, ClientsFullDue, OtherCallDue}
+use Rattle.rv_book.specs.Steps.{EntersOrNoMemory, EpochFullDue, GapDue, NextAt, NoSessionDue, OldIncarnationDue, OldNumberDue, OtherEpochDue, RefuseOr, Refuses, Answers, BusyDue, ClientsFullDue, OtherCallDue}
 use Rattle.rv_book.specs.Limits.{FitsAccount}
 use Rattle.rv_text.specs.Limits.{FitsAnswer, FitsIdentifier, FitsKey, FitsLast, FitsMessage, FitsRefusal}
 use Rattle.rv_book.specs.Sessions.{HasIncarnation, LastNumber}
 use Rattle.rv_text.specs.declared.message.Key.{Key}
-use Rattle.std.proofs.Common.{arith, inl, inr, subst, sym, ℕ, ◌≡◌, ◌≤◌}
+use Rattle.std.proofs.Common.{Some, ap, arith, inl, inr, subst, sym, ℕ, ◌∙◌, ◌≡◌, ◌≤◌}
 use Rattle.rv_text.specs.declared.message.Message.{Message}
 use Rattle.rv_text.specs.declared.answer.Refusal.{Refusal}
 use Rattle.rv_book.proofs.Limits.{act_fits, act_there, key_of_act}
 use Rattle.rv_book.proofs.Lines.{RefuseOr-elim, WhereElse-elim}
 use Rattle.rv_book.proofs.Replying.{reply_laws}
 use Rattle.rv_text.specs.declared.answer.Answer.TheVariants.{Welcome}
-use Rattle.rv_book.specs.Legal.{before}
+use Rattle.rv_book.specs.Legal.{HasWaiting, before}
+use Rattle.rv_book.proofs.Keys.{act_named, no_hello}
+use Rattle.rv_book.proofs.Waits.{no_hello_behind}
+use Rattle.std.proofs.lemmas.Bool.{cases_order}
 use Rattle.rv_text.specs.declared.call.Call.{Call}
-use Rattle.rv_book.proofs.NotYet.{nobody_waits}
 
 -- ---- what stands in an account fits
 
@@ -38,8 +40,9 @@ last_fits a client last fits is = elim is.reached [
 
 -- ---- what a step answers fits
 
-replied_fits : (b : Account) (key : Key) (x : Answer) → FitsAccount b → FitsKey key → Replies b key x → FitsAnswer x
-replied_fits b key x fits key_fits told = subst FitsAnswer (sym told.is) (key_fits, (reply_laws told.has.call).fits b told.has.place told.reply fits told.has.replies)
+told_fits : (b : Account) (key : Key) (x : Answer) → FitsAccount b → FitsKey key → Answers b key x → FitsAnswer x
+told_fits b key x fits key_fits (inr waits) = subst FitsAnswer (sym waits.1) key_fits
+told_fits b key x fits key_fits (inl told) = subst FitsAnswer (sym told.is) (key_fits, (reply_laws told.has.call).fits b told.has.place told.reply fits told.has.replies)
 
 entered_fits : (a b : Account) (moment : ℕ) (does : Act) (x : Answer) (G : Type 0) → (G → FitsAnswer x) → EntersOrNoMemory a moment does b x G → FitsAnswer x
 entered_fits a b moment does x G answers (inl refuses) = subst FitsAnswer (sym refuses.1) tt
@@ -67,8 +70,29 @@ old_number_fits a key fits refusal due = refusal_is _ refusal due.is (last_fits 
 other_call_fits : (a : Account) (key : Key) (call : Call) → DueFits (OtherCallDue a key call)
 other_call_fits a key call refusal due = refusal_is _ refusal due.is tt
 
-busy_fits : (a : Account) (key : Key) → DueFits (BusyDue a key)
-busy_fits a key refusal due = absurd (nobody_waits a.entries due.waits.place due.waits.waits)
+-- the last number of a client with a request that waits is no less than that request's: no hello stands behind it
+waiting_reached : (a : Account) (client last : ℕ) → FitsAccount a → LastNumber a.entries client last → HasWaiting a.entries client → 1 ≤ last
+waiting_reached a client last fits is_last waits =
+    let key = waits.key in
+    let named = act_named (act_at a.entries waits.place) key waits.names.named in
+    let same : key.client ≡ client = waits.names.of_client in
+    let fitting : FitsKey key = (act_fits a waits.place (act.TheVariants.Arrive key named.0) fits named.1).0 in
+    let hello = is_last.hello.hello in
+    elim (cases_order waits.place is_last.h) [
+      | inl at ↦ absurd (no_hello key named.0 client is_last.incarnation (sym named.1 ∙ ap (act_at a.entries) at ∙ hello))
+      | inr differ ↦ elim differ [
+        | inl less ↦
+            let own : act_at a.entries is_last.h ≡ Some (act.TheVariants.Hello key.client is_last.incarnation) = subst (λ c. act_at a.entries is_last.h ≡ Some (act.TheVariants.Hello c is_last.incarnation)) (sym same) hello in
+            absurd (no_hello_behind a waits.place is_last.h key named.0 is_last.incarnation waits.waits named.1 own less)
+        | inr more ↦
+            let most : key.number ≤ last = is_last.greatest waits.place key more waits.names in
+            let least : 1 ≤ key.number = fitting.3.0 in
+            omega arith
+      ]
+    ]
+
+busy_fits : (a : Account) (key : Key) → FitsAccount a → DueFits (BusyDue a key)
+busy_fits a key fits refusal due = refusal_is _ refusal due.is (waiting_reached a key.client due.last fits due.is_last due.waits, last_fits a key.client due.last fits due.is_last)
 
 clients_full_fits : (a : Account) (client : ℕ) → DueFits (ClientsFullDue a client)
 clients_full_fits a client refusal due = refusal_is _ refusal due.is tt
@@ -96,8 +120,8 @@ step_fits a b moment (Request key call) x before after fits =
     (line_fits _ _ a b x (no_session_fits a key)
     (line_fits _ _ a b x (old_incarnation_fits a key.client key.incarnation before)
     (line_fits _ _ a b x (old_number_fits a key before)
-    (WhereElse-elim _ _ _ (FitsAnswer x) (λ is. line_fits _ _ a b x (other_call_fits a key call) (λ again. replied_fits a key x before fits.0 again.replies))
-    (line_fits _ _ a b x (busy_fits a key)
+    (WhereElse-elim _ _ _ (FitsAnswer x) (λ is. line_fits _ _ a b x (other_call_fits a key call) (λ again. told_fits a key x before fits.0 again.answers))
+    (line_fits _ _ a b x (busy_fits a key before)
     (line_fits _ _ a b x (gap_fits a key before)
     (line_fits _ _ a b x (full_fits a _)
-    (entered_fits a b moment _ x _ (replied_fits b key x after fits.0)))))))))
+    (entered_fits a b moment _ x _ (told_fits b key x after fits.0)))))))))

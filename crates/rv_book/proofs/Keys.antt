@@ -1,17 +1,14 @@
 -- Whose session an act belongs to, and what one more entry leaves of hellos and keys.
-use Rattle.rv_book.specs.Account.{Account, act_at, call_at, call_in, key_at, key_in, with_entry}
+use Rattle.rv_book.specs.Account.{call_in, key_in}
 use Rattle.rv_book.specs.declared.account.Act.{Act}
 use Rattle.rv_book.specs.declared.account.Act.TheVariants.{Arrive, Hello}
 use Rattle.rv_text.specs.declared.call.Call.{Call}
 use Rattle.rv_book.specs.declared.account.Entry.{Entry}
-use Rattle.rv_book.specs.Sessions.{HasIncarnation, LastHello, LastNumber, NamesKey, SaidHello}
+use Rattle.rv_book.specs.Sessions.{LastHello, NamesKey}
 use Rattle.rv_text.specs.declared.message.Key.{Key}
-use Rattle.rv_book.specs.Legal.{Legal, before}
-use Rattle.std.proofs.Common.{List, None, Option, Some, [], ap, arith, inl, inr, length, option_and_then, refl, subst, sym, ℕ, ◌++◌, ◌+◌, ◌<◌, ◌∙◌, ◌∷◌, ◌≡◌, ◌≤◌, ◌⊎◌}
-use Rattle.rv_book.proofs.Growing.{act_read, reads_back, reads_on, reads_within}
-use Rattle.rv_book.proofs.Places.{get-append_end}
+use Rattle.std.proofs.Common.{List, None, Option, Some, [], ap, inl, inr, length, option_and_then, refl, ℕ, ◌++◌, ◌∷◌, ◌≡◌, ◌⊎◌}
+use Rattle.rv_book.proofs.Growing.{act_read, reads_back, reads_on}
 use Rattle.std.proofs.lemmas.Option.{none-some, same_Some}
-use Rattle.rv_book.proofs.Numbers.{same_or_not}
 
 abbrev pub key_read : Option Entry → Option Key
 key_read o = option_and_then key_in (act_read o)

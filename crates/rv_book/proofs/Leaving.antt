@@ -1,63 +1,173 @@
 -- Items leave each queue in their order of arrival.
 use Rattle.rv_book.specs.Account.{Account, partner_at}
 use Rattle.rv_book.specs.declared.account.Entry.{Entry}
-use Rattle.rv_text.specs.declared.call.Side.TheVariants.{Gives}
+use Rattle.rv_text.specs.declared.call.Side.TheVariants.{Gives, Takes}
 use Rattle.rv_book.specs.Laws.{ItemsLeaveInOrder}
-use Rattle.rv_book.specs.Legal.{Legal}
-use Rattle.std.proofs.Common.{List, ap, arith, inl, inr, subst, sym, take, ℕ, ◌<◌, ◌∙◌, ◌≡◌}
+use Rattle.rv_book.specs.Legal.{IsOpenOpposite, Legal}
+use Rattle.std.proofs.Common.{List, None, Option, Some, ap, arith, inl, inr, refl, subst, sym, take, ℕ, ◌<◌, ◌∙◌, ◌≡◌, ◌≤◌}
 use Rattle.rv_book.specs.Waiting.{NamesPartner, OpenAt, SideAt}
 use Rattle.rv_book.specs.Order.{PairAt}
 use Rattle.rv_text.specs.declared.call.Side.{Side}
-use Rattle.rv_book.proofs.Growing.{call_read}
-use Rattle.std.proofs.lemmas.Bool.{cases_order}
-use Rattle.rv_book.proofs.OnePartner.{goes_unnamed, partner_open}
-use Rattle.rv_book.proofs.Fronts.{naming, open_in_shorter, read_front}
-use Rattle.rv_book.proofs.Sides.{partner_before}
+use Rattle.rv_book.specs.Calls.{opposite}
+use Rattle.rv_book.proofs.Growing.{call_read, partner_read, read_there}
+use Rattle.std.proofs.lemmas.Bool.{cases_lt, cases_order}
+use Rattle.rv_book.proofs.OnePartner.{named_once, names_and_named, partner_open}
+use Rattle.rv_book.proofs.Fronts.{naming, open_in_shorter, read_front, read_whole}
+use Rattle.rv_book.proofs.Sides.{one_side, partner_before}
 use Rattle.std.proofs.lemmas.Option.{same_Some}
-use Rattle.rv_book.proofs.NotYet.{takers_go}
+use Rattle.std.specs.List.{slice_get}
 
--- it is the take that names the item
-take_names : (a : Account) (queue p g t : ℕ) → Legal a → PairAt a.entries queue p g t → (p ≡ t) × NamesPartner a.entries t g
-take_names a queue p g t legal pair =
-    elim pair.names [
-      | inl give ↦ absurd (goes_unnamed a g t pair.takes.call legal pair.takes.arrived (takers_go pair.takes.call queue pair.takes.is) give.1)
-      | inr take ↦ take
-    ]
+-- ---- sides in fronts
 
 in_front : (es : List Entry) (n r : ℕ) (side : Side) → r < n → SideAt es side r → SideAt (take n es) side r
 in_front es n r side less at = record { call = at.call; arrived = read_front call_read es n r at.call less at.arrived; is = at.is }
 
--- no open item of the queue is passed over
-none_passed : (a : Account) (queue t g r : ℕ) → Legal a → NamesPartner a.entries t g → SideAt a.entries (Gives queue) g → r < g → OpenAt (take t a.entries) (Gives queue) r → ⊥
-none_passed a queue t g r legal names gives less opened =
-    let at = naming a t g legal names in
-    let before : g < t = partner_before a t g legal names in
-    at.follows.pairs.pairs_oldest g r (Gives queue) at.named (in_front a.entries t g (Gives queue) before gives) less opened
+in_whole : (es : List Entry) (n r : ℕ) (side : Side) → SideAt (take n es) side r → SideAt es side r
+in_whole es n r side at = record { call = at.call; arrived = (read_whole call_read refl es n r at.call at.arrived).1; is = at.is }
 
-in_turn : (a : Account) (queue t1 g1 t2 g2 : ℕ) → Legal a → NamesPartner a.entries t1 g1 → NamesPartner a.entries t2 g2 → SideAt a.entries (Gives queue) g1 → SideAt a.entries (Gives queue) g2 → g1 < g2 → t1 < t2
-in_turn a queue t1 g1 t2 g2 legal first second gives1 gives2 less =
-    elim (cases_order t1 t2) [
+-- who is open on a side in a longer front and stands in a shorter one is so there
+open_earlier : (es : List Entry) (m n r : ℕ) (side : Side) → m ≤ n → r < m → OpenAt (take n es) side r → OpenAt (take m es) side r
+open_earlier es m n r side less inside opened = record {
+  of_side = in_front es m r side inside (in_whole es n r side opened.of_side);
+  is_open = open_in_shorter es m n r less inside opened.is_open;
+}
+
+-- whom an arrival names is open before it
+named_open : (a : Account) (p q : ℕ) (side : Side) → Legal a → NamesPartner a.entries p q → SideAt a.entries side q → OpenAt (take p a.entries) side q
+named_open a p q side legal names at = record {
+  of_side = in_front a.entries p q side (partner_before a p q legal names) at;
+  is_open = (partner_open a p q legal names).there.is_open;
+}
+
+-- ---- never are both sides of a queue open
+
+-- the later of the two names no partner, as it is unmet, and so found nobody
+later_found : (a : Account) (n r s : ℕ) (side other : Side) (o : Option ℕ) → Legal a → opposite side ≡ Some other → OpenAt (take n a.entries) other r → (later : OpenAt (take n a.entries) side s)
+    → r < s → partner_at a.entries s ≡ o → ⊥
+later_found a n r s side other None legal opposes earlier later less named =
+    let whole = read_whole call_read refl a.entries n s later.of_side.call later.of_side.arrived in
+    let at = read_there call_read refl (slice_get a.entries s) later.of_side.call whole.1 in
+    let inside : s < n = whole.0 in
+    let none = sym (ap partner_read at.1) ∙ named in
+    let found : IsOpenOpposite (take s a.entries) later.of_side.call r = record {
+      side = other;
+      opposes = ap opposite later.of_side.is ∙ opposes;
+      there = open_earlier a.entries s n r other (omega arith) less earlier;
+    } in
+    (legal s at.0 at.1).pairs.pairs_where_possible r later.of_side.call none at.2 found
+later_found a n r s side other (Some q) legal opposes earlier later less named =
+    let opened = later.is_open in
+    let whole = read_whole call_read refl a.entries n s opened.call opened.arrived in
+    let names : NamesPartner (take n a.entries) s q = record {
+      call = opened.call;
+      arrived = opened.arrived;
+      meets = opened.stays.0;
+      named = read_front partner_read a.entries n s q whole.0 named;
+    } in
+    opened.unmet (record { later = s; earlier = q; names = names; part = inl refl })
+
+pub one_side_open : (a : Account) (n queue g t : ℕ) → Legal a → OpenAt (take n a.entries) (Gives queue) g → OpenAt (take n a.entries) (Takes queue) t → ⊥
+one_side_open a n queue g t legal gives takes = elim (cases_order g t) [
+  | inl same ↦
+      let apart : Gives queue ≡ Takes queue = one_side (take n a.entries) (Gives queue) (Takes queue) t (subst (SideAt (take n a.entries) (Gives queue)) same gives.of_side) takes.of_side in
+      cc
+  | inr differ ↦ elim differ [
+    | inl less ↦ later_found a n g t (Takes queue) (Gives queue) (partner_at a.entries t) legal refl gives takes less refl
+    | inr more ↦ later_found a n t g (Gives queue) (Takes queue) (partner_at a.entries g) legal refl takes gives more refl
+  ]
+]
+
+-- ---- none is passed over
+
+passed : (a : Account) (p q r : ℕ) (side : Side) → Legal a → NamesPartner a.entries p q → SideAt a.entries side q → r < q → OpenAt (take p a.entries) side r → ⊥
+passed a p q r side legal names at less opened =
+    let named = naming a p q legal names in
+    named.follows.pairs.pairs_oldest q r side named.named (in_front a.entries p q side (partner_before a p q legal names) at) less opened
+
+none_passed : (a : Account) (queue p g t r : ℕ) → Legal a → PairAt a.entries queue p g t → r < g → OpenAt (take p a.entries) (Gives queue) r → ⊥
+none_passed a queue p g t r legal pair less opened = elim pair.names [
+  | inl give ↦
+      let there = subst (λ n. OpenAt (take n a.entries) (Gives queue) r) give.0 opened in
+      one_side_open a g queue r t legal there (named_open a g t (Takes queue) legal give.1 pair.takes)
+  | inr take_it ↦
+      let there = subst (λ n. OpenAt (take n a.entries) (Gives queue) r) take_it.0 opened in
+      passed a t g r (Gives queue) legal take_it.1 pair.gives less there
+]
+
+-- ---- in turn
+
+-- who came earlier on a side is named earlier
+named_in_turn : (a : Account) (side : Side) (p1 q1 p2 q2 : ℕ) → Legal a → NamesPartner a.entries p1 q1 → NamesPartner a.entries p2 q2 → SideAt a.entries side q1 → SideAt a.entries side q2 → q1 < q2 → p1 < p2
+named_in_turn a side p1 q1 p2 q2 legal first second at1 at2 less =
+    elim (cases_order p1 p2) [
       | inl same ↦
-          let one : g1 ≡ g2 = same_Some _ _ (sym first.named ∙ ap (partner_at a.entries) same ∙ second.named) in
+          let one : q1 ≡ q2 = same_Some _ _ (sym first.named ∙ ap (partner_at a.entries) same ∙ second.named) in
           absurd (omega arith)
       | inr differ ↦ elim differ [
         | inl right ↦ right
         | inr wrong ↦
-            let opened = (partner_open a t1 g1 legal first).there.is_open in
-            let before : g2 < t2 = partner_before a t2 g2 legal second in
-            let shorter = open_in_shorter a.entries t2 t1 g1 (omega arith) (omega arith) opened in
-            absurd (none_passed a queue t2 g2 g1 legal second gives2 less (record { of_side = in_front a.entries t2 g1 (Gives queue) (omega arith) gives1; is_open = shorter }))
+            let before : q2 < p2 = partner_before a p2 q2 legal second in
+            absurd (passed a p2 q2 q1 side legal second at2 less (open_earlier a.entries p2 p1 q1 side (omega arith) (omega arith) (named_open a p1 q1 side legal first at1)))
       ]
     ]
 
+-- where both were named by their takers, or both by their givers
+givers_named : (a : Account) (queue p1 g1 t1 p2 g2 t2 : ℕ) → Legal a → PairAt a.entries queue p1 g1 t1 → PairAt a.entries queue p2 g2 t2
+    → NamesPartner a.entries t1 g1 → NamesPartner a.entries t2 g2 → g1 < g2 → t1 < t2
+givers_named a queue p1 g1 t1 p2 g2 t2 legal one two first second = named_in_turn a (Gives queue) t1 g1 t2 g2 legal first second one.gives two.gives
+
+takers_named : (a : Account) (queue p1 g1 t1 p2 g2 t2 : ℕ) → Legal a → PairAt a.entries queue p1 g1 t1 → PairAt a.entries queue p2 g2 t2
+    → NamesPartner a.entries g1 t1 → NamesPartner a.entries g2 t2 → g1 < g2 → t1 < t2
+takers_named a queue p1 g1 t1 p2 g2 t2 legal one two first second less = elim (cases_order t1 t2) [
+  | inl same ↦
+      let also : g1 ≡ g2 = named_once a g1 g2 t1 legal first (subst (NamesPartner a.entries g2) (sym same) second) in
+      absurd (omega arith)
+  | inr differ ↦ elim differ [
+    | inl right ↦ right
+    | inr wrong ↦ let turn : g2 < g1 = named_in_turn a (Takes queue) g2 t2 g1 t1 legal second first two.takes one.takes wrong in absurd (omega arith)
+  ]
+]
+
+-- where the first waited for its taker, and the second met one that waited: had that taker come before the
+-- first left, both would have been open at once
+taker_then_giver : (a : Account) (queue p1 g1 t1 p2 g2 t2 : ℕ) → Legal a → PairAt a.entries queue p1 g1 t1 → PairAt a.entries queue p2 g2 t2
+    → NamesPartner a.entries t1 g1 → NamesPartner a.entries g2 t2 → g1 < g2 → t1 < t2
+taker_then_giver a queue p1 g1 t1 p2 g2 t2 legal one two first second less = elim (cases_order t1 t2) [
+  | inl same ↦ absurd (names_and_named a g2 t1 g1 legal first (subst (NamesPartner a.entries g2) (sym same) second))
+  | inr differ ↦ elim differ [
+    | inl right ↦ right
+    | inr wrong ↦
+        let before1 : g1 < t1 = partner_before a t1 g1 legal first in
+        let before2 : t2 < g2 = partner_before a g2 t2 legal second in
+        let gives = named_open a t1 g1 (Gives queue) legal first one.gives in
+        let takes = named_open a g2 t2 (Takes queue) legal second two.takes in
+        elim (cases_lt t1 g2) [
+          | inl sooner ↦ absurd (one_side_open a t1 queue g1 t2 legal gives (open_earlier a.entries t1 g2 t2 (Takes queue) (omega arith) wrong takes))
+          | inr later ↦ absurd (one_side_open a g2 queue g1 t2 legal (open_earlier a.entries g2 t1 g1 (Gives queue) (omega arith) less gives) takes)
+        ]
+  ]
+]
+
+in_turn : (a : Account) (queue p1 g1 t1 p2 g2 t2 : ℕ) → Legal a → PairAt a.entries queue p1 g1 t1 → PairAt a.entries queue p2 g2 t2 → g1 < g2 → (t1 < t2) × (p1 < p2)
+in_turn a queue p1 g1 t1 p2 g2 t2 legal one two less = elim one.names [
+  | inr first ↦ elim two.names [
+    | inr second ↦ let turn : t1 < t2 = givers_named a queue p1 g1 t1 p2 g2 t2 legal one two first.1 second.1 less in (turn, omega arith)
+    | inl second ↦
+        let turn : t1 < t2 = taker_then_giver a queue p1 g1 t1 p2 g2 t2 legal one two first.1 second.1 less in
+        let before : t2 < g2 = partner_before a g2 t2 legal second.1 in
+        (turn, omega arith)
+  ]
+  | inl first ↦ elim two.names [
+    | inl second ↦ let turn : t1 < t2 = takers_named a queue p1 g1 t1 p2 g2 t2 legal one two first.1 second.1 less in (turn, omega arith)
+    | inr second ↦
+        let before1 : t1 < g1 = partner_before a g1 t1 legal first.1 in
+        let before2 : g2 < t2 = partner_before a t2 g2 legal second.1 in
+        (omega arith, omega arith)
+  ]
+]
+
 pub items_leave_in_order : ItemsLeaveInOrder
 items_leave_in_order a legal = record {
-  in_turn = λ queue p1 g1 t1 p2 g2 t2 first second less.
-      let one = take_names a queue p1 g1 t1 legal first in
-      let two = take_names a queue p2 g2 t2 legal second in
-      let consumers : t1 < t2 = in_turn a queue t1 g1 t2 g2 legal one.1 two.1 first.gives second.gives less in
-      (consumers, omega arith);
-  none_passed = λ queue p g t r pair less opened.
-      let names = take_names a queue p g t legal pair in
-      none_passed a queue t g r legal names.1 pair.gives less (subst (λ n. OpenAt (take n a.entries) (Gives queue) r) names.0 opened);
+  in_turn = λ queue p1 g1 t1 p2 g2 t2 one two less. in_turn a queue p1 g1 t1 p2 g2 t2 legal one two less;
+  none_passed = λ queue p g t r pair less opened. none_passed a queue p g t r legal pair less opened;
 }

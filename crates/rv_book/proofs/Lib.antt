@@ -3,7 +3,6 @@ pub mod Places
 pub mod Counting
 pub mod Growing
 pub mod CallKinds
-pub mod NotYet
 pub mod Legality
 pub mod Fronts
 pub mod Histories

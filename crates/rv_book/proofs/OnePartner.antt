@@ -12,7 +12,6 @@ use Rattle.rv_book.specs.Waiting.{Met, NamesPartner}
 use Rattle.rv_book.specs.Calls.{Stays}
 use Rattle.rv_book.proofs.Growing.{act_read, call_read, read_there}
 use Rattle.std.proofs.lemmas.Bool.{cases_order}
-use Rattle.rv_book.specs.Arriving.{entry}
 use Rattle.rv_book.proofs.Keys.{key_read}
 use Rattle.rv_book.proofs.Fronts.{names_in_front, naming, read_front, read_whole}
 use Rattle.rv_book.proofs.Histories.{one_last_hello}
@@ -54,7 +53,7 @@ named_once a p q r legal first second =
       | inr differ ↦ elim differ [ inl less ↦ absurd (named_before a p q r legal first second less) | inr more ↦ absurd (named_before a q p r legal second first more) ]
     ]
 
-names_and_named : (a : Account) (p r s : ℕ) → Legal a → NamesPartner a.entries r s → NamesPartner a.entries p r → ⊥
+pub names_and_named : (a : Account) (p r s : ℕ) → Legal a → NamesPartner a.entries r s → NamesPartner a.entries p r → ⊥
 names_and_named a p r s legal names named =
     let less : r < p = partner_before a p r legal named in
     partner_unmet a p r legal named (record { later = r; earlier = s; names = names_in_front a.entries p r s less names; part = inl refl })

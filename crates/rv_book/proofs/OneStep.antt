@@ -3,12 +3,11 @@ use Rattle.rv_book.specs.declared.account.Act as act
 use Rattle.rv_text.specs.declared.message.Message.TheVariants.{Hello, Request}
 use Rattle.rv_book.specs.Account.{Account, call_in, with_entry}
 use Rattle.rv_book.specs.declared.account.Act.{Act}
-use Rattle.rv_book.specs.Steps.{Adds, EntersOrNoMemory, EpochFullDue, GapDue, NextAt, NoSessionDue, OldIncarnationDue, OldNumberDue, OtherEpochDue, RefuseOr, Refuses, Replies, WhereElse, step_moment, BusyDue, ClientsFullDue, OtherCallDue, Repeats}
+use Rattle.rv_book.specs.Steps.{Adds, EntersOrNoMemory, EpochFullDue, GapDue, NextAt, NoSessionDue, OldIncarnationDue, OldNumberDue, OtherEpochDue, RefuseOr, Refuses, Answers, WhereElse, step_moment, BusyDue, ClientsFullDue, OtherCallDue, Repeats}
 use Rattle.rv_text.specs.declared.answer.Answer.{Answer}
 use Rattle.rv_text.specs.declared.call.Call.{Call}
 use Rattle.rv_book.specs.declared.account.Entry.{Entry}
 use Rattle.rv_text.specs.declared.answer.Refusal.TheVariants.{Busy, Gap, NoMemory, OldIncarnation, OldNumber}
-use Rattle.rv_book.specs.Replies.{HasReply}
 use Rattle.rv_book.specs.Legal.{IsOpenOpposite, Legal, MayFollow}
 use Rattle.rv_text.specs.declared.message.Key.{Key}
 use Rattle.rv_book.specs.Calls.{MayMeet}
@@ -17,11 +16,11 @@ use Rattle.std.proofs.Common.{None, Option, Some, ap, inl, inr, refl, subst, sym
 use Rattle.rv_book.specs.Laws.{OneNext}
 use Rattle.rv_book.specs.Waiting.{OpenAt}
 use Rattle.rv_text.specs.declared.answer.Refusal.{Refusal}
-use Rattle.rv_text.specs.declared.answer.Answer.TheVariants.{Refused, Replied}
+use Rattle.rv_text.specs.declared.answer.Answer.TheVariants.{Refused}
 use Rattle.std.proofs.lemmas.Bool.{cases_order}
 use Rattle.rv_book.proofs.Legality.{follows_itself}
 use Rattle.rv_book.proofs.Histories.{one_incarnation, one_last_number}
-use Rattle.rv_book.proofs.Staying.{one_reply}
+use Rattle.rv_book.proofs.Staying.{one_told}
 use Rattle.std.proofs.lemmas.Option.{same_Some}
 
 -- ---- the lines
@@ -124,10 +123,8 @@ Same b c x y = (b ≡ c) × (x ≡ y)
 one_refused : (a b c : Account) (x y : Answer) (refusal : Refusal) → Refuses a b x refusal → Refuses a c y refusal → Same b c x y
 one_refused a b c x y refusal first second = (first.0 ∙ sym second.0, first.1 ∙ sym second.1)
 
-one_answer : (b c : Account) (key : Key) (x y : Answer) → Legal c → b ≡ c → Replies b key x → Replies c key y → x ≡ y
-one_answer b c key x y legal same first second =
-    let there = subst (λ (d : Account). HasReply d.entries key first.reply) same first.has in
-    first.is ∙ ap (Replied key) (one_reply c key second.reply first.reply legal second.has there) ∙ sym second.is
+one_answer : (b c : Account) (key : Key) (x y : Answer) → Legal c → b ≡ c → Answers b key x → Answers c key y → x ≡ y
+one_answer b c key x y legal same first second = one_told c key y x legal second (subst (λ (d : Account). Answers d key x) same first)
 
 one_welcome : (a b c : Account) (moment client incarnation : ℕ) (x y w : Answer) → x ≢ Refused NoMemory → y ≢ Refused NoMemory
     → EntersOrNoMemory a moment (act.TheVariants.Hello client incarnation) b x (x ≡ w) → EntersOrNoMemory a moment (act.TheVariants.Hello client incarnation) c y (y ≡ w) → Same b c x y
@@ -136,7 +133,7 @@ one_welcome a b c moment client incarnation x y w ample enough (inr h) (inl k) =
 one_welcome a b c moment client incarnation x y w ample enough (inr h) (inr k) = (one_added a b c moment _ h.0 k.0, h.1 ∙ sym k.1)
 
 one_replied : (a b c : Account) (moment : ℕ) (key : Key) (call : Call) (x y : Answer) → x ≢ Refused NoMemory → y ≢ Refused NoMemory
-    → EntersOrNoMemory a moment (act.TheVariants.Arrive key call) b x (Replies b key x) → EntersOrNoMemory a moment (act.TheVariants.Arrive key call) c y (Replies c key y) → Same b c x y
+    → EntersOrNoMemory a moment (act.TheVariants.Arrive key call) b x (Answers b key x) → EntersOrNoMemory a moment (act.TheVariants.Arrive key call) c y (Answers c key y) → Same b c x y
 one_replied a b c moment key call x y ample enough (inl h) k = absurd (ample h.1)
 one_replied a b c moment key call x y ample enough (inr h) (inl k) = absurd (enough k.1)
 one_replied a b c moment key call x y ample enough (inr h) (inr k) =
@@ -144,7 +141,7 @@ one_replied a b c moment key call x y ample enough (inr h) (inr k) =
     (same, one_answer b c key x y k.0.legal same h.1 k.1)
 
 one_repeat : (a b c : Account) (key : Key) (x y : Answer) → Repeats a b key x → Repeats a c key y → Same b c x y
-one_repeat a b c key x y first second = (first.account ∙ sym second.account, second.only x first.replies)
+one_repeat a b c key x y first second = (first.account ∙ sym second.account, second.only x first.answers)
 
 one_next_at : (a b c : Account) (moment : ℕ) (m : Message) (x y : Answer) → NextAt a moment m b x → NextAt a moment m c y → x ≢ Refused NoMemory → y ≢ Refused NoMemory → Same b c x y
 one_next_at a b c moment (Hello client incarnation) x y first second ample enough =

@@ -10,7 +10,6 @@ use Rattle.rv_book.specs.Legal.{Legal, NamesFreePartner}
 use Rattle.rv_book.specs.Waiting.{EndsWait, Met, NamesPartner, Open, OpenAt, SideAt, Stopped, StoppedAt, Waiting, limit_at}
 use Rattle.rv_book.proofs.Growing.{NamesPartner-back, Open-back, Open-on, act_read, call_read, partner_read, read_there, reads_back, reads_on, reads_within}
 use Rattle.rv_book.specs.Calls.{IsPut, Stays}
-use Rattle.rv_book.specs.declared.account.Act.{Act}
 use Rattle.rv_book.specs.declared.account.Act.TheVariants.{Arrive, Hello}
 use Rattle.rv_text.specs.declared.message.Key.{Key}
 use Rattle.rv_book.proofs.Places.{get-append_cases, get-append_end}

@@ -7,7 +7,7 @@ use Rattle.rv_book.specs.declared.verdict.Said as said
 use Rattle.rv_text.specs.declared.message.Message.TheVariants.{Hello, Request}
 use Rattle.rv_book.specs.Account.{Account, Extends, act_at, call_in}
 use Rattle.rv_book.specs.declared.account.Act.{Act}
-use Rattle.rv_book.specs.Steps.{Adds, Answers, EntersOrNoMemory, KeyWaits, NextAt, Refuses, Replies}
+use Rattle.rv_book.specs.Steps.{Adds, Answers, EntersOrNoMemory, KeyWaits, NextAt, Refuses}
 use Rattle.rv_book.specs.Waiting.{Waiting}
 use Rattle.rv_text.specs.declared.answer.Answer.{Answer}
 use Rattle.rv_text.specs.declared.call.Call.{Call}

@@ -1,15 +1,13 @@
 -- The reply of a take: the item of whom it meets; unmet, what its wait tells.
-use Rattle.std.proofs.Common.{◌≡◌, ◌⊎◌, inl, inr, ℕ, ◌<◌, List, ◌∷◌, [], ◌++◌, length, Option, Some, None, option_and_then, option_map, refl, sym, ap, subst, ◌∙◌}
-use Rattle.std.specs.List.{slice_get}
+use Rattle.std.proofs.Common.{◌≡◌, ◌⊎◌, inl, inr, ℕ, List, ◌∷◌, [], ◌++◌, length, Some, None, option_and_then, option_map, refl, sym, ap, subst, ◌∙◌}
 use Rattle.std.proofs.lemmas.Option.{none-some, same_Some}
 use Rattle.rv_text.specs.declared.answer.Reply as reply
 use Rattle.rv_text.specs.declared.answer.Reply.{Reply}
-use Rattle.rv_text.specs.declared.call.Call.{Call}
 use Rattle.rv_text.specs.declared.call.Call.TheVariants.{Take}
 use Rattle.rv_text.specs.declared.call.Side.{Side}
 use Rattle.rv_text.specs.declared.call.Side.TheVariants.{Gives, Looks, Takes}
 use Rattle.rv_text.specs.declared.call.Wait.{Wait}
-use Rattle.rv_text.specs.declared.call.Wait.TheVariants.{Now}
+use Rattle.rv_text.specs.declared.call.Wait.TheVariants.{Now, Forever}
 use Rattle.rv_text.specs.Calls.{item_of, side_of}
 use Rattle.rv_text.specs.Limits.{FitsItem, FitsReply}
 use Rattle.rv_text.proofs.Kept.{item_fits}
@@ -18,21 +16,21 @@ use Rattle.rv_book.specs.declared.account.Entry.{Entry}
 use Rattle.rv_session.specs.declared.kept.Kept as kept
 use Rattle.rv_session.specs.declared.kept.Kept.{Kept}
 use Rattle.rv_book.specs.Account.{Account, act_at, call_at, call_in, with_entry}
-use Rattle.rv_book.specs.Arriving.{WillReply, entry}
-use Rattle.rv_book.specs.Calls.{Stays, opposite}
+use Rattle.rv_book.specs.Arriving.{GoesOn, WillReply, entry}
+use Rattle.rv_book.specs.Calls.{opposite}
 use Rattle.rv_book.specs.Legal.{Legal, before}
 use Rattle.rv_book.specs.Limits.{FitsAccount}
-use Rattle.rv_book.specs.Replies.{Gets, Meet, RepliesAt, RepliesUnmet}
+use Rattle.rv_book.specs.Replies.{Gets, Meet, RepliesAt}
 use Rattle.rv_book.specs.Verdicts.{item_at}
 use Rattle.rv_book.specs.Waiting.{Met, NamesPartner, Waiting}
 use Rattle.rv_book.proofs.Unmet.{one_unmet, still_unmet, unmet_exists, unmet_fits, unmet_stays, unmet_waits_not}
 use Rattle.rv_text.proofs.Kept.{empty_fits}
-use Rattle.rv_book.proofs.Growing.{NamesPartner-on, call_read, partner_read, reads_on, reads_within}
+use Rattle.rv_book.proofs.Growing.{NamesPartner-on, call_read, partner_read, reads_on}
 use Rattle.rv_book.proofs.CallKinds.{gives_item}
 use Rattle.rv_book.proofs.Legality.{follows_itself}
 use Rattle.rv_book.proofs.Limits.{act_fits, act_there, call_of_act}
-use Rattle.rv_book.proofs.OnePartner.{goes_unnamed, meets_one, partner_open}
-use Rattle.rv_book.proofs.Places.{get-append_end, get-append_within, within}
+use Rattle.rv_book.proofs.OnePartner.{meets_one, partner_open}
+use Rattle.rv_book.proofs.Places.{get-append_end, within}
 use Rattle.rv_book.proofs.ReplyLaws.{ReplyLaws}
 use Rattle.rv_book.proofs.Sides.{last_unmet}
 use Rattle.rv_book.proofs.Deciding.{met_or_not}
@@ -48,6 +46,11 @@ pub poll_replies : (a : Account) (queue : ℕ) → WillReply a (Take queue Now) 
 poll_replies a queue moment key before after =
     let e = entry moment (Arrive key (Take queue Now)) None in
     record { reply = reply.TheVariants.Empty; is = refl; replies = inr (last_unmet a e before refl, refl) }
+
+-- an unmet take that does not go on is one that never waits
+pub take_unmet : (a : Account) (queue : ℕ) (wait : Wait) → (GoesOn (Take queue wait) None → ⊥) → WillReply a (Take queue wait) None kept.TheVariants.Empty
+take_unmet a queue Now ends = poll_replies a queue
+take_unmet a queue Forever ends = absurd (ends (record { unmet = refl; stays = (refl, tt); no_put = λ put. none-some Forever (sym put.1) }))
 
 takes_meet_givers : (queue : ℕ) (side : Side) → opposite (Takes queue) ≡ Some side → side ≡ Gives queue
 takes_meet_givers queue side opposes = cc

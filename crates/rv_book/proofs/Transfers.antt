@@ -1,21 +1,21 @@
 -- The reply of a transfer: received, once it meets a consumer; unmet, what its wait tells.
-use Rattle.std.proofs.Common.{◌≡◌, ◌⊎◌, inl, inr, ℕ, List, ◌++◌, length, Option, Some, None, refl, sym, ap, subst, ◌∙◌}
+use Rattle.std.proofs.Common.{◌≡◌, ◌⊎◌, inl, inr, ℕ, List, ◌++◌, length, Some, None, refl, sym, ap, subst, ◌∙◌}
 use Rattle.rv_text.specs.declared.answer.Reply as reply
 use Rattle.rv_text.specs.declared.answer.Reply.{Reply}
 use Rattle.rv_text.specs.declared.call.Call.TheVariants.{Transfer}
 use Rattle.rv_text.specs.declared.call.Wait.{Wait}
-use Rattle.rv_text.specs.declared.call.Wait.TheVariants.{Now}
+use Rattle.rv_text.specs.declared.call.Wait.TheVariants.{Now, Forever}
 use Rattle.rv_text.specs.Limits.{FitsReply}
 use Rattle.rv_text.proofs.Kept.{nobody_fits, received_fits}
 use Rattle.rv_book.specs.declared.account.Act.TheVariants.{Arrive}
 use Rattle.rv_book.specs.declared.account.Entry.{Entry}
 use Rattle.rv_session.specs.declared.kept.Kept as kept
 use Rattle.rv_book.specs.Account.{Account, call_at, with_entry}
-use Rattle.rv_book.specs.Arriving.{WillReply, entry}
+use Rattle.rv_book.specs.Arriving.{GoesOn, WillReply, entry}
+use Rattle.std.proofs.lemmas.Option.{none-some}
 use Rattle.rv_book.specs.Legal.{Legal}
-use Rattle.rv_book.specs.Limits.{FitsAccount}
 use Rattle.rv_book.specs.Replies.{RepliesAt}
-use Rattle.rv_book.specs.Waiting.{Met, NamesPartner, Waiting}
+use Rattle.rv_book.specs.Waiting.{NamesPartner, Waiting}
 use Rattle.rv_book.proofs.Deciding.{met_or_not}
 use Rattle.rv_book.proofs.Growing.{Met-on, call_read, partner_read}
 use Rattle.rv_book.proofs.Places.{get-append_end}
@@ -44,6 +44,11 @@ pub nobody_replies : (a : Account) (queue : ℕ) (item : List ℕ) → WillReply
 nobody_replies a queue item moment key before after =
     let e = entry moment (Arrive key (Transfer queue item Now)) None in
     record { reply = nobody; is = refl; replies = inr (last_unmet a e before refl, refl) }
+
+-- an unmet transfer that does not go on is one that never waits
+pub transfer_unmet : (a : Account) (queue : ℕ) (item : List ℕ) (wait : Wait) → (GoesOn (Transfer queue item wait) None → ⊥) → WillReply a (Transfer queue item wait) None kept.TheVariants.Nobody
+transfer_unmet a queue item Now ends = nobody_replies a queue item
+transfer_unmet a queue item Forever ends = absurd (ends (record { unmet = refl; stays = (refl, tt); no_put = λ put. none-some Forever (sym put.1) }))
 
 -- ---- the laws
 

@@ -1,5 +1,5 @@
 -- What an unmet request is told by its wait: that this stays, is the only thing, and is told unless the request waits.
-use Rattle.std.proofs.Common.{◌≡◌, ◌⊎◌, inl, inr, ℕ, ◌<◌, ◌≤◌, List, ◌++◌, length, take, Option, Some, None, option_and_then, refl, sym, ap, subst, ◌∙◌, arith}
+use Rattle.std.proofs.Common.{◌≡◌, ◌⊎◌, inl, inr, ℕ, ◌<◌, ◌≤◌, List, ◌++◌, length, take, Some, option_and_then, refl, sym, ap, subst, ◌∙◌, arith}
 use Rattle.std.specs.List.{slice_get}
 use Rattle.std.proofs.lemmas.Bool.{cases_lt}
 use Rattle.std.proofs.lemmas.Option.{none-some, same_Some}
@@ -14,7 +14,7 @@ use Rattle.rv_text.proofs.Kept.{cancelled_fits}
 use Rattle.rv_book.specs.declared.account.Act.TheVariants.{Arrive}
 use Rattle.rv_book.specs.declared.account.Entry.{Entry}
 use Rattle.rv_book.specs.Account.{Account, call_at}
-use Rattle.rv_book.specs.Calls.{Lasts, MayMeet, Stays}
+use Rattle.rv_book.specs.Calls.{Lasts, MayMeet}
 use Rattle.rv_book.specs.Legal.{Legal}
 use Rattle.rv_book.specs.Replies.{RepliesUnmet}
 use Rattle.rv_book.specs.Waiting.{EndsWait, Met, NamesPartner, Open, Stopped, StoppedAt, Waiting, limit_at, limit_in}

@@ -9,10 +9,9 @@ use Rattle.rv_book.specs.declared.account.Act.TheVariants.{Hello, Arrive}
 use Rattle.rv_book.specs.Account.{Account, act_at, key_in, call_in}
 use Rattle.rv_book.specs.Calls.{IsPut}
 use Rattle.rv_book.specs.Sessions.{HasIncarnation, LastHello, LastNumber, NamesKey}
-use Rattle.rv_book.specs.Legal.{HasWaiting, IsNextNumber, Legal, before}
+use Rattle.rv_book.specs.Legal.{IsNextNumber, Legal}
 use Rattle.rv_book.specs.Waiting.{EndsWait, Waiting, limit_at}
 use Rattle.rv_book.proofs.Growing.{act_read, read_there}
-use Rattle.rv_book.proofs.Histories.{one_last_hello}
 use Rattle.rv_book.proofs.Keys.{act_called, act_named, key_read, no_hello}
 use Rattle.rv_book.proofs.Fronts.{read_front, read_whole, waiting_in_front}
 
@@ -43,16 +42,19 @@ no_hello_behind a r h key call incarnation w arrived hello later =
     let at = read_there act_read refl (slice_get a.entries h) (Hello key.client incarnation) hello in
     let same : w.is_open.call ≡ call = same_Some _ _ (sym w.is_open.arrived ∙ ap (option_and_then call_in) arrived) in
     let says : Hello key.client incarnation ≡ at.0.act = sym (same_Some _ _ at.2) in
-    w.is_open.unstopped (h, record {
-      key = key;
-      call = call;
-      stopper = at.0;
-      arrived = arrived;
-      no_put = λ put. w.no_put (subst IsPut (sym same) put);
-      later = later;
-      there = at.1;
-      ends = subst (λ act. EndsWait act at.0.moment key (limit_at a.entries r)) says refl;
-    })
+    w.is_open.unstopped (
+      h,
+      record {
+        key = key;
+        call = call;
+        stopper = at.0;
+        arrived = arrived;
+        no_put = λ put. w.no_put (subst IsPut (sym same) put);
+        later = later;
+        there = at.1;
+        ends = subst (λ act. EndsWait act at.0.moment key (limit_at a.entries r)) says refl;
+      },
+    )
 
 -- no arrival of its client, which would have found it waiting
 pub no_key_behind : (a : Account) (r s client : ℕ) (key other : Key) → Legal a → Waiting a.entries r → NamesKey a.entries client r key → NamesKey a.entries client s other → r < s → ⊥
