@@ -12,6 +12,7 @@ pub mod Sides
 pub mod Tabled
 pub mod Withdrawn
 pub mod Waiters
+pub mod Owing
 pub mod Following
 pub mod Lines
 pub mod OnePartner

@@ -144,7 +144,7 @@ line_without es e side places p line free none stops only other = record {
 -- ---- all sides
 
 -- the last entry is met, where it names a partner
-met_last : (es : List Entry) (e : Entry) (side : Side) (p : ℕ) → NamesFreePartner es e → e.partner ≡ Some p → OpenAt (es ++ e ∷ []) side (length es) → ⊥
+pub met_last : (es : List Entry) (e : Entry) (side : Side) (p : ℕ) → NamesFreePartner es e → e.partner ≡ Some p → OpenAt (es ++ e ∷ []) side (length es) → ⊥
 met_last es e side p free named opened =
     let partner = free p named in
     opened.is_open.unmet (record {
@@ -163,7 +163,7 @@ met_last es e side p free named opened =
 owed_on : (es : List Entry) (e : Entry) (r : ℕ) → r < length es → owed_at (es ++ e ∷ []) r ≡ owed_at es r
 owed_on es e r inside = ap (λ o. option_and_then (owed_in r) (act_read o)) (get-append_within es (e ∷ []) r inside)
 
-open_inside : (es : List Entry) (side : Side) (r : ℕ) → OpenAt es side r → r < length es
+pub open_inside : (es : List Entry) (side : Side) (r : ℕ) → OpenAt es side r → r < length es
 open_inside es side r opened = reads_within call_read refl es r opened.of_side.call opened.of_side.arrived
 
 pub below_account : (es : List Entry) (queues : List Queue) → AreQueues es queues → AreBelow queues (length es)

@@ -1,2 +1,2 @@
-use Rattle.rv_book.proofs.Waiters.{line_same}
+use Rattle.rv_book.proofs.Owing.{owed_waits}
 use Rattle.rv_book.proofs.queues.Queues.reserve.Goals as goal
