@@ -33,6 +33,7 @@ pub mod Staying
 pub mod Entering
 pub mod OneStep
 pub mod Fitting
+pub mod Ending
 pub mod Keeping
 pub mod Stepping
 pub mod Standing

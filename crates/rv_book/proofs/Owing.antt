@@ -1,5 +1,5 @@
 -- Who is owed a reply: an open arrival that is no put. How many these are with one entry more.
-use Rattle.std.proofs.Common.{◌≡◌, ◌⊎◌, inl, inr, ℕ, ◌<◌, ◌+◌, List, [], ◌∷◌, ◌++◌, length, Option, Some, None, IsSome, refl, sym, ap, subst, ◌∙◌, arith, option_and_then}
+use Rattle.std.proofs.Common.{◌≡◌, ◌⊎◌, inl, inr, ℕ, ◌<◌, ◌≤◌, ◌+◌, List, [], ◌∷◌, ◌++◌, length, Option, Some, None, IsSome, refl, sym, ap, subst, ◌∙◌, arith, option_and_then}
 use Rattle.std.specs.Prelude.{◌↔◌}
 use Rattle.std.proofs.lemmas.Option.{none-some, same_Some}
 use Rattle.rv_text.specs.declared.call.Call.{Call}
@@ -61,8 +61,16 @@ waiting_owed es r key call waits arrived =
     let no_put = subst (λ c. IsPut c → ⊥) same waits.no_put in
     owed_arrival es r key call arrived ∙ some_owed call r key (wait_of call) refl stays.0 no_put
 
-waiting_inside : (es : List Entry) (r : ℕ) → Waiting es r → r < length es
+pub waiting_inside : (es : List Entry) (r : ℕ) → Waiting es r → r < length es
 waiting_inside es r waits = open_inside es (side_of waits.is_open.call) r (waiting_is_open es r waits)
+
+-- where one has a property, the number is not 0
+pub some_has : (P : ℕ → Type 0) (n r : ℕ) → NumberOf P n → P r → 1 ≤ n
+some_has P n r count has =
+    let at = (count.are r).1 has in
+    let inside : at.0 < length count.places = at.1 in
+    let is : n ≡ length count.places = count.is in
+    omega arith
 
 -- ---- where an arrival goes on
 
@@ -80,11 +88,11 @@ goes_not_on call partner duty d (Some own) is some goes = goes.no_put (goes.stay
 
 -- ---- how many wait with one entry more
 
-one_more : Option Owed → ℕ
+abbrev pub one_more : Option Owed → ℕ
 one_more None = 1
 one_more (Some own) = 0
 
-one_less : Option Owed → ℕ
+abbrev pub one_less : Option Owed → ℕ
 one_less None = 0
 one_less (Some other) = 1
 
@@ -138,12 +146,34 @@ module _ (a : Account) (e : Entry) (key : Key) (call : Call) (legal : Legal a) (
   pub Waits-after : (n : ℕ) (partner : Option ℕ) (duty : Owed) (own other : Option Owed) → NumberOf (Waiting a.entries) n → e.partner ≡ partner → MeetsOldest a.entries (side_of call) partner
       → OwnDuty (side_of call) (wait_of call) partner duty own → PartnersDuty a.entries partner other → (k : ℕ) × (n + one_more own ≡ k + one_less other) × NumberOf (Waiting (a.entries ++ e ∷ [])) k
   Waits-after n None duty None other count named meets own_is other_is =
-      (n + 1, ap (λ o. n + 1 + one_less o) (sym other_is), number_waits n count (goes_on call None duty None own_is refl) named)
+      (n + 1, subst (λ o. n + one_more None ≡ n + 1 + one_less o) (sym other_is) (omega arith), number_waits n count (goes_on call None duty None own_is refl) named)
   Waits-after n None duty (Some own) other count named meets own_is other_is =
-      (n, ap (λ o. n + one_less o) (sym other_is), number_goes n count (goes_not_on call None duty own (Some own) own_is refl) named)
+      (n, subst (λ o. n + one_more (Some own) ≡ n + one_less o) (sym other_is) (omega arith), number_goes n count (goes_not_on call None duty own (Some own) own_is refl) named)
   Waits-after n (Some p) duty None other count named meets own_is other_is = absurd (none-some p (sym own_is.0))
   Waits-after n (Some p) duty (Some own) None count named meets own_is other_is =
       (n, refl, number_met_put n p count named (unowed_waits_not a.entries p (sym other_is)))
   Waits-after n (Some p) duty (Some own) (Some other) count named meets own_is other_is =
       let less = number_met n p count named (owed_waits a.entries p other meets.2.there.is_open (sym other_is)) in
-      (less.0, less.1, less.2)
+      (less.0, (let same : n ≡ less.0 + 1 = less.1 in omega arith), less.2)
+
+module _ (a : Account) (e : Entry) (client incarnation : ℕ) (free : NamesFreePartner a.entries e) (says : e.act ≡ Hello client incarnation) (none : e.partner ≡ None) where
+  was_there : (r : ℕ) → Waiting (a.entries ++ e ∷ []) r → Waiting a.entries r × (IsRequestOf a.entries client r → ⊥)
+  was_there r waits = elim (Waiting-back a.entries e r free waits) [
+    | inl was ↦ (was.there, λ request. was.unstopped (hello_stops a.entries e client incarnation r says request))
+    | inr new ↦ absurd (none-some new.1.call (sym (ap call_in says) ∙ new.1.arrives))
+  ]
+
+  still_there : (r : ℕ) → Waiting a.entries r → (IsRequestOf a.entries client r → ⊥) → Waiting (a.entries ++ e ∷ []) r
+  still_there r waits other = Waiting-on a.entries e r waits (λ named. none-some r (sym none ∙ named)) (λ stopped. other (stopped_by_hello a.entries e client incarnation r says stopped))
+
+  -- nothing of the client waited
+  pub number_greeted : (n : ℕ) → NumberOf (Waiting a.entries) n → ((r : ℕ) → Waiting a.entries r → IsRequestOf a.entries client r → ⊥) → NumberOf (Waiting (a.entries ++ e ∷ [])) n
+  number_greeted n count idle = same_number (Waiting a.entries) (Waiting (a.entries ++ e ∷ [])) n (λ r. ((λ waits. still_there r waits (idle r waits)), (λ there. (was_there r there).0))) count
+
+  -- one request of the client waited
+  pub number_renewed : (n p : ℕ) → NumberOf (Waiting a.entries) n → Waiting a.entries p → IsRequestOf a.entries client p → ((r : ℕ) → Waiting a.entries r → IsRequestOf a.entries client r → r ≡ p)
+      → (k : ℕ) × (n ≡ k + 1) × NumberOf (Waiting (a.entries ++ e ∷ [])) k
+  number_renewed n p count waits request only = number_drop (Waiting a.entries) (Waiting (a.entries ++ e ∷ [])) n p count waits (λ r. (
+    (λ there. let was = was_there r there in (was.0, λ same. was.1 (subst (IsRequestOf a.entries client) (sym same) request))),
+    (λ both. still_there r both.0 (λ own. both.1 (only r both.0 own)))
+  ))
