@@ -78,4 +78,5 @@ counts queue = record {
   fits = fits queue;
   exists = λ a r legal arrived. inl (exists_at queue a.entries r);
   waits_not = λ a r told legal arrived w replies. looks_waits_not a.entries r queue (Count queue) arrived refl w;
+  met = λ b earlier later other legal arrived also names opposes waits. absurd (let no : ⊥ = cc in no);
 }

@@ -28,6 +28,8 @@ pub mod Counts
 pub mod Peeks
 pub mod Replying
 pub mod SessionTable
+pub mod WaitingTable
+pub mod Settling
 pub mod Deciding
 pub mod Staying
 pub mod Entering

@@ -109,4 +109,5 @@ peeks queue = record {
   fits = fits queue;
   exists = λ a r legal arrived. inl (exists_at queue a.entries r);
   waits_not = λ a r told legal arrived w replies. looks_waits_not a.entries r queue (Peek queue) arrived refl w;
+  met = λ b earlier later other legal arrived also names opposes waits. absurd (let no : ⊥ = cc in no);
 }

@@ -28,4 +28,5 @@ puts queue item = record {
   fits = λ a r reply fits is. subst FitsReply (sym is) done_fits;
   exists = λ a r legal arrived. inl (reply.TheVariants.Done, refl);
   waits_not = λ a r reply legal arrived w is. waits_not queue item a r arrived w;
+  met = λ b earlier later other legal arrived also names opposes waits. absurd (let no : ⊥ = cc in no);
 }

@@ -1,5 +1,5 @@
 -- What has to hold of a call's replies, whichever call it is.
-use Rattle.std.proofs.Common.{◌≡◌, ◌⊎◌, ℕ, List, ◌++◌, Some}
+use Rattle.std.proofs.Common.{◌≡◌, ◌⊎◌, ℕ, List, ◌++◌, Some, IsSome}
 use Rattle.rv_text.specs.declared.call.Call.{Call}
 use Rattle.rv_text.specs.declared.answer.Reply.{Reply}
 use Rattle.rv_text.specs.Limits.{FitsReply}
@@ -8,7 +8,11 @@ use Rattle.rv_book.specs.Account.{Account, call_at}
 use Rattle.rv_book.specs.Legal.{Legal}
 use Rattle.rv_book.specs.Limits.{FitsAccount}
 use Rattle.rv_book.specs.Replies.{RepliesAt}
-use Rattle.rv_book.specs.Waiting.{Waiting}
+use Rattle.rv_book.specs.Waiting.{NamesPartner, Waiting}
+use Rattle.rv_book.specs.Arriving.{IsKept}
+use Rattle.rv_book.specs.Calls.{opposite}
+use Rattle.rv_book.specs.Tables.{partners_reply}
+use Rattle.rv_text.specs.Calls.{side_of, wait_of}
 
 pub record ReplyLaws (call : Call) : Type 0 where
   -- the reply stays where the account goes on
@@ -22,3 +26,6 @@ pub record ReplyLaws (call : Call) : Type 0 where
   pub exists : (a : Account) (r : ℕ) → Legal a → call_at a.entries r ≡ Some call → ((reply : Reply) × RepliesAt a.entries r call reply) ⊎ Waiting a.entries r
   -- and not both
   pub waits_not : (a : Account) (r : ℕ) (reply : Reply) → Legal a → call_at a.entries r ≡ Some call → Waiting a.entries r → RepliesAt a.entries r call reply → ⊥
+  -- what is kept for the earlier of a pair is its reply
+  pub met : (b : Account) (earlier later : ℕ) (other : Call) → Legal b → call_at b.entries earlier ≡ Some call → call_at b.entries later ≡ Some other → NamesPartner b.entries later earlier
+      → opposite (side_of other) ≡ Some (side_of call) → IsSome (wait_of call) → IsKept b.entries earlier call (partners_reply (side_of other) later)

@@ -1,9 +1,10 @@
--- The table of sessions stays what the account says: after an arrival and after a hello.
+-- The table of sessions is what the account says: each session stays with one more entry of another client, and after a
+-- hello the client's own is fresh.
 use Rattle.rv_session.specs.declared.session.State as state
 use Rattle.rv_session.specs.declared.session.State.{State as StateOf}
 use Rattle.rv_session.specs.declared.session.Session.{Session}
 use Rattle.rv_session.specs.declared.kept.Kept.{Kept}
-use Rattle.rv_session.specs.Table.{Table, OnlySets, OnlySettles, fresh, session_of, settled_session, waiting_session}
+use Rattle.rv_session.specs.Table.{Table, OnlySets, OnlySettles, fresh, session_of}
 use Rattle.rv_book.specs.Account.{Account, act_at, call_at, call_in, key_at, key_in, with_entry}
 use Rattle.rv_book.specs.declared.account.Act.{Act}
 use Rattle.rv_book.specs.Tables.{AreSessions, IsSession, IsSessionOf, Stands}
@@ -11,14 +12,15 @@ use Rattle.rv_book.specs.declared.account.Act.TheVariants.{Arrive, Hello}
 use Rattle.rv_text.specs.declared.call.Call.{Call}
 use Rattle.rv_book.specs.declared.account.Entry.{Entry}
 use Rattle.rv_book.specs.Sessions.{HasIncarnation, LastHello, LastNumber, NamesKey, SaidHello}
-use Rattle.rv_book.specs.Arriving.{IsKept, IsNext}
+use Rattle.rv_book.specs.Arriving.{IsKept}
+use Rattle.rv_book.specs.Waiting.{Waiting}
+use Rattle.rv_book.proofs.Sides.{Waiting-on, stopped_by_hello}
 use Rattle.rv_text.specs.declared.message.Key.{Key}
 use Rattle.rv_book.specs.Legal.{Legal, before}
 use Rattle.std.proofs.Common.{List, None, Option, Some, [], ap, arith, inl, inr, length, option_and_then, refl, subst, sym, ℕ, ◌++◌, ◌+◌, ◌<◌, ◌∙◌, ◌∷◌, ◌≡◌, ◌≤◌, ◌⊎◌}
 use Rattle.rv_book.proofs.Growing.{act_read, reads_back, reads_on, reads_within}
 use Rattle.rv_book.proofs.Places.{get-append_end}
 use Rattle.rv_book.proofs.Staying.{kept_stays}
-use Rattle.rv_book.proofs.NotYet.{nobody_waits}
 use Rattle.std.proofs.lemmas.Option.{none-some, same_Some}
 use Rattle.rv_book.proofs.Numbers.{same_or_not}
 use Rattle.rv_book.proofs.Keys.{LastHello-on, NamesKey-back, NamesKey-on, client_of, hello_is_own, key_is_own, key_read, no_hello}
@@ -30,7 +32,7 @@ pub record IsAt (es : List Entry) (c i n : ℕ) : Type 0 where
   pub number : LastNumber es c n
 
 -- the session of another client than the entry's stays
-IsAt-on : (es : List Entry) (e : Entry) (c i n : ℕ) → (client_of e.act ≡ c → ⊥) → IsAt es c i n → IsAt (es ++ e ∷ []) c i n
+pub IsAt-on : (es : List Entry) (e : Entry) (c i n : ℕ) → (client_of e.act ≡ c → ⊥) → IsAt es c i n → IsAt (es ++ e ∷ []) c i n
 IsAt-on es e c i n other is =
     let no_hello_of = λ (j : ℕ) (own : Some e.act ≡ Some (Hello c j)). other (hello_is_own e.act c j own) in
     record {
@@ -51,7 +53,7 @@ IsAt-on es e c i n other is =
     }
 
 -- after an arrival its number is the session's last
-arrived_at : (es : List Entry) (e : Entry) (key : Key) (call : Call) (i n : ℕ) → e.act ≡ Arrive key call → IsAt es key.client i n → n ≤ key.number → IsAt (es ++ e ∷ []) key.client i key.number
+pub arrived_at : (es : List Entry) (e : Entry) (key : Key) (call : Call) (i n : ℕ) → e.act ≡ Arrive key call → IsAt es key.client i n → n ≤ key.number → IsAt (es ++ e ∷ []) key.client i key.number
 arrived_at es e key call i n is session above =
     let no_hello_of = λ (j : ℕ) (own : Some e.act ≡ Some (Hello key.client j)). no_hello key call key.client j (ap Some (sym is) ∙ own) in
     let last : key_at (es ++ e ∷ []) (length es) ≡ Some key = ap key_read (get-append_end es e) ∙ ap key_in is in
@@ -100,10 +102,18 @@ IsKept-on a e r call k legal arrived is = record {
   replies = (reply_laws call).stays a.entries (e ∷ []) a.epoch a.opened r is.reply legal arrived is.replies;
 }
 
-Stands-on : (a : Account) (e : Entry) (client : ℕ) (s : Session) (stands : StateOf) → Legal (with_entry a e) → Stands a client s stands → Stands (with_entry a e) client s stands
-Stands-on a e client s state.TheVariants.Fresh legal is = is
-Stands-on a e client s (state.TheVariants.Waits place) legal is = absurd (nobody_waits a.entries place is.waits)
-Stands-on a e client s (state.TheVariants.Settled place k) legal is = record {
+-- what waits of this client waits with the entry too
+abbrev pub StillWaits : Account → Entry → ℕ → Type 0
+StillWaits a e client = (r : ℕ) (key : Key) (call : Call) → key.client ≡ client → act_at a.entries r ≡ Some (Arrive key call) → Waiting a.entries r → Waiting (with_entry a e).entries r
+
+Stands-on : (a : Account) (e : Entry) (client : ℕ) (s : Session) (stands : StateOf) → Legal (with_entry a e) → StillWaits a e client → Stands a client s stands → Stands (with_entry a e) client s stands
+Stands-on a e client s state.TheVariants.Fresh legal still is = is
+Stands-on a e client s (state.TheVariants.Waits r) legal still is = record {
+  call = is.call;
+  arrived = reads_on act_read refl a.entries (e ∷ []) r _ is.arrived;
+  waits = still r _ is.call refl is.arrived is.waits;
+}
+Stands-on a e client s (state.TheVariants.Settled r k) legal still is = record {
   place = is.place;
   is = is.is;
   call = is.call;
@@ -119,61 +129,51 @@ pub record Changes (old new : Table) (client : ℕ) (s : Session) : Type 0 where
   pub own : session_of new client ≡ Some s
   pub others : (other : ℕ) → (other ≡ client → ⊥) → session_of new other ≡ session_of old other
 
+-- a session that was settled, if it waited, and then has another's place
+pub settled_then_entered : (old mid new : Table) (client place : ℕ) (k : Kept) (s : Session) → OnlySettles old mid client place k → OnlySets mid new client s → Changes old new client s
+settled_then_entered old mid new client place k s settled sets = record {
+  epoch = sets.epoch ∙ settled.sets.epoch;
+  own = sets.own;
+  others = λ other apart. sets.others other apart ∙ settled.sets.others other apart;
+}
+
 pub set_changes : (old new : Table) (client : ℕ) (s : Session) → OnlySets old new client s → Changes old new client s
 set_changes old new client s sets = record { epoch = sets.epoch; own = sets.own; others = sets.others }
 
--- a request that was begun and settled
-pub settled_changes : (old mid new : Table) (client incarnation number place : ℕ) (k : Kept) → OnlySets old mid client (waiting_session incarnation number place)
-    → OnlySettles mid new client place k → Changes old new client (settled_session incarnation number (Some place) k)
-settled_changes old mid new client incarnation number place k begun settled =
-    let was : waiting_session incarnation number place ≡ settled.session = same_Some _ _ (sym begun.own ∙ settled.there) in
-    let P : Session → Type 0 = λ s. session_of new client ≡ Some (settled_session s.incarnation s.last (Some place) k) in
-    record {
-      epoch = settled.sets.epoch ∙ begun.epoch;
-      own = subst P (sym was) settled.sets.own;
-      others = λ other apart. settled.sets.others other apart ∙ begun.others other apart;
-    }
-
-session_on : (a : Account) (e : Entry) (client : ℕ) (o : Option Session) → Legal (with_entry a e) → (client_of e.act ≡ client → ⊥) → IsSessionOf a client o → IsSessionOf (with_entry a e) client o
-session_on a e client None legal other none = λ said. elim (reads_back act_read refl a.entries e said.0 _ said.2) [
+-- the session of a client other than the entry's, of whose requests each that waits still does
+pub session_on : (a : Account) (e : Entry) (client : ℕ) (o : Option Session) → Legal (with_entry a e) → (client_of e.act ≡ client → ⊥) → StillWaits a e client
+    → IsSessionOf a client o → IsSessionOf (with_entry a e) client o
+session_on a e client None legal other still none = λ said. elim (reads_back act_read refl a.entries e said.0 _ said.2) [
   | inl inside ↦ none (said.0, said.1, inside.1)
   | inr last ↦ other (hello_is_own e.act client said.1 last.1)
 ]
-session_on a e client (Some s) legal other is =
+session_on a e client (Some s) legal other still is =
     let at = IsAt-on a.entries e client s.incarnation s.last other (record { incarnation = is.incarnation; number = is.number }) in
-    record { incarnation = at.incarnation; number = at.number; stands = Stands-on a e client s s.state legal is.stands }
+    record { incarnation = at.incarnation; number = at.number; stands = Stands-on a e client s s.state legal still is.stands }
 
-sessions_next : (a : Account) (e : Entry) (old new : Table) (client : ℕ) (s : Session) → AreSessions a old → Legal (with_entry a e) → Changes old new client s → client_of e.act ≡ client
-    → IsSession (with_entry a e) client s → AreSessions (with_entry a e) new
-sessions_next a e old new client s are legal changes own session = record {
-  epoch = changes.epoch ∙ are.epoch;
-  each = λ c. elim (same_or_not c client) [
-    | inl same ↦ subst (λ n. IsSessionOf (with_entry a e) n (session_of new n)) (sym same) (subst (IsSessionOf (with_entry a e) client) (sym changes.own) session)
-    | inr apart ↦ subst (IsSessionOf (with_entry a e) c) (sym (changes.others c apart)) (session_on a e c (session_of old c) legal (λ is. apart (sym is ∙ own)) (are.each c))
-  ];
-}
-
--- after an arrival of the next number its session has what is kept
-pub sessions_arrived : (a : Account) (e : Entry) (old new : Table) (key : Key) (call : Call) (k : Kept) → AreSessions a old → Legal (with_entry a e) → IsNext a key → e.act ≡ Arrive key call
-    → IsKept (with_entry a e).entries (length a.entries) call k
-    → Changes old new key.client (settled_session key.incarnation key.number (Some (length a.entries)) k) → AreSessions (with_entry a e) new
-sessions_arrived a e old new key call k are legal next is kept_is changes =
-    let above : key.number ≡ next.last + 1 = next.next in
-    let at = arrived_at a.entries e key call key.incarnation next.last is (record { incarnation = next.incarnation; number = next.is_last }) (omega arith) in
-    let own : Some e.act ≡ Some (Arrive (record { epoch = a.epoch; client = key.client; incarnation = key.incarnation; number = key.number }) call) =
-    ap Some is ∙ ap (λ epoch. Some (Arrive (record { epoch = epoch; client = key.client; incarnation = key.incarnation; number = key.number }) call)) next.epoch in
-    sessions_next a e old new key.client _ are legal changes (ap client_of is) (record {
-      incarnation = at.incarnation;
-      number = at.number;
-      stands = record { place = length a.entries; is = refl; call = call; arrived = ap act_read (get-append_end a.entries e) ∙ own; kept_is = kept_is };
-    })
+-- after a hello nothing waits but what waited before, of another client
+after_hello : (a : Account) (e : Entry) (client incarnation other : ℕ) → e.act ≡ Hello client incarnation → e.partner ≡ None → (other ≡ client → ⊥) → StillWaits a e other
+after_hello a e client incarnation other says none apart = λ r key call of_client arrived w.
+    Waiting-on a.entries e r w (λ named. none-some r (sym none ∙ named)) (λ stopped.
+    let request = stopped_by_hello a.entries e client incarnation r says stopped in
+    let same : Arrive request.key request.call ≡ Arrive key call = same_Some _ _ (sym request.arrived ∙ arrived) in
+    apart (sym of_client ∙ sym (ap client_of same) ∙ sym request.of_client))
 
 -- after a hello its session is fresh
-pub sessions_greeted : (a : Account) (e : Entry) (old new : Table) (client incarnation : ℕ) → AreSessions a old → Legal (with_entry a e) → e.act ≡ Hello client incarnation
+pub sessions_greeted : (a : Account) (e : Entry) (old new : Table) (client incarnation : ℕ) → AreSessions a old → Legal a → Legal (with_entry a e) → e.act ≡ Hello client incarnation → e.partner ≡ None
     → Changes old new client (fresh incarnation) → AreSessions (with_entry a e) new
-sessions_greeted a e old new client incarnation are legal is changes =
+sessions_greeted a e old new client incarnation are before legal is none changes =
     let at = greeted_at a.entries e client incarnation is in
-    sessions_next a e old new client _ are legal changes (ap client_of is) (record { incarnation = at.incarnation; number = at.number; stands = refl })
+    let b = with_entry a e in
+    let own : IsSession b client (fresh incarnation) = record { incarnation = at.incarnation; number = at.number; stands = refl } in
+    record {
+      epoch = changes.epoch ∙ are.epoch;
+      each = λ c. elim (same_or_not c client) [
+        | inl same ↦ subst (λ n. IsSessionOf b n (session_of new n)) (sym same) (subst (IsSessionOf b client) (sym changes.own) own)
+        | inr apart ↦ subst (IsSessionOf b c) (sym (changes.others c apart))
+            (session_on a e c (session_of old c) legal (λ here. apart (sym here ∙ ap client_of is)) (after_hello a e client incarnation c is none apart) (are.each c))
+      ];
+    }
 
 -- an empty table is that of an empty account
 pub no_sessions : (a : Account) (t : Table) → a.entries ≡ [] → t.epoch ≡ a.epoch → ((client : ℕ) → session_of t client ≡ None) → AreSessions a t

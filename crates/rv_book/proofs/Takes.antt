@@ -35,6 +35,9 @@ use Rattle.rv_book.proofs.ReplyLaws.{ReplyLaws}
 use Rattle.rv_book.proofs.Sides.{last_unmet}
 use Rattle.rv_book.proofs.Deciding.{met_or_not}
 use Rattle.rv_book.proofs.Fronts.{read_whole}
+use Rattle.rv_text.specs.declared.call.Call.{Call}
+use Rattle.rv_book.specs.Tables.{partners_reply}
+use Rattle.rv_book.specs.Arriving.{IsKept}
 
 -- what an unmet take is told that does not wait
 abbrev empty : Reply
@@ -178,6 +181,15 @@ waits_not : (queue : ℕ) (wait : Wait) (a : Account) (r : ℕ) (told : Reply) �
 waits_not queue wait a r told arrived w (inl gets) = w.is_open.unmet (gets_met a.entries r gets.0 gets.1)
 waits_not queue wait a r told arrived w (inr unmet) = unmet_waits_not wait a.entries r (Take queue wait) empty told arrived refl w unmet.1
 
+met : (queue : ℕ) (wait : Wait) (b : Account) (earlier later : ℕ) (other : Call) → call_at b.entries later ≡ Some other → NamesPartner b.entries later earlier → side_of other ≡ Gives queue
+    → IsKept b.entries earlier (Take queue wait) (partners_reply (side_of other) later)
+met queue wait b earlier later other arrived names side =
+    let gives = gives_item other queue side in
+    let gets : Gets b.entries earlier gives.0 = record { giver = later; call = other; meet = inl names; arrived = arrived; hands_over = gives.1 } in
+    let item : item_at b.entries later ≡ Some gives.0 = ap (option_and_then item_of) arrived ∙ gives.1 in
+    subst (λ s. IsKept b.entries earlier (Take queue wait) (partners_reply s later)) (sym side)
+    (record { reply = reply.TheVariants.Item gives.0; is = ap (option_map reply.TheVariants.Item) item; replies = inl (gives.0, gets, refl) })
+
 pub takes : (queue : ℕ) (wait : Wait) → ReplyLaws (Take queue wait)
 takes queue wait = record {
   stays = stays queue wait;
@@ -185,4 +197,5 @@ takes queue wait = record {
   fits = fits queue wait;
   exists = exists_at queue wait;
   waits_not = λ a r told legal. waits_not queue wait a r told;
+  met = λ b earlier later other legal arrived also names opposes waits. met queue wait b earlier later other also names (givers_meet_takers (side_of other) queue opposes);
 }

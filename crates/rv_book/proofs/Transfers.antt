@@ -22,6 +22,13 @@ use Rattle.rv_book.proofs.Places.{get-append_end}
 use Rattle.rv_book.proofs.ReplyLaws.{ReplyLaws}
 use Rattle.rv_book.proofs.Sides.{last_unmet}
 use Rattle.rv_book.proofs.Unmet.{one_unmet, still_unmet, unmet_exists, unmet_fits, unmet_stays, unmet_waits_not}
+use Rattle.rv_text.specs.declared.call.Call.{Call}
+use Rattle.rv_text.specs.declared.call.Side.{Side}
+use Rattle.rv_text.specs.declared.call.Side.TheVariants.{Gives, Takes, Looks}
+use Rattle.rv_text.specs.Calls.{side_of}
+use Rattle.rv_book.specs.Calls.{opposite}
+use Rattle.rv_book.specs.Tables.{partners_reply}
+use Rattle.rv_book.specs.Arriving.{IsKept}
 
 -- what an unmet transfer is told that does not wait
 abbrev nobody : Reply
@@ -84,6 +91,17 @@ waits_not : (queue : ℕ) (item : List ℕ) (wait : Wait) (a : Account) (r : ℕ
 waits_not queue item wait a r told arrived w (inl met) = w.is_open.unmet met.0
 waits_not queue item wait a r told arrived w (inr unmet) = unmet_waits_not wait a.entries r (Transfer queue item wait) nobody told arrived refl w unmet.1
 
+takers_meet : (side : Side) (queue : ℕ) → opposite side ≡ Some (Gives queue) → side ≡ Takes queue
+takers_meet (Takes other) queue opposes = cc
+takers_meet (Gives other) queue opposes = absurd (let no : ⊥ = cc in no)
+takers_meet (Looks other) queue opposes = absurd (none-some _ opposes)
+
+met : (queue : ℕ) (item : List ℕ) (wait : Wait) (b : Account) (earlier later : ℕ) (other : Call) → NamesPartner b.entries later earlier → side_of other ≡ Takes queue
+    → IsKept b.entries earlier (Transfer queue item wait) (partners_reply (side_of other) later)
+met queue item wait b earlier later other names side =
+    subst (λ s. IsKept b.entries earlier (Transfer queue item wait) (partners_reply s later)) (sym side)
+    (record { reply = reply.TheVariants.Received; is = refl; replies = inl (record { later = later; earlier = earlier; names = names; part = inr refl }, refl) })
+
 pub transfers : (queue : ℕ) (item : List ℕ) (wait : Wait) → ReplyLaws (Transfer queue item wait)
 transfers queue item wait = record {
   stays = stays queue item wait;
@@ -91,4 +109,5 @@ transfers queue item wait = record {
   fits = λ a r told within. fits queue item wait a r told;
   exists = λ a r legal. exists_at queue item wait a r;
   waits_not = λ a r told legal. waits_not queue item wait a r told;
+  met = λ b earlier later other legal arrived also names opposes waits. met queue item wait b earlier later other names (takers_meet (side_of other) queue opposes);
 }

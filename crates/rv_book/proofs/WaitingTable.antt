@@ -1,0 +1,98 @@
+-- The table of sessions knows each request that waits, and its place.
+use Rattle.std.proofs.Common.{◌≡◌, inl, inr, ℕ, ◌+◌, ◌≤◌, Option, Some, None, option_and_then, refl, sym, ap, subst, ◌∙◌, arith}
+use Rattle.std.proofs.lemmas.Option.{none-some, same_Some}
+use Rattle.rv_text.specs.declared.call.Call.{Call}
+use Rattle.rv_text.specs.declared.message.Key.{Key}
+use Rattle.rv_session.specs.declared.kept.Kept.{Kept}
+use Rattle.rv_session.specs.declared.session.Session.{Session}
+use Rattle.rv_session.specs.declared.session.State as state
+use Rattle.rv_session.specs.declared.session.State.{State as StateOf}
+use Rattle.rv_session.specs.Table.{Table, session_of, waiting_of, waiting_place}
+use Rattle.rv_book.specs.declared.account.Act.TheVariants.{Arrive}
+use Rattle.rv_book.specs.Account.{Account, act_at, call_at, call_in, key_in}
+use Rattle.rv_book.specs.Legal.{HasWaiting, Legal}
+use Rattle.rv_book.specs.Tables.{AreSessions, IsSession, IsSessionOf, IsSettledAt, IsWaitingAt, Stands, last_key}
+use Rattle.rv_book.specs.Waiting.{Waiting}
+use Rattle.rv_book.proofs.Histories.{one_incarnation, one_last_number}
+use Rattle.rv_book.proofs.Keys.{act_named}
+use Rattle.rv_book.proofs.OnePartner.{arrives_once}
+use Rattle.rv_book.proofs.Replying.{reply_laws}
+use Rattle.rv_book.proofs.SessionTable.{known}
+use Rattle.rv_book.proofs.Staying.{one_call}
+use Rattle.rv_book.proofs.Waits.{IsLast, arrival, waiting_is_last}
+
+pub same_parts : (a b c d e f client : ℕ) → a ≡ b → c ≡ d → e ≡ f
+    → ◌≡◌ {A = Key} (record { epoch = a; client = client; incarnation = c; number = e }) (record { epoch = b; client = client; incarnation = d; number = f })
+same_parts a b c d e f client p q r = cc
+
+-- ---- from the account to the table
+
+-- the place that is told of a session in which this request is the last and waits
+module _ (a : Account) (r : ℕ) (key : Key) (call : Call) (legal : Legal a) (w : Waiting a.entries r) (arrived : act_at a.entries r ≡ Some (Arrive key call)) where
+  settled_not : (s : Session) (at : Option ℕ) (k : Kept) → last_key a key.client s ≡ key → IsSettledAt a key.client s at k → ⊥
+  settled_not s at k same is =
+      let there : act_at a.entries is.place ≡ Some (Arrive key is.call) = is.arrived ∙ ap (λ x. Some (Arrive x is.call)) same in
+      let place : r ≡ is.place = arrives_once a r is.place key call is.call legal arrived there in
+      (reply_laws is.call).waits_not a is.place is.kept_is.reply legal (ap (option_and_then call_in) there) (subst (Waiting a.entries) place w) is.kept_is.replies
+
+  by_state : (s : Session) (stands : StateOf) → last_key a key.client s ≡ key → 1 ≤ s.last → Stands a key.client s stands → waiting_place stands ≡ Some r
+  by_state s state.TheVariants.Fresh same positive is = let zero_last : s.last ≡ 0 = is in absurd (omega arith)
+  by_state s (state.TheVariants.Waits place) same positive is =
+      ap Some (arrives_once a place r key is.call call legal (is.arrived ∙ ap (λ x. Some (Arrive x is.call)) same) arrived)
+  by_state s (state.TheVariants.Settled at k) same positive is = absurd (settled_not s at k same is)
+
+  by_session : (o : Option Session) → IsSessionOf a key.client o → option_and_then (λ (s : Session). waiting_place s.state) o ≡ Some r
+  by_session None is = let last = waiting_is_last a r key call legal w arrived in absurd (is (last.incarnation.0, key.incarnation, last.incarnation.1.hello))
+  by_session (Some s) is =
+      let last = waiting_is_last a r key call legal w arrived in
+      let epoch : a.epoch ≡ key.epoch = sym last.epoch in
+      let incarnation : s.incarnation ≡ key.incarnation = one_incarnation a.entries key.client s.incarnation key.incarnation is.incarnation last.incarnation in
+      let number : s.last ≡ key.number = one_last_number a.entries key.client s.last key.number is.number last.number in
+      let next = (arrival a r key call legal arrived).next in
+      let one_more : key.number ≡ next.last + 1 = next.next in
+      by_state s s.state (same_parts _ _ _ _ _ _ key.client epoch incarnation number) (omega arith) is.stands
+
+-- a request that waits is told by the table
+pub waits_in_table : (a : Account) (t : Table) (r : ℕ) (key : Key) (call : Call) → Legal a → AreSessions a t → Waiting a.entries r → act_at a.entries r ≡ Some (Arrive key call) → waiting_of t key.client ≡ Some r
+waits_in_table a t r key call legal are w arrived = by_session a r key call legal w arrived (session_of t key.client) (are.each key.client)
+
+-- and so where the table tells of none, none waits
+pub none_waits : (a : Account) (t : Table) (client : ℕ) → Legal a → AreSessions a t → waiting_of t client ≡ None → HasWaiting a.entries client → ⊥
+none_waits a t client legal are none h =
+    let does = act_named (act_at a.entries h.place) h.key h.names.named in
+    let there : waiting_of t h.key.client ≡ Some h.place = waits_in_table a t h.place h.key does.0 legal are h.waits does.1 in
+    none-some h.place (sym none ∙ ap (waiting_of t) (sym h.names.of_client) ∙ there)
+
+-- ---- from the table to the account
+
+-- the client has this session, whose last request waits at the place
+pub record WaitsThere (a : Account) (t : Table) (client r : ℕ) : Type 0 where
+  pub session : Session
+  pub there : session_of t client ≡ Some session
+  pub is : IsSession a client session
+  pub waits : IsWaitingAt a client session r
+
+found_waiting : (a : Account) (client r : ℕ) (s : Session) (stands : StateOf) → Stands a client s stands → waiting_place stands ≡ Some r → IsWaitingAt a client s r
+found_waiting a client r s state.TheVariants.Fresh is waits = absurd (none-some r waits)
+found_waiting a client r s (state.TheVariants.Waits place) is waits = subst (IsWaitingAt a client s) (same_Some _ _ waits) is
+found_waiting a client r s (state.TheVariants.Settled at k) is waits = absurd (none-some r waits)
+
+found_session : (a : Account) (t : Table) (client r : ℕ) (o : Option Session) → session_of t client ≡ o → AreSessions a t → option_and_then (λ (s : Session). waiting_place s.state) o ≡ Some r → WaitsThere a t client r
+found_session a t client r None there are waits = absurd (none-some r waits)
+found_session a t client r (Some s) there are waits =
+    let is = known a t client s are there in
+    record { session = s; there = there; is = is; waits = found_waiting a client r s s.state is.stands waits }
+
+-- where the table says that a client's request waits, it does
+pub waiting_there : (a : Account) (t : Table) (client r : ℕ) → AreSessions a t → waiting_of t client ≡ Some r → WaitsThere a t client r
+waiting_there a t client r are waits = found_session a t client r (session_of t client) refl are waits
+
+pub has_waiting : (a : Account) (t : Table) (client r : ℕ) → AreSessions a t → waiting_of t client ≡ Some r → HasWaiting a.entries client
+has_waiting a t client r are waits =
+    let found = waiting_there a t client r are waits in
+    record {
+      place = r;
+      key = last_key a client found.session;
+      waits = found.waits.waits;
+      names = record { named = ap (option_and_then key_in) found.waits.arrived; of_client = refl };
+    }
