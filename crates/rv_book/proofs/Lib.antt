@@ -35,6 +35,7 @@ pub mod Staying
 pub mod Entering
 pub mod OneStep
 pub mod Fitting
+pub mod ToldNow
 pub mod Ending
 pub mod Keeping
 pub mod Stepping

@@ -15,7 +15,7 @@ use Rattle.rv_book.specs.Counting.{NumberOf}
 use Rattle.rv_book.specs.declared.account.Act.TheVariants.{Arrive, Hello}
 use Rattle.rv_book.specs.declared.account.Entry.{Entry}
 use Rattle.rv_book.specs.Legal.{Legal, NamesFreePartner}
-use Rattle.rv_book.specs.Meeting.{OwnDuty, PartnersDuty}
+use Rattle.rv_book.specs.Meeting.{OwnDuty, PartnersDuty, ends_waiting, starts_waiting}
 use Rattle.rv_book.specs.Parked.{owed_at, owed_by, owed_in}
 use Rattle.rv_book.specs.Waiting.{Open, OpenAt, StoppedAt, Waiting}
 use Rattle.rv_book.proofs.Counting.{number_drop, number_push, same_number}
@@ -88,14 +88,6 @@ goes_not_on call partner duty d (Some own) is some goes = goes.no_put (goes.stay
 
 -- ---- how many wait with one entry more
 
-abbrev pub one_more : Option Owed → ℕ
-one_more None = 1
-one_more (Some own) = 0
-
-abbrev pub one_less : Option Owed → ℕ
-one_less None = 0
-one_less (Some other) = 1
-
 module _ (a : Account) (e : Entry) (key : Key) (call : Call) (legal : Legal a) (free : NamesFreePartner a.entries e) (arrives : e.act ≡ Arrive key call) where
   unstopped : (r : ℕ) → StoppedAt (a.entries ++ e ∷ []) r (length a.entries) → ⊥
   unstopped r stopped = arrival_stops_nobody a.entries e key call r arrives stopped
@@ -144,11 +136,11 @@ module _ (a : Account) (e : Entry) (key : Key) (call : Call) (legal : Legal a) (
 
   -- so many wait after it, as its own duty and its partner's tell
   pub Waits-after : (n : ℕ) (partner : Option ℕ) (duty : Owed) (own other : Option Owed) → NumberOf (Waiting a.entries) n → e.partner ≡ partner → MeetsOldest a.entries (side_of call) partner
-      → OwnDuty (side_of call) (wait_of call) partner duty own → PartnersDuty a.entries partner other → (k : ℕ) × (n + one_more own ≡ k + one_less other) × NumberOf (Waiting (a.entries ++ e ∷ [])) k
+      → OwnDuty (side_of call) (wait_of call) partner duty own → PartnersDuty a.entries partner other → (k : ℕ) × (n + starts_waiting own ≡ k + ends_waiting other) × NumberOf (Waiting (a.entries ++ e ∷ [])) k
   Waits-after n None duty None other count named meets own_is other_is =
-      (n + 1, subst (λ o. n + one_more None ≡ n + 1 + one_less o) (sym other_is) (omega arith), number_waits n count (goes_on call None duty None own_is refl) named)
+      (n + 1, subst (λ o. n + starts_waiting None ≡ n + 1 + ends_waiting o) (sym other_is) (omega arith), number_waits n count (goes_on call None duty None own_is refl) named)
   Waits-after n None duty (Some own) other count named meets own_is other_is =
-      (n, subst (λ o. n + one_more (Some own) ≡ n + one_less o) (sym other_is) (omega arith), number_goes n count (goes_not_on call None duty own (Some own) own_is refl) named)
+      (n, subst (λ o. n + starts_waiting (Some own) ≡ n + ends_waiting o) (sym other_is) (omega arith), number_goes n count (goes_not_on call None duty own (Some own) own_is refl) named)
   Waits-after n (Some p) duty None other count named meets own_is other_is = absurd (none-some p (sym own_is.0))
   Waits-after n (Some p) duty (Some own) None count named meets own_is other_is =
       (n, refl, number_met_put n p count named (unowed_waits_not a.entries p (sym other_is)))

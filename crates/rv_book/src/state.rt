@@ -176,18 +176,19 @@ impl State {
         let place = self.account.len();
         let others = reply_to_partner(call.side(), place);
         let duty = self.sessions.begin(&key, place);
+        let arrived = self.queues.arrive(&call, duty);
+        let kept = self.reply_to(&call, arrived.partner);
+        let told = arrived.told(kept);
+        self.waiting = arrived.count(self.waiting);
         let Arrived {
             partner,
             own,
             other,
-        } = self.queues.arrive(&call, duty);
-        let kept = self.reply_to(&call, partner);
-        let result = own.as_ref().map(|_| kept);
-        self.waiting = self.waiting + usize::from(own.is_none()) - usize::from(other.is_some());
+        } = arrived;
         self.account.push(moment, Act::Arrive { key, call }, partner);
         self.settle(other, others);
         self.settle(own, kept);
-        result
+        told
     }
 
     // Records a request that has its session's next number, where there is room, and gives its reply; none where
