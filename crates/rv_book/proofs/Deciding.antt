@@ -269,7 +269,7 @@ takes_apart p q apart e = apart (cc)
 looks_apart : (p q : ℕ) → (p ≡ q → ⊥) → Looks p ≡ Looks q → ⊥
 looks_apart p q apart e = apart (cc)
 
-same_side : (s t : Side) → (s ≡ t) ⊎ (s ≡ t → ⊥)
+pub same_side : (s t : Side) → (s ≡ t) ⊎ (s ≡ t → ⊥)
 same_side (Gives p) (Gives q) = elim (same_or_not p q) [ inl same ↦ inl (ap Gives same) | inr apart ↦ inr (gives_apart p q apart) ]
 same_side (Gives p) (Takes q) = inr (λ e. let no : ⊥ = cc in no)
 same_side (Gives p) (Looks q) = inr (λ e. let no : ⊥ = cc in no)

@@ -12,6 +12,7 @@ pub mod Sides
 pub mod Tabled
 pub mod Withdrawn
 pub mod Waiters
+pub mod Owing
 pub mod Following
 pub mod Lines
 pub mod OnePartner
@@ -34,6 +35,8 @@ pub mod Staying
 pub mod Entering
 pub mod OneStep
 pub mod Fitting
+pub mod ToldNow
+pub mod Ending
 pub mod Keeping
 pub mod Stepping
 pub mod Standing

@@ -9,6 +9,8 @@ use Rattle.rv_book.specs.declared.account.Act.{Act}
 use Rattle.rv_book.specs.Steps.{Adds, EntersOrNoMemory, EpochFullDue, NextAt, RefuseOr, Refuses, Replies}
 use Rattle.rv_text.specs.declared.answer.Answer.{Answer}
 use Rattle.rv_book.specs.declared.account.Act.TheVariants.{Arrive}
+use Rattle.rv_book.specs.Counting.{NumberOf}
+use Rattle.rv_book.specs.Waiting.{Waiting}
 use Rattle.rv_book.specs.Tables.{Becomes, NoEntryDue}
 use Rattle.std.proofs.Common.{IsErrAnd, IfErr, IfOk, OnOk, OnErr, subst, Bool, ap, false, inl, inr, length, refl, sym, true, ℕ, ◌+◌, ◌∙◌, ◌≡◌, ◌≤◌}
 use Rattle.rv_text.specs.declared.call.Call.{Call}
@@ -61,9 +63,9 @@ pub unentered : (a b : Account) (moment need : ℕ) (does : Act) (refusal : Refu
 unentered a b moment need does refusal G (inl full) same = inl (record { refusal = refusal; is_due = full; refuses_it = (same, refl) })
 unentered a b moment need does refusal G (inr lacks) same = inr (lacks.0, inl (same, ap Refused lacks.1))
 
-pub entered : (a b : Account) (moment need : ℕ) (does : Act) (x : Answer) (G : Type 0) → length a.entries + need ≤ 100000 → Adds a moment does b → G
+pub entered : (a b : Account) (moment need : ℕ) (does : Act) (x : Answer) (G : Type 0) (waiting : ℕ) → NumberOf (Waiting a.entries) waiting → length a.entries + waiting + need ≤ 100000 → Adds a moment does b → G
     → RefuseOr (EpochFullDue a need) (Refuses a b x) (EntersOrNoMemory a moment does b x G)
-entered a b moment need does x G room adds told = inr (room_left a need room, inr (adds, told))
+entered a b moment need does x G waiting count room adds told = inr (room_left a waiting need count room, inr (adds, told))
 
 -- ---- what became of a message
 

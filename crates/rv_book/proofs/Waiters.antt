@@ -1,47 +1,61 @@
--- The table of queues stays what the account says, side by side: where an entry is none of the side's, where it waits there, and where it takes the first.
-use Rattle.std.proofs.Common.{◌≡◌, inl, inr, ℕ, zero, suc, ◌<◌, List, [], ◌∷◌, ◌++◌, length, drop, Option, Some, None, refl, sym, ap, subst, ◌∙◌, arith, option_and_then}
-use Rattle.rv_book.specs.Account.{Account, call_in}
+-- The table of queues stays what the account says, side by side: where an entry is none of the side's, where it waits there, where it takes the first, and where it stops one.
+use Rattle.std.proofs.Common.{◌≡◌, inl, inr, ℕ, zero, suc, ◌<◌, List, [], ◌∷◌, ◌++◌, length, cond, not, ◌==◌, Bool, true, false, Option, Some, None, refl, sym, ap, subst, ◌∙◌, arith, option_and_then}
+use Rattle.std.specs.List.{filter, slice_get}
+use Rattle.std.proofs.lemmas.Bool.Decides.{nat_tests}
+use Rattle.std.proofs.lemmas.Option.{none-some, same_Some, slice_get-map}
+use Rattle.std.specs.Prelude.{option_map}
 use Rattle.rv_text.specs.declared.call.Call.{Call}
-use Rattle.rv_book.specs.declared.account.Entry.{Entry}
-use Rattle.rv_text.specs.declared.call.Side.TheVariants.{Gives, Looks, Takes}
-use Rattle.std.specs.Prelude.{IsSome}
 use Rattle.rv_text.specs.declared.call.Side.{Side}
-use Rattle.std.proofs.lemmas.Option.{none-some, same_Some}
-use Rattle.rv_book.proofs.Numbers.{same_or_not}
-use Rattle.rv_text.specs.Calls.{side_of}
-use Rattle.std.specs.List.{slice_get}
-use Rattle.rv_book.specs.Tables.{AreQueues, IsLine}
-use Rattle.rv_book.specs.Meeting.{ArrivedOn, IsChanged, partner_on, waiting_on}
-use Rattle.rv_book.proofs.Sides.{IsNewOn, OpenAt-back, OpenAt-last, OpenAt-on, one_side}
-use Rattle.rv_book.specs.Legal.{Legal, NamesFreePartner}
+use Rattle.rv_text.specs.declared.call.Side.TheVariants.{Gives, Looks, Takes}
+use Rattle.rv_text.specs.declared.call.Wait.{Wait}
+use Rattle.rv_text.specs.declared.message.Key.{Key}
+use Rattle.rv_text.specs.Calls.{side_of, wait_of}
+use Rattle.rv_session.specs.Owed.{Owed}
+use Rattle.rv_dual.specs.Offers.{place_of, places_of}
+use Rattle.rv_dual.specs.Queue.{Queue}
+use Rattle.rv_book.specs.Account.{Account, act_at, call_at, call_in}
 use Rattle.rv_book.specs.Arriving.{MeetsOldest}
-use Rattle.rv_book.specs.Waiting.{OpenAt}
-use Rattle.rv_book.specs.Views.{QueueLine, places_of}
-use Rattle.rv_book.specs.Calls.{Stays, opposite}
-use Rattle.rv_book.proofs.Growing.{call_read, reads_within}
-use Rattle.rv_book.proofs.Places.{get-append, get-append_cases, get-append_end}
-use Rattle.rv_book.proofs.NotYet.{givers_stay, takers_go}
+use Rattle.rv_book.specs.Calls.{MayMeet, Stays, opposite}
+use Rattle.rv_book.specs.declared.account.Act.TheVariants.{Arrive, Hello}
+use Rattle.rv_book.specs.declared.account.Entry.{Entry}
+use Rattle.rv_book.specs.declared.queues.Arrived.{Arrived}
+use Rattle.rv_book.specs.Legal.{Legal, NamesFreePartner}
+use Rattle.rv_book.specs.Meeting.{ArrivedOn, FindsNobody, Leaves, MayWait, Meets, MeetsFirst}
+use Rattle.rv_book.specs.Parked.{AreParked, AreQueues, IsLine, IsParked, owed_at, owed_by, owed_in}
+use Rattle.rv_book.specs.Views.{AllEmpty, AreBelow, SameQueues, takers_places, waiting_on}
+use Rattle.rv_book.specs.Waiting.{NamesPartner, OpenAt, StoppedAt, IsOldest}
+use Rattle.rv_book.proofs.Deciding.{same_side}
+use Rattle.rv_book.proofs.Growing.{act_read, call_read, partner_read, reads_within}
+use Rattle.rv_book.proofs.Places.{get-append_cases, get-append, get-append_end, get-append_within}
+use Rattle.rv_book.proofs.Sides.{IsNewOn, IsRequestOf, OpenAt-back, OpenAt-last, OpenAt-on, arrival_stops_nobody, hello_stops, one_side, stopped_by_hello}
+use Rattle.rv_book.proofs.Tabled.{same_parked, same_waiting}
+use Rattle.rv_book.proofs.Withdrawn.{differs, filter_get, get_filter}
 
 -- ---- one side
 
-pub line_same : (es : List Entry) (e : Entry) (side : Side) (places : List ℕ) → IsLine es side places → NamesFreePartner es e
-    → ((r : ℕ) → OpenAt es side r → e.partner ≡ Some r → ⊥) → (IsNewOn e side → ⊥) → IsLine (es ++ e ∷ []) side places
-line_same es e side places line free unnamed old = record {
-  are = λ i r at. OpenAt-on es e side r (line.are i r at) (unnamed r (line.are i r at));
+-- the entry neither names nor stops an arrival that is open on the side
+pub record Untouched (es : List Entry) (e : Entry) (side : Side) : Type 0 where
+  pub unnamed : (r : ℕ) → OpenAt es side r → e.partner ≡ Some r → ⊥
+  pub unstopped : (r : ℕ) → OpenAt es side r → StoppedAt (es ++ e ∷ []) r (length es) → ⊥
+
+pub line_same : (es : List Entry) (e : Entry) (side : Side) (places : List ℕ) → IsLine es side places → NamesFreePartner es e → Untouched es e side
+    → (OpenAt (es ++ e ∷ []) side (length es) → ⊥) → IsLine (es ++ e ∷ []) side places
+line_same es e side places line free untouched other = record {
+  are = λ i r at. let opened = line.are i r at in OpenAt-on es e side r opened (untouched.unnamed r opened) (untouched.unstopped r opened);
   each = λ r opened. elim (OpenAt-back es e side r free opened) [
     | inl was ↦ line.each r was.there
-    | inr new ↦ absurd (old new.1)
+    | inr new ↦ absurd (other (subst (OpenAt (es ++ e ∷ []) side) new.0 opened))
   ];
   rising = line.rising;
 }
 
-pub line_push : (a : Account) (e : Entry) (side : Side) (places : List ℕ) → IsLine a.entries side places → Legal a → NamesFreePartner a.entries e → e.partner ≡ None
+pub line_push : (a : Account) (e : Entry) (side : Side) (places : List ℕ) → IsLine a.entries side places → Legal a → NamesFreePartner a.entries e → Untouched a.entries e side → e.partner ≡ None
     → IsNewOn e side → IsLine (a.entries ++ e ∷ []) side (places ++ length a.entries ∷ [])
-line_push a e side places line legal free none new =
+line_push a e side places line legal free untouched none new =
     let es : List Entry = a.entries in
     record {
       are = λ i r at. elim (get-append_cases places (length es) r i at) [
-        | inl inside ↦ OpenAt-on es e side r (line.are i r inside.1) (λ named. none-some r (sym none ∙ named))
+        | inl inside ↦ let opened = line.are i r inside.1 in OpenAt-on es e side r opened (untouched.unnamed r opened) (untouched.unstopped r opened)
         | inr last ↦ subst (OpenAt (es ++ e ∷ []) side) last.1 (OpenAt-last a e side legal none new)
       ];
       each = λ r opened. elim (OpenAt-back es e side r free opened) [
@@ -63,160 +77,268 @@ line_push a e side places line legal free none new =
       ];
     }
 
-pub line_drop : (es : List Entry) (e : Entry) (side : Side) (places : List ℕ) (p : ℕ) → IsLine es side places → NamesFreePartner es e → slice_get places 0 ≡ Some p
-    → e.partner ≡ Some p → (IsNewOn e side → ⊥) → IsLine (es ++ e ∷ []) side (drop 1 places)
-line_drop es e side [] p line free first named old = absurd (none-some p first)
-line_drop es e side (first ∷ places) p line free is named old =
-    let same : first ≡ p = same_Some _ _ is in
-    record {
-      are = λ i r at. OpenAt-on es e side r (line.are (suc i) r at)
-          (λ other. let above : first < r = line.rising 0 (suc i) first r (omega arith) refl at in let one : r ≡ p = same_Some _ _ (sym other ∙ named) in omega arith);
-      each = λ r opened. elim (OpenAt-back es e side r free opened) [
-        | inl was ↦ behind r was.unnamed (line.each r was.there)
-        | inr new ↦ absurd (old new.1)
-      ];
-      rising = λ i j q r less at_i at_j. line.rising (suc i) (suc j) q r (omega arith) at_i at_j;
-    }
+pub line_drop : (es : List Entry) (e : Entry) (side : Side) (p : ℕ) (places : List ℕ) → IsLine es side (p ∷ places) → NamesFreePartner es e
+    → e.partner ≡ Some p → ((r : ℕ) → OpenAt es side r → StoppedAt (es ++ e ∷ []) r (length es) → ⊥) → (OpenAt (es ++ e ∷ []) side (length es) → ⊥) → IsLine (es ++ e ∷ []) side places
+line_drop es e side p places line free named unstopped other = record {
+  are = λ i r at.
+      let opened = line.are (suc i) r at in
+      OpenAt-on es e side r opened
+      (λ also. let above : p < r = line.rising 0 (suc i) p r (omega arith) refl at in let one : r ≡ p = same_Some _ _ (sym also ∙ named) in omega arith)
+      (unstopped r opened);
+  each = λ r opened. elim (OpenAt-back es e side r free opened) [
+    | inl was ↦ behind r was.unnamed (line.each r was.there)
+    | inr new ↦ absurd (other (subst (OpenAt (es ++ e ∷ []) side) new.0 opened))
+  ];
+  rising = λ i j q r less at_i at_j. line.rising (suc i) (suc j) q r (omega arith) at_i at_j;
+}
   where
-    behind : (r : ℕ) → (e.partner ≡ Some r → ⊥) → (i : ℕ) × (slice_get (first ∷ places) i ≡ Some r) → (i : ℕ) × (slice_get places i ≡ Some r)
-    behind r unnamed (zero, at) = absurd (unnamed (named ∙ sym is ∙ at))
+    behind : (r : ℕ) → (e.partner ≡ Some r → ⊥) → (i : ℕ) × (slice_get (p ∷ places) i ≡ Some r) → (i : ℕ) × (slice_get places i ≡ Some r)
+    behind r unnamed (zero, at) = absurd (unnamed (named ∙ at))
     behind r unnamed (suc i, at) = (i, at)
 
-pub line_none : (es : List Entry) (side : Side) → ((r : ℕ) → OpenAt es side r → ⊥) → IsLine es side []
-line_none es side none = record {
-  are = λ i r at. absurd (none-some r at);
-  each = λ r opened. absurd (none r opened);
-  rising = λ i j p q less at_i at_j. absurd (none-some p at_i);
+-- places rise
+abbrev Rises : List ℕ → Type 0
+Rises places = (i j p q : ℕ) → i < j → slice_get places i ≡ Some p → slice_get places j ≡ Some q → p < q
+
+abbrev left_of : ℕ → List ℕ → List ℕ
+left_of p places = filter (λ n. not (n == p)) places
+
+rises_head : (p first : ℕ) (places : List ℕ) → ((j r : ℕ) → slice_get places j ≡ Some r → first < r) → Rises (left_of p places) → (b : Bool) → Rises (cond b (first ∷ left_of p places) (left_of p places))
+rises_head p first places least rest true zero zero q r less at_i at_j = absurd (omega arith)
+rises_head p first places least rest true zero (suc j) q r less at_i at_j =
+    let same : first ≡ q = same_Some _ _ at_i in
+    let old = filter_get (λ n. not (n == p)) places j r at_j in
+    let above : first < r = least old.0 r old.1 in
+    omega arith
+rises_head p first places least rest true (suc i) zero q r less at_i at_j = absurd (omega arith)
+rises_head p first places least rest true (suc i) (suc j) q r less at_i at_j = rest i j q r (omega arith) at_i at_j
+rises_head p first places least rest false i j q r less at_i at_j = rest i j q r less at_i at_j
+
+-- who is left of rising places rises
+rises_on : (p : ℕ) (places : List ℕ) → Rises places → Rises (left_of p places)
+rises_on p [] rising = λ i j q r less at_i at_j. absurd (none-some q at_i)
+rises_on p (first ∷ places) rising =
+    rises_head p first places (λ j r at. rising 0 (suc j) first r (omega arith) refl at) (rises_on p places (λ i j q r less at_i at_j. rising (suc i) (suc j) q r (omega arith) at_i at_j)) (not (first == p))
+
+passes_not : (n p : ℕ) → not (n == p) ≡ true → n ≡ p → ⊥
+passes_not n p passes same = grind (arith, nat_tests)
+
+-- the entry stops the one that stands at p, and no other of the side
+pub line_without : (es : List Entry) (e : Entry) (side : Side) (places : List ℕ) (p : ℕ) → IsLine es side places → NamesFreePartner es e → e.partner ≡ None
+    → StoppedAt (es ++ e ∷ []) p (length es) → ((r : ℕ) → OpenAt es side r → StoppedAt (es ++ e ∷ []) r (length es) → r ≡ p) → (OpenAt (es ++ e ∷ []) side (length es) → ⊥)
+    → IsLine (es ++ e ∷ []) side (filter (λ r. not (r == p)) places)
+line_without es e side places p line free none stops only other = record {
+  are = λ i r at.
+      let old = filter_get (λ n. not (n == p)) places i r at in
+      let opened = line.are old.0 r old.1 in
+      OpenAt-on es e side r opened (λ named. none-some r (sym none ∙ named)) (λ stopped. passes_not r p old.2 (only r opened stopped));
+  each = λ r opened. elim (OpenAt-back es e side r free opened) [
+    | inl was ↦
+        let old = line.each r was.there in
+        get_filter (λ n. not (n == p)) places old.0 r old.1 (differs r p (λ same. was.unstopped (subst (λ n. StoppedAt (es ++ e ∷ []) n (length es)) (sym same) stops)))
+    | inr new ↦ absurd (other (subst (OpenAt (es ++ e ∷ []) side) new.0 opened))
+  ];
+  rising = rises_on p places line.rising;
 }
 
 -- ---- all sides
 
-no_taker : (es : List Entry) (queue r : ℕ) → OpenAt es (Takes queue) r → ⊥
-no_taker es queue r h =
-    let same : h.is_open.call ≡ h.of_side.call = same_Some _ _ (sym h.is_open.arrived ∙ h.of_side.arrived) in
-    takers_go h.of_side.call queue h.of_side.is (subst Stays same h.is_open.stays)
+-- the last entry is met, where it names a partner
+pub met_last : (es : List Entry) (e : Entry) (side : Side) (p : ℕ) → NamesFreePartner es e → e.partner ≡ Some p → OpenAt (es ++ e ∷ []) side (length es) → ⊥
+met_last es e side p free named opened =
+    let partner = free p named in
+    opened.is_open.unmet (record {
+      later = length es;
+      earlier = p;
+      names = record {
+        call = partner.call;
+        arrived = ap call_read (get-append_end es e) ∙ partner.arrives;
+        meets = partner.meets;
+        named = ap partner_read (get-append_end es e) ∙ named;
+      };
+      part = inl refl;
+    })
 
-no_looker : (es : List Entry) (queue r : ℕ) → OpenAt es (Looks queue) r → ⊥
-no_looker es queue r h =
-    let same : h.is_open.call ≡ h.of_side.call = same_Some _ _ (sym h.is_open.arrived ∙ h.of_side.arrived) in
-    let meets : IsSome (opposite (Looks queue)) = subst (λ side. IsSome (opposite side)) h.of_side.is (subst Stays same h.is_open.stays).0 in
-    absurd (cc)
+-- what was owed before an entry is owed after it
+owed_on : (es : List Entry) (e : Entry) (r : ℕ) → r < length es → owed_at (es ++ e ∷ []) r ≡ owed_at es r
+owed_on es e r inside = ap (λ o. option_and_then (owed_in r) (act_read o)) (get-append_within es (e ∷ []) r inside)
 
--- where the items of each queue are as the table has them, nobody else waits
-all_sides : (es : List Entry) (lines : List QueueLine) → ((queue : ℕ) → IsLine es (Gives queue) (places_of lines queue)) → AreQueues es lines
-all_sides es lines items (Gives queue) = items queue
-all_sides es lines items (Takes queue) = line_none es (Takes queue) (no_taker es queue)
-all_sides es lines items (Looks queue) = line_none es (Looks queue) (no_looker es queue)
+pub open_inside : (es : List Entry) (side : Side) (r : ℕ) → OpenAt es side r → r < length es
+open_inside es side r opened = reads_within call_read refl es r opened.of_side.call opened.of_side.arrived
 
-pub queues_as_before : (es : List Entry) (old new : List QueueLine) → ((queue : ℕ) → places_of new queue ≡ places_of old queue) → AreQueues es old → AreQueues es new
-queues_as_before es old new same are = all_sides es new (λ queue. subst (IsLine es (Gives queue)) (sym (same queue)) (are (Gives queue)))
+pub below_account : (es : List Entry) (queues : List Queue) → AreQueues es queues → AreBelow queues (length es)
+below_account es queues are side i r at = open_inside es side r ((are.lines side).are i r at)
 
-pub no_queues : (es : List Entry) (lines : List QueueLine) → es ≡ [] → ((queue : ℕ) → places_of lines queue ≡ []) → AreQueues es lines
-no_queues es lines none empty = all_sides es lines (λ queue. subst (IsLine es (Gives queue)) (sym (empty queue)) (line_none es (Gives queue) (λ r opened.
-    let inside = reads_within call_read refl es r opened.of_side.call opened.of_side.arrived in let short : length es ≡ 0 = ap length none in omega arith)))
+pub parked_on : (es : List Entry) (e : Entry) (queues : List Queue) → AreQueues es queues → AreParked (es ++ e ∷ []) queues
+parked_on es e queues are queue = record {
+  givers = λ i offer at. owed_on es e (place_of offer) (below_account es queues are (Gives queue) i (place_of offer) (slice_get-map place_of _ i ∙ ap (option_map place_of) at)) ∙ (are.parked queue).givers i offer at;
+  takers = λ i duty at. owed_on es e duty.place (below_account es queues are (Takes queue) i duty.place (slice_get-map (λ (d : Owed). d.place) _ i ∙ ap (option_map (λ (d : Owed). d.place)) at)) ∙ (are.parked queue).takers i duty at;
+}
 
--- a queue more in which nothing waits
-pub append_empty : (lines : List QueueLine) (line : QueueLine) → line.places ≡ [] → ((queue : ℕ) → places_of lines queue ≡ []) → (queue : ℕ) → places_of (lines ++ line ∷ []) queue ≡ []
-append_empty [] line none empty zero = none
-append_empty [] line none empty (suc queue) = refl
-append_empty (first ∷ lines) line none empty zero = empty zero
-append_empty (first ∷ lines) line none empty (suc queue) = append_empty lines line none (λ other. empty (suc other)) queue
+pub queues_as_before : (es : List Entry) (old new : List Queue) → SameQueues old new → AreQueues es old → AreQueues es new
+queues_as_before es old new same are = record {
+  lines = λ side. subst (IsLine es side) (sym (same_waiting old new same side)) (are.lines side);
+  parked = same_parked es old new same are.parked;
+}
 
 -- ---- whom an arrival meets
 
-front_meets : (es : List Entry) (side other : Side) (places : List ℕ) → opposite side ≡ Some other → IsLine es other places → MeetsOldest es side (slice_get places 0)
-front_meets es side other [] opposes line = λ third r is opened.
-    let same : third ≡ other = same_Some _ _ (sym is ∙ opposes) in
-    let there = line.each r (subst (λ s. OpenAt es s r) same opened) in
-    none-some r there.1
-front_meets es side other (p ∷ places) opposes line = (
-  other,
-  opposes,
-  record {
-    there = line.are 0 p refl;
-    oldest = λ r less opened. above r less (line.each r opened);
-  },
-)
+front_is_oldest : (es : List Entry) (side : Side) (p : ℕ) (places : List ℕ) → IsLine es side (p ∷ places) → IsOldest es side p
+front_is_oldest es side p places line = record {
+  there = line.are 0 p refl;
+  oldest = λ r less opened. above r less (line.each r opened);
+}
   where
     above : (r : ℕ) → r < p → (i : ℕ) × (slice_get (p ∷ places) i ≡ Some r) → ⊥
     above r less (zero, at) = let same : p ≡ r = same_Some _ _ at in omega arith
     above r less (suc i, at) = let more : p < r = line.rising 0 (suc i) p r (omega arith) refl at in omega arith
 
-partner_by : (es : List Entry) (lines : List QueueLine) (side : Side) (o : Option Side) → AreQueues es lines → opposite side ≡ o
-    → MeetsOldest es side (option_and_then (λ other. slice_get (waiting_on lines other) 0) o)
-partner_by es lines side None are opposes = λ other r is opened. none-some other (sym opposes ∙ is)
-partner_by es lines side (Some other) are opposes = front_meets es side other (waiting_on lines other) opposes (are other)
+nobody_there : (es : List Entry) (queues : List Queue) (side : Side) → AreQueues es queues → FindsNobody queues side → MeetsOldest es side None
+nobody_there es queues side are nobody other r opposes opened =
+    let there = subst (IsLine es other) (nobody other opposes) (are.lines other) in
+    none-some r (there.each r opened).1
 
-pub meets_partner : (es : List Entry) (lines : List QueueLine) (side : Side) → AreQueues es lines → MeetsOldest es side (partner_on lines side)
-meets_partner es lines side are = partner_by es lines side (opposite side) are refl
+pub meets_partner : (es : List Entry) (old new : List Queue) (side : Side) (wait : Option Wait) (place : ℕ) (partner : Option ℕ) → AreQueues es old → Meets old new side wait place partner → MeetsOldest es side partner
+meets_partner es old new side wait place None are (inl waits) = nobody_there es old side are waits.1.nobody
+meets_partner es old new side wait place None are (inr goes) = nobody_there es old side are goes.1
+meets_partner es old new side wait place (Some p) are meets =
+    (meets.other, meets.opposes, front_is_oldest es meets.other p (waiting_on new meets.other) (subst (IsLine es meets.other) meets.first (are.lines meets.other)))
 
--- ---- after an entry
+-- ---- after an arrival
 
--- an entry that is no arrival and names nobody changes no side
-pub queues_unmoved : (es : List Entry) (e : Entry) (lines : List QueueLine) → AreQueues es lines → NamesFreePartner es e → e.partner ≡ None → call_in e.act ≡ None
-    → AreQueues (es ++ e ∷ []) lines
-queues_unmoved es e lines are free none no_call = all_sides (es ++ e ∷ []) lines (λ queue.
-    line_same es e (Gives queue) (places_of lines queue) (are (Gives queue)) free (λ r opened named. none-some r (sym none ∙ named))
-    (λ new. none-some new.call (sym no_call ∙ new.arrives)))
+module _ (a : Account) (e : Entry) (old new : List Queue) (key : Key) (call : Call) (legal : Legal a) (are : AreQueues a.entries old) (free : NamesFreePartner a.entries e)
+    (arrives : e.act ≡ Arrive key call) where
+  unstopped : (r : ℕ) → StoppedAt (a.entries ++ e ∷ []) r (length a.entries) → ⊥
+  unstopped r stopped = arrival_stops_nobody a.entries e key call r arrives stopped
 
-other_queue : (p q : ℕ) → (p ≡ q → ⊥) → Gives p ≡ Gives q → ⊥
-other_queue p q apart e = apart (cc)
+  -- an arrival that is open on a side is of that side, and stays
+  own_side : (side : Side) → OpenAt (a.entries ++ e ∷ []) side (length a.entries) → IsNewOn e side
+  own_side side opened =
+      let there : call_at (a.entries ++ e ∷ []) (length a.entries) ≡ Some call = ap call_read (get-append_end a.entries e) ∙ ap call_in arrives in
+      let called : opened.of_side.call ≡ call = same_Some _ _ (sym opened.of_side.arrived ∙ there) in
+      let again : opened.is_open.call ≡ call = same_Some _ _ (sym opened.is_open.arrived ∙ there) in
+      record { call = call; arrives = ap call_in arrives; is = ap side_of (sym called) ∙ opened.of_side.is; stays = subst Stays again opened.is_open.stays }
 
-not_both : (queue other : ℕ) → Takes queue ≡ Gives other → ⊥
-not_both queue other e = cc
-
-looks_not : (queue other : ℕ) → Looks queue ≡ Gives other → ⊥
-looks_not queue other e = cc
-
--- the entry's own side
-new_side : (e : Entry) (call : Call) (side : Side) → call_in e.act ≡ Some call → IsNewOn e side → side_of call ≡ side
-new_side e call side arrives new = ap side_of (same_Some _ _ (sym arrives ∙ new.arrives)) ∙ new.is
-
-module _ (a : Account) (e : Entry) (old new : List QueueLine) (call : Call) (legal : Legal a) (are : AreQueues a.entries old) (free : NamesFreePartner a.entries e)
-    (arrives : call_in e.act ≡ Some call) where
-  gave : (queue : ℕ) → side_of call ≡ Gives queue → e.partner ≡ None → IsChanged old new queue (places_of old queue ++ length a.entries ∷ []) → AreQueues (a.entries ++ e ∷ []) new
-  gave queue is none changed = all_sides (a.entries ++ e ∷ []) new (λ other. elim (same_or_not other queue) [
+  met_lines : (p : ℕ) → e.partner ≡ Some p → MeetsFirst old new (side_of call) p → (side : Side) → IsLine (a.entries ++ e ∷ []) side (waiting_on new side)
+  met_lines p named meets side = elim (same_side side meets.other) [
     | inl same ↦
-        let pushed = line_push a e (Gives queue) (places_of old queue) (are (Gives queue)) legal free none
-        (record { call = call; arrives = arrives; is = is; stays = (subst (λ side. IsSome (opposite side)) (sym is) refl, givers_stay call queue is) }) in
-        subst (λ n. IsLine (a.entries ++ e ∷ []) (Gives n) (places_of new n)) (sym same) (subst (IsLine (a.entries ++ e ∷ []) (Gives queue)) (sym changed.here) pushed)
+        subst (λ s. IsLine (a.entries ++ e ∷ []) s (waiting_on new s)) (sym same)
+        (line_drop a.entries e meets.other p (waiting_on new meets.other) (subst (IsLine a.entries meets.other) meets.first (are.lines meets.other)) free named
+        (λ r opened. unstopped r) (met_last a.entries e meets.other p free named))
     | inr apart ↦
-        subst (IsLine (a.entries ++ e ∷ []) (Gives other)) (sym (changed.others other apart))
-        (line_same a.entries e (Gives other) (places_of old other) (are (Gives other)) free (λ r opened named. none-some r (sym none ∙ named))
-        (λ fresh. other_queue queue other (λ e. apart (sym e)) (sym is ∙ new_side e call (Gives other) arrives fresh)))
-  ])
+        let first = (are.lines meets.other).are 0 p (ap (λ l. slice_get l 0) meets.first) in
+        subst (IsLine (a.entries ++ e ∷ []) side) (sym (meets.others side apart))
+        (line_same a.entries e side (waiting_on old side) (are.lines side) free
+        (record {
+          unnamed = λ r opened also.
+              let same : r ≡ p = same_Some _ _ (sym also ∙ named) in
+              apart (one_side a.entries side meets.other p (subst (OpenAt a.entries side) same opened).of_side first.of_side);
+          unstopped = λ r opened. unstopped r;
+        })
+        (met_last a.entries e side p free named))
+  ]
 
-  took : (queue : ℕ) → side_of call ≡ Takes queue → e.partner ≡ slice_get (places_of old queue) 0 → IsChanged old new queue (drop 1 (places_of old queue)) → AreQueues (a.entries ++ e ∷ []) new
-  took queue is first changed = all_sides (a.entries ++ e ∷ []) new (λ other. elim (same_or_not other queue) [
+  untouched : e.partner ≡ None → (side : Side) → Untouched a.entries e side
+  untouched none side = record { unnamed = λ r opened named. none-some r (sym none ∙ named); unstopped = λ r opened. unstopped r }
+
+  unmet_lines : (wait : Option Wait) → wait_of call ≡ wait → e.partner ≡ None → Meets old new (side_of call) wait (length a.entries) None → (side : Side) → IsLine (a.entries ++ e ∷ []) side (waiting_on new side)
+  unmet_lines wait is none (inl (may, waits)) side = elim (same_side side (side_of call)) [
     | inl same ↦
-        subst (λ n. IsLine (a.entries ++ e ∷ []) (Gives n) (places_of new n)) (sym same)
-        (subst (IsLine (a.entries ++ e ∷ []) (Gives queue)) (sym changed.here) (without (places_of old queue) (are (Gives queue)) first))
+        subst (λ s. IsLine (a.entries ++ e ∷ []) s (waiting_on new s)) (sym same)
+        (subst (IsLine (a.entries ++ e ∷ []) (side_of call)) (sym waits.last)
+        (line_push a e (side_of call) (waiting_on old (side_of call)) (are.lines (side_of call)) legal free (untouched none (side_of call)) none
+        (record { call = call; arrives = ap call_in arrives; is = refl; stays = subst (MayWait (side_of call)) (sym is) may })))
     | inr apart ↦
-        subst (IsLine (a.entries ++ e ∷ []) (Gives other)) (sym (changed.others other apart))
-        (line_same a.entries e (Gives other) (places_of old other) (are (Gives other)) free
-        (λ r opened named.
-        let there = (are (Gives queue)).are 0 r (sym first ∙ named) in
-        other_queue other queue apart (one_side a.entries (Gives other) (Gives queue) r opened.of_side there.of_side))
-        (λ fresh. not_both queue other (sym is ∙ new_side e call (Gives other) arrives fresh)))
-  ])
+        subst (IsLine (a.entries ++ e ∷ []) side) (sym (waits.others side apart))
+        (line_same a.entries e side (waiting_on old side) (are.lines side) free (untouched none side) (λ opened.
+        let own = own_side side opened in
+        let called : own.call ≡ call = same_Some _ _ (sym own.arrives ∙ ap call_in arrives) in
+        apart (sym own.is ∙ ap side_of called)))
+  ]
+  unmet_lines wait is none (inr goes) side =
+      subst (IsLine (a.entries ++ e ∷ []) side) (sym (same_waiting old new goes.2 side))
+      (line_same a.entries e side (waiting_on old side) (are.lines side) free (untouched none side) (λ opened.
+      let own = own_side side opened in
+      let called : own.call ≡ call = same_Some _ _ (sym own.arrives ∙ ap call_in arrives) in
+      goes.0 (subst (MayWait (side_of call)) is (subst Stays called own.stays))))
+
+  by_partner : (partner : Option ℕ) → e.partner ≡ partner → Meets old new (side_of call) (wait_of call) (length a.entries) partner → (side : Side) → IsLine (a.entries ++ e ∷ []) side (waiting_on new side)
+  by_partner None named meets = unmet_lines (wait_of call) refl named meets
+  by_partner (Some p) named meets = met_lines p named meets
+
+  owed_new : (duty : Owed) → duty ≡ record { place = length a.entries; client = key.client } → owed_at (a.entries ++ e ∷ []) duty.place ≡ option_and_then (λ w. Some duty) (wait_of call)
+  owed_new duty is =
+      let there : act_at (a.entries ++ e ∷ []) (length a.entries) ≡ Some (Arrive key call) = ap act_read (get-append_end a.entries e) ∙ ap Some arrives in
+      let P : Owed → Type 0 = λ d. owed_at (a.entries ++ e ∷ []) d.place ≡ option_and_then (λ w. Some d) (wait_of call) in
+      subst P (sym is) (ap (option_and_then (owed_in (length a.entries))) there ∙ by_wait (wait_of call))
     where
-      without : (places : List ℕ) → IsLine a.entries (Gives queue) places → e.partner ≡ slice_get places 0 → IsLine (a.entries ++ e ∷ []) (Gives queue) (drop 1 places)
-      without [] line none = line_same a.entries e (Gives queue) [] line free (λ r opened named. none-some r (sym none ∙ named))
-          (λ fresh. not_both queue queue (sym is ∙ new_side e call (Gives queue) arrives fresh))
-      without (p ∷ places) line named = line_drop a.entries e (Gives queue) (p ∷ places) p line free refl named
-          (λ fresh. not_both queue queue (sym is ∙ new_side e call (Gives queue) arrives fresh))
+      by_wait : (wait : Option Wait) → owed_by (length a.entries) key wait ≡ option_and_then (λ w. Some (record { place = length a.entries; client = key.client })) wait
+      by_wait None = refl
+      by_wait (Some wait) = refl
 
-  looked : (queue : ℕ) → side_of call ≡ Looks queue → e.partner ≡ None → new ≡ old → AreQueues (a.entries ++ e ∷ []) new
-  looked queue is none same = subst (AreQueues (a.entries ++ e ∷ [])) (sym same) (all_sides (a.entries ++ e ∷ []) old (λ other.
-      line_same a.entries e (Gives other) (places_of old other) (are (Gives other)) free (λ r opened named. none-some r (sym none ∙ named))
-      (λ fresh. looks_not queue other (sym is ∙ new_side e call (Gives other) arrives fresh))))
+  -- after an arrival the table has each side's open arrivals
+  pub queues_after : (duty : Owed) (result : Arrived) → duty ≡ record { place = length a.entries; client = key.client } → e.partner ≡ result.partner
+      → ArrivedOn old new (side_of call) (wait_of call) duty result → AreQueues (a.entries ++ e ∷ []) new
+  queues_after duty result is named arrived = record {
+    lines = by_partner result.partner named (subst (λ (d : Owed). Meets old new (side_of call) (wait_of call) d.place result.partner) is arrived.meets);
+    parked = arrived.parked (a.entries ++ e ∷ []) (parked_on a.entries e old are) (owed_new duty is);
+  }
 
-  by_side : (side : Side) → side_of call ≡ side → e.partner ≡ partner_on old side → ArrivedOn old new side (length a.entries) → AreQueues (a.entries ++ e ∷ []) new
-  by_side (Gives queue) is partner changed = gave queue is partner changed
-  by_side (Takes queue) is partner changed = took queue is partner changed
-  by_side (Looks queue) is partner changed = looked queue is partner changed
+-- ---- after a hello
 
--- after an arrival the table has each side's open arrivals
-pub queues_after : (a : Account) (e : Entry) (old new : List QueueLine) (call : Call) → Legal a → AreQueues a.entries old → NamesFreePartner a.entries e → call_in e.act ≡ Some call
-    → e.partner ≡ partner_on old (side_of call) → ArrivedOn old new (side_of call) (length a.entries) → AreQueues (a.entries ++ e ∷ []) new
-queues_after a e old new call legal are free arrives partner arrived = by_side a e old new call legal are free arrives (side_of call) refl partner arrived
+module _ (a : Account) (e : Entry) (client incarnation : ℕ) (free : NamesFreePartner a.entries e) (says : e.act ≡ Hello client incarnation) (none : e.partner ≡ None) where
+  no_arrival : (side : Side) → OpenAt (a.entries ++ e ∷ []) side (length a.entries) → ⊥
+  no_arrival side opened =
+      none-some opened.of_side.call (sym (ap call_read (get-append_end a.entries e) ∙ ap call_in says) ∙ opened.of_side.arrived)
+
+  -- nothing of the client waits
+  pub queues_greeted : (queues : List Queue) → AreQueues a.entries queues → ((side : Side) (r : ℕ) → OpenAt a.entries side r → IsRequestOf a.entries client r → ⊥) → AreQueues (a.entries ++ e ∷ []) queues
+  queues_greeted queues are idle = record {
+    lines = λ side. line_same a.entries e side (waiting_on queues side) (are.lines side) free (record {
+      unnamed = λ r opened named. none-some r (sym none ∙ named);
+      unstopped = λ r opened stopped. idle side r opened (stopped_by_hello a.entries e client incarnation r says stopped);
+    }) (no_arrival side);
+    parked = parked_on a.entries e queues are;
+  }
+
+  -- the one request of the client that waited was taken out
+  pub queues_renewed : (old new : List Queue) (side : Side) (duty : Owed) (result : Option Owed) → AreQueues a.entries old → Leaves old new side duty result → OpenAt a.entries side duty.place → IsRequestOf a.entries client duty.place
+      → ((other : Side) (r : ℕ) → OpenAt a.entries other r → IsRequestOf a.entries client r → r ≡ duty.place) → AreQueues (a.entries ++ e ∷ []) new
+  queues_renewed old new side duty result are leaves opened request only = record {
+    lines = λ other. elim (same_side other side) [
+      | inl same ↦
+          subst (λ s. IsLine (a.entries ++ e ∷ []) s (waiting_on new s)) (sym same)
+          (subst (IsLine (a.entries ++ e ∷ []) side) (sym leaves.places)
+          (line_without a.entries e side (waiting_on old side) duty.place (are.lines side) free none (hello_stops a.entries e client incarnation duty.place says request)
+          (λ r there stopped. only side r there (stopped_by_hello a.entries e client incarnation r says stopped)) (no_arrival side)))
+      | inr apart ↦
+          subst (IsLine (a.entries ++ e ∷ []) other) (sym (leaves.others other apart))
+          (line_same a.entries e other (waiting_on old other) (are.lines other) free (record {
+            unnamed = λ r there named. none-some r (sym none ∙ named);
+            unstopped = λ r there stopped.
+                let same : r ≡ duty.place = only other r there (stopped_by_hello a.entries e client incarnation r says stopped) in
+                apart (one_side a.entries other side duty.place (subst (OpenAt a.entries other) same there).of_side opened.of_side);
+          }) (no_arrival other))
+    ];
+    parked = leaves.parked (a.entries ++ e ∷ []) (parked_on a.entries e old are);
+  }
+
+-- ---- an empty account
+
+pub no_queues : (es : List Entry) (queues : List Queue) → es ≡ [] → AllEmpty queues → AreQueues es queues
+no_queues es queues none empty = record {
+  lines = λ side. subst (IsLine es side) (sym (nowhere side)) (record {
+    are = λ i r at. absurd (none-some r at);
+    each = λ r opened. let inside : r < length es = open_inside es side r opened in let short : length es ≡ 0 = ap length none in absurd (omega arith);
+    rising = λ i j p q less at_i at_j. absurd (none-some p at_i);
+  });
+  parked = λ queue. record {
+    givers = λ i offer at. absurd (none-some offer (sym (ap (λ l. slice_get l i) (empty queue).givers) ∙ at));
+    takers = λ i duty at. absurd (none-some duty (sym (ap (λ l. slice_get l i) (empty queue).takers) ∙ at));
+  };
+}
+  where
+    nowhere : (side : Side) → waiting_on queues side ≡ []
+    nowhere (Gives queue) = ap places_of (empty queue).givers
+    nowhere (Takes queue) = ap takers_places (empty queue).takers
+    nowhere (Looks queue) = refl

@@ -84,7 +84,7 @@ got f xs y (i, at) = let there = mapped_there f (slice_get xs i) y (sym (slice_g
 
 -- ---- numbers
 
-differs : (m n : ℕ) → (m ≡ n → ⊥) → not (m == n) ≡ true
+pub differs : (m n : ℕ) → (m ≡ n → ⊥) → not (m == n) ≡ true
 differs m n apart = elim (eqb_tells m n) [
   | inl same ↦ absurd (apart same.1)
   | inr differ ↦ ap not differ.0

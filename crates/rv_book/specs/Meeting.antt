@@ -117,6 +117,16 @@ OwnDuty side wait partner duty None = (partner ≡ None) × MayWait side wait ×
 OwnDuty side wait partner duty (Some own) =
     (own ≡ duty) × ((partner ≡ None) → MayWait side wait → wait ≡ None)
 
+-- how many requests start to wait with an arrival whose own duty is this, and how many stop with one that met
+-- the request of this duty
+abbrev pub starts_waiting : Option Owed → ℕ
+starts_waiting None = 1
+starts_waiting (Some own) = 0
+
+abbrev pub ends_waiting : Option Owed → ℕ
+ends_waiting None = 0
+ends_waiting (Some other) = 1
+
 -- the partner's duty, if it is a request
 abbrev pub PartnersDuty : List Entry → Option ℕ → Option Owed → Type 0
 PartnersDuty entries None other = other ≡ None

@@ -11,7 +11,7 @@ ghost use Rattle.rv_book.specs.Meeting.{ArrivedOn, Gave, HasRoomOn, Took, Withdr
 ghost use Rattle.rv_book.specs.Views.{AllEmpty, AreBelow, SameQueues, queue_at, waiting_on};
 
 use rv_dual::{Dual, Given, Giver, Pair, Taken, Tried};
-use rv_session::{Duty, Place};
+use rv_session::{Duty, Kept, Place};
 use rv_text::{Call, MAX_QUEUE, NoMemory, Side, Wait};
 use std::alloc::Global;
 use std::marker::Model;
@@ -24,6 +24,37 @@ pub(crate) struct Arrived {
     pub(crate) own: Option<Duty>,
     /// The duty of the request that it met; a put has none.
     pub(crate) other: Option<Duty>,
+}
+
+impl Arrived {
+    ghost use Rattle.std.specs.Prelude.{◌≤◌, ◌+◌, ◌^◌, option_map};
+    ghost use Rattle.rv_book.specs.Meeting.{ends_waiting, starts_waiting};
+
+    /// What is told to it now: what is kept as its reply, or nothing where it waits.
+    pub(crate) fn told(&self, kept: Kept) -> Option<Kept>
+        ensures { result ≡ option_map (λ own. kept) self.now.own }
+    {
+        match self.own {
+            Some(_) => Some(kept),
+            None => None,
+        }
+    }
+
+    /// How many requests wait after it, where so many did before.
+    pub(crate) fn count(&self, waiting: usize) -> usize
+        requires most { waiting + starts_waiting self.now.own ≤ 2 ^ 32 }
+        requires least { ends_waiting self.now.other ≤ waiting + starts_waiting self.now.own }
+        ensures { result + ends_waiting self.now.other ≡ waiting + starts_waiting self.now.own }
+    {
+        let started = match self.own {
+            Some(_) => waiting,
+            None => waiting + 1,
+        };
+        match self.other {
+            Some(_) => started - 1,
+            None => started,
+        }
+    }
 }
 
 // A put arrives: its duty comes back, whether a consumer waits or not.

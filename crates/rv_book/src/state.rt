@@ -1,5 +1,5 @@
 //! The account with the tables that answer for it, and the steps that change them together.
-ghost use Rattle.std.specs.Prelude.{◌≡◌, ◌≤◌, [], None, OnOk, OnErr, IfOk, IfErr, IfSome};
+ghost use Rattle.std.specs.Prelude.{◌≡◌, ◌<◌, ◌≤◌, ◌+◌, [], None, OnOk, OnErr, IfOk, IfErr, IfSome};
 ghost use Rattle.rv_text.specs.Calls.{queue_of};
 ghost use Rattle.rv_text.specs.Limits.{FitsCall, FitsIdentifier, FitsQueue};
 ghost use Rattle.rv_book.specs.Arriving.{GoesOn, IsRecorded, WillReply, said_of};
@@ -57,6 +57,8 @@ impl State {
     ghost use Rattle.rv_text.specs.declared.answer.Answer.TheVariants.{Welcome};
     ghost use Rattle.rv_text.specs.Limits.{FitsMessage};
     ghost use Rattle.rv_book.specs.declared.account.Act.TheVariants.{Hello, Arrive};
+    ghost use Rattle.rv_book.specs.Account.{with_entry};
+    ghost use Rattle.rv_book.specs.Arriving.{entry};
     ghost use Rattle.rv_book.specs.Legal.{KeepsTime};
     ghost use Rattle.rv_book.specs.Waiting.{Waiting};
     ghost use Rattle.rv_book.specs.Steps.{Adds, NextAt, max_moment, step_moment};
@@ -174,18 +176,19 @@ impl State {
         let place = self.account.len();
         let others = reply_to_partner(call.side(), place);
         let duty = self.sessions.begin(&key, place);
+        let arrived = self.queues.arrive(&call, duty);
+        let kept = self.reply_to(&call, arrived.partner);
+        let told = arrived.told(kept);
+        self.waiting = arrived.count(self.waiting);
         let Arrived {
             partner,
             own,
             other,
-        } = self.queues.arrive(&call, duty);
-        let kept = self.reply_to(&call, partner);
-        let result = own.as_ref().map(|_| kept);
-        self.waiting = self.waiting + usize::from(own.is_none()) - usize::from(other.is_some());
+        } = arrived;
         self.account.push(moment, Act::Arrive { key, call }, partner);
         self.settle(other, others);
         self.settle(own, kept);
-        result
+        told
     }
 
     // Records a request that has its session's next number, where there is room, and gives its reply; none where
@@ -269,7 +272,15 @@ impl State {
         Ok(())
     }
 
+    // Records a hello, for which there is room.
     fn push_hello(&mut self, moment: u64, client: u64, incarnation: u64)
+        requires { 0 < self.old.account.room }
+        ensures entry { account_of self.new
+            ≡ with_entry (account_of self.old) (entry moment (Hello client incarnation) None) }
+        ensures room { self.old.account.room ≤ self.new.account.room + 1 }
+        ensures sessions { self.new.sessions ≡ self.old.sessions }
+        ensures queues { self.new.queues ≡ self.old.queues }
+        ensures waiting { self.new.waiting ≡ self.old.waiting }
     {
         let hello = Act::Hello {
             client,

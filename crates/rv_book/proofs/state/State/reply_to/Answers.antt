@@ -1,27 +1,79 @@
--- What is kept is the reply, whomever the call meets.
-use Rattle.std.proofs.Common.{Option, sym, subst}
+-- What is kept is the reply, whomever the call met.
+use Rattle.std.proofs.Common.{◌≡◌, ◌∙◌, Option, Some, None, sym, ap, subst}
 use Rattle.rv_text.specs.declared.call.Call.{Call}
-use Rattle.rv_text.specs.declared.call.Call.TheVariants.{Take}
+use Rattle.rv_text.specs.declared.call.Call.TheVariants.{Count, Peek, Put, Take, Transfer}
+use Rattle.rv_text.specs.declared.call.Side.TheVariants.{Gives, Takes}
+use Rattle.rv_session.specs.declared.kept.Kept.{Kept}
 use Rattle.rv_session.specs.declared.kept.Kept as kept
-use Rattle.rv_book.specs.Arriving.{WillReply}
+use Rattle.rv_book.specs.Arriving.{GoesOn, WillReply}
+use Rattle.rv_book.specs.Tables.{Sees, account_of}
+use Rattle.rv_book.proofs.Counts.{count_replies}
+use Rattle.rv_book.proofs.Peeks.{peek_finds_none, peek_replies}
 use Rattle.rv_book.proofs.Puts.{put_replies}
-use Rattle.rv_book.proofs.Takes.{poll_replies, take_replies}
+use Rattle.rv_book.proofs.Takes.{take_replies, take_unmet}
+use Rattle.rv_book.proofs.ToldNow.{looks_alone, seen_first, seen_none, seen_number}
+use Rattle.rv_book.proofs.Transfers.{received_replies, transfer_unmet}
 use Rattle.rv_book.proofs.state.State.reply_to.Goals as goal
 
 pub returns-in-Put : goal.returns-in-Put
-returns-in-Put c =
-    let a = c.args.self.now.account.account in
+returns-in-Put c = λ sees ends.
+    let a = account_of c.args.self.now in
     subst (λ (call : Call). WillReply a call c.args.partner kept.TheVariants.Done) (sym c.in-Put.is) (put_replies a c.in-Put.queue c.in-Put.item c.args.partner)
 
 pub returns-in-Some : goal.returns-in-Some
-returns-in-Some c =
-    let a = c.args.self.now.account.account in
-    let taken = take_replies a c.in-Take.queue c.in-Take.wait c.in-Some.place in
-    subst (λ (call : Call). WillReply a call c.args.partner (kept.TheVariants.Item c.in-Some.place)) (sym c.in-Take.is)
-    (subst (λ (partner : Option _). WillReply a (Take c.in-Take.queue c.in-Take.wait) partner (kept.TheVariants.Item c.in-Some.place)) (sym c.in-Some.is) taken)
+returns-in-Some c = λ sees ends.
+    let a = account_of c.args.self.now in
+    subst (λ (call : Call). WillReply a call c.args.partner kept.TheVariants.Received) (sym c.in-Transfer.is)
+    (subst (λ (partner : Option _). WillReply a (Transfer c.in-Transfer.queue c.in-Transfer.item c.in-Transfer.wait) partner kept.TheVariants.Received) (sym c.in-Some.is)
+    (received_replies a c.in-Transfer.queue c.in-Transfer.item c.in-Transfer.wait c.in-Some.field-0))
 
 pub returns-in-None : goal.returns-in-None
-returns-in-None c =
-    let a = c.args.self.now.account.account in
+returns-in-None c = λ sees ends.
+    let a = account_of c.args.self.now in
+    let own = Transfer c.in-Transfer.queue c.in-Transfer.item c.in-Transfer.wait in
+    let unmet = subst (λ (call : Call). GoesOn call None → ⊥) c.in-Transfer.is (subst (λ (partner : Option _). GoesOn c.args.call.now partner → ⊥) c.in-None.is ends) in
+    subst (λ (call : Call). WillReply a call c.args.partner kept.TheVariants.Nobody) (sym c.in-Transfer.is)
+    (subst (λ (partner : Option _). WillReply a own partner kept.TheVariants.Nobody) (sym c.in-None.is) (transfer_unmet a c.in-Transfer.queue c.in-Transfer.item c.in-Transfer.wait unmet))
+
+pub returns-in-Some-partner : goal.returns-in-Some-partner
+returns-in-Some-partner c = λ sees ends.
+    let a = account_of c.args.self.now in
+    let place = c.in-Some-partner.place in
+    subst (λ (call : Call). WillReply a call c.args.partner (kept.TheVariants.Item place)) (sym c.in-Take.is)
+    (subst (λ (partner : Option _). WillReply a (Take c.in-Take.queue c.in-Take.wait) partner (kept.TheVariants.Item place)) (sym c.in-Some-partner.is) (take_replies a c.in-Take.queue c.in-Take.wait place))
+
+pub returns-in-None-partner : goal.returns-in-None-partner
+returns-in-None-partner c = λ sees ends.
+    let a = account_of c.args.self.now in
+    let unmet = subst (λ (call : Call). GoesOn call None → ⊥) c.in-Take.is (subst (λ (partner : Option _). GoesOn c.args.call.now partner → ⊥) c.in-None-partner.is ends) in
     subst (λ (call : Call). WillReply a call c.args.partner kept.TheVariants.Empty) (sym c.in-Take.is)
-    (subst (λ (partner : Option _). WillReply a (Take c.in-Take.queue c.in-Take.wait) partner kept.TheVariants.Empty) (sym c.in-None.is) (poll_replies a c.in-Take.queue c.in-Take.wait))
+    (subst (λ (partner : Option _). WillReply a (Take c.in-Take.queue c.in-Take.wait) partner kept.TheVariants.Empty) (sym c.in-None-partner.is) (take_unmet a c.in-Take.queue c.in-Take.wait unmet))
+
+pub returns-in-Count : goal.returns-in-Count
+returns-in-Count c = λ sees ends.
+    let state = c.args.self.now in
+    let a = account_of state in
+    let queue = c.in-Count.queue in
+    let are = (subst (Sees state) c.in-Count.is sees) (looks_alone queue) in
+    let counted = c.count-items.ensures in
+    subst (λ (call : Call). WillReply a call c.args.partner (kept.TheVariants.Counted c.count-items.result.0 c.count-items.result.1)) (sym c.in-Count.is)
+    (count_replies a queue c.count-items.result.0 c.count-items.result.1 c.args.partner (seen_number a.entries state.queues (Gives queue) _ are counted.items) (seen_number a.entries state.queues (Takes queue) _ are counted.consumers))
+
+pub returns-in-Some-front : goal.returns-in-Some-front
+returns-in-Some-front c = λ sees ends.
+    let state = c.args.self.now in
+    let a = account_of state in
+    let queue = c.in-Peek.queue in
+    let place = c.in-Some-front.place in
+    let are = (subst (Sees state) c.in-Peek.is sees) (looks_alone queue) in
+    subst (λ (call : Call). WillReply a call c.args.partner (kept.TheVariants.Peeked place)) (sym c.in-Peek.is)
+    (peek_replies a queue place c.args.partner (seen_first a.entries state.queues (Gives queue) place are (sym c.in-Some-front.is ∙ c.front.ensures)))
+
+pub returns-in-None-front : goal.returns-in-None-front
+returns-in-None-front c = λ sees ends.
+    let state = c.args.self.now in
+    let a = account_of state in
+    let queue = c.in-Peek.queue in
+    let are = (subst (Sees state) c.in-Peek.is sees) (looks_alone queue) in
+    subst (λ (call : Call). WillReply a call c.args.partner kept.TheVariants.Empty) (sym c.in-Peek.is)
+    (peek_finds_none a queue c.args.partner (seen_none a.entries state.queues queue are (sym c.in-None-front.is ∙ c.front.ensures)))
