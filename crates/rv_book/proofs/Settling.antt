@@ -1,6 +1,6 @@
 -- After an arrival the table of sessions is what the account says: its own session waits or is settled, the session of
 -- the request that it met is settled, and all others stay.
-use Rattle.std.proofs.Common.{◌≡◌, ◌⊎◌, inl, inr, ℕ, ◌+◌, ◌≤◌, List, [], ◌∷◌, ◌++◌, length, Option, Some, None, IfSome, IsSome, option_and_then, refl, sym, ap, subst, ◌∙◌, arith}
+use Rattle.std.proofs.Common.{◌≡◌, ◌⊎◌, inl, inr, ℕ, ◌+◌, ◌≤◌, List, [], ◌∷◌, ◌++◌, length, Option, Some, None, IfSome, IsSome, is_some, option_and_then, refl, sym, ap, subst, ◌∙◌, arith}
 use Rattle.std.proofs.lemmas.Option.{none-some, same_Some}
 use Rattle.rv_text.specs.declared.call.Call.{Call}
 use Rattle.rv_text.specs.declared.call.Side.{Side}
@@ -27,7 +27,7 @@ use Rattle.rv_book.proofs.Keys.{act_called, client_of}
 use Rattle.rv_book.proofs.Numbers.{same_or_not}
 use Rattle.rv_book.proofs.Places.{get-append_end}
 use Rattle.rv_book.proofs.Replying.{reply_laws}
-use Rattle.rv_book.proofs.SessionTable.{IsAt-on, StillWaits, arrived_at, session_on}
+use Rattle.rv_book.proofs.SessionTable.{IsAt, IsAt-on, StillWaits, arrived_at, session_on}
 use Rattle.rv_book.proofs.Sides.{Waiting-last, Waiting-on, arrival_stops_nobody}
 use Rattle.rv_book.proofs.WaitingTable.{waiting_there, waits_in_table}
 
@@ -43,6 +43,10 @@ pub record IsMet (a : Account) (call : Call) (partner : Option ℕ) (d : Owed) :
   pub opposes : opposite (side_of call) ≡ Some (side_of met)
   pub may_wait : IsSome (wait_of met)
   pub waits : Waiting a.entries d.place
+
+no_wait : (wait : Option Wait) → IsSome wait → wait ≡ None → ⊥
+no_wait None some none = let no : ⊥ = cc in no
+no_wait (Some wait) some none = none-some wait (sym none)
 
 owed_waits : (place : ℕ) (key : Key) (wait : Option Wait) (d : Owed) → Some d ≡ owed_by place key wait → IsSome wait × (record { place = place; client = key.client } ≡ d)
 owed_waits place key None d is = absurd (none-some d (sym is))
@@ -65,10 +69,6 @@ partner_met a call (Some p) d (side, opposes, oldest) is =
       may_wait = owed.0;
       waits = record { is_open = there.is_open; no_put = λ put. let none : wait_of there.of_side.call ≡ None = ap wait_of (sym same) ∙ put.1 in no_wait (wait_of there.of_side.call) owed.0 none };
     })
-  where
-    no_wait : (wait : Option Wait) → IsSome wait → wait ≡ None → ⊥
-    no_wait None some none = let no : ⊥ = cc in no
-    no_wait (Some wait) some none = none-some wait (sym none)
 
 -- the partner that has no duty waits not
 partner_unowed : (a : Account) (p : ℕ) → None ≡ owed_at a.entries p → Waiting a.entries p → ⊥
@@ -79,3 +79,204 @@ partner_unowed a p none w =
     no_request : (wait : Option Wait) → wait_of w.is_open.call ≡ wait → None ≡ owed_by p (act_called (act_at a.entries p) w.is_open.call w.is_open.arrived).0 (wait_of w.is_open.call) → ⊥
     no_request None is owed = w.no_put (w.is_open.stays.0, is)
     no_request (Some wait) is owed = none-some _ (owed ∙ ap (owed_by p (act_called (act_at a.entries p) w.is_open.call w.is_open.arrived).0) is)
+
+-- ---- what is due
+
+module _ (a : Account) (key : Key) (call : Call) (partner : Option ℕ) (next : IsNext a key) where
+  -- whom a request meets is of another client, since nothing of its own session waits
+  apart : (d : Owed) → IsMet a call partner d → (d.client ≡ key.client) → ⊥
+  apart d met same = next.idle (record {
+    place = d.place;
+    key = met.key;
+    waits = met.waits;
+    names = record { named = ap (option_and_then key_in) met.arrived; of_client = met.of_client ∙ same };
+  })
+
+-- what the table told of who waits
+told_waiting : (a : Account) (old : Table) (call : Call) (partner : Option ℕ) (d : Owed) → Legal a → AreSessions a old → IsMet a call partner d → waiting_of old d.client ≡ Some d.place
+told_waiting a old call partner d legal are met = ap (waiting_of old) (sym met.of_client) ∙ waits_in_table a old d.place met.key met.met legal are met.waits met.arrived
+
+-- once the arrival's own session waits, the session of the request that it met waits still
+pub partner_due : (a : Account) (old begun : Table) (key : Key) (call : Call) (partner : Option ℕ) (s : Session) (other : Option Owed) → Legal a → AreSessions a old → IsNext a key
+    → MeetsOldest a.entries (side_of call) partner → OnlySets old begun key.client s → PartnersDuty a.entries partner other → IfSome other (IsDueIn begun)
+partner_due a old begun key call partner s None legal are next meets begins duty = tt
+partner_due a old begun key call partner s (Some d) legal are next meets begins duty =
+    let met = partner_met a call partner d meets duty in
+    ap (option_and_then (λ (x : Session). waiting_place x.state)) (begins.others d.client (apart a key call partner next d met)) ∙ told_waiting a old call partner d legal are met
+
+-- the arrival's own session stays, where that of the request that it met was settled
+own_stays : (a : Account) (old begun mid : Table) (key : Key) (call : Call) (partner : Option ℕ) (s : Session) (other : Option Owed) (others : Kept) → IsNext a key
+    → MeetsOldest a.entries (side_of call) partner → OnlySets old begun key.client s → SettlesIf begun mid other others → PartnersDuty a.entries partner other → session_of mid key.client ≡ Some s
+own_stays a old begun mid key call partner s None others next meets begins settles duty = ap (λ t. session_of t key.client) settles ∙ begins.own
+own_stays a old begun mid key call partner s (Some d) others next meets begins settles duty =
+    let met = partner_met a call partner d meets duty in
+    settles.sets.others key.client (λ same. apart a key call partner next d met (sym same)) ∙ begins.own
+
+-- once the partner's session was settled, the arrival's own waits still
+pub own_due : (a : Account) (old begun mid : Table) (key : Key) (call : Call) (partner : Option ℕ) (place : ℕ) (other own : Option Owed) (others : Kept) → IsNext a key
+    → MeetsOldest a.entries (side_of call) partner → OnlySets old begun key.client (waiting_session key.incarnation key.number place) → SettlesIf begun mid other others
+    → PartnersDuty a.entries partner other → OwnDuty (side_of call) (wait_of call) partner (record { place = place; client = key.client }) own → IfSome own (IsDueIn mid)
+own_due a old begun mid key call partner place other None others next meets begins settles duty own = tt
+own_due a old begun mid key call partner place other (Some d) others next meets begins settles duty own =
+    let there = own_stays a old begun mid key call partner (waiting_session key.incarnation key.number place) other others next meets begins settles duty in
+    subst (IsDueIn mid) (sym own.0) (ap (option_and_then (λ (x : Session). waiting_place x.state)) there)
+
+-- ---- what the account says after the arrival
+
+module _ (a : Account) (e : Entry) (key : Key) (call : Call) (partner : Option ℕ) (before : Legal a) (after : Legal (with_entry a e)) (next : IsNext a key) (says : e.act ≡ Arrive key call)
+    (names : e.partner ≡ partner) (meets : MeetsOldest a.entries (side_of call) partner) where
+  abbrev b : Account
+  b = with_entry a e
+
+  abbrev place : ℕ
+  place = length a.entries
+
+  arrived_here : act_at b.entries place ≡ Some (Arrive key call)
+  arrived_here = ap act_read (get-append_end a.entries e) ∙ ap Some says
+
+  -- ---- the partner's session
+
+  met_kept : (d : Owed) (met : IsMet a call partner d) → IsKept b.entries d.place met.met (partners_reply (side_of call) place)
+  met_kept d met =
+      let names_it : NamesPartner b.entries place d.place = record {
+        call = call;
+        arrived = ap (option_and_then call_in) arrived_here;
+        meets = ap is_some met.opposes;
+        named = ap partner_read (get-append_end a.entries e) ∙ names ∙ met.named;
+      } in
+      let earlier : call_at b.entries d.place ≡ Some met.met = reads_on call_read refl a.entries (e ∷ []) d.place met.met (ap (option_and_then call_in) met.arrived) in
+      (reply_laws met.met).met b d.place place call after earlier (ap (option_and_then call_in) arrived_here) names_it met.opposes met.may_wait
+
+  -- the session of the request that was met, settled
+  partner_session : (old : Table) (d : Owed) → AreSessions a old → IsMet a call partner d → (s : Session) → session_of old d.client ≡ Some s
+      → IsSession b d.client (settled_session s.incarnation s.last (Some d.place) (partners_reply (side_of call) place))
+  partner_session old d are met s there =
+      let found = waiting_there a old d.client d.place are (told_waiting a old call partner d before are met) in
+      let same : found.session ≡ s = same_Some _ _ (sym found.there ∙ there) in
+      let other = λ (own : client_of e.act ≡ d.client). apart a key call partner next d met (sym own ∙ ap client_of says) in
+      let at = IsAt-on a.entries e d.client found.session.incarnation found.session.last other (record { incarnation = found.is.incarnation; number = found.is.number }) in
+      let arrived = reads_on act_read refl a.entries (e ∷ []) d.place _ found.waits.arrived in
+      let k = met_kept d met in
+      let one : found.waits.call ≡ met.met = same_Some _ _ (sym (ap (option_and_then call_in) found.waits.arrived) ∙ ap (option_and_then call_in) met.arrived) in
+      subst (λ (x : Session). IsSession b d.client (settled_session x.incarnation x.last (Some d.place) (partners_reply (side_of call) place))) same (record {
+        incarnation = at.incarnation;
+        number = at.number;
+        stands = record {
+          place = d.place;
+          is = refl;
+          call = found.waits.call;
+          arrived = arrived;
+          kept_is = subst (λ c. IsKept b.entries d.place c (partners_reply (side_of call) place)) (sym one) k;
+        };
+      })
+
+  -- ---- all other sessions
+
+  -- who waits and is not the partner waits on
+  still : (client : ℕ) → ((r : ℕ) (other : Key) (at : Call) → other.client ≡ client → act_at a.entries r ≡ Some (Arrive other at) → Waiting a.entries r → partner ≡ Some r → ⊥) → StillWaits a e client
+  still client unnamed = λ r other at of_client arrived w.
+      Waiting-on a.entries e r w (λ named. unnamed r other at of_client arrived w (sym names ∙ named)) (arrival_stops_nobody a.entries e key call r says)
+
+  -- where nobody is settled
+  nobody_met : PartnersDuty a.entries partner None → (client : ℕ) → StillWaits a e client
+  nobody_met duty client = still client (by_partner partner duty)
+    where
+      by_partner : (p : Option ℕ) → PartnersDuty a.entries p None → (r : ℕ) (other : Key) (at : Call) → other.client ≡ client → act_at a.entries r ≡ Some (Arrive other at) → Waiting a.entries r → p ≡ Some r → ⊥
+      by_partner None none r other at of_client arrived w named = none-some r named
+      by_partner (Some p) none r other at of_client arrived w named = partner_unowed a r (none ∙ ap (owed_at a.entries) (same_Some _ _ named)) w
+
+  -- where the partner is of another client
+  other_met : (d : Owed) → IsMet a call partner d → (client : ℕ) → (d.client ≡ client → ⊥) → StillWaits a e client
+  other_met d met client differs = still client (λ r other at of_client arrived w named.
+      let same : d.place ≡ r = same_Some _ _ (sym met.named ∙ named) in
+      let one : Arrive met.key met.met ≡ Arrive other at = same_Some _ _ (sym met.arrived ∙ ap (act_at a.entries) same ∙ arrived) in
+      differs (sym met.of_client ∙ ap client_of one ∙ of_client))
+
+  -- ---- its own session
+
+  own_key : act_at b.entries place ≡ Some (Arrive (record { epoch = a.epoch; client = key.client; incarnation = key.incarnation; number = key.number }) call)
+  own_key = arrived_here ∙ ap (λ epoch. Some (Arrive (record { epoch = epoch; client = key.client; incarnation = key.incarnation; number = key.number }) call)) next.epoch
+
+  own_at : IsAt b.entries key.client key.incarnation key.number
+  own_at =
+      let above : key.number ≡ next.last + 1 = next.next in
+      arrived_at a.entries e key call key.incarnation next.last says (record { incarnation = next.incarnation; number = next.is_last }) (omega arith)
+
+  own_waits : OwnDuty (side_of call) (wait_of call) partner (record { place = place; client = key.client }) None → IsSession b key.client (waiting_session key.incarnation key.number place)
+  own_waits own = record {
+    incarnation = own_at.incarnation;
+    number = own_at.number;
+    stands = record {
+      call = call;
+      arrived = own_key;
+      waits = Waiting-last a e before (names ∙ own.0) (record { call = call; arrives = ap call_in says; stays = own.1; no_put = λ put. no_wait (wait_of call) own.2 put.1 });
+    };
+  }
+
+  own_settled : (k : Kept) → IsKept b.entries place call k → IsSession b key.client (settled_session key.incarnation key.number (Some place) k)
+  own_settled k kept = record {
+    incarnation = own_at.incarnation;
+    number = own_at.number;
+    stands = record { place = place; is = refl; call = call; arrived = own_key; kept_is = kept };
+  }
+
+  -- ---- the table
+
+  module _ (old begun mid new : Table) (others k : Kept) (are : AreSessions a old) (begins : OnlySets old begun key.client (waiting_session key.incarnation key.number place))
+      (is_reply : others ≡ partners_reply (side_of call) place) where
+    -- a client whose own request this is not
+    others_mid : (other : Option Owed) → SettlesIf begun mid other others → PartnersDuty a.entries partner other → (c : ℕ) → (c ≡ key.client → ⊥) → IsSessionOf b c (session_of mid c)
+    others_mid None settles duty c differs =
+        let same : session_of mid c ≡ session_of old c = ap (λ t. session_of t c) settles ∙ begins.others c differs in
+        subst (IsSessionOf b c) (sym same) (session_on a e c (session_of old c) after (λ here. differs (sym here ∙ ap client_of says)) (nobody_met duty c) (are.each c))
+    others_mid (Some d) settles duty c differs =
+        let met = partner_met a call partner d meets duty in
+        elim (same_or_not c d.client) [
+          | inl same ↦
+              let there = sym (begins.others d.client (apart a key call partner next d met)) ∙ settles.there in
+              let settled = subst (λ x. IsSession b d.client (settled_session settles.session.incarnation settles.session.last (Some d.place) x)) (sym is_reply) (partner_session old d are met settles.session there) in
+              subst (λ n. IsSessionOf b n (session_of mid n)) (sym same) (subst (IsSessionOf b d.client) (sym settles.sets.own) settled)
+          | inr others_too ↦
+              let same : session_of mid c ≡ session_of old c = settles.sets.others c others_too ∙ begins.others c differs in
+              subst (IsSessionOf b c) (sym same)
+              (session_on a e c (session_of old c) after (λ here. differs (sym here ∙ ap client_of says)) (other_met d met c (λ is. others_too (sym is))) (are.each c))
+        ]
+
+    epoch_mid : (other : Option Owed) → SettlesIf begun mid other others → mid.epoch ≡ old.epoch
+    epoch_mid None settles = ap (λ (t : Table). t.epoch) settles ∙ begins.epoch
+    epoch_mid (Some d) settles = settles.sets.epoch ∙ begins.epoch
+
+    each_new : (other own : Option Owed) → SettlesIf begun mid other others → SettlesIf mid new own k → PartnersDuty a.entries partner other
+        → OwnDuty (side_of call) (wait_of call) partner (record { place = place; client = key.client }) own → ((own ≡ None → ⊥) → IsKept b.entries place call k)
+        → (c : ℕ) → IsSessionOf b c (session_of new c)
+    each_new other None settles ends duty own kept c =
+        let own_there = own_stays a old begun mid key call partner (waiting_session key.incarnation key.number place) other others next meets begins settles duty in
+        subst (λ t. IsSessionOf b c (session_of t c)) (sym ends) (elim (same_or_not c key.client) [
+          | inl same ↦ subst (λ n. IsSessionOf b n (session_of mid n)) (sym same) (subst (IsSessionOf b key.client) (sym own_there) (own_waits own))
+          | inr differs ↦ others_mid other settles duty c differs
+        ])
+    each_new other (Some d) settles ends duty own kept c =
+        let own_there = own_stays a old begun mid key call partner (waiting_session key.incarnation key.number place) other others next meets begins settles duty in
+        let client : d.client ≡ key.client = ap (λ (x : Owed). x.client) own.0 in
+        let at : d.place ≡ place = ap (λ (x : Owed). x.place) own.0 in
+        let session : waiting_session key.incarnation key.number place ≡ ends.session = same_Some _ _ (sym own_there ∙ ap (session_of mid) (sym client) ∙ ends.there) in
+        let is : session_of new key.client ≡ Some (settled_session key.incarnation key.number (Some place) k) =
+        ap (session_of new) (sym client) ∙ ends.sets.own ∙ ap (λ r. Some (settled_session ends.session.incarnation ends.session.last (Some r) k)) at
+        ∙ ap (λ (x : Session). Some (settled_session x.incarnation x.last (Some place) k)) (sym session) in
+        elim (same_or_not c key.client) [
+          | inl same ↦ subst (λ n. IsSessionOf b n (session_of new n)) (sym same) (subst (IsSessionOf b key.client) (sym is) (own_settled k (kept (λ none. none-some d (sym none)))))
+          | inr differs ↦ subst (IsSessionOf b c) (sym (ends.sets.others c (λ same. differs (same ∙ client)))) (others_mid other settles duty c differs)
+        ]
+
+    epoch_new : (own : Option Owed) → SettlesIf mid new own k → new.epoch ≡ mid.epoch
+    epoch_new None ends = ap (λ (t : Table). t.epoch) ends
+    epoch_new (Some d) ends = ends.sets.epoch
+
+    -- after an arrival the table is what the account says
+    pub sessions_recorded : (other own : Option Owed) → SettlesIf begun mid other others → SettlesIf mid new own k → PartnersDuty a.entries partner other
+        → OwnDuty (side_of call) (wait_of call) partner (record { place = place; client = key.client }) own → ((own ≡ None → ⊥) → IsKept b.entries place call k)
+        → AreSessions b new
+    sessions_recorded other own settles ends duty own_duty kept = record {
+      epoch = epoch_new own ends ∙ epoch_mid other settles ∙ are.epoch;
+      each = each_new other own settles ends duty own_duty kept;
+    }
