@@ -13,7 +13,7 @@ use Rattle.rv_book.specs.Tables.{IsDueIn, IsSound, account_of}
 use Rattle.rv_book.specs.Waiting.{OpenAt, Waiting}
 use Rattle.rv_book.proofs.Keys.{act_called}
 use Rattle.rv_book.proofs.Owing.{some_has, waiting_owed}
-use Rattle.rv_book.proofs.SessionTable.{waits_in_table}
+use Rattle.rv_book.proofs.WaitingTable.{waits_in_table}
 use Rattle.rv_book.proofs.Sides.{waiting_is_open}
 
 -- the duty of the request that waits at a place

@@ -11,25 +11,45 @@ use Rattle.rv_session.specs.declared.kept.Kept.{Kept}
 use Rattle.rv_dual.specs.Queue.{Queue}
 use Rattle.rv_book.specs.Account.{Account, with_entry}
 use Rattle.rv_book.specs.Arriving.{GoesOn, IsKept, IsNext, IsRecorded, MeetsOldest, WillReply, entry}
-use Rattle.rv_book.specs.Calls.{MayMeet, need_of}
+use Rattle.rv_book.specs.Calls.{Lasts, MayMeet, need_by, need_of}
+use Rattle.rv_text.specs.declared.call.Wait.{Wait}
+use Rattle.rv_text.specs.declared.call.Wait.TheVariants.{Forever, Now}
 use Rattle.rv_book.specs.Counting.{NumberOf}
 use Rattle.rv_book.specs.declared.account.Act.TheVariants.{Arrive}
 use Rattle.rv_book.specs.declared.account.Entry.{Entry}
 use Rattle.rv_book.specs.declared.queues.Arrived.{Arrived}
 use Rattle.rv_book.specs.declared.state.State.{State}
 use Rattle.rv_book.specs.Legal.{Legal, MayFollow}
-use Rattle.rv_book.specs.Meeting.{ArrivedOn, Meets, PartnersDuty, ends_waiting, starts_waiting}
+use Rattle.rv_book.specs.Meeting.{ArrivedOn, Meets, OwnDuty, PartnersDuty, ends_waiting, starts_waiting}
 use Rattle.rv_book.specs.Parked.{AreQueues}
-use Rattle.rv_book.specs.Tables.{IsDueIn, IsSound, MayRecord, SettlesIf, account_of, partners_reply}
+use Rattle.rv_book.specs.Tables.{AreSessions, IsDueIn, IsSound, MayRecord, SettlesIf, account_of, partners_reply}
 use Rattle.rv_book.specs.Waiting.{Waiting}
 use Rattle.rv_book.proofs.Following.{arrival_follows}
 use Rattle.rv_book.proofs.Keeping.{Answers, sound_with}
 use Rattle.rv_book.proofs.Legality.{Legal-with_entry}
 use Rattle.rv_book.proofs.Owing.{Waits-after, goes_not_on, goes_on}
 use Rattle.rv_book.proofs.Replying.{recorded, recorded_waits}
-use Rattle.rv_book.proofs.SessionTable.{own_due, partner_due, sessions_recorded}
+use Rattle.rv_book.proofs.Settling.{own_due, partner_due, sessions_recorded}
 use Rattle.rv_book.proofs.Standing.{is_next}
 use Rattle.rv_book.proofs.Waiters.{meets_partner, queues_after, queues_as_before}
+
+-- ---- what an arrival may come to need
+
+need_of_wait : (wait : Option Wait) → IsSome wait → Lasts wait → need_by wait ≡ 2
+need_of_wait None is lasts = absurd (let no : ⊥ = cc in no)
+need_of_wait (Some Now) is lasts = absurd lasts
+need_of_wait (Some Forever) is lasts = refl
+
+need_positive : (wait : Option Wait) → 1 ≤ need_by wait
+need_positive None = omega arith
+need_positive (Some Now) = omega arith
+need_positive (Some Forever) = omega arith
+
+need_covers : (call : Call) (partner : Option ℕ) (duty : Owed) (own : Option Owed) → OwnDuty (side_of call) (wait_of call) partner duty own → 1 + starts_waiting own ≤ need_of call
+need_covers call partner duty None is = let two : need_of call ≡ 2 = need_of_wait (wait_of call) is.2 is.1.1 in omega arith
+need_covers call partner duty (Some own) is = let one : 1 ≤ need_of call = need_positive (wait_of call) in omega arith
+
+-- ---- a request that is recorded
 
 -- the duty of the request that is recorded
 abbrev pub duty_of_new : State → Key → Owed
@@ -95,3 +115,28 @@ module _ (old : State) (moment : ℕ) (key : Key) (call : Call) (queues : List Q
 
     pub told : IsRecorded before (with_entry before own_entry) moment key call (option_map (λ d. kept) arrived.own)
     told = told_by arrived.own refl
+
+    module _ (mid last : Table) (settles : SettlesIf begun mid arrived.other others) (ends : SettlesIf mid last arrived.own kept) where
+      sessions_are : AreSessions (with_entry before own_entry) last
+      sessions_are = sessions_recorded before own_entry key call arrived.partner sound.legal legal_after next refl refl meets old.sessions begun mid last others kept sound.sessions_are begins others_is
+          arrived.other arrived.own settles ends other_is is.on.own (kept_is arrived.own refl)
+
+      pub sound_after : (new : State) → account_of new ≡ with_entry before own_entry → new.sessions ≡ last → new.queues ≡ queues → new.waiting + ends_waiting arrived.other ≡ old.waiting + starts_waiting arrived.own
+          → old.account.room ≤ new.account.room + 1 → IsSound new
+      sound_after new pushed same_sessions same_queues counted room =
+          let k = count_after.0 in
+          let told_count : old.waiting + starts_waiting arrived.own ≡ k + ends_waiting arrived.other = count_after.1 in
+          let same : new.waiting ≡ k = omega arith in
+          let covers : 1 + starts_waiting arrived.own ≤ need_of call = need_covers call arrived.partner (duty_of_new old key) arrived.own is.on.own in
+          let space : length before.entries + old.waiting + need_of call ≤ 100000 = is.may.space in
+          let ready : old.waiting + need_of call ≤ old.account.room = is.may.room in
+          sound_with before own_entry new sound.fits (record {
+            legal = legal_after;
+            entry_fits = (is.may.comes.moment_fits, is.may.comes.act_fits);
+            account = pushed;
+            sessions_are = subst (AreSessions (with_entry before own_entry)) (sym same_sessions) sessions_are;
+            queues_are = subst (AreQueues (before.entries ++ own_entry ∷ [])) (sym same_queues) queues_are;
+            waiting_is = subst (NumberOf (Waiting (before.entries ++ own_entry ∷ []))) (sym same) count_after.2;
+            space = omega arith;
+            spare = omega arith;
+          })

@@ -45,6 +45,6 @@ returns-clause-ended c =
       arrived = c.call_of.ensures;
       leaves = subst (λ (q : List Queue). Leaves old.queues q (side_of call) own.duty (Some own.duty)) (sym c.settle.ensures.queues)
           (subst (λ (o : Option Owed). Leaves old.queues c.withdraw-duty.new.self (side_of call) own.duty o) leaves.is left);
-      settles = settled;
+      settles = subst (λ n. OnlySettles old.sessions c.settle.new.self.sessions own.duty.client n c.args.kept) own.is_at settled;
       counted = omega (arith, c.settle.ensures.waiting);
     }
