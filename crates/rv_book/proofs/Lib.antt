@@ -39,5 +39,6 @@ pub mod ToldNow
 pub mod Ending
 pub mod Keeping
 pub mod Stepping
+pub mod Recording
 pub mod Standing
 pub mod Repeating

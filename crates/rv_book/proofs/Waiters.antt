@@ -183,7 +183,7 @@ queues_as_before es old new same are = record {
 
 -- ---- whom an arrival meets
 
-front_is_oldest : (es : List Entry) (side : Side) (p : ℕ) (places : List ℕ) → IsLine es side (p ∷ places) → IsOldest es side p
+pub front_is_oldest : (es : List Entry) (side : Side) (p : ℕ) (places : List ℕ) → IsLine es side (p ∷ places) → IsOldest es side p
 front_is_oldest es side p places line = record {
   there = line.are 0 p refl;
   oldest = λ r less opened. above r less (line.each r opened);

@@ -1,0 +1,97 @@
+-- What a request that is recorded leaves: a sound state, and what the request is told.
+use Rattle.std.proofs.Common.{◌≡◌, inl, inr, ℕ, ◌+◌, ◌≤◌, List, ◌∷◌, [], ◌++◌, length, Option, Some, None, IsSome, IfSome, option_map, refl, sym, ap, subst, ◌∙◌, arith}
+use Rattle.std.proofs.lemmas.Option.{none-some}
+use Rattle.rv_text.specs.declared.call.Call.{Call}
+use Rattle.rv_text.specs.declared.message.Key.{Key}
+use Rattle.rv_text.specs.Calls.{side_of, wait_of}
+use Rattle.rv_session.specs.Owed.{Owed}
+use Rattle.rv_session.specs.Meanings.{HasNext}
+use Rattle.rv_session.specs.Table.{OnlySets, Table, waiting_session}
+use Rattle.rv_session.specs.declared.kept.Kept.{Kept}
+use Rattle.rv_dual.specs.Queue.{Queue}
+use Rattle.rv_book.specs.Account.{Account, with_entry}
+use Rattle.rv_book.specs.Arriving.{GoesOn, IsKept, IsNext, IsRecorded, MeetsOldest, WillReply, entry}
+use Rattle.rv_book.specs.Calls.{MayMeet, need_of}
+use Rattle.rv_book.specs.Counting.{NumberOf}
+use Rattle.rv_book.specs.declared.account.Act.TheVariants.{Arrive}
+use Rattle.rv_book.specs.declared.account.Entry.{Entry}
+use Rattle.rv_book.specs.declared.queues.Arrived.{Arrived}
+use Rattle.rv_book.specs.declared.state.State.{State}
+use Rattle.rv_book.specs.Legal.{Legal, MayFollow}
+use Rattle.rv_book.specs.Meeting.{ArrivedOn, Meets, PartnersDuty, ends_waiting, starts_waiting}
+use Rattle.rv_book.specs.Parked.{AreQueues}
+use Rattle.rv_book.specs.Tables.{IsDueIn, IsSound, MayRecord, SettlesIf, account_of, partners_reply}
+use Rattle.rv_book.specs.Waiting.{Waiting}
+use Rattle.rv_book.proofs.Following.{arrival_follows}
+use Rattle.rv_book.proofs.Keeping.{Answers, sound_with}
+use Rattle.rv_book.proofs.Legality.{Legal-with_entry}
+use Rattle.rv_book.proofs.Owing.{Waits-after, goes_not_on, goes_on}
+use Rattle.rv_book.proofs.Replying.{recorded, recorded_waits}
+use Rattle.rv_book.proofs.SessionTable.{own_due, partner_due, sessions_recorded}
+use Rattle.rv_book.proofs.Standing.{is_next}
+use Rattle.rv_book.proofs.Waiters.{meets_partner, queues_after, queues_as_before}
+
+-- the duty of the request that is recorded
+abbrev pub duty_of_new : State → Key → Owed
+duty_of_new old key = record { place = length (account_of old).entries; client = key.client }
+
+-- a request comes to a state in which it may be recorded, and has arrived in its queue
+pub record Arrives (old : State) (moment : ℕ) (key : Key) (call : Call) (queues : List Queue) (arrived : Arrived) : Type 0 where
+  pub may : MayRecord old moment key call
+  pub on : ArrivedOn old.queues queues (side_of call) (wait_of call) (duty_of_new old key) arrived
+
+module _ (old : State) (moment : ℕ) (key : Key) (call : Call) (queues : List Queue) (arrived : Arrived) (is : Arrives old moment key call queues arrived) where
+  abbrev pub before : Account
+  before = account_of old
+
+  abbrev pub own_entry : Entry
+  own_entry = entry moment (Arrive key call) arrived.partner
+
+  abbrev pub sound : IsSound old
+  sound = is.may.comes.sound
+
+  pub next : IsNext before key
+  next = is_next before old.sessions sound.sessions_are key is.may.next
+
+  pub meets : MeetsOldest (account_of old).entries (side_of call) arrived.partner
+  meets = meets_partner before.entries old.queues queues (side_of call) (wait_of call) (length before.entries) arrived.partner sound.queues_are is.on.meets
+
+  pub follows : MayFollow before own_entry
+  follows = arrival_follows before moment key call arrived.partner is.may.comes.time next meets
+
+  pub legal_after : Legal (with_entry before own_entry)
+  legal_after = Legal-with_entry before own_entry sound.legal follows
+
+  other_is : PartnersDuty before.entries arrived.partner arrived.other
+  other_is = is.on.other before.entries sound.queues_are.parked
+
+  pub count_after : (k : ℕ) × (old.waiting + starts_waiting arrived.own ≡ k + ends_waiting arrived.other) × NumberOf (Waiting (before.entries ++ own_entry ∷ [])) k
+  count_after = Waits-after before own_entry key call sound.legal follows.pairs.names_free_partner refl old.waiting arrived.partner (duty_of_new old key) arrived.own arrived.other sound.waiting_is refl meets is.on.own other_is
+
+  pub least : ends_waiting arrived.other ≤ old.waiting + starts_waiting arrived.own
+  least = let h = count_after in let k = h.0 in let same : old.waiting + starts_waiting arrived.own ≡ k + ends_waiting arrived.other = h.1 in omega arith
+
+  pub queues_are : AreQueues (before.entries ++ own_entry ∷ []) queues
+  queues_are = queues_after before own_entry old.queues queues key call sound.legal sound.queues_are follows.pairs.names_free_partner refl (duty_of_new old key) arrived refl refl is.on
+
+  -- what a call that looks sees, once it has arrived
+  pub sees : (MayMeet call → ⊥) → AreQueues before.entries queues
+  sees looks = by_partner arrived.partner is.on.meets
+    where
+      by_partner : (partner : Option ℕ) → Meets old.queues queues (side_of call) (wait_of call) (length before.entries) partner → AreQueues before.entries queues
+      by_partner (Some p) first = absurd (looks (ap is_some first.opposes))
+      by_partner None (inl waits) = absurd (looks waits.0.0)
+      by_partner None (inr goes) = queues_as_before before.entries old.queues queues goes.2 sound.queues_are
+
+  module _ (kept others : Kept) (will : (GoesOn call arrived.partner → ⊥) → WillReply before call arrived.partner kept) (begun : Table) (begins : OnlySets old.sessions begun key.client (waiting_session key.incarnation key.number (length before.entries)))
+      (others_is : others ≡ partners_reply (side_of call) (length before.entries)) where
+    pub kept_is : (own : Option Owed) → own ≡ arrived.own → (own ≡ None → ⊥) → IsKept (before.entries ++ own_entry ∷ []) (length before.entries) call kept
+    kept_is None same settled = absurd (settled refl)
+    kept_is (Some own) same settled = will (goes_not_on call arrived.partner (duty_of_new old key) own arrived.own is.on.own (sym same)) moment key sound.legal legal_after
+
+    told_by : (own : Option Owed) → own ≡ arrived.own → IsRecorded before (with_entry before own_entry) moment key call (option_map (λ d. kept) own)
+    told_by None same = recorded_waits before (with_entry before own_entry) moment key call arrived.partner (goes_on call arrived.partner (duty_of_new old key) arrived.own is.on.own (sym same)) sound.legal legal_after refl
+    told_by (Some own) same = recorded before (with_entry before own_entry) moment key call arrived.partner kept (will (goes_not_on call arrived.partner (duty_of_new old key) own arrived.own is.on.own (sym same))) sound.legal legal_after refl
+
+    pub told : IsRecorded before (with_entry before own_entry) moment key call (option_map (λ d. kept) arrived.own)
+    told = told_by arrived.own refl
