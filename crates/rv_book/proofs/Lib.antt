@@ -27,8 +27,8 @@ pub mod Looking
 pub mod Counts
 pub mod Peeks
 pub mod Replying
-pub mod SessionTable
 pub mod WaitingTable
+pub mod SessionTable
 pub mod Settling
 pub mod Deciding
 pub mod Staying

@@ -1,20 +1,20 @@
 -- Which line of the step decides, from what the table of sessions says of a key or of a hello.
 use Rattle.rv_text.specs.declared.message.Message.TheVariants.{Hello, Request}
 use Rattle.rv_text.specs.declared.answer.Refusal.TheVariants.{OldIncarnation, OtherCall, ClientsFull}
-use Rattle.rv_text.specs.declared.answer.Answer.TheVariants.{Welcome, Replied, Refused}
+use Rattle.rv_text.specs.declared.answer.Answer.TheVariants.{Welcome, Replied, Refused, Waiting}
 use Rattle.rv_book.specs.declared.account.Act as act
 use Rattle.rv_book.specs.declared.verdict.Said as said
 use Rattle.rv_session.specs.declared.session.State as state
 use Rattle.rv_session.specs.Table.{Table, session_of, session_count}
 use Rattle.rv_session.specs.Meanings.{HasNext, HasLast, RefusalMeans, IsOlder, IsNewer}
 use Rattle.rv_session.specs.Meanings as means
-use Rattle.rv_book.proofs.Standing.{Settled, settled, refused_lines, last_lines, is_next, not_new, room_for_client, clients_full, none_lower, newer_lower}
+use Rattle.rv_book.proofs.Standing.{settled, waits, refused_lines, last_lines, is_next, not_new, room_for_client, clients_full, none_lower, newer_lower}
 use Rattle.rv_book.proofs.Lines.{line_next, line_old_hello, line_again, line_newer}
 use Rattle.rv_book.specs.Account.{Account, act_at, call_in}
 use Rattle.rv_text.specs.declared.answer.Answer.{Answer}
 use Rattle.rv_book.specs.Tables.{AreSessions, Becomes, IsRepeat}
 use Rattle.rv_text.specs.declared.call.Call.{Call}
-use Rattle.rv_book.specs.Steps.{EntersOrNoMemory, EpochFullDue, NextAt, OtherCallDue, RefuseOr, Refuses, Repeats, Replies}
+use Rattle.rv_book.specs.Steps.{EntersOrNoMemory, EpochFullDue, NextAt, OtherCallDue, RefuseOr, Refuses, Repeats, Answers}
 use Rattle.rv_book.specs.Sessions.{HasIncarnation}
 use Rattle.rv_book.specs.Replies.{HasReply}
 use Rattle.rv_session.specs.declared.kept.Kept.{Kept}
@@ -23,58 +23,87 @@ use Rattle.rv_book.specs.Legal.{Legal}
 use Rattle.std.proofs.Common.{None, Option, Some, ap, inl, inr, option_and_then, option_map, refl, subst, sym, ℕ, ◌<◌, ◌∙◌, ◌≡◌, ◌≤◌}
 use Rattle.rv_text.specs.declared.answer.Refusal.{Refusal}
 use Rattle.rv_book.proofs.OnePartner.{arrives_once}
-use Rattle.rv_book.proofs.SessionTable.{known}
+use Rattle.rv_book.proofs.WaitingTable.{known}
 use Rattle.rv_book.specs.Calls.{need_of}
-use Rattle.rv_book.proofs.Staying.{one_call, one_reply}
-use Rattle.rv_book.specs.Verdicts.{reply_of}
+use Rattle.rv_book.proofs.Staying.{one_call, one_told}
+use Rattle.rv_session.specs.declared.session.State.{State as StateOf}
 use Rattle.std.proofs.lemmas.Option.{same_Some}
 
 module _ (a : Account) (t : Table) (moment : ℕ) (are : AreSessions a t) (legal : Legal a) where
   -- ---- keys
 
   pub refused_key : (key : Key) (call : Call) (refusal : Refusal) → RefusalMeans t key refusal → NextAt a moment (Request key call) a (Refused refusal)
-  refused_key key call refusal is = refused_lines a t are (Refuses a a (Refused refusal)) _ _ key refusal legal is (refl, refl)
+  refused_key key call refusal is = refused_lines a t are legal (Refuses a a (Refused refusal)) _ _ key refusal is (refl, refl)
 
-  -- the call that arrived and the call that repeats it are at one place
-  arrived_call : (key : Key) (place : Option ℕ) (k : Kept) (call : Call) (there : Settled a t are key place k) → IsRepeat a place call → there.call ≡ call
-  arrived_call key place k call there repeat =
-      same_Some _ _ (sym (ap (option_and_then call_in) there.arrived) ∙ subst (λ o. IsRepeat a o call) there.is repeat)
+  -- ---- the last number
 
-  one_arrival : (key : Key) (place : Option ℕ) (k : Kept) (call : Call) (there : Settled a t are key place k) → IsRepeat a place call → (refusal : Refusal) → OtherCallDue a key call refusal → ⊥
-  one_arrival key place k call there repeat refusal due =
-      let at : due.place ≡ there.at = arrives_once a due.place there.at key due.other there.call legal due.arrived there.arrived in
-      let other : due.other ≡ there.call = one_call key due.other there.call (sym due.arrived ∙ ap (act_at a.entries) at ∙ there.arrived) in
-      due.differs (other ∙ arrived_call key place k call there repeat)
+  -- the key's request arrived at the place, with the call that repeats it
+  one_arrival : (key : Key) (at : ℕ) (call : Call) → act_at a.entries at ≡ Some (act.TheVariants.Arrive key call) → (refusal : Refusal) → OtherCallDue a key call refusal → ⊥
+  one_arrival key at call arrived refusal due =
+      let place : due.place ≡ at = arrives_once a due.place at key due.other call legal due.arrived arrived in
+      due.differs (one_call key due.other call (sym due.arrived ∙ ap (act_at a.entries) place ∙ arrived))
 
-  pub repeated : (key : Key) (call : Call) (place : Option ℕ) (k again : Kept) → HasLast t key (state.TheVariants.Settled place k) → 1 ≤ key.number → again ≡ k → IsRepeat a place call
-      → Becomes a moment (Request key call) a (said.TheVariants.Replied key again)
-  repeated key call place k again has positive same repeat =
-      let there = settled a t are key place k has in
+  repeats_it : (key : Key) (at : ℕ) (other call : Call) → act_at a.entries at ≡ Some (act.TheVariants.Arrive key other) → IsRepeat a (Some at) call → act_at a.entries at ≡ Some (act.TheVariants.Arrive key call)
+  repeats_it key at other call arrived repeat =
+      let same : other ≡ call = same_Some _ _ (sym (ap (option_and_then call_in) arrived) ∙ repeat) in
+      arrived ∙ ap (λ c. Some (act.TheVariants.Arrive key c)) same
+
+  -- what the key is told stands, and nothing else is told
+  repeats_told : (key : Key) (x : Answer) → Answers a key x → Repeats a a key x
+  repeats_told key x told = record { account = refl; answers = told; only = λ other also. one_told a key x other legal told also }
+
+  -- a repeat of a request that was settled
+  pub repeated : (key : Key) (call : Call) (place : Option ℕ) (k : Kept) → HasLast t key (state.TheVariants.Settled place k) → 1 ≤ key.number → IsRepeat a place call
+      → Becomes a moment (Request key call) a (said.TheVariants.Replied key k)
+  repeated key call place k has positive repeat =
+      let there = settled a t are legal key place k has in
       let kept_is = there.kept_is in
       let reply = Replied key kept_is.reply in
       let replies : HasReply a.entries key kept_is.reply = record { place = there.at; call = there.call; arrived = there.arrived; replies = kept_is.replies } in
-      let told : Repeats a a key reply = record {
-        account = refl;
-        replies = record { reply = kept_is.reply; has = replies; is = refl };
-        only = λ other h. h.is ∙ ap (Replied key) (one_reply a key kept_is.reply h.reply legal replies h.has);
-      } in
+      let told : Answers a key reply = inl (record { reply = kept_is.reply; has = replies; is = refl }) in
+      let arrived = repeats_it key there.at there.call call there.arrived (subst (λ o. IsRepeat a o call) there.is repeat) in
       record {
         answer = reply;
-        is = ap (λ x. option_map (Replied key) (reply_of a.entries x)) same ∙ ap (option_map (Replied key)) kept_is.is;
-        step = last_lines a t are (Refuses a a reply) _ _ key _ has positive (inr (one_arrival key place k call there repeat, told));
+        is = ap (option_map (Replied key)) kept_is.is;
+        step = last_lines a t are legal (Refuses a a reply) _ _ key _ has positive (inr (one_arrival key there.at call arrived, repeats_told key reply told));
       }
+
+  -- a repeat of a request that waits
+  pub repeated_waiting : (key : Key) (call : Call) (place : ℕ) → HasLast t key (state.TheVariants.Waits place) → 1 ≤ key.number → IsRepeat a (Some place) call
+      → Becomes a moment (Request key call) a (said.TheVariants.Waiting key)
+  repeated_waiting key call place has positive repeat =
+      let there = waits a t are legal key place has in
+      let told : Answers a key (Waiting key) = inr (record { place = place; call = there.call; arrived = there.arrived; waits = there.waits }, refl) in
+      let arrived = repeats_it key place there.call call there.arrived repeat in
+      record {
+        answer = Waiting key;
+        is = refl;
+        step = last_lines a t are legal (Refuses a a (Waiting key)) _ _ key _ has positive (inr (one_arrival key place call arrived, repeats_told key (Waiting key) told));
+      }
+
+  -- the key's request arrived with another call
+  other_call : (key : Key) (call : Call) (stands : StateOf) (at : ℕ) (other : Call) → HasLast t key stands → 1 ≤ key.number → act_at a.entries at ≡ Some (act.TheVariants.Arrive key other) → (IsRepeat a (Some at) call → ⊥)
+      → NextAt a moment (Request key call) a (Refused OtherCall)
+  other_call key call stands at other has positive arrived not_repeat =
+      let differs = λ (same : other ≡ call). not_repeat (ap (option_and_then call_in) arrived ∙ ap Some same) in
+      last_lines a t are legal (Refuses a a (Refused OtherCall)) _ _ key _ has positive
+      (inl (record { refusal = OtherCall; is_due = record { place = at; other = other; arrived = arrived; differs = differs; is = refl }; refuses_it = (refl, refl) }))
 
   pub repeated_otherwise : (key : Key) (call : Call) (place : Option ℕ) (k : Kept) → HasLast t key (state.TheVariants.Settled place k) → 1 ≤ key.number → (IsRepeat a place call → ⊥)
       → NextAt a moment (Request key call) a (Refused OtherCall)
   repeated_otherwise key call place k has positive not_repeat =
-      let there = settled a t are key place k has in
-      let differs = λ (same : there.call ≡ call). not_repeat (subst (λ o. IsRepeat a o call) (sym there.is) (ap (option_and_then call_in) there.arrived ∙ ap Some same)) in
-      last_lines a t are (Refuses a a (Refused OtherCall)) _ _ key _ has positive
-      (inl (record { refusal = OtherCall; is_due = record { place = there.at; other = there.call; arrived = there.arrived; differs = differs; is = refl }; refuses_it = (refl, refl) }))
+      let there = settled a t are legal key place k has in
+      other_call key call _ there.at there.call has positive there.arrived (λ repeat. not_repeat (subst (λ o. IsRepeat a o call) (sym there.is) repeat))
+
+  pub waiting_otherwise : (key : Key) (call : Call) (place : ℕ) → HasLast t key (state.TheVariants.Waits place) → 1 ≤ key.number → (IsRepeat a (Some place) call → ⊥)
+      → NextAt a moment (Request key call) a (Refused OtherCall)
+  waiting_otherwise key call place has positive not_repeat =
+      let there = waits a t are legal key place has in
+      other_call key call _ place there.call has positive there.arrived not_repeat
 
   pub next_key : (b : Account) (key : Key) (call : Call) (x : Answer) → HasNext t key
-      → RefuseOr (EpochFullDue a (need_of call)) (Refuses a b x) (EntersOrNoMemory a moment (act.TheVariants.Arrive key call) b x (Replies b key x)) → NextAt a moment (Request key call) b x
-  next_key b key call x next last = line_next (Refuses a b x) _ _ a key (is_next a t are key next) last
+      → RefuseOr (EpochFullDue a (need_of call)) (Refuses a b x) (EntersOrNoMemory a moment (act.TheVariants.Arrive key call) b x (Answers b key x)) → NextAt a moment (Request key call) b x
+  next_key b key call x next last = line_next (Refuses a b x) _ _ a key (is_next a t are legal key next) last
 
   -- ---- hellos
 
@@ -90,8 +119,8 @@ module _ (a : Account) (t : Table) (moment : ℕ) (are : AreSessions a t) (legal
 
   pub one_client_too_many : (client incarnation : ℕ) → session_of t client ≡ None → 1024 ≤ session_count t → NextAt a moment (Hello client incarnation) a (Refused ClientsFull)
   one_client_too_many client incarnation none full =
-      line_newer (Refuses a a (Refused ClientsFull)) _ _ a client incarnation (none_lower a t are client incarnation none)
-      (inl (record { refusal = ClientsFull; is_due = clients_full a t are client none full; refuses_it = (refl, refl) }))
+      line_newer (Refuses a a (Refused ClientsFull)) _ _ a client incarnation (none_lower a t are legal client incarnation none)
+      (inl (record { refusal = ClientsFull; is_due = clients_full a t are legal client none full; refuses_it = (refl, refl) }))
 
   -- the last lines of a hello that enters
   abbrev pub EntersHello : Account → ℕ → ℕ → Answer → Type 0
@@ -100,8 +129,8 @@ module _ (a : Account) (t : Table) (moment : ℕ) (are : AreSessions a t) (legal
 
   pub new_hello : (b : Account) (client incarnation : ℕ) (x : Answer) → session_of t client ≡ None → session_count t < 1024 → EntersHello b client incarnation x → NextAt a moment (Hello client incarnation) b x
   new_hello b client incarnation x none room last =
-      line_newer (Refuses a b x) _ _ a client incarnation (none_lower a t are client incarnation none) (inr (room_for_client a t are client room, last))
+      line_newer (Refuses a b x) _ _ a client incarnation (none_lower a t are legal client incarnation none) (inr (room_for_client a t are legal client room, last))
 
   pub newer_hello : (b : Account) (client incarnation : ℕ) (x : Answer) (waiting : Option ℕ) → IsNewer t client incarnation waiting → EntersHello b client incarnation x → NextAt a moment (Hello client incarnation) b x
   newer_hello b client incarnation x waiting is last =
-      line_newer (Refuses a b x) _ _ a client incarnation (newer_lower a t are client incarnation is.session legal is.there is.lower) (inr (not_new a t are client is.session is.there, last))
+      line_newer (Refuses a b x) _ _ a client incarnation (newer_lower a t are legal client incarnation is.session is.there is.lower) (inr (not_new a t are legal client is.session is.there, last))

@@ -25,6 +25,7 @@ use Rattle.std.proofs.lemmas.Option.{none-some, same_Some}
 use Rattle.rv_book.proofs.Numbers.{same_or_not}
 use Rattle.rv_book.proofs.Keys.{LastHello-on, NamesKey-back, NamesKey-on, client_of, hello_is_own, key_is_own, key_read, no_hello}
 use Rattle.rv_book.proofs.Replying.{reply_laws}
+pub use Rattle.rv_book.proofs.WaitingTable.{known, unknown, waits_in_table, none_waits, WaitsThere, waiting_there, has_waiting}
 
 -- the session of the client has this incarnation and this last number
 pub record IsAt (es : List Entry) (c i n : ℕ) : Type 0 where
@@ -181,10 +182,3 @@ no_sessions a t none epoch empty = record {
   epoch = epoch;
   each = λ client. subst (IsSessionOf a client) (sym (empty client)) (λ said. none-some _ (sym (ap (λ (l : List Entry). act_at l said.0) none) ∙ said.2));
 }
-
--- what the table says of a client
-pub known : (a : Account) (t : Table) (client : ℕ) (s : Session) → AreSessions a t → session_of t client ≡ Some s → IsSession a client s
-known a t client s are there = subst (IsSessionOf a client) there (are.each client)
-
-pub unknown : (a : Account) (t : Table) (client : ℕ) → AreSessions a t → session_of t client ≡ None → SaidHello a.entries client → ⊥
-unknown a t client are none = subst (IsSessionOf a client) none (are.each client)

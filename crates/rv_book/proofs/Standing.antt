@@ -9,7 +9,7 @@ use Rattle.rv_session.specs.declared.session.State as state
 use Rattle.rv_session.specs.declared.session.State.{State as StateOf}
 use Rattle.rv_session.specs.declared.kept.Kept.{Kept}
 use Rattle.rv_session.specs.Table.{Table, session_of, session_count, waiting_of, waiting_place}
-use Rattle.rv_book.proofs.Lines.{line_other_epoch, line_no_session, line_old_incarnation, line_old_number, line_last, line_gap}
+use Rattle.rv_book.proofs.Lines.{line_other_epoch, line_no_session, line_old_incarnation, line_old_number, line_last, line_gap, line_busy}
 use Rattle.rv_session.specs.Meanings.{HasNext, HasLast, RefusalMeans}
 use Rattle.rv_session.proofs.Clients.{clients_of, clients_rise, clients_are, length-clients}
 use Rattle.rv_book.specs.Account.{Account, act_at}
@@ -24,41 +24,20 @@ use Rattle.rv_text.specs.declared.message.Key.{Key}
 use Rattle.std.proofs.Common.{None, Option, Some, ap, arith, inl, inr, option_and_then, refl, subst, sym, ℕ, ◌<◌, ◌∙◌, ◌≡◌, ◌≤◌, ◌⊎◌}
 use Rattle.rv_text.specs.declared.answer.Refusal.{Refusal}
 use Rattle.rv_book.proofs.Histories.{hellos_at_most}
-use Rattle.rv_book.proofs.SessionTable.{known, unknown}
-use Rattle.rv_book.proofs.NotYet.{nobody_waits}
+use Rattle.rv_book.proofs.WaitingTable.{has_waiting, known, none_waits, same_parts, unknown}
+use Rattle.rv_book.specs.Waiting.{Waiting}
 use Rattle.std.proofs.lemmas.Option.{none-some}
 use Rattle.rv_book.proofs.Counting.{one_number}
 
 -- ---- keys
 
-same_parts : (a b c d e f client : ℕ) → a ≡ b → c ≡ d → e ≡ f
-    → ◌≡◌ {A = Key} (record { epoch = a; client = client; incarnation = c; number = e }) (record { epoch = b; client = client; incarnation = d; number = f })
-same_parts a b c d e f client p q r = cc
-
-module _ (a : Account) (t : Table) (are : AreSessions a t) where
+module _ (a : Account) (t : Table) (are : AreSessions a t) (legal : Legal a) where
   epoch_is : (key : Key) → key.epoch ≡ t.epoch → key.epoch ≡ a.epoch
   epoch_is key same = same ∙ are.epoch
 
   -- a session of the key's incarnation
   current : (key : Key) (s : Session) → session_of t key.client ≡ Some s → s.incarnation ≡ key.incarnation → HasIncarnation a.entries key.client key.incarnation
   current key s there same = subst (HasIncarnation a.entries key.client) same (known a t key.client s are there).incarnation
-
-  -- nobody waits, so no session does
-  never_waits : (client place : ℕ) (o : Option Session) → IsSessionOf a client o → option_and_then (λ (s : Session). waiting_place s.state) o ≡ Some place → ⊥
-  never_waits client place None is waits = none-some place waits
-  never_waits client place (Some s) is waits = by_state s.state is.stands waits
-    where
-      by_state : (stands : StateOf) → Stands a client s stands → waiting_place stands ≡ Some place → ⊥
-      by_state state.TheVariants.Fresh is waits = none-some place waits
-      by_state (state.TheVariants.Waits at) is waits = nobody_waits a.entries at is.waits
-      by_state (state.TheVariants.Settled at kept) is waits = none-some place waits
-
-  pub idle : (client place : ℕ) → waiting_of t client ≡ Some place → ⊥
-  idle client place waits = never_waits client place (session_of t client) (are.each client) waits
-
-  -- no request of the client waits in the account
-  unwaiting : (client : ℕ) → HasWaiting a.entries client → ⊥
-  unwaiting client h = nobody_waits a.entries h.place h.waits
 
   pub is_next : (key : Key) → HasNext t key → IsNext a key
   is_next key next = record {
@@ -67,24 +46,24 @@ module _ (a : Account) (t : Table) (are : AreSessions a t) where
     last = next.session.last;
     is_last = (known a t key.client next.session are next.of_key.there).number;
     next = next.number;
-    idle = unwaiting key.client;
+    idle = none_waits a t key.client legal are next.idle;
   }
 
   -- each refusal that the table tells
-  pub refused_lines : (R : Refusal → Type 0) (L G : Type 0) (key : Key) (r : Refusal) → Legal a → RefusalMeans t key r → R r → KeyLines a key R L G
-  refused_lines R L G key (refusal.TheVariants.OtherEpoch epoch) legal is refuses =
+  pub refused_lines : (R : Refusal → Type 0) (L G : Type 0) (key : Key) (r : Refusal) → RefusalMeans t key r → R r → KeyLines a key R L G
+  refused_lines R L G key (refusal.TheVariants.OtherEpoch epoch) is refuses =
       line_other_epoch R L G a key (λ same. is.0 (same ∙ sym are.epoch ∙ sym is.1)) (subst (λ n. R (refusal.TheVariants.OtherEpoch n)) (is.1 ∙ are.epoch) refuses)
-  refused_lines R L G key refusal.TheVariants.NoSession legal is refuses = line_no_session R L G a key (epoch_is key is.epoch) (lower is.lacks) refuses
+  refused_lines R L G key refusal.TheVariants.NoSession is refuses = line_no_session R L G a key (epoch_is key is.epoch) (lower is.lacks) refuses
     where
       lower : (session_of t key.client ≡ None) ⊎ ((s : Session) × (session_of t key.client ≡ Some s) × (s.incarnation < key.incarnation)) → HasOnlyLower a.entries key.client key.incarnation
       lower (inl none) = λ r earlier hello. absurd (unknown a t key.client are none (r, earlier, hello))
       lower (inr (s, there, less)) = λ r earlier hello.
           let most : earlier ≤ s.incarnation = hellos_at_most a key.client s.incarnation r earlier legal (known a t key.client s are there).incarnation hello in
           omega arith
-  refused_lines R L G key (refusal.TheVariants.OldIncarnation now) legal is refuses =
+  refused_lines R L G key (refusal.TheVariants.OldIncarnation now) is refuses =
       let has = (known a t key.client is.session are is.of_key.there).incarnation in
       line_old_incarnation R L G a key now (epoch_is key is.of_key.epoch) (subst (HasIncarnation a.entries key.client) (sym is.current_is) has) is.greater refuses
-  refused_lines R L G key (refusal.TheVariants.OldNumber last) legal is refuses =
+  refused_lines R L G key (refusal.TheVariants.OldNumber last) is refuses =
       let session = known a t key.client is.session are is.of_key.there in
       let number = subst (LastNumber a.entries key.client) (sym is.last_is) session.number in
       line_old_number R L G a key last (epoch_is key is.of_key.epoch) (current key is.session is.of_key.there is.of_key.incarnation) number (old_number is.old) refuses
@@ -94,16 +73,18 @@ module _ (a : Account) (t : Table) (are : AreSessions a t) where
       old_number (inr (same, fresh)) =
           let zero_last : is.session.last ≡ 0 = subst (Stands a key.client is.session) fresh (known a t key.client is.session are is.of_key.there).stands in
           inr (same ∙ is.last_is ∙ zero_last)
-  refused_lines R L G key (refusal.TheVariants.Busy last) legal is refuses = absurd (idle key.client is.place is.waits)
-  refused_lines R L G key (refusal.TheVariants.Gap last) legal is refuses =
+  refused_lines R L G key (refusal.TheVariants.Busy last) is refuses =
+      let number = subst (LastNumber a.entries key.client) (sym is.last_is) (known a t key.client is.session are is.of_key.there).number in
+      line_busy R L G a key last (epoch_is key is.of_key.epoch) (current key is.session is.of_key.there is.of_key.incarnation) number is.above (has_waiting a t key.client is.place are is.waits) refuses
+  refused_lines R L G key (refusal.TheVariants.Gap last) is refuses =
       let session = known a t key.client is.session are is.of_key.there in
       let number = subst (LastNumber a.entries key.client) (sym is.last_is) session.number in
-      line_gap R L G a key last (epoch_is key is.of_key.epoch) (current key is.session is.of_key.there is.of_key.incarnation) number is.above (unwaiting key.client) refuses
-  refused_lines R L G key refusal.TheVariants.BadText legal is refuses = absurd is
-  refused_lines R L G key refusal.TheVariants.OtherCall legal is refuses = absurd is
-  refused_lines R L G key refusal.TheVariants.ClientsFull legal is refuses = absurd is
-  refused_lines R L G key refusal.TheVariants.EpochFull legal is refuses = absurd is
-  refused_lines R L G key refusal.TheVariants.NoMemory legal is refuses = absurd is
+      line_gap R L G a key last (epoch_is key is.of_key.epoch) (current key is.session is.of_key.there is.of_key.incarnation) number is.above (none_waits a t key.client legal are is.idle) refuses
+  refused_lines R L G key refusal.TheVariants.BadText is refuses = absurd is
+  refused_lines R L G key refusal.TheVariants.OtherCall is refuses = absurd is
+  refused_lines R L G key refusal.TheVariants.ClientsFull is refuses = absurd is
+  refused_lines R L G key refusal.TheVariants.EpochFull is refuses = absurd is
+  refused_lines R L G key refusal.TheVariants.NoMemory is refuses = absurd is
 
   -- ---- the last number
 
@@ -115,15 +96,38 @@ module _ (a : Account) (t : Table) (are : AreSessions a t) where
     pub arrived : act_at a.entries at ≡ Some (act.TheVariants.Arrive key call)
     pub kept_is : IsKept a.entries at call k
 
+  -- the key of the session's last number is this one
+  last_is_key : (key : Key) (stands : StateOf) (has : HasLast t key stands) → last_key a key.client has.session ≡ key
+  last_is_key key stands has =
+      let epoch : a.epoch ≡ key.epoch = sym (epoch_is key has.of_key.epoch) in
+      let incarnation : has.session.incarnation ≡ key.incarnation = has.of_key.incarnation in
+      let number : has.session.last ≡ key.number = sym has.number in
+      same_parts _ _ _ _ _ _ key.client epoch incarnation number
+
+  stood : (key : Key) (stands : StateOf) (has : HasLast t key stands) → Stands a key.client has.session stands
+  stood key stands has = subst (Stands a key.client has.session) has.state (known a t key.client has.session are has.of_key.there).stands
+
   pub settled : (key : Key) (place : Option ℕ) (k : Kept) → HasLast t key (state.TheVariants.Settled place k) → Settled key place k
   settled key place k has =
-      let s = has.session in
-      let stands = subst (Stands a key.client s) has.state (known a t key.client s are has.of_key.there).stands in
-      let epoch : a.epoch ≡ key.epoch = sym (epoch_is key has.of_key.epoch) in
-      let incarnation : s.incarnation ≡ key.incarnation = has.of_key.incarnation in
-      let number : s.last ≡ key.number = sym has.number in
-      let same : ◌≡◌ {A = Key} (last_key a key.client s) key = same_parts _ _ _ _ _ _ key.client epoch incarnation number in
-      record { at = stands.place; is = stands.is; call = stands.call; arrived = stands.arrived ∙ ap (λ k. Some (act.TheVariants.Arrive k stands.call)) same; kept_is = stands.kept_is }
+      let stands = stood key _ has in
+      record {
+        at = stands.place;
+        is = stands.is;
+        call = stands.call;
+        arrived = stands.arrived ∙ ap (λ k. Some (act.TheVariants.Arrive k stands.call)) (last_is_key key _ has);
+        kept_is = stands.kept_is;
+      }
+
+  -- the key's request arrived here, and waits
+  pub record Waits (key : Key) (place : ℕ) : Type 0 where
+    pub call : Call
+    pub arrived : act_at a.entries place ≡ Some (act.TheVariants.Arrive key call)
+    pub waits : Waiting a.entries place
+
+  pub waits : (key : Key) (place : ℕ) → HasLast t key (state.TheVariants.Waits place) → Waits key place
+  waits key place has =
+      let stands = stood key _ has in
+      record { call = stands.call; arrived = stands.arrived ∙ ap (λ k. Some (act.TheVariants.Arrive k stands.call)) (last_is_key key _ has); waits = stands.waits }
 
   -- the lines of a key at its session's last number
   pub last_lines : (R : Refusal → Type 0) (L G : Type 0) (key : Key) (stands : StateOf) → HasLast t key stands → 1 ≤ key.number → L → KeyLines a key R L G
@@ -172,7 +176,7 @@ module _ (a : Account) (t : Table) (are : AreSessions a t) where
   none_lower client incarnation none = λ r earlier hello. absurd (unknown a t client are none (r, earlier, hello))
 
   -- a newer hello is above all that the client said
-  pub newer_lower : (client incarnation : ℕ) (s : Session) → Legal a → session_of t client ≡ Some s → s.incarnation < incarnation → HasOnlyLower a.entries client incarnation
-  newer_lower client incarnation s legal there lower = λ r earlier hello.
+  pub newer_lower : (client incarnation : ℕ) (s : Session) → session_of t client ≡ Some s → s.incarnation < incarnation → HasOnlyLower a.entries client incarnation
+  newer_lower client incarnation s there lower = λ r earlier hello.
       let most : earlier ≤ s.incarnation = hellos_at_most a client s.incarnation r earlier legal (known a t client s are there).incarnation hello in
       omega arith

@@ -17,9 +17,16 @@ use Rattle.rv_book.proofs.Histories.{one_incarnation, one_last_number}
 use Rattle.rv_book.proofs.Keys.{act_named}
 use Rattle.rv_book.proofs.OnePartner.{arrives_once}
 use Rattle.rv_book.proofs.Replying.{reply_laws}
-use Rattle.rv_book.proofs.SessionTable.{known}
+use Rattle.rv_book.specs.Sessions.{SaidHello}
 use Rattle.rv_book.proofs.Staying.{one_call}
 use Rattle.rv_book.proofs.Waits.{IsLast, arrival, waiting_is_last}
+
+-- what the table says of a client
+pub known : (a : Account) (t : Table) (client : ℕ) (s : Session) → AreSessions a t → session_of t client ≡ Some s → IsSession a client s
+known a t client s are there = subst (IsSessionOf a client) there (are.each client)
+
+pub unknown : (a : Account) (t : Table) (client : ℕ) → AreSessions a t → session_of t client ≡ None → SaidHello a.entries client → ⊥
+unknown a t client are none = subst (IsSessionOf a client) none (are.each client)
 
 pub same_parts : (a b c d e f client : ℕ) → a ≡ b → c ≡ d → e ≡ f
     → ◌≡◌ {A = Key} (record { epoch = a; client = client; incarnation = c; number = e }) (record { epoch = b; client = client; incarnation = d; number = f })
