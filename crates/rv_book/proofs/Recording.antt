@@ -1,5 +1,5 @@
 -- What a request that is recorded leaves: a sound state, and what the request is told.
-use Rattle.std.proofs.Common.{◌≡◌, inl, inr, ℕ, ◌+◌, ◌≤◌, List, ◌∷◌, [], ◌++◌, length, Option, Some, None, IsSome, IfSome, option_map, refl, sym, ap, subst, ◌∙◌, arith}
+use Rattle.std.proofs.Common.{◌≡◌, inl, inr, ℕ, ◌+◌, ◌≤◌, List, ◌∷◌, [], ◌++◌, length, Option, Some, None, IsSome, IfSome, is_some, option_map, refl, sym, ap, subst, ◌∙◌, arith}
 use Rattle.std.proofs.lemmas.Option.{none-some}
 use Rattle.rv_text.specs.declared.call.Call.{Call}
 use Rattle.rv_text.specs.declared.message.Key.{Key}
@@ -71,7 +71,7 @@ module _ (old : State) (moment : ℕ) (key : Key) (call : Call) (queues : List Q
   sound = is.may.comes.sound
 
   pub next : IsNext before key
-  next = is_next before old.sessions sound.sessions_are key is.may.next
+  next = is_next before old.sessions sound.sessions_are sound.legal key is.may.next
 
   pub meets : MeetsOldest (account_of old).entries (side_of call) arrived.partner
   meets = meets_partner before.entries old.queues queues (side_of call) (wait_of call) (length before.entries) arrived.partner sound.queues_are is.on.meets
