@@ -1,5 +1,5 @@
 -- What a hello that is recorded leaves: a sound state.
-use Rattle.std.proofs.Common.{◌≡◌, inl, inr, ℕ, ◌+◌, ◌≤◌, List, ◌∷◌, [], ◌++◌, length, Option, Some, None, IfSome, refl, sym, ap, subst, ◌∙◌, arith, option_and_then}
+use Rattle.std.proofs.Common.{◌≡◌, inl, inr, ℕ, ◌+◌, ◌≤◌, List, ◌∷◌, [], ◌++◌, length, Option, Some, None, IfSome, IsSome, is_some, refl, sym, ap, subst, ◌∙◌, arith, option_and_then}
 use Rattle.std.proofs.lemmas.Option.{none-some, same_Some}
 use Rattle.rv_text.specs.declared.message.Key.{Key}
 use Rattle.rv_text.specs.declared.call.Call.{Call}
@@ -26,6 +26,8 @@ use Rattle.rv_book.specs.Waiting.{Open, OpenAt, Waiting}
 use Rattle.rv_book.proofs.Following.{hello_follows}
 use Rattle.rv_book.proofs.Keeping.{Answers, sound_same, sound_with}
 use Rattle.rv_book.proofs.Legality.{Legal-with_entry}
+use Rattle.rv_session.specs.declared.session.Session.{Session}
+use Rattle.rv_book.proofs.Numbers.{same_or_not}
 use Rattle.rv_book.proofs.Owing.{number_greeted, number_renewed, waiting_owed}
 use Rattle.rv_book.proofs.SessionTable.{Changes, sessions_greeted, set_changes, settled_then_entered}
 use Rattle.rv_book.proofs.Sides.{IsRequestOf, waiting_is_open}
@@ -54,6 +56,14 @@ has_one es client r waits request = record {
 pub waiting_if : (state : State) (client : ℕ) (waiting : Option ℕ) → IsSound state → waiting ≡ waiting_of state.sessions client → IfSome waiting (Waiting (account_of state).entries)
 waiting_if state client None sound is = tt
 waiting_if state client (Some place) sound is = (waiting_there (account_of state) state.sessions client place sound.sessions_are (sym is)).waits.waits
+
+-- a client that has a session has one still
+pub still_known : (old mid : State) (waiting : Option ℕ) (kept : Kept) (client : ℕ) (s : Session) → EndsIf old mid waiting kept → session_of old.sessions client ≡ Some s → IsSome (session_of mid.sessions client)
+still_known old mid None kept client s ends there = ap is_some (ap (λ (state : State). session_of state.sessions client) ends ∙ there)
+still_known old mid (Some place) kept client s ends there = elim (same_or_not client ends.duty.client) [
+  | inl same ↦ ap is_some (ap (session_of mid.sessions) same ∙ ends.settles.sets.own)
+  | inr apart ↦ ap is_some (ends.settles.sets.others client apart ∙ there)
+]
 
 -- ---- a state that was made ready
 
@@ -143,3 +153,17 @@ module _ (old : State) (moment client incarnation : ℕ) (comes : Comes old mome
         (subst (OpenAt before.entries (side_of ends.call)) at opened) (subst (IsRequestOf before.entries client) at own)
         (λ other r also request. only r (open_waits before.entries client r also.is_open request) request ∙ at)))
         less.2 (let same : new.waiting ≡ mid.waiting = waiting in omega arith) (omega arith) (omega arith)
+
+  -- what waited in the client's session, if something did, was ended
+  pub sound_renewed : (waiting : Option ℕ) (mid new : State) (kept : Kept) → waiting ≡ waiting_of old.sessions client → EndsIf old mid waiting kept → mid.account ≡ old.account → account_of new ≡ with_entry (account_of mid) own_entry
+      → OnlySets mid.sessions new.sessions client (fresh incarnation) → new.queues ≡ mid.queues → new.waiting ≡ mid.waiting → old.waiting ≤ new.account.room → IsSound new
+  sound_renewed None mid new kept waits ends same pushed sets queues waiting room =
+      let changes = set_changes old.sessions new.sessions client (fresh incarnation) (subst (λ (s : State). OnlySets s.sessions new.sessions client (fresh incarnation)) ends sets) in
+      sound_idle new (pushed ∙ ap (λ (s : State). with_entry (account_of s) own_entry) ends) changes (sym waits) (queues ∙ ap (λ (s : State). s.queues) ends) (waiting ∙ ap (λ (s : State). s.waiting) ends) room
+  sound_renewed (Some place) mid new kept waits ends same pushed sets queues waiting room =
+      let there = (waiting_there before old.sessions client place sound.sessions_are (sym waits)).waits in
+      let owed = waiting_owed before.entries place _ there.call there.waits there.arrived in
+      let own : ends.duty.client ≡ client = ap (λ (d : Owed). d.client) (same_Some _ _ (sym ends.owed ∙ owed)) in
+      let settled = subst (λ c. OnlySettles old.sessions mid.sessions c place kept) own ends.settles in
+      let changes = settled_then_entered old.sessions mid.sessions new.sessions client place kept (fresh incarnation) settled sets in
+      sound_ended new (pushed ∙ ap (λ stored. with_entry stored.account own_entry) same) changes mid place kept (sym waits) ends queues waiting (omega (arith, room))
