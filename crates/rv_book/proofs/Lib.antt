@@ -40,5 +40,6 @@ pub mod Ending
 pub mod Keeping
 pub mod Stepping
 pub mod Recording
+pub mod Greeting
 pub mod Standing
 pub mod Repeating

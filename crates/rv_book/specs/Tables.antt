@@ -172,6 +172,11 @@ pub record EndsAt (old new : State) (place : ℕ) (kept : Kept) : Type 0 where
   pub settles : OnlySettles old.sessions new.sessions duty.client place kept
   pub counted : old.waiting ≡ new.waiting + 1
 
+-- the request that waited there was, if one did
+abbrev pub EndsIf : State → State → Option ℕ → Kept → Type 0
+EndsIf old new None kept = new ≡ old
+EndsIf old new (Some place) kept = EndsAt old new place kept
+
 -- ---- what became of a message
 
 -- why an entry that needs so many places was refused: the epoch is full; or it is not, and memory was refused

@@ -62,7 +62,8 @@ impl State {
     ghost use Rattle.rv_book.specs.Legal.{KeepsTime};
     ghost use Rattle.rv_book.specs.Waiting.{Waiting};
     ghost use Rattle.rv_book.specs.Steps.{Adds, NextAt, max_moment, step_moment};
-    ghost use Rattle.rv_book.specs.Tables.{Becomes, Comes, EndsAt, HasRoomFor, HasSpace, IsDueIn, IsReady};
+    ghost use Rattle.rv_book.specs.Tables.{Becomes, Comes, EndsAt, EndsIf, HasRoomFor, HasSpace, IsDueIn};
+    ghost use Rattle.rv_book.specs.Tables.{IsReady};
     ghost use Rattle.rv_book.specs.Tables.{IsRefused, IsRepeat, IsSame, IsSound, MayRecord, NoEntryDue, Sees};
     ghost use Rattle.rv_book.specs.Tables.{SettlesIf, account_of};
     ghost use Rattle.rv_session.specs.Meanings.{HasNext, IsNewer};
@@ -254,6 +255,18 @@ impl State {
         self.waiting -= 1;
     }
 
+    // The same, if a request waits there.
+    fn end_if(&mut self, waiting: Option<Place>, kept: Kept)
+        requires sound { IsSound self.old }
+        requires waits { IfSome waiting (Waiting (account_of self.old).entries) }
+        ensures account { self.new.account ≡ self.old.account }
+        ensures ended { EndsIf self.old self.new waiting kept }
+    {
+        if let Some(place) = waiting {
+            self.end(place, kept);
+        }
+    }
+
     // Records the first hello of a client.
     fn admit(&mut self, moment: u64, client: u64, incarnation: u64) -> Result<(), Refusal>
         requires comes { Comes self.old moment (Hello client incarnation) }
@@ -308,9 +321,7 @@ impl State {
         ensures err { IfErr result (NoEntryDue (account_of self.old) 1) }
     {
         self.make_room(1, None)?;
-        if let Some(place) = waiting {
-            self.end(place, Kept::Cancelled);
-        }
+        self.end_if(waiting, Kept::Cancelled);
         self.sessions.enter(client, incarnation).unwrap();
         self.push_hello(moment, client, incarnation);
         Ok(())

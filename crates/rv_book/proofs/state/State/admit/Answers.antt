@@ -1,14 +1,18 @@
--- After a hello that was recorded the account and its tables are sound.
-use Rattle.std.proofs.Common.{inr, None, refl, ap, ◌∙◌}
-use Rattle.rv_session.specs.Table.{fresh}
+-- After a client's first hello that was recorded the account and its tables are sound.
+use Rattle.std.proofs.Common.{◌≡◌, ◌∙◌, ◌≤◌, ◌+◌, inr, None, length, refl, sym, ap, subst, arith, option_and_then}
+use Rattle.rv_session.specs.Table.{fresh, session_of, waiting_of, waiting_place}
 use Rattle.rv_book.specs.declared.account.Act.TheVariants.{Hello}
 use Rattle.rv_book.specs.declared.state.State.{State}
 use Rattle.rv_book.specs.Account.{with_entry}
 use Rattle.rv_book.specs.Arriving.{entry}
-use Rattle.rv_book.specs.Tables.{NoEntryDue, account_of}
-use Rattle.rv_book.proofs.Keeping.{sound_same, sound_hello}
+use Rattle.rv_book.specs.Legal.{KeepsTime}
+use Rattle.rv_book.specs.Sessions.{HasOnlyLower}
+use Rattle.rv_book.specs.Tables.{Comes, HasSpace, IsSound, NoEntryDue, account_of}
+use Rattle.rv_book.proofs.Greeting.{comes_ready, sound_idle, space_ready}
+use Rattle.rv_book.proofs.Keeping.{sound_same}
 use Rattle.rv_book.proofs.Lines.{room_left}
-use Rattle.rv_book.proofs.SessionTable.{set_changes}
+use Rattle.rv_book.proofs.SessionTable.{Changes, set_changes}
+use Rattle.rv_book.proofs.Standing.{none_lower}
 use Rattle.rv_book.proofs.Stepping.{err_gives}
 use Rattle.rv_book.proofs.state.State.admit.Goals as goal
 
@@ -19,21 +23,30 @@ pub returns-in_err-enter-clause-sound : goal.returns-in_err-enter-clause-sound
 returns-in_err-enter-clause-sound c =
     let ready = c.make_room.new.self in
     let same = c.in_ok-make_room.ensures.same in
-    let left : State = record { account = ready.account; sessions = c.enter.new.self; queues = ready.queues } in
-    sound_same c.args.self.now left c.requires.comes.sound (record { account = same.account; sessions = c.in_err-enter.ensures.err ∙ same.sessions; queues = same.queues })
+    let left : State = record { account = ready.account; sessions = c.enter.new.self; queues = ready.queues; waiting = ready.waiting } in
+    sound_same c.args.self.now left c.requires.comes.sound
+    (record { account = same.account; room = same.room; sessions = c.in_err-enter.ensures.err ∙ same.sessions; queues = same.queues; waiting = same.waiting })
 
 pub returns-in_err-enter-clause-err : goal.returns-in_err-enter-clause-err
 returns-in_err-enter-clause-err c =
-    let a = account_of c.args.self.now in
-    err_gives c.from_residual-in_err-enter.result _ (NoEntryDue a 1) c.from_residual-in_err-enter.ensures.1
-    (λ refusal is. inr (room_left a 1 c.in_ok-make_room.ensures.ok.space, is))
+    let old = c.args.self.now in
+    err_gives c.from_residual-in_err-enter.result _ (NoEntryDue (account_of old) 1) c.from_residual-in_err-enter.ensures.1
+    (λ refusal is. inr (room_left (account_of old) old.waiting 1 c.requires.comes.sound.waiting_is c.in_ok-make_room.ensures.ok.space, is))
 
 pub returns-clause-sound : goal.returns-clause-sound
 returns-clause-sound c =
+    let old = c.args.self.now in
     let ready = c.make_room.new.self in
-    let new : State = record { account = c.push.new.self; sessions = c.enter.new.self; queues = ready.queues } in
-    sound_hello c.args.self.now ready new c.args.moment c.args.client c.args.incarnation c.requires.comes c.requires.lower c.in_ok-make_room.ensures.ok c.push.ensures refl
-    (set_changes ready.sessions c.enter.new.self c.args.client (fresh c.args.incarnation) c.in_ok-enter.ensures.ok)
+    let new = c.push_hello.new.self in
+    let prepared = c.in_ok-make_room.ensures.ok in
+    let comes = comes_ready old ready c.args.moment c.args.client c.args.incarnation 1 _ c.requires.comes prepared in
+    let unknown = ap (λ t. session_of t c.args.client) prepared.same.sessions ∙ c.requires.unknown in
+    let lower = none_lower (account_of ready) ready.sessions comes.sound.sessions_are comes.sound.legal c.args.client c.args.incarnation unknown in
+    let entered = set_changes ready.sessions c.enter.new.self c.args.client (fresh c.args.incarnation) c.in_ok-enter.ensures.ok in
+    sound_idle ready c.args.moment c.args.client c.args.incarnation comes lower (space_ready old ready 1 _ prepared) new c.push_hello.ensures.entry
+    (subst (λ t. Changes ready.sessions t c.args.client (fresh c.args.incarnation)) (sym c.push_hello.ensures.sessions) entered)
+    (ap (option_and_then (λ (s : _). waiting_place s.state)) unknown) c.push_hello.ensures.queues c.push_hello.ensures.waiting
+    (omega (arith, c.push_hello.ensures.room, prepared.room, prepared.same.waiting))
 
 pub returns-clause-ok : goal.returns-clause-ok
 returns-clause-ok c =
@@ -42,6 +55,6 @@ returns-clause-ok c =
       entry = e;
       moment_is = refl;
       act_is = refl;
-      follows = c.push.ensures ∙ ap (λ b. with_entry b e) c.in_ok-make_room.ensures.same.account;
+      follows = c.push_hello.ensures.entry ∙ ap (λ b. with_entry b e) c.in_ok-make_room.ensures.same.account;
       legal = (returns-clause-sound c).legal;
     }
