@@ -28,7 +28,7 @@ returns-in-Waits-clause-ok c =
     let m = Request c.args.key c.args.call in
     IfOk-weaker c.repeat.result _ _
     (λ again h. subst (λ x. Becomes a c.args.moment m a (said_of c.args.key x)) (sym h.0)
-    (repeated_waiting a t c.args.moment are c.requires.sound.legal c.args.key c.args.call c.in-Waits.field-0 c.in-Waits.ensures.means c.requires.act_fits.0.3.0 h.1))
+    (repeated_waiting a t c.args.moment are c.requires.sound.legal c.args.key c.args.call c.in-Waits.place c.in-Waits.ensures.means c.requires.act_fits.0.3.0 h.1))
     c.repeat.ensures.ok
 
 pub returns-in-Waits-clause-err : goal.returns-in-Waits-clause-err
@@ -39,7 +39,7 @@ returns-in-Waits-clause-err c =
     let m = Request c.args.key c.args.call in
     IfErr-weaker c.repeat.result _ _
     (λ refusal h. subst (IsRefused a c.args.moment m a) (sym h.0) (becomes_refused a a c.args.moment m OtherCall
-    (waiting_otherwise a t c.args.moment are c.requires.sound.legal c.args.key c.args.call c.in-Waits.field-0 c.in-Waits.ensures.means c.requires.act_fits.0.3.0 h.1)))
+    (waiting_otherwise a t c.args.moment are c.requires.sound.legal c.args.key c.args.call c.in-Waits.place c.in-Waits.ensures.means c.requires.act_fits.0.3.0 h.1)))
     c.repeat.ensures.err
 
 pub returns-in-Settled-clause-ok : goal.returns-in-Settled-clause-ok
