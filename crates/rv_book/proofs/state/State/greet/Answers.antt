@@ -37,42 +37,42 @@ pub returns-in-Unknown-clause-ok : goal.returns-in-Unknown-clause-ok
 returns-in-Unknown-clause-ok c =
     let a = account_of c.args.self.now in
     let t = c.args.self.now.sessions in
-    let are = c.requires.sound.sessions_are in
+    let sound = c.requires.sound in
     let b = account_of c.admit.new.self in
     let welcome = Welcome a.epoch c.args.client c.args.incarnation in
     on_ok_both c.admit.result _ _ _ c.admit.ensures.ok c.admit.ensures.space
-    (λ adds room. new_hello a t c.args.moment are c.requires.sound.legal b c.args.client c.args.incarnation welcome c.in-Unknown.ensures.means.0 c.in-Unknown.ensures.means.1
-    (entered a b c.args.moment 1 (act.TheVariants.Hello c.args.client c.args.incarnation) welcome _ room adds refl))
+    (λ adds room. new_hello a t c.args.moment sound.sessions_are sound.legal b c.args.client c.args.incarnation welcome c.in-Unknown.ensures.means.0 c.in-Unknown.ensures.means.1
+    (entered a b c.args.moment 1 (act.TheVariants.Hello c.args.client c.args.incarnation) welcome _ c.args.self.now.waiting sound.waiting_is room adds refl))
 
 pub returns-in-Unknown-clause-err : goal.returns-in-Unknown-clause-err
 returns-in-Unknown-clause-err c =
     let a = account_of c.args.self.now in
     let t = c.args.self.now.sessions in
-    let are = c.requires.sound.sessions_are in
+    let sound = c.requires.sound in
     let b = account_of c.admit.new.self in
     err_both c.admit.result _ _ _ c.admit.ensures.err c.admit.ensures.same
     (λ refusal due same. becomes_refused a b c.args.moment (Hello c.args.client c.args.incarnation) refusal
-    (new_hello a t c.args.moment are c.requires.sound.legal b c.args.client c.args.incarnation (Refused refusal) c.in-Unknown.ensures.means.0 c.in-Unknown.ensures.means.1
+    (new_hello a t c.args.moment sound.sessions_are sound.legal b c.args.client c.args.incarnation (Refused refusal) c.in-Unknown.ensures.means.0 c.in-Unknown.ensures.means.1
     (unentered a b c.args.moment 1 (act.TheVariants.Hello c.args.client c.args.incarnation) refusal _ due same)))
 
-pub returns-in-Newer-None-clause-ok : goal.returns-in-Newer-None-clause-ok
-returns-in-Newer-None-clause-ok c =
+pub returns-in-Newer-clause-ok : goal.returns-in-Newer-clause-ok
+returns-in-Newer-clause-ok c =
     let a = account_of c.args.self.now in
     let t = c.args.self.now.sessions in
-    let are = c.requires.sound.sessions_are in
-    let b = account_of c.admit-in-Newer-None.new.self in
+    let sound = c.requires.sound in
+    let b = account_of c.renew.new.self in
     let welcome = Welcome a.epoch c.args.client c.args.incarnation in
-    on_ok_both c.admit-in-Newer-None.result _ _ _ c.admit-in-Newer-None.ensures.ok c.admit-in-Newer-None.ensures.space
-    (λ adds room. newer_hello a t c.args.moment are c.requires.sound.legal b c.args.client c.args.incarnation welcome _ c.in-Newer-None.ensures.means
-    (entered a b c.args.moment 1 (act.TheVariants.Hello c.args.client c.args.incarnation) welcome _ room adds refl))
+    on_ok_both c.renew.result _ _ _ c.renew.ensures.ok c.renew.ensures.space
+    (λ adds room. newer_hello a t c.args.moment sound.sessions_are sound.legal b c.args.client c.args.incarnation welcome c.in-Newer.waiting c.in-Newer.ensures.means
+    (entered a b c.args.moment 1 (act.TheVariants.Hello c.args.client c.args.incarnation) welcome _ c.args.self.now.waiting sound.waiting_is room adds refl))
 
-pub returns-in-Newer-None-clause-err : goal.returns-in-Newer-None-clause-err
-returns-in-Newer-None-clause-err c =
+pub returns-in-Newer-clause-err : goal.returns-in-Newer-clause-err
+returns-in-Newer-clause-err c =
     let a = account_of c.args.self.now in
     let t = c.args.self.now.sessions in
-    let are = c.requires.sound.sessions_are in
-    let b = account_of c.admit-in-Newer-None.new.self in
-    err_both c.admit-in-Newer-None.result _ _ _ c.admit-in-Newer-None.ensures.err c.admit-in-Newer-None.ensures.same
+    let sound = c.requires.sound in
+    let b = account_of c.renew.new.self in
+    err_both c.renew.result _ _ _ c.renew.ensures.err c.renew.ensures.same
     (λ refusal due same. becomes_refused a b c.args.moment (Hello c.args.client c.args.incarnation) refusal
-    (newer_hello a t c.args.moment are c.requires.sound.legal b c.args.client c.args.incarnation (Refused refusal) _ c.in-Newer-None.ensures.means
+    (newer_hello a t c.args.moment sound.sessions_are sound.legal b c.args.client c.args.incarnation (Refused refusal) c.in-Newer.waiting c.in-Newer.ensures.means
     (unentered a b c.args.moment 1 (act.TheVariants.Hello c.args.client c.args.incarnation) refusal _ due same)))
