@@ -5,14 +5,15 @@ use Rattle.rv_text.specs.declared.call.Call.{Call}
 use Rattle.rv_text.specs.declared.message.Message.{Message}
 use Rattle.rv_text.specs.declared.answer.Reply.{Reply}
 use Rattle.rv_text.specs.declared.answer.Answer.{Answer}
-use Rattle.rv_text.specs.declared.answer.Answer.TheVariants.{Refused}
+use Rattle.rv_text.specs.declared.answer.Answer.TheVariants.{Refused, Replied}
+use Rattle.rv_text.specs.declared.answer.Reply.TheVariants.{Cancelled}
 use Rattle.rv_text.specs.declared.answer.Refusal.TheVariants.{NoMemory}
-use Rattle.rv_book.specs.declared.account.Act.TheVariants.{Hello, Arrive}
+use Rattle.rv_book.specs.declared.account.Act.TheVariants.{Hello, Arrive, Cancel}
 use Rattle.rv_book.specs.declared.verdict.Verdict.{Verdict}
 use Rattle.rv_book.specs.Account.{Account, Extends}
 use Rattle.rv_book.specs.Legal.{Legal}
 use Rattle.rv_book.specs.Replies.{HasReply}
-use Rattle.rv_book.specs.Steps.{HelloLines, RequestLines, Adds, Answers, Next, step_moment}
+use Rattle.rv_book.specs.Steps.{CancelLines, HelloLines, RequestLines, Adds, Answers, Replies, Next, step_moment}
 use Rattle.rv_book.specs.Order.{InOrder}
 use Rattle.rv_book.specs.Verdicts.{says}
 
@@ -42,6 +43,19 @@ abbrev pub HellosCanEnter : Type 0
 HellosCanEnter = (a : Account) (now client incarnation : ℕ) → Legal a
     → HelloLines a client incarnation (λ refusal. Unit {0}) (Unit {0})
     ((b : Account) × Adds a (step_moment a now) (Hello client incarnation) b)
+
+-- a legal account with the cancel's entry exists, and with it the reply of its request
+pub record CanCancel (a : Account) (moment : ℕ) (key : Key) : Type 0 where
+  pub after : Account
+  pub adds : Adds a moment (Cancel key) after
+  pub replies : Replies after key (Replied key Cancelled)
+
+-- where no refusal of a cancel is due, a settled request has its answer, or a legal account with the cancel's
+-- entry exists, after which its request is cancelled
+abbrev pub CancelsCanEnter : Type 0
+CancelsCanEnter = (a : Account) (now : ℕ) (key : Key) → Legal a
+    → CancelLines a key (λ refusal. Unit {0}) (CanCancel a (step_moment a now) key)
+    ((x : Answer) × Replies a key x) (CanCancel a (step_moment a now) key)
 
 -- in a legal account the items of each queue leave in their order of arrival
 abbrev pub ItemsLeaveInOrder : Type 0

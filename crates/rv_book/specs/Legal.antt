@@ -1,13 +1,13 @@
 -- Which entry may stand behind which entries, and so which accounts are legal.
-use Rattle.std.specs.Prelude.{◌≡◌, ◌<◌, ◌≤◌, ◌+◌, ℕ, List, length, take, Some, None, slice_get}
+use Rattle.std.specs.Prelude.{◌≡◌, ◌⊎◌, ◌<◌, ◌≤◌, ◌+◌, ℕ, List, length, take, Some, None, slice_get}
 use Rattle.rv_text.specs.declared.message.Key.{Key}
 use Rattle.rv_text.specs.declared.call.Call.{Call}
 use Rattle.rv_text.specs.declared.call.Side.{Side}
 use Rattle.rv_text.specs.Calls.{side_of}
 use Rattle.rv_book.specs.declared.account.Entry.{Entry}
 use Rattle.rv_book.specs.declared.account.Act.{Act}
-use Rattle.rv_book.specs.declared.account.Act.TheVariants.{Hello, Arrive}
-use Rattle.rv_book.specs.Account.{Account, moment_at, call_in, key_in}
+use Rattle.rv_book.specs.declared.account.Act.TheVariants.{Hello, Arrive, Cancel}
+use Rattle.rv_book.specs.Account.{Account, act_at, moment_at, call_in, key_in}
 use Rattle.rv_book.specs.Calls.{MayMeet, opposite}
 use Rattle.rv_book.specs.Sessions.{HasIncarnation, HasOnlyLower, LastNumber, NamesKey}
 use Rattle.rv_book.specs.Waiting.{limit_at, Met, SideAt, OpenAt, Waiting}
@@ -28,6 +28,7 @@ NothingDue entries moment = (r limit : ℕ) → Waiting entries r → limit_at e
 abbrev pub KeepsLimits : List Entry → ℕ → Act → Type 0
 KeepsLimits entries moment (Hello client incarnation) = NothingDue entries moment
 KeepsLimits entries moment (Arrive key call) = NothingDue entries moment
+KeepsLimits entries moment (Cancel key) = NothingDue entries moment
 
 -- what an entry of this moment and act keeps of the moments
 pub record KeepsMoments (a : Account) (moment : ℕ) (does : Act) : Type 0 where
@@ -63,11 +64,23 @@ pub record IsNextNumber (entries : List Entry) (key : Key) : Type 0 where
 abbrev pub CountsUp : List Entry → Act → Type 0
 CountsUp entries does = (key : Key) (call : Call) → does ≡ Arrive key call → IsNextNumber entries key
 
+-- the request with this key arrived, and it waits
+pub record WaitsUnder (entries : List Entry) (key : Key) : Type 0 where
+  pub place : ℕ
+  pub call : Call
+  pub arrived : act_at entries place ≡ Some (Arrive key call)
+  pub waits : Waiting entries place
+
+-- a cancel names the request that waits in its session, or, with nothing waiting there, the session's next number
+abbrev pub CancelsInTurn : List Entry → Act → Type 0
+CancelsInTurn entries does = (key : Key) → does ≡ Cancel key → WaitsUnder entries key ⊎ IsNextNumber entries key
+
 -- what an entry of this act keeps of the numbers
 pub record KeepsNumbers (a : Account) (does : Act) : Type 0 where
   pub raises_incarnation : RaisesIncarnation a.entries does
   pub of_session : IsOfSession a does
   pub counts_up : CountsUp a.entries does
+  pub cancels : CancelsInTurn a.entries does
 
 -- ---- pairs (Java SE 21, `TransferQueue`; the fair dual queue of Scherer, Lea and Scott, PPoPP 2006)
 

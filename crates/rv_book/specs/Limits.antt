@@ -3,7 +3,7 @@ use Rattle.std.specs.Prelude.{◌≡◌, ◌≤◌, ◌+◌, ℕ, length, Some, 
 use Rattle.rv_text.specs.Limits.{FitsIdentifier, FitsKey, FitsCall}
 use Rattle.rv_book.specs.declared.account.Entry.{Entry}
 use Rattle.rv_book.specs.declared.account.Act.{Act}
-use Rattle.rv_book.specs.declared.account.Act.TheVariants.{Hello, Arrive}
+use Rattle.rv_book.specs.declared.account.Act.TheVariants.{Hello, Arrive, Cancel}
 use Rattle.rv_book.specs.Account.{Account}
 use Rattle.rv_book.specs.Counting.{NumberOf}
 use Rattle.rv_book.specs.Steps.{max_entries, max_moment}
@@ -12,6 +12,7 @@ use Rattle.rv_book.specs.Waiting.{Waiting}
 abbrev pub FitsAct : Act → Type 0
 FitsAct (Hello client incarnation) = FitsIdentifier client × FitsIdentifier incarnation
 FitsAct (Arrive key call) = FitsKey key × FitsCall call
+FitsAct (Cancel key) = FitsKey key
 
 abbrev pub FitsEntry : Entry → Type 0
 FitsEntry e = (e.moment ≤ max_moment) × FitsAct e.act

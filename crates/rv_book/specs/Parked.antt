@@ -9,7 +9,7 @@ use Rattle.rv_dual.specs.Offers.{duty_of, place_of}
 use Rattle.rv_dual.specs.Queue.{Queue}
 use Rattle.rv_dual.specs.declared.giver.Offer.{Offer}
 use Rattle.rv_book.specs.declared.account.Act.{Act}
-use Rattle.rv_book.specs.declared.account.Act.TheVariants.{Hello, Arrive}
+use Rattle.rv_book.specs.declared.account.Act.TheVariants.{Hello, Arrive, Cancel}
 use Rattle.rv_book.specs.declared.account.Entry.{Entry}
 use Rattle.rv_book.specs.Account.{act_at}
 use Rattle.rv_book.specs.Views.{queue_at, waiting_on}
@@ -24,6 +24,7 @@ owed_by place key (Some wait) = Some (record { place = place; client = key.clien
 
 abbrev pub owed_in : ℕ → Act → Option Owed
 owed_in place (Hello client incarnation) = None
+owed_in place (Cancel key) = None
 owed_in place (Arrive key call) = owed_by place key (wait_of call)
 
 abbrev pub owed_at : List Entry → ℕ → Option Owed

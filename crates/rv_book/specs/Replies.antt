@@ -10,7 +10,7 @@ use Rattle.rv_text.specs.declared.call.Call.TheVariants as call
 use Rattle.rv_text.specs.declared.answer.Reply.{Reply}
 use Rattle.rv_text.specs.declared.answer.Reply.TheVariants as reply
 use Rattle.rv_book.specs.declared.account.Entry.{Entry}
-use Rattle.rv_book.specs.declared.account.Act.TheVariants.{Arrive}
+use Rattle.rv_book.specs.declared.account.Act.TheVariants.{Arrive, Cancel}
 use Rattle.rv_book.specs.Account.{act_at, call_at}
 use Rattle.rv_text.specs.Calls.{item_of}
 use Rattle.rv_book.specs.Counting.{NumberOf}
@@ -71,6 +71,13 @@ pub record RepliesToArrival (entries : List Entry) (key : Key) (reply : Reply) :
   pub arrived : act_at entries place ≡ Some (Arrive key call)
   pub replies : RepliesAt entries place call reply
 
--- the reply of the request with this key
+-- the request with this key was cancelled, and never arrived
+pub record CancelledFirst (entries : List Entry) (key : Key) : Type 0 where
+  pub place : ℕ
+  pub cancelled : act_at entries place ≡ Some (Cancel key)
+  pub not_arrived : (r : ℕ) (call : Call) → act_at entries r ≡ Some (Arrive key call) → ⊥
+
+-- the reply of the request with this key: what its arrival has; or, where it was cancelled before it came, that
 abbrev pub HasReply : List Entry → Key → Reply → Type 0
-HasReply entries key reply = RepliesToArrival entries key reply
+HasReply entries key told =
+    RepliesToArrival entries key told ⊎ (CancelledFirst entries key × (told ≡ reply.Cancelled))

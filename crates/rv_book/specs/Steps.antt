@@ -4,7 +4,8 @@ use Rattle.std.specs.Prelude.{min, max, unwrap_or}
 use Rattle.rv_text.specs.declared.message.Key.{Key}
 use Rattle.rv_text.specs.declared.call.Call.{Call}
 use Rattle.rv_text.specs.declared.message.Message.{Message}
-use Rattle.rv_text.specs.declared.message.Message.TheVariants.{Hello, Request}
+use Rattle.rv_text.specs.declared.message.Message.TheVariants.{Hello, Request, Cancel}
+use Rattle.rv_text.specs.declared.answer.Reply.TheVariants.{Cancelled}
 use Rattle.rv_text.specs.declared.answer.Reply.{Reply}
 use Rattle.rv_text.specs.declared.answer.Refusal.{Refusal}
 use Rattle.rv_text.specs.declared.answer.Refusal.TheVariants.{OtherEpoch, NoSession, OldIncarnation}
@@ -21,7 +22,7 @@ use Rattle.rv_book.specs.Calls.{need_of}
 use Rattle.rv_book.specs.Counting.{NumberOf}
 use Rattle.rv_book.specs.Sessions.{HasIncarnation, HasOnlyLower, LastNumber, SaidHello}
 use Rattle.rv_book.specs.Waiting.{Waiting}
-use Rattle.rv_book.specs.Legal.{HasWaiting, Legal}
+use Rattle.rv_book.specs.Legal.{HasWaiting, Legal, WaitsUnder}
 use Rattle.rv_book.specs.Replies.{HasReply}
 
 -- ---- the step's moment
@@ -114,6 +115,10 @@ pub record EpochFullDue (a : Account) (need : ℕ) (refusal : Refusal) : Type 0 
 
 -- ---- the lines of a step, of which the first that applies decides
 
+-- the request with this key arrived, and it waits
+abbrev pub KeyWaits : Account → Key → Type 0
+KeyWaits b key = WaitsUnder b.entries key
+
 -- a refusal is due, and it refuses
 pub record RefusesDue (due refuses : Refusal → Type 0) : Type 0 where
   pub refusal : Refusal
@@ -149,6 +154,15 @@ RequestLines a key call refuses repeats enters =
     (RefuseOr (EpochFullDue a (need_of call)) refuses
     enters)
 
+-- the lines for a cancel: also what happens where its request waits, and where the last number is settled
+abbrev pub CancelLines : Account → Key → (Refusal → Type 0) → Type 0 → Type 0 → Type 0 → Type 0
+CancelLines a key refuses ends repeats enters =
+    KeyLines a key refuses
+    (WhereElse (KeyWaits a key) ends
+    repeats)
+    (RefuseOr (EpochFullDue a 1) refuses
+    enters)
+
 -- the lines for a hello: also what happens where it is a repeat
 abbrev pub HelloLines : Account → ℕ → ℕ → (Refusal → Type 0) → Type 0 → Type 0 → Type 0
 HelloLines a client incarnation refuses repeats enters =
@@ -178,13 +192,6 @@ pub record Replies (b : Account) (key : Key) (answer : Answer) : Type 0 where
   pub has : HasReply b.entries key reply
   pub is : answer ≡ Replied key reply
 
--- the request with this key arrived, and it waits
-pub record KeyWaits (b : Account) (key : Key) : Type 0 where
-  pub place : ℕ
-  pub call : Call
-  pub arrived : act_at b.entries place ≡ Some (act.TheVariants.Arrive key call)
-  pub waits : Waiting b.entries place
-
 -- the answer is the reply of the request with this key, or that it waits
 abbrev pub Answers : Account → Key → Answer → Type 0
 Answers b key said = Replies b key said ⊎ (KeyWaits b key × (said ≡ answer.TheVariants.Waiting key))
@@ -212,6 +219,12 @@ NextAt a moment (Request key call) b answer =
     (Repeats a b key answer)
     (EntersOrNoMemory a moment (act.TheVariants.Arrive key call) b answer
     (Answers b key answer))
+NextAt a moment (Cancel key) b answer =
+    CancelLines a key (Refuses a b answer)
+    (Adds a moment (act.TheVariants.Cancel key) b × (answer ≡ Replied key Cancelled))
+    (Repeats a b key answer)
+    (EntersOrNoMemory a moment (act.TheVariants.Cancel key) b answer
+    (Replies b key answer))
 
 -- the account after the time-outs of a step: the same, where nothing can be due
 abbrev pub Ticks : Account → ℕ → Account → Type 0

@@ -21,6 +21,7 @@ use Rattle.rv_session.specs.declared.kept.Kept.TheVariants as kept
 use Rattle.rv_book.specs.declared.account.Entry.{Entry}
 use Rattle.rv_book.specs.declared.account.Act.{Act}
 use Rattle.rv_book.specs.declared.account.Act.TheVariants.{Hello, Arrive}
+use Rattle.rv_book.specs.Replies.{CancelledFirst}
 use Rattle.rv_book.specs.declared.state.State.{State}
 use Rattle.rv_book.specs.declared.verdict.Said.{Said}
 use Rattle.rv_book.specs.declared.verdict.Said.TheVariants.{Refused}
@@ -53,9 +54,7 @@ pub record IsWaitingAt (a : Account) (client : ℕ) (s : Session) (place : ℕ) 
   pub waits : Waiting a.entries place
 
 -- the request of the session's last number arrived at the place, and this is kept as its reply
-pub record IsSettledAt (a : Account) (client : ℕ) (s : Session) (at : Option ℕ) (kept : Kept) : Type 0 where
-  pub place : ℕ
-  pub is : at ≡ Some place
+pub record IsSettledAt (a : Account) (client : ℕ) (s : Session) (place : ℕ) (kept : Kept) : Type 0 where
   pub call : Call
   pub arrived : act_at a.entries place ≡ Some (Arrive (last_key a client s) call)
   pub kept_is : IsKept a.entries place call kept
@@ -64,7 +63,9 @@ pub record IsSettledAt (a : Account) (client : ℕ) (s : Session) (at : Option �
 abbrev pub Stands : Account → ℕ → Session → StateOf → Type 0
 Stands a client s state.TheVariants.Fresh = s.last ≡ 0
 Stands a client s (state.TheVariants.Waits place) = IsWaitingAt a client s place
-Stands a client s (state.TheVariants.Settled place kept) = IsSettledAt a client s place kept
+Stands a client s (state.TheVariants.Settled (Some place) kept) = IsSettledAt a client s place kept
+Stands a client s (state.TheVariants.Settled None told) =
+    CancelledFirst a.entries (last_key a client s) × (told ≡ kept.Cancelled)
 
 -- the session is what the account says of its client
 pub record IsSession (a : Account) (client : ℕ) (s : Session) : Type 0 where

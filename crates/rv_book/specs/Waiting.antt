@@ -7,7 +7,7 @@ use Rattle.rv_text.specs.declared.call.Side.{Side}
 use Rattle.rv_text.specs.Calls.{side_of}
 use Rattle.rv_book.specs.declared.account.Entry.{Entry}
 use Rattle.rv_book.specs.declared.account.Act.{Act}
-use Rattle.rv_book.specs.declared.account.Act.TheVariants.{Hello, Arrive}
+use Rattle.rv_book.specs.declared.account.Act.TheVariants.{Hello, Arrive, Cancel}
 use Rattle.rv_book.specs.Account.{act_at, partner_at, call_in, call_at}
 use Rattle.rv_book.specs.Calls.{MayMeet, IsPut, Stays, limit_of}
 
@@ -36,6 +36,7 @@ limit_at entries r = option_and_then limit_in (slice_get entries r)
 abbrev pub EndsWait : Act → ℕ → Key → Option ℕ → Type 0
 EndsWait (Hello client incarnation) moment key limit = client ≡ key.client
 EndsWait (Arrive other call) moment key limit = ⊥
+EndsWait (Cancel other) moment key limit = other ≡ key
 
 -- the entry at s stops the request that arrived at r; nothing stops a put
 pub record StoppedAt (entries : List Entry) (r s : ℕ) : Type 0 where
