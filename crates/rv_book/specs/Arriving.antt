@@ -4,12 +4,13 @@ use Rattle.rv_text.specs.declared.message.Key.{Key}
 use Rattle.rv_text.specs.declared.call.Side.{Side}
 use Rattle.rv_text.specs.declared.call.Call.{Call}
 use Rattle.rv_text.specs.declared.answer.Reply.{Reply}
+use Rattle.rv_text.specs.declared.answer.Reply.TheVariants as reply
 use Rattle.rv_text.specs.declared.answer.Answer.{Answer}
 use Rattle.rv_book.specs.declared.verdict.Said.{Said}
 use Rattle.rv_book.specs.declared.verdict.Said as said
 use Rattle.rv_book.specs.declared.account.Entry.{Entry}
 use Rattle.rv_book.specs.declared.account.Act.{Act}
-use Rattle.rv_book.specs.declared.account.Act.TheVariants.{Hello, Arrive}
+use Rattle.rv_book.specs.declared.account.Act.TheVariants.{Hello, Arrive, Cancel}
 use Rattle.rv_session.specs.declared.kept.Kept.{Kept}
 use Rattle.rv_book.specs.Account.{Account, with_entry}
 use Rattle.rv_book.specs.Calls.{opposite, need_of, IsPut, Stays}
@@ -17,7 +18,7 @@ use Rattle.rv_book.specs.Waiting.{IsOldest, OpenAt}
 use Rattle.rv_book.specs.Sessions.{HasIncarnation, LastNumber}
 use Rattle.rv_book.specs.Legal.{HasWaiting, Legal}
 use Rattle.rv_book.specs.Replies.{RepliesAt}
-use Rattle.rv_book.specs.Steps.{Adds, Answers}
+use Rattle.rv_book.specs.Steps.{Adds, Answers, Replies}
 use Rattle.rv_book.specs.Verdicts.{answer_of, reply_of}
 
 abbrev pub entry : ℕ → Act → Option ℕ → Entry
@@ -67,3 +68,8 @@ pub record IsRecorded (a b : Account) (moment : ℕ) (key : Key) (call : Call) (
   pub is : answer_of b.entries (said_of key result) ≡ Some answer
   pub adds : Adds a moment (Arrive key call) b
   pub answers : Answers b key answer
+
+-- the request with this key was cancelled, and the cancel was recorded
+pub record IsCancelled (a b : Account) (moment : ℕ) (key : Key) : Type 0 where
+  pub adds : Adds a moment (Cancel key) b
+  pub replies : Replies b key (answer.TheVariants.Replied key reply.Cancelled)

@@ -15,6 +15,8 @@ pub enum Act {
     Hello { client: u64, incarnation: u64 },
     /// A request came for the first time.
     Arrive { key: Key, call: Call },
+    /// A request was cancelled: while it waited, or before it came.
+    Cancel { key: Key },
 }
 
 /// One line of an account.
@@ -100,7 +102,7 @@ impl Account {
     {
         match &self.entry(place)?.act {
             Act::Arrive { call, .. } => Some(call),
-            Act::Hello { .. } => None,
+            Act::Hello { .. } | Act::Cancel { .. } => None,
         }
     }
 

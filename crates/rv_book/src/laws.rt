@@ -1,5 +1,5 @@
 //! Laws of accounts, replies and steps: each function is its contract, over the definitions alone.
-ghost use Rattle.rv_book.specs.Laws.{OneNext, RepliesStay, RequestsCanEnter, HellosCanEnter};
+ghost use Rattle.rv_book.specs.Laws.{CancelsCanEnter, HellosCanEnter, OneNext, RepliesStay, RequestsCanEnter};
 ghost use Rattle.rv_book.specs.Laws.{ItemsLeaveInOrder, StepsExtend, VerdictsStay};
 
 /// A reply that stands in a legal account stands in every legal account that extends it, and the
@@ -9,9 +9,15 @@ pub fn replies_stay()
 {}
 
 /// Where no refusal of a request is due, a legal account with the request's entry exists, and with it
-/// the request's reply.
+/// the request's reply, or that it waits.
 pub fn requests_can_enter()
     ensures { RequestsCanEnter }
+{}
+
+/// Where no refusal of a cancel is due, its request has its reply, or a legal account with the cancel's entry
+/// exists, after which the request is cancelled.
+pub fn cancels_can_enter()
+    ensures { CancelsCanEnter }
 {}
 
 /// Where no refusal of a hello is due and the hello is no repeat, a legal account with its entry exists.

@@ -1,8 +1,8 @@
 //! The account with the tables that answer for it, and the steps that change them together.
-ghost use Rattle.std.specs.Prelude.{◌≡◌, ◌<◌, ◌≤◌, ◌+◌, [], None, OnOk, OnErr, IfOk, IfErr, IfSome};
+ghost use Rattle.std.specs.Prelude.{◌≡◌, ◌<◌, ◌≤◌, ◌+◌, [], None, Some, OnOk, OnErr, IfOk, IfErr, IfSome};
 ghost use Rattle.rv_text.specs.Calls.{queue_of};
 ghost use Rattle.rv_text.specs.Limits.{FitsCall, FitsIdentifier, FitsQueue};
-ghost use Rattle.rv_book.specs.Arriving.{GoesOn, IsRecorded, WillReply, said_of};
+ghost use Rattle.rv_book.specs.Arriving.{GoesOn, IsCancelled, IsRecorded, WillReply, said_of};
 ghost use Rattle.rv_book.specs.Calls.{need_of};
 ghost use Rattle.rv_book.specs.Tables.{partners_reply};
 
@@ -56,7 +56,7 @@ impl State {
     ghost use Rattle.rv_text.specs.declared.message.Message.TheVariants.{Request};
     ghost use Rattle.rv_text.specs.declared.answer.Answer.TheVariants.{Welcome};
     ghost use Rattle.rv_text.specs.Limits.{FitsMessage};
-    ghost use Rattle.rv_book.specs.declared.account.Act.TheVariants.{Hello, Arrive};
+    ghost use Rattle.rv_book.specs.declared.account.Act.TheVariants.{Hello, Arrive, Cancel};
     ghost use Rattle.rv_book.specs.Account.{with_entry};
     ghost use Rattle.rv_book.specs.Arriving.{entry};
     ghost use Rattle.rv_book.specs.Legal.{KeepsTime};
@@ -66,7 +66,8 @@ impl State {
     ghost use Rattle.rv_book.specs.Tables.{IsReady};
     ghost use Rattle.rv_book.specs.Tables.{IsRefused, IsRepeat, IsSame, IsSound, MayRecord, NoEntryDue, Sees};
     ghost use Rattle.rv_book.specs.Tables.{SettlesIf, account_of};
-    ghost use Rattle.rv_session.specs.Meanings.{HasNext, IsNewer};
+    ghost use Rattle.rv_session.specs.Meanings.{HasLast, HasNext, IsNewer};
+    ghost use Rattle.rv_session.specs.declared.session.State.TheVariants as state;
     ghost use Rattle.rv_session.specs.Table.{session_of};
     ghost use Rattle.rv_session.specs.Standings.{MayEnter, standing_of};
     ghost use Rattle.rv_session.specs.declared.standing.Standing.TheVariants as standing;
@@ -267,6 +268,71 @@ impl State {
         }
     }
 
+    // Cancels a request before it comes: its session's next number is settled as cancelled.
+    fn bury(&mut self, moment: u64, key: Key) -> Result<(), Refusal>
+        requires comes { Comes self.old moment (Cancel key) }
+        requires stands { standing_of self.old.sessions key ≡ standing.Next }
+        requires next { HasNext self.old.sessions key }
+        ensures sound { IsSound self.new }
+        ensures ok { OnOk result (IsCancelled (account_of self.old) (account_of self.new) moment key) }
+        ensures space { OnOk result (HasSpace self.old 1) }
+        ensures same { OnErr result (account_of self.new ≡ account_of self.old) }
+        ensures err { IfErr result (NoEntryDue (account_of self.old) 1) }
+    {
+        self.make_room(1, None)?;
+        self.sessions.bury(&key);
+        self.push_cancel(moment, key);
+        Ok(())
+    }
+
+    // Records a cancel, for which there is room.
+    fn push_cancel(&mut self, moment: u64, key: Key)
+        requires { 0 < self.old.account.room }
+        ensures entry { account_of self.new
+            ≡ with_entry (account_of self.old) (entry moment (Cancel key) None) }
+        ensures room { self.old.account.room ≤ self.new.account.room + 1 }
+        ensures sessions { self.new.sessions ≡ self.old.sessions }
+        ensures queues { self.new.queues ≡ self.old.queues }
+        ensures waiting { self.new.waiting ≡ self.old.waiting }
+    {
+        self.account.push(moment, Act::Cancel { key }, None);
+    }
+
+    // Cancels the request that waits at a place. It takes no memory, and there is always room.
+    fn end_wait(&mut self, moment: u64, key: Key, place: Place)
+        requires comes { Comes self.old moment (Cancel key) }
+        requires waits { HasLast self.old.sessions key (state.Waits place) }
+        ensures sound { IsSound self.new }
+        ensures cancelled { IsCancelled (account_of self.old) (account_of self.new) moment key }
+    {
+        self.end(place, Kept::Cancelled);
+        self.push_cancel(moment, key);
+    }
+
+    // Answers a cancel: ends the request that waits, tells the reply of a settled one, and settles one that did
+    // not come yet, where no refusal is due.
+    fn cancel(&mut self, moment: u64, key: Key) -> Result<Kept, Refusal>
+        requires { Comes self.old moment (Cancel key) }
+        ensures sound { IsSound self.new }
+        ensures ok { IfOk result (λ kept. Becomes (account_of self.old) moment (message.Cancel key)
+            (account_of self.new) (said_of key (Some kept))) }
+        ensures err { IfErr result (IsRefused (account_of self.old) moment (message.Cancel key)
+            (account_of self.new)) }
+    {
+        match self.sessions.look(&key) {
+            Standing::Refused(refusal) => Err(refusal),
+            Standing::Waits(place) => {
+                self.end_wait(moment, key, place);
+                Ok(Kept::Cancelled)
+            }
+            Standing::Settled { kept, .. } => Ok(kept),
+            Standing::Next => {
+                self.bury(moment, key)?;
+                Ok(Kept::Cancelled)
+            }
+        }
+    }
+
     // Records the first hello of a client.
     fn admit(&mut self, moment: u64, client: u64, incarnation: u64) -> Result<(), Refusal>
         requires comes { Comes self.old moment (Hello client incarnation) }
@@ -379,6 +445,10 @@ impl State {
             },
             Message::Request { key, call } => match self.request(moment, key, call) {
                 Ok(kept) => Said::of(key, kept),
+                Err(refusal) => Said::Refused(refusal),
+            },
+            Message::Cancel { key } => match self.cancel(moment, key) {
+                Ok(kept) => Said::Replied { key, kept },
                 Err(refusal) => Said::Refused(refusal),
             },
         }
