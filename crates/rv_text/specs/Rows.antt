@@ -47,6 +47,7 @@ side_row side = whole (codes "queue") members.queue_numbers (queue_of side) ∷ 
 abbrev pub wait_row : Option Wait → List Member
 wait_row None = []
 wait_row (Some wait.Now) = word (codes "wait") (codes "now") ∷ []
+wait_row (Some (wait.Millis millis)) = whole (codes "wait") members.wait_numbers millis ∷ []
 wait_row (Some wait.Forever) = word (codes "wait") (codes "forever") ∷ []
 
 abbrev pub item_row : Option (List ℕ) → List Member
@@ -69,6 +70,7 @@ message_row (message.Hello client incarnation) =
     []
 message_row (message.Request key call) =
     word (codes "kind") (codes "request") ∷ (key_row key ++ call_row call)
+message_row (message.Cancel key) = word (codes "kind") (codes "cancel") ∷ key_row key
 
 -- ---- answers
 
@@ -78,6 +80,7 @@ reply_row reply.Received = word (codes "reply") (codes "received") ∷ []
 reply_row reply.Nobody = word (codes "reply") (codes "nobody") ∷ []
 reply_row (reply.Item bytes) = word (codes "reply") (codes "item") ∷ item bytes ∷ []
 reply_row reply.Empty = word (codes "reply") (codes "empty") ∷ []
+reply_row reply.TimedOut = word (codes "reply") (codes "timedout") ∷ []
 reply_row reply.Cancelled = word (codes "reply") (codes "cancelled") ∷ []
 reply_row (reply.Counted items consumers) =
     word (codes "reply") (codes "counted") ∷

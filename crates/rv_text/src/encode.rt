@@ -66,6 +66,10 @@ fn put_message(
             put_key(members, alloc, key)?;
             put_call(members, alloc, call)
         }
+        Message::Cancel { key } => {
+            put_text(members, alloc, "kind", "cancel")?;
+            put_key(members, alloc, key)
+        }
     }
 }
 
@@ -105,6 +109,7 @@ fn put_wait(members: &mut Map<String, Value>, alloc: Global, wait: Wait) -> Resu
 {
     match wait {
         Wait::Now => put_text(members, alloc, "wait", "now"),
+        Wait::Millis(millis) => put_whole(members, alloc, "wait", millis),
         Wait::Forever => put_text(members, alloc, "wait", "forever"),
     }
 }
@@ -171,6 +176,7 @@ fn put_reply(members: &mut Map<String, Value>, alloc: Global, reply: &Reply) -> 
             put_item(members, alloc, item)
         }
         Reply::Empty => put_text(members, alloc, "reply", "empty"),
+        Reply::TimedOut => put_text(members, alloc, "reply", "timedout"),
         Reply::Cancelled => put_text(members, alloc, "reply", "cancelled"),
         Reply::Counted { items, consumers } => {
             put_text(members, alloc, "reply", "counted")?;
@@ -198,12 +204,7 @@ fn put_detail(
         Refusal::OldNumber(last) => put_whole(members, alloc, "last", last),
         Refusal::Gap(last) => put_whole(members, alloc, "last", last),
         Refusal::Busy(number) => put_whole(members, alloc, "open", number),
-        Refusal::BadText
-        | Refusal::NoSession
-        | Refusal::OtherCall
-        | Refusal::ClientsFull
-        | Refusal::EpochFull
-        | Refusal::NoMemory => Ok(()),
+        _ => Ok(()),
     }
 }
 

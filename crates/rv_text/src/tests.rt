@@ -18,6 +18,8 @@ const KEY: Key = Key {
 const MESSAGES: &[&str] = &[
     r#"{"client":1,"incarnation":1,"kind":"hello"}"#,
     "Hello { client: 1, incarnation: 1 }",
+    r#"{"client":1,"epoch":1,"incarnation":1,"kind":"cancel","number":1}"#,
+    "Cancel",
     r#"{"call":"put","client":1,"epoch":1,"incarnation":1,"item":"a","kind":"request","number":1,"queue":3}"#,
     r#"Put { queue: 3, item: Item { text: "a" } }"#,
     "{\"call\":\"transfer\",\"client\":1,\"epoch\":1,\"incarnation\":1,\"item\":\"a\",\
@@ -29,6 +31,9 @@ const MESSAGES: &[&str] = &[
     "{\"call\":\"take\",\"client\":1,\"epoch\":1,\"incarnation\":1,\
         \"kind\":\"request\",\"number\":1,\"queue\":63,\"wait\":\"forever\"}",
     "Take { queue: 63, wait: Forever }",
+    "{\"call\":\"take\",\"client\":1,\"epoch\":1,\"incarnation\":1,\
+        \"kind\":\"request\",\"number\":1,\"queue\":0,\"wait\":86400000}",
+    "Take { queue: 0, wait: Millis(86400000) }",
     r#"{"call":"count","client":1,"epoch":1,"incarnation":1,"kind":"request","number":1,"queue":3}"#,
     "Count { queue: 3 }",
     r#"{"call":"peek","client":1,"epoch":1,"incarnation":1,"kind":"request","number":1,"queue":3}"#,
@@ -49,6 +54,10 @@ fn messages_are_read_and_written(rt: HostRuntime) -> Result<(), Fail> {
             Message::Request { key, call } => {
                 assert_eq!(rt; *key, KEY);
                 format!(in alloc; "{call:?}")?
+            }
+            Message::Cancel { key } => {
+                assert_eq!(rt; *key, KEY);
+                String::from_str(alloc, "Cancel")?
             }
             other => format!(in alloc; "{other:?}")?,
         };
@@ -76,6 +85,8 @@ const ANSWERS: &[&str] = &[
     "Item(Item { text: \"\\u{1}\\\"\\\\é\" })",
     r#"{"client":1,"epoch":1,"incarnation":1,"kind":"reply","number":1,"reply":"empty"}"#,
     "Empty",
+    r#"{"client":1,"epoch":1,"incarnation":1,"kind":"reply","number":1,"reply":"timedout"}"#,
+    "TimedOut",
     r#"{"client":1,"epoch":1,"incarnation":1,"kind":"reply","number":1,"reply":"cancelled"}"#,
     "Cancelled",
     "{\"client\":1,\"consumers\":0,\"epoch\":1,\"incarnation\":1,\"items\":3,\"kind\":\"reply\",\
@@ -269,7 +280,7 @@ fn values_know_their_limits(rt: HostRuntime) -> Result<(), Fail> {
     assert_eq!(rt; call.item().map(|item| item.as_str().len()), Some(513));
     assert!(rt; !Reply::Peeked(item).fits());
     let key = Key { epoch: 0, ..KEY };
-    assert!(rt; !key.fits() && !Answer::Waiting { key }.fits());
+    assert!(rt; !key.fits() && !Answer::Waiting { key }.fits() && !Message::Cancel { key }.fits());
     assert_eq!(rt; Refusal::Gap(0).code(), 8);
     for (refusal, want) in [
         (Refusal::OtherEpoch(0), false),
