@@ -1,6 +1,6 @@
 -- A message is found exactly where the members of its row are.
 use Rattle.std.proofs.Common.{◌≡◌, ℕ, List, [], ◌++◌, codes}
-use Rattle.std.proofs.Common.{Option, Some, None, refl}
+use Rattle.std.proofs.Common.{Option, Some, refl}
 use Rattle.serde_json.specs.Data.{unsigned, number, string, Members}
 use Rattle.rv_text.specs.declared.message.Key.{Key}
 use Rattle.rv_text.specs.declared.message.Message.{Message}
@@ -11,7 +11,7 @@ use Rattle.rv_text.specs.declared.call.Call.{Call}
 use Rattle.rv_text.specs.declared.call.Call.TheVariants as call
 use Rattle.rv_text.specs.Members.{Member}
 use Rattle.rv_text.specs.Rows.{key_row, wait_row, item_row, call_row, message_row}
-use Rattle.rv_text.specs.Reading.{◌>>=◌, whole_among, queue_among, item_among, wait_lines, wait_word_among, millis_or, wait_among}
+use Rattle.rv_text.specs.Reading.{◌>>=◌, whole_among, queue_among, item_among, wait_lines, wait_among}
 use Rattle.rv_text.specs.Reading.{key_among, hello_among, request_among, cancel_among, call_lines, call_among, message_lines, message_among}
 use Rattle.rv_text.specs.Reading.{messages}
 use Rattle.rv_text.proofs.Sound.{message_sound}
@@ -35,21 +35,11 @@ module _ (ms : Members) where
   pub find_key : (key : Key) → HasKey key → key_among ms ≡ Some key
   find_key key has = rw (has.0, has.1.0, has.1.1.0, has.1.1.1.0) refl
 
-  abbrev HasWait : Wait → Type 0
-  HasWait w = HasRow ms (wait_row (Some w))
-
-  wait_word_found : (w : Wait) → wait_word_among ms ≡ Some w → HasWait w
-  wait_word_found = among_found ms HasWait (codes "wait") wait_lines (
-    (λ word. last_found HasWait wait.Now (word, tt)),
-    ((λ word. last_found HasWait wait.Forever (word, tt)), tt),
+  wait_found : (w : Wait) → wait_among ms ≡ Some w → HasRow ms (wait_row (Some w))
+  wait_found = among_found ms (λ w. HasRow ms (wait_row (Some w))) (codes "wait") wait_lines (
+    (λ word. last_found (λ w. HasRow ms (wait_row (Some w))) wait.Now (word, tt)),
+    ((λ word. last_found (λ w. HasRow ms (wait_row (Some w))) wait.Forever (word, tt)), tt),
   )
-
-  millis_found : (read : Option ℕ) → whole_among (codes "wait") ms ≡ read → (w : Wait) → millis_or read (wait_word_among ms) ≡ Some w → HasWait w
-  millis_found None is w e = wait_word_found w e
-  millis_found (Some millis) is w e = last_found HasWait (wait.Millis millis) (whole_found ms (codes "wait") millis is, tt) w e
-
-  wait_found : (w : Wait) → wait_among ms ≡ Some w → HasWait w
-  wait_found = millis_found (whole_among (codes "wait") ms) refl
 
   abbrev HasCall : Call → Type 0
   HasCall call = HasRow ms (call_row call)
@@ -57,12 +47,10 @@ module _ (ms : Members) where
   -- a wait stands before the rest of a call's members
   wait_before : (w : Wait) (row : List Member) → wait_among ms ≡ Some w → HasRow ms row → HasRow ms (wait_row (Some w) ++ row)
   wait_before wait.Now row e rest = ((wait_found wait.Now e).0, rest)
-  wait_before (wait.Millis millis) row e rest = ((wait_found (wait.Millis millis) e).0, rest)
   wait_before wait.Forever row e rest = ((wait_found wait.Forever e).0, rest)
 
   find_wait : (w : Wait) (row : List Member) → HasRow ms (wait_row (Some w) ++ row) → (wait_among ms ≡ Some w) × HasRow ms row
   find_wait wait.Now row has = (rw has.0 refl, has.1)
-  find_wait (wait.Millis millis) row has = (rw has.0 refl, has.1)
   find_wait wait.Forever row has = (rw has.0 refl, has.1)
 
   queue_step : (next : ℕ → Option Call) → ((queue : ℕ) → Has ms (codes "queue", number (unsigned queue)) → (call : Call) → next queue ≡ Some call → HasCall call)

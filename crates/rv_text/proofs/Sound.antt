@@ -49,8 +49,6 @@ request_sound key name at None None plain = record { distinct = refl; plain = rw
 request_sound key name at None (Some item) plain = record { distinct = refl; plain = rw plain refl; room = omega arith; in_order = refl }
 request_sound key name at (Some wait.Now) None plain = record { distinct = refl; plain = rw plain refl; room = omega arith; in_order = refl }
 request_sound key name at (Some wait.Now) (Some item) plain = record { distinct = refl; plain = rw plain refl; room = omega arith; in_order = refl }
-request_sound key name at (Some (wait.Millis millis)) None plain = record { distinct = refl; plain = rw plain refl; room = omega arith; in_order = refl }
-request_sound key name at (Some (wait.Millis millis)) (Some item) plain = record { distinct = refl; plain = rw plain refl; room = omega arith; in_order = refl }
 request_sound key name at (Some wait.Forever) None plain = record { distinct = refl; plain = rw plain refl; room = omega arith; in_order = refl }
 request_sound key name at (Some wait.Forever) (Some item) plain = record { distinct = refl; plain = rw plain refl; room = omega arith; in_order = refl }
 
@@ -72,7 +70,6 @@ message_within (message.Cancel key) fits = (tt, key_within key [] fits tt)
 wait_text : (waits : Option Wait) → Each IsText (wait_row waits)
 wait_text None = tt
 wait_text (Some wait.Now) = (tt, tt)
-wait_text (Some (wait.Millis millis)) = (tt, tt)
 wait_text (Some wait.Forever) = (tt, tt)
 
 item_is_text : (gives : Option (List ℕ)) → IfSome gives IsUtf8 → Each IsText (item_row gives)

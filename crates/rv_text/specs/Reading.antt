@@ -108,16 +108,8 @@ item_among = text_among (codes "item")
 abbrev pub wait_lines : List (Line (List ℕ) Wait)
 wait_lines = (codes "now", λ ms. Some wait.Now) ∷ (codes "forever", λ ms. Some wait.Forever) ∷ []
 
-abbrev pub wait_word_among : Members → Option Wait
-wait_word_among members = among (codes "wait") wait_lines members
-
--- a number of milliseconds, or else what its word says
-abbrev pub millis_or : Option ℕ → Option Wait → Option Wait
-millis_or None waits = waits
-millis_or (Some millis) waits = Some (wait.Millis millis)
-
 abbrev pub wait_among : Members → Option Wait
-wait_among members = millis_or (whole_among (codes "wait") members) (wait_word_among members)
+wait_among members = among (codes "wait") wait_lines members
 
 abbrev pub key_among : Members → Option Key
 key_among members = do
@@ -183,7 +175,6 @@ reply_lines =
     (codes "nobody", λ ms. Some reply.Nobody) ∷
     (codes "item", λ ms. item_among ms >>= λ item. Some (reply.Item item)) ∷
     (codes "empty", λ ms. Some reply.Empty) ∷
-    (codes "timedout", λ ms. Some reply.TimedOut) ∷
     (codes "cancelled", λ ms. Some reply.Cancelled) ∷
     (codes "counted", counted_among) ∷
     (codes "peeked", λ ms. item_among ms >>= λ item. Some (reply.Peeked item)) ∷

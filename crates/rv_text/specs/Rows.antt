@@ -47,7 +47,6 @@ side_row side = whole (codes "queue") members.queue_numbers (queue_of side) ∷ 
 abbrev pub wait_row : Option Wait → List Member
 wait_row None = []
 wait_row (Some wait.Now) = word (codes "wait") (codes "now") ∷ []
-wait_row (Some (wait.Millis millis)) = whole (codes "wait") members.wait_numbers millis ∷ []
 wait_row (Some wait.Forever) = word (codes "wait") (codes "forever") ∷ []
 
 abbrev pub item_row : Option (List ℕ) → List Member
@@ -80,7 +79,6 @@ reply_row reply.Received = word (codes "reply") (codes "received") ∷ []
 reply_row reply.Nobody = word (codes "reply") (codes "nobody") ∷ []
 reply_row (reply.Item bytes) = word (codes "reply") (codes "item") ∷ item bytes ∷ []
 reply_row reply.Empty = word (codes "reply") (codes "empty") ∷ []
-reply_row reply.TimedOut = word (codes "reply") (codes "timedout") ∷ []
 reply_row reply.Cancelled = word (codes "reply") (codes "cancelled") ∷ []
 reply_row (reply.Counted items consumers) =
     word (codes "reply") (codes "counted") ∷

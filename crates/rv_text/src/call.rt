@@ -6,16 +6,11 @@ use crate::item::Item;
 /// The greatest number of a queue; the least is 0.
 pub const MAX_QUEUE: u64 = 63;
 
-/// The most milliseconds that a request may wait: one day.
-pub const MAX_WAIT: u64 = 86_400_000;
-
 /// How long a request may wait for its partner.
 #[derive(Clone, Copy, Debug, PartialEq, Eq)]
 pub enum Wait {
     /// Not at all, as Java's untimed `poll`.
     Now,
-    /// At most so many milliseconds, 0 to 86,400,000; 0 are over at once, as in Java's timed `poll`.
-    Millis(u64),
     /// Until it is met, cancelled, or its client says hello anew, as Java's `take`.
     Forever,
 }
@@ -44,23 +39,6 @@ pub enum Side {
     Takes(u64),
     /// It looks at this queue, and meets nobody.
     Looks(u64),
-}
-
-impl Wait {
-    ghost use Rattle.std.specs.Prelude.{Some};
-    ghost use Rattle.rv_text.specs.Members.{AllWithin};
-    ghost use Rattle.rv_text.specs.Rows.{wait_row};
-
-    // Whether it is at most a day, or has no number.
-    fn fits(&self) -> bool
-        ensures { IsTrue result ↔ AllWithin (wait_row (Some self.now)) }
-    {
-        match self {
-            Wait::Millis(millis) => *millis <= MAX_WAIT,
-            Wait::Now => true,
-            Wait::Forever => true,
-        }
-    }
 }
 
 impl Side {
@@ -131,13 +109,10 @@ impl Call {
         2 + usize::from(self.wait().is_some()) + usize::from(self.item().is_some())
     }
 
-    /// Whether the queue is 0 to 63, the wait at most 86,400,000 milliseconds and the item of at most
-    /// 512 bytes.
+    /// Whether the queue is 0 to 63 and the item has at most 512 bytes.
     pub fn fits(&self) -> bool
         ensures { IsTrue result ↔ FitsCall self.now }
     {
-        self.side().fits()
-            && self.wait().is_none_or(|wait| wait.fits())
-            && self.item().is_none_or(Item::fits)
+        self.side().fits() && self.item().is_none_or(Item::fits)
     }
 }

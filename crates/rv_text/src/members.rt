@@ -3,8 +3,7 @@ ghost use Rattle.std.specs.Prelude.{◌≡◌, option_map};
 ghost use Rattle.serde_json.specs.Find.{get_member};
 ghost use Rattle.serde_json.specs.View.{view, members_view};
 ghost use Rattle.rv_text.specs.Reading.{FindsAmong, FindsSeenAmong, whole_among, text_among};
-ghost use Rattle.rv_text.specs.Reading.{queue_among, item_among, wait_word_among, wait_among};
-ghost use Rattle.rv_text.specs.Reading.{key_among, call_among};
+ghost use Rattle.rv_text.specs.Reading.{queue_among, item_among, wait_among, key_among, call_among};
 ghost use Rattle.rv_text.specs.Reading.{reply_among, refusal_among};
 
 use crate::answer::{Refusal, Reply};
@@ -56,15 +55,6 @@ fn read_item(alloc: Global, members: &Map<String, Value>) -> Result<Item, TextFa
 
 fn read_wait(members: &Map<String, Value>) -> Result<Wait, TextFault>
     ensures { FindsAmong members.now result wait_among }
-{
-    match member(members, "wait").and_then(Value::as_u64) {
-        Some(millis) => Ok(Wait::Millis(millis)),
-        None => read_wait_word(members),
-    }
-}
-
-fn read_wait_word(members: &Map<String, Value>) -> Result<Wait, TextFault>
-    ensures { FindsAmong members.now result wait_word_among }
 {
     match read_text(members, "wait")? {
         "now" => Ok(Wait::Now),
@@ -120,7 +110,6 @@ pub(crate) fn read_reply(alloc: Global, members: &Map<String, Value>) -> Result<
         "nobody" => Ok(Reply::Nobody),
         "item" => Ok(Reply::Item(read_item(alloc, members)?)),
         "empty" => Ok(Reply::Empty),
-        "timedout" => Ok(Reply::TimedOut),
         "cancelled" => Ok(Reply::Cancelled),
         "counted" => Ok(Reply::Counted {
             items: read_whole(members, "items")?,

@@ -31,9 +31,6 @@ const MESSAGES: &[&str] = &[
     "{\"call\":\"take\",\"client\":1,\"epoch\":1,\"incarnation\":1,\
         \"kind\":\"request\",\"number\":1,\"queue\":63,\"wait\":\"forever\"}",
     "Take { queue: 63, wait: Forever }",
-    "{\"call\":\"take\",\"client\":1,\"epoch\":1,\"incarnation\":1,\
-        \"kind\":\"request\",\"number\":1,\"queue\":0,\"wait\":86400000}",
-    "Take { queue: 0, wait: Millis(86400000) }",
     r#"{"call":"count","client":1,"epoch":1,"incarnation":1,"kind":"request","number":1,"queue":3}"#,
     "Count { queue: 3 }",
     r#"{"call":"peek","client":1,"epoch":1,"incarnation":1,"kind":"request","number":1,"queue":3}"#,
@@ -85,8 +82,6 @@ const ANSWERS: &[&str] = &[
     "Item(Item { text: \"\\u{1}\\\"\\\\é\" })",
     r#"{"client":1,"epoch":1,"incarnation":1,"kind":"reply","number":1,"reply":"empty"}"#,
     "Empty",
-    r#"{"client":1,"epoch":1,"incarnation":1,"kind":"reply","number":1,"reply":"timedout"}"#,
-    "TimedOut",
     r#"{"client":1,"epoch":1,"incarnation":1,"kind":"reply","number":1,"reply":"cancelled"}"#,
     "Cancelled",
     "{\"client\":1,\"consumers\":0,\"epoch\":1,\"incarnation\":1,\"items\":3,\"kind\":\"reply\",\
