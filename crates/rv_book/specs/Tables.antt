@@ -1,5 +1,5 @@
 -- What the book's private tables say of its account.
-use Rattle.std.specs.Prelude.{◌≡◌, ◌⊎◌, ◌<◌, ◌≤◌, ◌+◌, ℕ, List, length, Option, Some, None, slice_get}
+use Rattle.std.specs.Prelude.{◌≡◌, ◌⊎◌, ◌≤◌, ◌+◌, ℕ, length, Option, Some, None}
 use Rattle.rv_text.specs.declared.message.Key.{Key}
 use Rattle.rv_text.specs.declared.message.Message.{Message}
 use Rattle.rv_text.specs.declared.call.Side.{Side}
@@ -18,9 +18,8 @@ use Rattle.rv_session.specs.Standings.{standing_of}
 use Rattle.rv_session.specs.Table.{OnlySettles, Table, session_of, waiting_of}
 use Rattle.rv_session.specs.declared.standing.Standing.TheVariants as standing
 use Rattle.rv_session.specs.declared.kept.Kept.TheVariants as kept
-use Rattle.rv_book.specs.declared.account.Entry.{Entry}
 use Rattle.rv_book.specs.declared.account.Act.{Act}
-use Rattle.rv_book.specs.declared.account.Act.TheVariants.{Hello, Arrive}
+use Rattle.rv_book.specs.declared.account.Act.TheVariants.{Arrive}
 use Rattle.rv_book.specs.Replies.{CancelledFirst}
 use Rattle.rv_book.specs.declared.state.State.{State}
 use Rattle.rv_book.specs.declared.verdict.Said.{Said}
@@ -38,7 +37,7 @@ use Rattle.rv_book.specs.Steps.{EpochFullDue, NextAt, max_entries, max_moment}
 use Rattle.rv_book.specs.Verdicts.{answer_of}
 use Rattle.rv_book.specs.Views.{SameQueues}
 use Rattle.rv_session.specs.Owed.{Owed}
-use Rattle.rv_book.specs.Waiting.{OpenAt, Waiting}
+use Rattle.rv_book.specs.Waiting.{Waiting}
 
 -- ---- sessions
 

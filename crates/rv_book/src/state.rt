@@ -187,7 +187,8 @@ impl State {
             own,
             other,
         } = arrived;
-        self.account.push(moment, Act::Arrive { key, call }, partner);
+        self.account
+            .push(moment, Act::Arrive { key, call }, partner);
         self.settle(other, others);
         self.settle(own, kept);
         told
@@ -211,7 +212,12 @@ impl State {
 
     // What a request is told that arrived at a place, if it came with this call: the reply that is kept, or that
     // it waits.
-    fn repeat(&self, place: Option<Place>, call: &Call, kept: Option<Kept>) -> Result<Option<Kept>, Refusal>
+    fn repeat(
+        &self,
+        place: Option<Place>,
+        call: &Call,
+        kept: Option<Kept>,
+    ) -> Result<Option<Kept>, Refusal>
         ensures ok { IfOk result (λ again. (again ≡ kept) × IsRepeat (account_of self.now) place call.now) }
         ensures err { IfErr result (λ refusal. (refusal ≡ OtherCall)
             × ¬ IsRepeat (account_of self.now) place call.now) }
