@@ -122,8 +122,8 @@ pub record IsSame (old new : State) : Type 0 where
 abbrev pub HasSpace : State → ℕ → Type 0
 HasSpace state need = length (account_of state).entries + state.waiting + need ≤ max_entries
 
--- nothing changed but the room: so many entries have their own, each request that waits has too, and so has what
--- an arrival of the side adds to the queues
+-- nothing changed but the room: so many entries have their own, each request that waits has too, and so has
+-- what an arrival of the side adds to the queues
 pub record IsReady (old new : State) (need : ℕ) (side : Option Side) : Type 0 where
   pub same : IsSame old new
   pub room : old.waiting + need ≤ new.account.room
@@ -154,8 +154,8 @@ abbrev pub SettlesIf : Table → Table → Option Owed → Kept → Type 0
 SettlesIf old new None kept = new ≡ old
 SettlesIf old new (Some duty) kept = OnlySettles old new duty.client duty.place kept
 
--- what is kept as the reply of the request that an arrival of the side, at the place, met: who gives hands its
--- own item over, and who takes received the other's
+-- what is kept as the reply of the request that an arrival of the side, at the place, met: who gives hands
+-- its own item over, and who takes received the other's
 abbrev pub partners_reply : Side → ℕ → Kept
 partners_reply (Gives queue) place = kept.Item place
 partners_reply (Takes queue) place = kept.Received
