@@ -79,6 +79,7 @@ both (inl a) (inl b) make parts = inl (make a b)
 both (inl a) (inr apart) make parts = inr (λ c. apart (parts c).1)
 both (inr apart) b make parts = inr (λ c. apart (parts c).0)
 
+-- a fact that follows from another and leads to it
 alone : {A C : Type 0} → A ⊎ (A → ⊥) → (A → C) → (C → A) → C ⊎ (C → ⊥)
 alone (inl a) make part = inl (make a)
 alone (inr apart) make part = inr (λ c. apart (part c))

@@ -12,7 +12,7 @@ use Rattle.rv_text.specs.declared.call.Call.TheVariants as call
 use Rattle.rv_text.specs.Members.{Member}
 use Rattle.rv_text.specs.Rows.{key_row, wait_row, item_row, call_row, message_row}
 use Rattle.rv_text.specs.Reading.{◌>>=◌, whole_among, queue_among, item_among, wait_lines, wait_among}
-use Rattle.rv_text.specs.Reading.{key_among, hello_among, request_among, call_lines, call_among, message_lines, message_among}
+use Rattle.rv_text.specs.Reading.{key_among, hello_among, request_among, cancel_among, call_lines, call_among, message_lines, message_among}
 use Rattle.rv_text.specs.Reading.{messages}
 use Rattle.rv_text.proofs.Sound.{message_sound}
 use Rattle.rv_text.proofs.Steps.{step_found, last_found, Has, HasRow, whole_found, text_found, among_found, IsReader}
@@ -104,14 +104,19 @@ module _ (ms : Members) where
       last_found HasMessage (message.Request key call)
       (let has = key_found key k in (word, (has.0, (has.1.0, (has.1.1.0, (has.1.1.1.0, call_found call c))))))))
 
+  cancel_found : Has ms (codes "kind", string (codes "cancel")) → (message : Message) → cancel_among ms ≡ Some message → HasMessage message
+  cancel_found word =
+      step_found HasMessage (key_among ms) _ (λ key k. last_found HasMessage (message.Cancel key) (word, key_found key k))
+
   message_found : (message : Message) → message_among ms ≡ Some message → HasMessage message
-  message_found = among_found ms HasMessage (codes "kind") message_lines (hello_found, (request_found, tt))
+  message_found = among_found ms HasMessage (codes "kind") message_lines (hello_found, (request_found, (cancel_found, tt)))
 
   find_message : (message : Message) → HasMessage message → message_among ms ≡ Some message
   find_message (message.Hello client incarnation) has = rw (has.0, has.1.0, has.1.1.0) refl
   find_message (message.Request key call) has =
       let of_key = find_key key (has.1.0, (has.1.1.0, (has.1.1.1.0, (has.1.1.1.1.0, tt)))) in
       rw (has.0, of_key, find_call call has.1.1.1.1.1) refl
+  find_message (message.Cancel key) has = rw (has.0, find_key key has.1) refl
 
 pub message_reader : IsReader Message messages
 message_reader = record { sound = message_sound; has = message_found; finds = find_message }

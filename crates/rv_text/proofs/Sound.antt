@@ -57,6 +57,7 @@ message_sound (message.Hello client incarnation) = record { distinct = refl; pla
 message_sound (message.Request key call) =
     let nature = nature_of call in
     request_sound key nature.word nature.side nature.wait nature.item (call_word call)
+message_sound (message.Cancel key) = record { distinct = refl; plain = refl; room = omega arith; in_order = refl }
 
 key_within : (key : Key) (row : List Member) → FitsKey key → Each IsWithin row → Each IsWithin (key_row key ++ row)
 key_within key row fits rest = (fits.0, (fits.1, (fits.2, (fits.3, rest))))
@@ -64,6 +65,7 @@ key_within key row fits rest = (fits.0, (fits.1, (fits.2, (fits.3, rest))))
 pub message_within : (message : Message) → FitsMessage message → Each IsWithin (message_row message)
 message_within (message.Hello client incarnation) fits = (tt, (fits.0, (fits.1, tt)))
 message_within (message.Request key call) fits = (tt, key_within key (call_row call) fits.0 (each_within (call_row call) fits.1))
+message_within (message.Cancel key) fits = (tt, key_within key [] fits tt)
 
 wait_text : (waits : Option Wait) → Each IsText (wait_row waits)
 wait_text None = tt
@@ -82,6 +84,7 @@ call_text call utf8 =
 pub message_has_text : (message : Message) → HasUtf8 message → Each IsText (message_row message)
 message_has_text (message.Hello client incarnation) utf8 = (tt, (tt, (tt, tt)))
 message_has_text (message.Request key call) utf8 = (tt, (tt, (tt, (tt, (tt, call_text call utf8)))))
+message_has_text (message.Cancel key) utf8 = (tt, (tt, (tt, (tt, (tt, tt)))))
 
 -- ---- answers
 

@@ -69,6 +69,7 @@ message_row (message.Hello client incarnation) =
     []
 message_row (message.Request key call) =
     word (codes "kind") (codes "request") ∷ (key_row key ++ call_row call)
+message_row (message.Cancel key) = word (codes "kind") (codes "cancel") ∷ key_row key
 
 -- ---- answers
 

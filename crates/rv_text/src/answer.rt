@@ -74,7 +74,7 @@ impl Reply {
     ghost use Rattle.rv_text.specs.Limits.{FitsReply};
 
     // How many members the reply has in a body: its word, and its item or its numbers.
-    fn member_count(&self) -> usize
+    pub(crate) fn member_count(&self) -> usize
         ensures { result ≡ length (reply_row self.now) }
     {
         match self {
@@ -105,21 +105,16 @@ impl Refusal {
     ghost use Rattle.rv_text.specs.Limits.{FitsRefusal};
 
     // How many members the refusal has in a body beside its code.
-    fn detail_count(&self) -> usize
+    pub(crate) fn detail_count(&self) -> usize
         ensures { result ≡ length (detail_row self.now) }
     {
         match self {
-            Refusal::OtherEpoch(_)
-            | Refusal::OldIncarnation(_)
-            | Refusal::OldNumber(_)
-            | Refusal::Busy(_)
-            | Refusal::Gap(_) => 1,
-            Refusal::BadText
-            | Refusal::NoSession
-            | Refusal::OtherCall
-            | Refusal::ClientsFull
-            | Refusal::EpochFull
-            | Refusal::NoMemory => 0,
+            Refusal::OtherEpoch(_) => 1,
+            Refusal::OldIncarnation(_) => 1,
+            Refusal::OldNumber(_) => 1,
+            Refusal::Busy(_) => 1,
+            Refusal::Gap(_) => 1,
+            _ => 0,
         }
     }
 
@@ -134,12 +129,7 @@ impl Refusal {
             Refusal::Busy(number) => fits_identifier(*number),
             Refusal::OldNumber(last) => *last <= MAX_IDENTIFIER,
             Refusal::Gap(last) => *last <= MAX_IDENTIFIER,
-            Refusal::BadText
-            | Refusal::NoSession
-            | Refusal::OtherCall
-            | Refusal::ClientsFull
-            | Refusal::EpochFull
-            | Refusal::NoMemory => true,
+            _ => true,
         }
     }
 
@@ -186,20 +176,7 @@ pub enum Answer {
 }
 
 impl Answer {
-    ghost use Rattle.rv_text.specs.Rows.{answer_row};
     ghost use Rattle.rv_text.specs.Limits.{FitsAnswer};
-
-    // How many members the answer has in its body.
-    pub(crate) fn member_count(&self) -> usize
-        ensures { result ≡ length (answer_row self.now) }
-    {
-        match self {
-            Answer::Welcome { .. } => 4,
-            Answer::Replied { reply, .. } => 5 + reply.member_count(),
-            Answer::Waiting { .. } => 5,
-            Answer::Refused(refusal) => 2 + refusal.detail_count(),
-        }
-    }
 
     /// Whether every number and the item are within their limits.
     pub fn fits(&self) -> bool

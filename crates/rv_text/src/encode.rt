@@ -66,6 +66,10 @@ fn put_message(
             put_key(members, alloc, key)?;
             put_call(members, alloc, call)
         }
+        Message::Cancel { key } => {
+            put_text(members, alloc, "kind", "cancel")?;
+            put_key(members, alloc, key)
+        }
     }
 }
 
@@ -198,12 +202,7 @@ fn put_detail(
         Refusal::OldNumber(last) => put_whole(members, alloc, "last", last),
         Refusal::Gap(last) => put_whole(members, alloc, "last", last),
         Refusal::Busy(number) => put_whole(members, alloc, "open", number),
-        Refusal::BadText
-        | Refusal::NoSession
-        | Refusal::OtherCall
-        | Refusal::ClientsFull
-        | Refusal::EpochFull
-        | Refusal::NoMemory => Ok(()),
+        _ => Ok(()),
     }
 }
 

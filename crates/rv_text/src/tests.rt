@@ -18,6 +18,8 @@ const KEY: Key = Key {
 const MESSAGES: &[&str] = &[
     r#"{"client":1,"incarnation":1,"kind":"hello"}"#,
     "Hello { client: 1, incarnation: 1 }",
+    r#"{"client":1,"epoch":1,"incarnation":1,"kind":"cancel","number":1}"#,
+    "Cancel",
     r#"{"call":"put","client":1,"epoch":1,"incarnation":1,"item":"a","kind":"request","number":1,"queue":3}"#,
     r#"Put { queue: 3, item: Item { text: "a" } }"#,
     "{\"call\":\"transfer\",\"client\":1,\"epoch\":1,\"incarnation\":1,\"item\":\"a\",\
@@ -49,6 +51,10 @@ fn messages_are_read_and_written(rt: HostRuntime) -> Result<(), Fail> {
             Message::Request { key, call } => {
                 assert_eq!(rt; *key, KEY);
                 format!(in alloc; "{call:?}")?
+            }
+            Message::Cancel { key } => {
+                assert_eq!(rt; *key, KEY);
+                String::from_str(alloc, "Cancel")?
             }
             other => format!(in alloc; "{other:?}")?,
         };
@@ -269,7 +275,7 @@ fn values_know_their_limits(rt: HostRuntime) -> Result<(), Fail> {
     assert_eq!(rt; call.item().map(|item| item.as_str().len()), Some(513));
     assert!(rt; !Reply::Peeked(item).fits());
     let key = Key { epoch: 0, ..KEY };
-    assert!(rt; !key.fits() && !Answer::Waiting { key }.fits());
+    assert!(rt; !key.fits() && !Answer::Waiting { key }.fits() && !Message::Cancel { key }.fits());
     assert_eq!(rt; Refusal::Gap(0).code(), 8);
     for (refusal, want) in [
         (Refusal::OtherEpoch(0), false),
