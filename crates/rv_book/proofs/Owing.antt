@@ -1,27 +1,25 @@
 -- Who is owed a reply: an open arrival that is no put. How many these are with one entry more.
-use Rattle.std.proofs.Common.{◌≡◌, ◌⊎◌, inl, inr, ℕ, ◌<◌, ◌≤◌, ◌+◌, List, [], ◌∷◌, ◌++◌, length, Option, Some, None, IsSome, refl, sym, ap, subst, ◌∙◌, arith, option_and_then}
-use Rattle.std.specs.Prelude.{◌↔◌}
+use Rattle.std.proofs.Common.{◌≡◌, inl, inr, ℕ, ◌<◌, ◌≤◌, ◌+◌, List, [], ◌∷◌, ◌++◌, length, Option, Some, None, IsSome, refl, sym, ap, subst, ◌∙◌, arith, option_and_then}
 use Rattle.std.proofs.lemmas.Option.{none-some, same_Some}
 use Rattle.rv_text.specs.declared.call.Call.{Call}
-use Rattle.rv_text.specs.declared.call.Side.{Side}
 use Rattle.rv_text.specs.declared.call.Wait.{Wait}
 use Rattle.rv_text.specs.declared.message.Key.{Key}
 use Rattle.rv_text.specs.Calls.{side_of, wait_of}
 use Rattle.rv_session.specs.Owed.{Owed}
-use Rattle.rv_book.specs.Account.{Account, act_at, call_at, call_in}
+use Rattle.rv_book.specs.Account.{Account, act_at, call_in}
 use Rattle.rv_book.specs.Arriving.{GoesOn, MeetsOldest}
 use Rattle.rv_book.specs.Calls.{IsPut, MayMeet, Stays}
 use Rattle.rv_book.specs.Counting.{NumberOf}
-use Rattle.rv_book.specs.declared.account.Act.TheVariants.{Arrive, Hello}
+use Rattle.rv_book.specs.declared.account.Act.TheVariants.{Arrive}
 use Rattle.rv_book.specs.declared.account.Entry.{Entry}
 use Rattle.rv_book.specs.Legal.{Legal, NamesFreePartner}
 use Rattle.rv_book.specs.Meeting.{OwnDuty, PartnersDuty, ends_waiting, starts_waiting}
 use Rattle.rv_book.specs.Parked.{owed_at, owed_by, owed_in}
-use Rattle.rv_book.specs.Waiting.{Open, OpenAt, StoppedAt, Waiting}
+use Rattle.rv_book.specs.Waiting.{Open, StoppedAt, Waiting}
 use Rattle.rv_book.proofs.Counting.{number_drop, number_push, same_number}
 use Rattle.rv_book.proofs.Keys.{act_called}
-use Rattle.rv_book.proofs.Sides.{IsNewRequest, IsRequestOf, Waiting-back, Waiting-last, Waiting-on, arrival_stops_nobody, hello_stops, stopped_by_hello, waiting_is_open}
-use Rattle.rv_book.proofs.Waiters.{met_last, open_inside}
+use Rattle.rv_book.proofs.Sides.{Waiting-back, Waiting-last, Waiting-on, arrival_stops_nobody, waiting_is_open}
+use Rattle.rv_book.proofs.Waiters.{Stops, met_last, open_inside}
 
 -- ---- one arrival
 
@@ -101,7 +99,7 @@ module _ (a : Account) (e : Entry) (key : Key) (call : Call) (legal : Legal a) (
     (λ either. elim either [
       | inl was ↦ still none r was
       | inr last ↦ subst (Waiting (a.entries ++ e ∷ [])) (sym last) (Waiting-last a e legal none (record { call = call; arrives = ap call_in arrives; stays = goes.stays; no_put = goes.no_put }))
-    ])
+    ]),
   ))
 
   number_goes : (n : ℕ) → NumberOf (Waiting a.entries) n → (GoesOn call None → ⊥) → e.partner ≡ None → NumberOf (Waiting (a.entries ++ e ∷ [])) n
@@ -112,7 +110,7 @@ module _ (a : Account) (e : Entry) (key : Key) (call : Call) (legal : Legal a) (
       | inr new ↦
           let same : new.1.call ≡ call = same_Some _ _ (sym new.1.arrives ∙ ap call_in arrives) in
           absurd (goes (record { unmet = refl; stays = subst Stays same new.1.stays; no_put = subst (λ c. IsPut c → ⊥) same new.1.no_put }))
-    ])
+    ]),
   )) count
 
   -- the entry met the arrival at p
@@ -125,13 +123,13 @@ module _ (a : Account) (e : Entry) (key : Key) (call : Call) (legal : Legal a) (
   number_met : (n p : ℕ) → NumberOf (Waiting a.entries) n → e.partner ≡ Some p → Waiting a.entries p → (k : ℕ) × (n ≡ k + 1) × NumberOf (Waiting (a.entries ++ e ∷ [])) k
   number_met n p count named waits = number_drop (Waiting a.entries) (Waiting (a.entries ++ e ∷ [])) n p count waits (λ r. (
     (λ there. was_waiting p r named there),
-    (λ both. Waiting-on a.entries e r both.0 (λ also. both.1 (same_Some _ _ (sym also ∙ named))) (unstopped r))
+    (λ both. Waiting-on a.entries e r both.0 (λ also. both.1 (same_Some _ _ (sym also ∙ named))) (unstopped r)),
   ))
 
   number_met_put : (n p : ℕ) → NumberOf (Waiting a.entries) n → e.partner ≡ Some p → (Waiting a.entries p → ⊥) → NumberOf (Waiting (a.entries ++ e ∷ [])) n
   number_met_put n p count named goes = same_number (Waiting a.entries) (Waiting (a.entries ++ e ∷ [])) n (λ r. (
     (λ waits. Waiting-on a.entries e r waits (λ also. goes (subst (Waiting a.entries) (same_Some _ _ (sym also ∙ named)) waits)) (unstopped r)),
-    (λ there. (was_waiting p r named there).0)
+    (λ there. (was_waiting p r named there).0),
   )) count
 
   -- so many wait after it, as its own duty and its partner's tell
@@ -148,24 +146,24 @@ module _ (a : Account) (e : Entry) (key : Key) (call : Call) (legal : Legal a) (
       let less = number_met n p count named (owed_waits a.entries p other meets.2.there.is_open (sym other_is)) in
       (less.0, (let same : n ≡ less.0 + 1 = less.1 in omega arith), less.2)
 
-module _ (a : Account) (e : Entry) (client incarnation : ℕ) (free : NamesFreePartner a.entries e) (says : e.act ≡ Hello client incarnation) (none : e.partner ≡ None) where
-  was_there : (r : ℕ) → Waiting (a.entries ++ e ∷ []) r → Waiting a.entries r × (IsRequestOf a.entries client r → ⊥)
-  was_there r waits = elim (Waiting-back a.entries e r free waits) [
-    | inl was ↦ (was.there, λ request. was.unstopped (hello_stops a.entries e client incarnation r says request))
-    | inr new ↦ absurd (none-some new.1.call (sym (ap call_in says) ∙ new.1.arrives))
+module _ (es : List Entry) (e : Entry) (P : ℕ → Type 0) (free : NamesFreePartner es e) (is : Stops es e P) where
+  was_there : (r : ℕ) → Waiting (es ++ e ∷ []) r → Waiting es r × (P r → ⊥)
+  was_there r waits = elim (Waiting-back es e r free waits) [
+    | inl was ↦ (was.there, λ own. was.unstopped (is.stops r own))
+    | inr new ↦ absurd (none-some new.1.call (sym is.no_call ∙ new.1.arrives))
   ]
 
-  still_there : (r : ℕ) → Waiting a.entries r → (IsRequestOf a.entries client r → ⊥) → Waiting (a.entries ++ e ∷ []) r
-  still_there r waits other = Waiting-on a.entries e r waits (λ named. none-some r (sym none ∙ named)) (λ stopped. other (stopped_by_hello a.entries e client incarnation r says stopped))
+  still_there : (r : ℕ) → Waiting es r → (P r → ⊥) → Waiting (es ++ e ∷ []) r
+  still_there r waits other = Waiting-on es e r waits (λ named. none-some r (sym is.none ∙ named)) (λ stopped. other (is.stopped r stopped))
 
-  -- nothing of the client waited
-  pub number_greeted : (n : ℕ) → NumberOf (Waiting a.entries) n → ((r : ℕ) → Waiting a.entries r → IsRequestOf a.entries client r → ⊥) → NumberOf (Waiting (a.entries ++ e ∷ [])) n
-  number_greeted n count idle = same_number (Waiting a.entries) (Waiting (a.entries ++ e ∷ [])) n (λ r. ((λ waits. still_there r waits (idle r waits)), (λ there. (was_there r there).0))) count
+  -- it stops nobody who waits
+  pub number_same : (n : ℕ) → NumberOf (Waiting es) n → ((r : ℕ) → Waiting es r → P r → ⊥) → NumberOf (Waiting (es ++ e ∷ [])) n
+  number_same n count idle = same_number (Waiting es) (Waiting (es ++ e ∷ [])) n (λ r. ((λ waits. still_there r waits (idle r waits)), (λ there. (was_there r there).0))) count
 
-  -- one request of the client waited
-  pub number_renewed : (n p : ℕ) → NumberOf (Waiting a.entries) n → Waiting a.entries p → IsRequestOf a.entries client p → ((r : ℕ) → Waiting a.entries r → IsRequestOf a.entries client r → r ≡ p)
-      → (k : ℕ) × (n ≡ k + 1) × NumberOf (Waiting (a.entries ++ e ∷ [])) k
-  number_renewed n p count waits request only = number_drop (Waiting a.entries) (Waiting (a.entries ++ e ∷ [])) n p count waits (λ r. (
-    (λ there. let was = was_there r there in (was.0, λ same. was.1 (subst (IsRequestOf a.entries client) (sym same) request))),
-    (λ both. still_there r both.0 (λ own. both.1 (only r both.0 own)))
+  -- it stops one request that waits
+  pub number_less : (n p : ℕ) → NumberOf (Waiting es) n → Waiting es p → P p → ((r : ℕ) → Waiting es r → P r → r ≡ p)
+      → (k : ℕ) × (n ≡ k + 1) × NumberOf (Waiting (es ++ e ∷ [])) k
+  number_less n p count waits own only = number_drop (Waiting es) (Waiting (es ++ e ∷ [])) n p count waits (λ r. (
+    (λ there. let was = was_there r there in (was.0, λ same. was.1 (subst P (sym same) own))),
+    (λ both. still_there r both.0 (λ here. both.1 (only r both.0 here)))
   ))

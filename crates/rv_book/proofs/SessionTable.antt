@@ -6,18 +6,17 @@ use Rattle.rv_session.specs.declared.session.Session.{Session}
 use Rattle.rv_session.specs.declared.kept.Kept.{Kept}
 use Rattle.rv_session.specs.Table.{Table, OnlySets, OnlySettles, fresh, session_of}
 use Rattle.rv_book.specs.Account.{Account, act_at, call_at, call_in, key_at, key_in, with_entry}
-use Rattle.rv_book.specs.declared.account.Act.{Act}
 use Rattle.rv_book.specs.Tables.{AreSessions, IsSession, IsSessionOf, Stands}
 use Rattle.rv_book.specs.declared.account.Act.TheVariants.{Arrive, Hello}
 use Rattle.rv_text.specs.declared.call.Call.{Call}
 use Rattle.rv_book.specs.declared.account.Entry.{Entry}
-use Rattle.rv_book.specs.Sessions.{HasIncarnation, LastHello, LastNumber, NamesKey, SaidHello}
+use Rattle.rv_book.specs.Sessions.{HasIncarnation, LastHello, LastNumber}
 use Rattle.rv_book.specs.Arriving.{IsKept}
 use Rattle.rv_book.specs.Waiting.{Waiting}
 use Rattle.rv_book.proofs.Sides.{Waiting-on, stopped_by_hello}
 use Rattle.rv_text.specs.declared.message.Key.{Key}
 use Rattle.rv_book.specs.Legal.{Legal, before}
-use Rattle.std.proofs.Common.{List, None, Option, Some, [], ap, arith, inl, inr, length, option_and_then, refl, subst, sym, ℕ, ◌++◌, ◌+◌, ◌<◌, ◌∙◌, ◌∷◌, ◌≡◌, ◌≤◌, ◌⊎◌}
+use Rattle.std.proofs.Common.{List, None, Option, Some, [], ap, arith, inl, inr, length, option_and_then, refl, subst, sym, ℕ, ◌++◌, ◌<◌, ◌∙◌, ◌∷◌, ◌≡◌, ◌≤◌}
 use Rattle.rv_book.proofs.Growing.{act_read, reads_back, reads_on, reads_within}
 use Rattle.rv_book.proofs.Places.{get-append_end}
 use Rattle.rv_book.proofs.Staying.{kept_stays}
@@ -25,7 +24,7 @@ use Rattle.std.proofs.lemmas.Option.{none-some, same_Some}
 use Rattle.rv_book.proofs.Numbers.{same_or_not}
 use Rattle.rv_book.proofs.Keys.{LastHello-on, NamesKey-back, NamesKey-on, client_of, hello_is_own, key_is_own, key_read, no_hello}
 use Rattle.rv_book.proofs.Replying.{reply_laws}
-pub use Rattle.rv_book.proofs.WaitingTable.{known, unknown, waits_in_table, none_waits, WaitsThere, waiting_there, has_waiting}
+pub use Rattle.rv_book.proofs.WaitingTable.{waits_in_table}
 
 -- the session of the client has this incarnation and this last number
 pub record IsAt (es : List Entry) (c i n : ℕ) : Type 0 where

@@ -1,26 +1,24 @@
 -- After an arrival the table of sessions is what the account says: its own session waits or is settled, the session of
 -- the request that it met is settled, and all others stay.
-use Rattle.std.proofs.Common.{◌≡◌, ◌⊎◌, inl, inr, ℕ, ◌+◌, ◌≤◌, List, [], ◌∷◌, ◌++◌, length, Option, Some, None, IfSome, IsSome, is_some, option_and_then, refl, sym, ap, subst, ◌∙◌, arith}
+use Rattle.std.proofs.Common.{◌≡◌, inl, inr, ℕ, ◌+◌, [], ◌∷◌, length, Option, Some, None, IfSome, IsSome, is_some, option_and_then, refl, sym, ap, subst, ◌∙◌, arith}
 use Rattle.std.proofs.lemmas.Option.{none-some, same_Some}
 use Rattle.rv_text.specs.declared.call.Call.{Call}
-use Rattle.rv_text.specs.declared.call.Side.{Side}
 use Rattle.rv_text.specs.declared.call.Wait.{Wait}
 use Rattle.rv_text.specs.declared.message.Key.{Key}
 use Rattle.rv_text.specs.Calls.{side_of, wait_of}
 use Rattle.rv_session.specs.Owed.{Owed}
 use Rattle.rv_session.specs.declared.kept.Kept.{Kept}
 use Rattle.rv_session.specs.declared.session.Session.{Session}
-use Rattle.rv_session.specs.declared.session.State as state
-use Rattle.rv_session.specs.Table.{Table, OnlySets, OnlySettles, session_of, settled_session, waiting_of, waiting_place, waiting_session}
+use Rattle.rv_session.specs.Table.{Table, OnlySets, session_of, settled_session, waiting_of, waiting_place, waiting_session}
 use Rattle.rv_book.specs.declared.account.Entry.{Entry}
 use Rattle.rv_book.specs.declared.account.Act.TheVariants.{Arrive}
 use Rattle.rv_book.specs.Account.{Account, act_at, call_at, call_in, key_in, with_entry}
 use Rattle.rv_book.specs.Arriving.{IsKept, IsNext, MeetsOldest}
-use Rattle.rv_book.specs.Calls.{IsPut, Lasts, opposite}
-use Rattle.rv_book.specs.Legal.{HasWaiting, Legal}
-use Rattle.rv_book.specs.Meeting.{MayWait, OwnDuty, PartnersDuty}
+use Rattle.rv_book.specs.Calls.{opposite}
+use Rattle.rv_book.specs.Legal.{Legal}
+use Rattle.rv_book.specs.Meeting.{OwnDuty, PartnersDuty}
 use Rattle.rv_book.specs.Parked.{owed_at, owed_by, owed_in}
-use Rattle.rv_book.specs.Tables.{AreSessions, IsDueIn, IsSession, IsSessionOf, SettlesIf, last_key, partners_reply}
+use Rattle.rv_book.specs.Tables.{AreSessions, IsDueIn, IsSession, IsSessionOf, SettlesIf, partners_reply}
 use Rattle.rv_book.specs.Waiting.{NamesPartner, Waiting}
 use Rattle.rv_book.proofs.Growing.{act_read, call_read, partner_read, reads_on}
 use Rattle.rv_book.proofs.Keys.{act_called, client_of}

@@ -1,5 +1,5 @@
 -- The table of sessions knows each request that waits, and its place.
-use Rattle.std.proofs.Common.{◌≡◌, inl, inr, ℕ, ◌+◌, ◌≤◌, Option, Some, None, option_and_then, refl, sym, ap, subst, ◌∙◌, arith}
+use Rattle.std.proofs.Common.{◌≡◌, ℕ, ◌+◌, ◌≤◌, Option, Some, None, option_and_then, refl, sym, ap, subst, ◌∙◌, arith}
 use Rattle.std.proofs.lemmas.Option.{none-some, same_Some}
 use Rattle.rv_text.specs.declared.call.Call.{Call}
 use Rattle.rv_text.specs.declared.message.Key.{Key}
@@ -9,7 +9,7 @@ use Rattle.rv_session.specs.declared.session.State as state
 use Rattle.rv_session.specs.declared.session.State.{State as StateOf}
 use Rattle.rv_session.specs.Table.{Table, session_of, waiting_of, waiting_place}
 use Rattle.rv_book.specs.declared.account.Act.TheVariants.{Arrive}
-use Rattle.rv_book.specs.Account.{Account, act_at, call_at, call_in, key_in}
+use Rattle.rv_book.specs.Account.{Account, act_at, call_in, key_in}
 use Rattle.rv_book.specs.Legal.{HasWaiting, Legal}
 use Rattle.rv_book.specs.Tables.{AreSessions, IsSession, IsSessionOf, IsSettledAt, IsWaitingAt, Stands, last_key}
 use Rattle.rv_book.specs.Waiting.{Waiting}
@@ -18,8 +18,7 @@ use Rattle.rv_book.proofs.Keys.{act_named}
 use Rattle.rv_book.proofs.OnePartner.{arrives_once}
 use Rattle.rv_book.proofs.Replying.{reply_laws}
 use Rattle.rv_book.specs.Sessions.{SaidHello}
-use Rattle.rv_book.proofs.Staying.{one_call}
-use Rattle.rv_book.proofs.Waits.{IsLast, arrival, waiting_is_last}
+use Rattle.rv_book.proofs.Waits.{arrival, waiting_is_last}
 
 -- what the table says of a client
 pub known : (a : Account) (t : Table) (client : ℕ) (s : Session) → AreSessions a t → session_of t client ≡ Some s → IsSession a client s
