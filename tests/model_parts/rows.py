@@ -1,4 +1,5 @@
-"""Worked rows, by which the model is tested itself: what each line is told, with values that were set beforehand.
+"""Worked rows: what each line is told, with values that were set beforehand. The model is tested by all of them, and
+the program by those whose messages it knows.
 
 A row is lines `[@MOMENT] WHAT => ANSWER`; without @MOMENT the moment is 0. WHAT is `hello CLIENT/INCARNATION`,
 `cancel KEY`, `KEY CALL`, or `line` and the line's text itself. KEY is `CLIENT#NUMBER` with incarnation 1, or
@@ -162,6 +163,12 @@ ROWS = [
         line x {"client":1,"incarnation":1,"kind":"hello"} => refused 1
         line  => refused 1
         """),
+    ("other forms of moments and spaces", 1, """
+        line 0{"client":1,"incarnation":1,"kind":"hello"} => refused 1
+        line  0 {"client":1,"incarnation":1,"kind":"hello"} => refused 1
+        line 00000000000000000000 {"client":1,"incarnation":1,"kind":"hello"} => refused 1
+        line 9999999999999999999  {"client":1,"incarnation":1,"kind":"hello"} => {"client":1,"epoch":1,"incarnation":1,"kind":"welcome"}
+        """),
     ("an item with escapes", 1, r"""
         hello 1/1 => welcome
         1#1 put 3 "\u0001\"\\\u00e9" => done
@@ -235,17 +242,22 @@ def answer_of(text, key):
     return written({"kind": "reply", **key, **members})
 
 
-def row_fault(epoch, lines):
-    """What is wrong with a row, if something is."""
-    account = Account(epoch, 0)
+def pairs_of(epoch, lines):
+    """The lines of a row, and the texts that answer them."""
     for row in filter(None, map(str.strip, lines.splitlines())):
         what, _, expected = row.rpartition("=>")
         moment, what = what.removeprefix("@").split(" ", 1) if row.startswith("@") else (0, what)
-        what = what.removesuffix(" ")
-        line, key = line_of(what, moment, epoch)
+        line, key = line_of(what.removesuffix(" "), moment, epoch)
+        yield line, answer_of(expected.strip(), key)
+
+
+def row_fault(epoch, lines):
+    """What is wrong with the model's answers to a row, if something is."""
+    account = Account(epoch, 0)
+    for line, expected in pairs_of(epoch, lines):
         account, got = told(account, line.encode(), WHOLE)
-        if got != answer_of(expected.strip(), key):
-            return f"{row}: got {got}"
+        if got != expected:
+            return f"{line}: got {got}"
     fault = first_fault(account) if len(account.entries) < 100 else None
     return f"the account breaks a rule: {fault}" if fault else None
 
