@@ -2,8 +2,12 @@
 //! source and a sink.
 #![tactic(auto)]
 
+mod fault;
 mod hello;
+mod link;
 mod request;
 
+pub use fault::LinkFault;
 pub use hello::{Greeted, New};
+pub use link::ask;
 pub use request::{Heard, Idle, Outstanding};
