@@ -4,3 +4,4 @@ pub mod Outcomes
 pub mod Faults
 pub mod Link
 pub mod Reading
+pub mod Calls

@@ -2,11 +2,13 @@
 //! source and a sink.
 #![tactic(auto)]
 
+mod calling;
 mod fault;
 mod hello;
 mod link;
 mod request;
 
+pub use calling::{Called, call};
 pub use fault::LinkFault;
 pub use hello::{Greeted, New};
 pub use link::ask;
