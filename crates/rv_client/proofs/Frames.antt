@@ -21,7 +21,10 @@ short_of_frame n bytes fits fewer = record {
 
 module _ {R : Type 0} (remaining : R → Option (List ℕ)) where
   stops_on : (old mid new : Source R) (fault : LinkFault) → Unfailed old mid → StopsFor remaining mid new fault → StopsFor remaining old new fault
-  stops_on old mid new ReadFault unfailed stops = stops
+  stops_on old mid new ReadFault unfailed stops = record {
+    failed = stops.failed;
+    stays_failed = λ failed. cc;
+  }
   stops_on old mid new Closed unfailed stops = (stops.0, record { before = unfailed.before; after = stops.1.after })
   stops_on old mid new (WriteFault sent) unfailed stops = stops
   stops_on old mid new BadFrame unfailed stops = stops

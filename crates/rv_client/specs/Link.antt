@@ -59,12 +59,14 @@ module _ {R W : Type 0} (remaining : R → Option (List ℕ)) (contents : W → 
     pub moves : Moves before after request (frame_bytes body)
     pub works : Works before after
 
-  -- the whole request went out, and no whole frame came in: these bytes alone, and a read failed
+  -- the whole request went out, and no whole frame came in: these bytes alone, and a read failed; a source
+  -- that had failed before gives nothing
   pub record FailsReading (request : List ℕ) (before after : Link R W) : Type 0 where
     pub bytes : List ℕ
     pub unfinished : IsUnfinished bytes
     pub moves : Moves before after request bytes
     pub failed : source_failed after.source ≡ true
+    pub stays_failed : source_failed before.source ≡ true → after.source ≡ before.source
     pub write_before : sink_failed before.sink ≡ false
     pub write_after : sink_failed after.sink ≡ false
 
@@ -83,11 +85,13 @@ module _ {R W : Type 0} (remaining : R → Option (List ℕ)) (contents : W → 
     pub moves : Moves before after request (length_bytes n)
     pub works : Works before after
 
-  -- of the request these first bytes alone went out, not all, and a write failed; nothing was read
+  -- of the request these first bytes alone went out, not all, and a write failed; a sink that had failed before
+  -- takes none; nothing was read
   pub record FailsWriting (request : List ℕ) (before after : Link R W) (sent : ℕ) : Type 0 where
     pub not_all : sent < length request
     pub front : SinkTakes contents before.sink after.sink (take sent request)
     pub failed : sink_failed after.sink ≡ true
+    pub stays_failed : sink_failed before.sink ≡ true → (sent ≡ 0) × (after.sink ≡ before.sink)
     pub nothing_read : after.source ≡ before.source
 
   -- what stands of a link after a request was asked once, by what came of it. Want of memory comes before

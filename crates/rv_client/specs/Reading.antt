@@ -14,10 +14,15 @@ module _ {R : Type 0} where
     pub before : source_failed old ≡ false
     pub after : source_failed new ≡ false
 
+  -- a read failed; a source that had failed before stays as it was
+  pub record FailsAgain (old new : Source R) : Type 0 where
+    pub failed : source_failed new ≡ true
+    pub stays_failed : source_failed old ≡ true → new ≡ old
+
 module _ {R : Type 0} (remaining : R → Option (List ℕ)) where
   -- why the source gave no more
   abbrev pub StopsFor : Source R → Source R → LinkFault → Type 0
-  StopsFor old new ReadFault = source_failed new ≡ true
+  StopsFor old new ReadFault = FailsAgain old new
   StopsFor old new Closed = HasEnded remaining new × Unfailed old new
   StopsFor old new (WriteFault sent) = ⊥
   StopsFor old new BadFrame = ⊥

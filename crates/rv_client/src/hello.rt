@@ -25,6 +25,7 @@ impl Model for New {
 }
 
 /// What an answer is to a client that has not been welcomed.
+#[derive(Debug, Drop)]
 pub enum Greeted {
     /// It is welcome, and idle.
     Idle(Idle),

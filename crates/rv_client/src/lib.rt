@@ -13,3 +13,6 @@ pub use fault::LinkFault;
 pub use hello::{Greeted, New};
 pub use link::ask;
 pub use request::{Heard, Idle, Outstanding};
+
+#[cfg(test)]
+mod tests;

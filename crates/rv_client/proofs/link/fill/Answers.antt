@@ -23,6 +23,7 @@ loop-filled-preserved g c = record {
       (sym (front_filled c.loop-filled.filled c.in_ok-count.count _ c.loop-filled.buffer c.read.new.buffer c.loop-filled.invariant.within c.in_ok-count.ensures.count.0))
       (Consumes-trans _ _ _ _ _ c.loop-filled.invariant.given c.in_ok-count.ensures.bytes.0);
   same = search rules;
+  first = search rules;
   unfailed = search rules;
 }
 

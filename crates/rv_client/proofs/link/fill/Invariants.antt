@@ -9,6 +9,7 @@ invariant-loop-filled g l = record {
   within : l.filled ≤ length l.buffer;
   given : Gives g.R.Read.remaining l.initial.source l.source (take l.filled l.buffer);
   same : source_failed l.source ≡ source_failed l.initial.source;
+  first : l.filled ≡ 0 → l.source ≡ l.initial.source;
   unfailed : 0 < l.filled → source_failed l.source ≡ false;
 }
 
