@@ -1,3 +1,4 @@
 pub mod Asking
 pub mod Tries
 pub mod Frames
+pub mod OneOutcome

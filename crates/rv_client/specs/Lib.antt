@@ -5,3 +5,4 @@ pub mod Faults
 pub mod Link
 pub mod Reading
 pub mod Calls
+pub mod Laws

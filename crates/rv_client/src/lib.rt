@@ -5,6 +5,7 @@
 mod calling;
 mod fault;
 mod hello;
+pub mod laws;
 mod link;
 mod request;
 
