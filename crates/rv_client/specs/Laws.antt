@@ -7,8 +7,8 @@ use Rattle.rv_client.specs.Process.{Hears, Outcome, Process, Starting, first_key
 
 -- an answer has at most one outcome
 abbrev pub OneOutcome : Type 0
-OneOutcome = (process : Process) (answer : Answer) (a b : Outcome) → Hears process answer a → Hears process answer b
-    → a ≡ b
+OneOutcome = (process : Process) (answer : Answer) (a b : Outcome) → Hears process answer a
+    → Hears process answer b → a ≡ b
 
 -- the key of a first request, and that of a next one, keep the limits
 abbrev pub FirstKeyFits : Type 0

@@ -1,8 +1,9 @@
--- What the contracts cite.
+-- What a reader must agree with: all that the public contracts and the laws cite.
 pub mod Process
 pub mod Outcomes
-pub mod Faults
 pub mod Link
-pub mod Reading
 pub mod Calls
 pub mod Laws
+-- What only private clauses and proofs cite.
+pub mod Faults
+pub mod Reading

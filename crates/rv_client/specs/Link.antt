@@ -85,8 +85,8 @@ module _ {R W : Type 0} (remaining : R → Option (List ℕ)) (contents : W → 
     pub moves : Moves before after request (length_bytes n)
     pub works : Works before after
 
-  -- of the request these first bytes alone went out, not all, and a write failed; a sink that had failed before
-  -- takes none; nothing was read
+  -- of the request these first bytes alone went out, not all, and a write failed; a sink that had failed
+  -- before takes none; nothing was read
   pub record FailsWriting (request : List ℕ) (before after : Link R W) (sent : ℕ) : Type 0 where
     pub not_all : sent < length request
     pub front : SinkTakes contents before.sink after.sink (take sent request)

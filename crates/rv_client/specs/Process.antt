@@ -66,7 +66,8 @@ Settles key answer reply = answer ≡ answers.Replied key reply
 
 -- the server has an epoch above the key's, which is this one
 abbrev pub EndsEpoch : Key → Answer → ℕ → Type 0
-EndsEpoch key answer current = (answer ≡ answers.Refused (refusals.OtherEpoch current)) × (key.epoch < current)
+EndsEpoch key answer current =
+    (answer ≡ answers.Refused (refusals.OtherEpoch current)) × (key.epoch < current)
 
 -- the client has an incarnation above the key's, which is this one
 abbrev pub Replaces : Key → Answer → ℕ → Type 0

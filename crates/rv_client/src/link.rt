@@ -55,12 +55,12 @@ fn read_frame<R: Read>(
     Ok(length)
 }
 
-/// Sends the frame of a message that keeps its limits, and reads the frame of its answer: exactly the bytes of
-/// one frame, in at most 4,098 reads.
+/// Sends the frame of a message that keeps its limits, and reads the frame of its answer: exactly the
+/// bytes of one frame, in at most 4,098 reads.
 ///
-/// Each [`LinkFault`] says what went out and what was read. A read or write fault comes only where the source
-/// or the sink has failed. After a fault but [`LinkFault::NoMemory`] before a byte went out, the link may not
-/// stand at the beginning of a frame.
+/// Each [`LinkFault`] says what went out and what was read. A read or write fault comes only where the
+/// source or the sink has failed. What the source gives after a read fault, a closed link or a bad
+/// frame need not begin a frame.
 pub fn ask<R: Read, W: Write>(
     alloc: Global,
     source: &mut Source<R>,

@@ -128,9 +128,9 @@ impl Outstanding {
         })
     }
 
-    /// Hears an answer. A reply of its own key settles it. It ends by the refusal *other epoch* with an epoch
-    /// above its key's, and by *old incarnation* with an incarnation above its key's: such a refusal holds for
-    /// ever. All else it ignores: a reply of another number, a stale refusal, an answer to another client.
+    /// Hears an answer. A reply of its own key settles it. It ends by the refusal *other epoch* with an
+    /// epoch above its key's, and by *old incarnation* with an incarnation above its key's. All else it
+    /// ignores: a reply of another number, a stale refusal, an answer to another client.
     pub fn hear(self, answer: Answer) -> Heard
         ensures { process.Hears (process.Outstanding self) answer (heard_as result) }
     {

@@ -347,8 +347,8 @@ fn what_each_answer_is_to_a_new_client(rt: HostRuntime) -> Result<(), Fail> {
     Ok(())
 }
 
-// A call over devices of its own, where a growth may be refused: whether it settled. Else nothing happened, or
-// the request went out and the whole reply was read; or the device itself found no memory.
+// A call over devices of its own, where a growth may be refused: whether it settled. Else nothing
+// happened, or the request went out and the whole reply was read; or the device itself found no memory.
 fn settles(rt: &impl Abort, alloc: Global) -> Result<bool, Fail> {
     let mut reader = TestReader::new(REPLY_FRAME, 7);
     let mut device = TestWriter::new(alloc, 10_000);
