@@ -2,12 +2,12 @@
 ghost use Rattle.std.specs.Prelude.{◌≡◌, IfOk, Some};
 ghost use Rattle.rv_text.specs.Limits.{FitsCall, FitsMessage};
 
-use crate::{Called, Greeted, Heard, Idle, LinkFault, New, Outstanding, ask, call};
+use crate::{Called, Greeted, Heard, Idle, LinkFault, New, ask, call, laws};
 use rv_frame::testing::{Stop, TestReader, TestWriter};
 use rv_frame::{Sink, Source};
 use rv_text::{Answer, Call, Item, Key, Message, Refusal, Reply, Wait};
 use std::alloc::{AllocError, Global};
-use std::io::{ErrorKind, Read};
+use std::io::{ErrorKind, Read, Write};
 use std::process::Abort;
 use std::test::Fail;
 
@@ -347,6 +347,19 @@ fn what_each_answer_is_to_a_new_client(rt: HostRuntime) -> Result<(), Fail> {
     Ok(())
 }
 
+// The client and the reply of a call that settled.
+fn settled(called: Called) -> Result<(Idle, Reply), Fail>
+    ensures { IfOk result (λ told. called ≡ Called.Settled told.0 told.1) }
+{
+    match called {
+        Called::Settled(idle, reply) => Ok((idle, reply)),
+        other => {
+            let _ = plain(other);
+            Err(Fail::new("it isn't settled"))
+        }
+    }
+}
+
 // A call over devices of its own, where a growth may be refused: whether it settled. Else nothing
 // happened, or the request went out and the whole reply was read; or the device itself found no memory.
 fn settles(rt: &impl Abort, alloc: Global) -> Result<bool, Fail> {
@@ -372,6 +385,54 @@ fn settles(rt: &impl Abort, alloc: Global) -> Result<bool, Fail> {
         }
     }
     Ok(false)
+}
+
+// Says hello, puts "a" and takes it: what each of these asks for follows from the contracts of those before it.
+fn converse<R: Read, W: Write>(
+    alloc: Global,
+    source: &mut Source<R>,
+    sink: &mut Sink<W>,
+) -> Result<(Reply, Reply), Fail> {
+    laws::keys_fit();
+    let new = New::start(2, 1);
+    let answer = ask(alloc, source, sink, &new.message())?;
+    let Greeted::Idle(idle) = new.welcome(&answer) else {
+        return Err(Fail::new("it isn't welcome"));
+    };
+    let put = put(alloc)?;
+    if !put.fits() {
+        return Err(Fail::new("the item is too long"));
+    }
+    let (idle, first) = settled(call(alloc, idle, source, sink, put, 3))?;
+    if idle.next_key().is_none() {
+        return Err(Fail::new("the greatest number was used up"));
+    }
+    let (_, second) = settled(call(alloc, idle, source, sink, take(), 3))?;
+    Ok((first, second))
+}
+
+#[test]
+fn a_conversation(rt: HostRuntime) -> Result<(), Fail> {
+    let alloc = rt.alloc();
+    let welcome = b"{\"client\":2,\"epoch\":1,\"incarnation\":1,\"kind\":\"welcome\"}";
+    let done = b"{\"client\":2,\"epoch\":1,\"incarnation\":1,\"kind\":\"reply\",\
+        \"number\":1,\"reply\":\"done\"}";
+    let empty = b"{\"client\":2,\"epoch\":1,\"incarnation\":1,\"kind\":\"reply\",\
+        \"number\":2,\"reply\":\"empty\"}";
+    let bodies = [
+        welcome.as_slice(),
+        NOTHING_FINAL,
+        done.as_slice(),
+        done.as_slice(),
+        empty.as_slice(),
+    ];
+    let bytes = frames(alloc, bodies.as_slice())?;
+    let mut source = Source::new(TestReader::new(&bytes, 5));
+    let mut device = TestWriter::new(alloc, 50);
+    let replies = converse(alloc, &mut source, &mut Sink::new(&mut device))?;
+    assert!(rt; replies == (Reply::Done, Reply::Empty));
+    assert_eq!(rt; unread(&mut source), 0);
+    Ok(())
 }
 
 // Passes too where any one growth is refused.
