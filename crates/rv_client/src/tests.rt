@@ -373,21 +373,22 @@ fn settles(rt: &impl Abort, alloc: Global) -> Result<bool, Fail> {
         take(),
         1,
     ));
+    let happened = (device.taken().len(), reader.reads());
     match called {
         Came::Settled(_, _) => return Ok(true),
         Came::Unsettled(_, Some(LinkFault::NoMemory)) => {
-            let happened = (device.taken().len(), reader.reads());
             assert!(rt; happened == (0, 0) || happened == (105, 14), "{happened:?}");
         }
-        _ => {
-            assert!(rt; called == Came::Unsettled(key(2, 1, 1), Some(LinkFault::WriteFault(0))));
-            assert_eq!(rt; reader.reads(), 0);
+        Came::Unsettled(_, Some(LinkFault::WriteFault(sent))) => {
+            assert_eq!(rt; happened, (sent, 0));
         }
+        other => assert!(rt; false, "{other:?}"),
     }
     Ok(false)
 }
 
-// Says hello, puts "a" and takes it: what each of these asks for follows from the contracts of those before it.
+// Says hello, puts "a" and takes it: what each of these asks for follows from the contracts of those
+// before it.
 fn converse<R: Read, W: Write>(
     alloc: Global,
     source: &mut Source<R>,
