@@ -42,5 +42,6 @@ pub mod Stepping
 pub mod Recording
 pub mod Marking
 pub mod Greeting
+pub mod Cancelling
 pub mod Standing
 pub mod Repeating
