@@ -30,6 +30,7 @@ pub mod Replying
 pub mod WaitingTable
 pub mod SessionTable
 pub mod Settling
+pub mod Cancelling
 pub mod Deciding
 pub mod Staying
 pub mod Entering

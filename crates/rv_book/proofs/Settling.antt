@@ -1,33 +1,31 @@
 -- After an arrival the table of sessions is what the account says: its own session waits or is settled, the session of
 -- the request that it met is settled, and all others stay.
-use Rattle.std.proofs.Common.{◌≡◌, ◌⊎◌, inl, inr, ℕ, ◌+◌, ◌≤◌, List, [], ◌∷◌, ◌++◌, length, Option, Some, None, IfSome, IsSome, is_some, option_and_then, refl, sym, ap, subst, ◌∙◌, arith}
+use Rattle.std.proofs.Common.{◌≡◌, inl, inr, ℕ, ◌+◌, [], ◌∷◌, length, Option, Some, None, IfSome, IsSome, is_some, option_and_then, refl, sym, ap, subst, ◌∙◌, arith}
 use Rattle.std.proofs.lemmas.Option.{none-some, same_Some}
 use Rattle.rv_text.specs.declared.call.Call.{Call}
-use Rattle.rv_text.specs.declared.call.Side.{Side}
 use Rattle.rv_text.specs.declared.call.Wait.{Wait}
 use Rattle.rv_text.specs.declared.message.Key.{Key}
 use Rattle.rv_text.specs.Calls.{side_of, wait_of}
 use Rattle.rv_session.specs.Owed.{Owed}
 use Rattle.rv_session.specs.declared.kept.Kept.{Kept}
 use Rattle.rv_session.specs.declared.session.Session.{Session}
-use Rattle.rv_session.specs.declared.session.State as state
-use Rattle.rv_session.specs.Table.{Table, OnlySets, OnlySettles, session_of, settled_session, waiting_of, waiting_place, waiting_session}
+use Rattle.rv_session.specs.Table.{Table, OnlySets, session_of, settled_session, waiting_of, waiting_place, waiting_session}
 use Rattle.rv_book.specs.declared.account.Entry.{Entry}
 use Rattle.rv_book.specs.declared.account.Act.TheVariants.{Arrive}
 use Rattle.rv_book.specs.Account.{Account, act_at, call_at, call_in, key_in, with_entry}
 use Rattle.rv_book.specs.Arriving.{IsKept, IsNext, MeetsOldest}
-use Rattle.rv_book.specs.Calls.{IsPut, Lasts, opposite}
-use Rattle.rv_book.specs.Legal.{HasWaiting, Legal}
-use Rattle.rv_book.specs.Meeting.{MayWait, OwnDuty, PartnersDuty}
+use Rattle.rv_book.specs.Calls.{opposite}
+use Rattle.rv_book.specs.Legal.{Legal}
+use Rattle.rv_book.specs.Meeting.{OwnDuty, PartnersDuty}
 use Rattle.rv_book.specs.Parked.{owed_at, owed_by, owed_in}
-use Rattle.rv_book.specs.Tables.{AreSessions, IsDueIn, IsSession, IsSessionOf, SettlesIf, last_key, partners_reply}
+use Rattle.rv_book.specs.Tables.{AreSessions, IsDueIn, IsSession, IsSessionOf, SettlesIf, partners_reply}
 use Rattle.rv_book.specs.Waiting.{NamesPartner, Waiting}
 use Rattle.rv_book.proofs.Growing.{act_read, call_read, partner_read, reads_on}
 use Rattle.rv_book.proofs.Keys.{act_called, client_of}
 use Rattle.rv_book.proofs.Numbers.{same_or_not}
 use Rattle.rv_book.proofs.Places.{get-append_end}
 use Rattle.rv_book.proofs.Replying.{reply_laws}
-use Rattle.rv_book.proofs.SessionTable.{IsAt, IsAt-on, StillWaits, arrived_at, session_on}
+use Rattle.rv_book.proofs.SessionTable.{IsAt, IsAt-on, StillWaits, named_at, session_on}
 use Rattle.rv_book.proofs.Sides.{Waiting-last, Waiting-on, arrival_stops_nobody}
 use Rattle.rv_book.proofs.WaitingTable.{waiting_there, waits_in_table}
 
@@ -162,8 +160,6 @@ module _ (a : Account) (e : Entry) (key : Key) (call : Call) (partner : Option �
         incarnation = at.incarnation;
         number = at.number;
         stands = record {
-          place = d.place;
-          is = refl;
           call = found.waits.call;
           arrived = arrived;
           kept_is = subst (λ c. IsKept b.entries d.place c (partners_reply (side_of call) place)) (sym one) k;
@@ -200,7 +196,7 @@ module _ (a : Account) (e : Entry) (key : Key) (call : Call) (partner : Option �
   own_at : IsAt b.entries key.client key.incarnation key.number
   own_at =
       let above : key.number ≡ next.last + 1 = next.next in
-      arrived_at a.entries e key call key.incarnation next.last says (record { incarnation = next.incarnation; number = next.is_last }) (omega arith)
+      named_at a.entries e key key.incarnation next.last (ap key_in says) (record { incarnation = next.incarnation; number = next.is_last }) (omega arith)
 
   own_waits : OwnDuty (side_of call) (wait_of call) partner (record { place = place; client = key.client }) None → IsSession b key.client (waiting_session key.incarnation key.number place)
   own_waits own = record {
@@ -217,7 +213,7 @@ module _ (a : Account) (e : Entry) (key : Key) (call : Call) (partner : Option �
   own_settled k kept = record {
     incarnation = own_at.incarnation;
     number = own_at.number;
-    stands = record { place = place; is = refl; call = call; arrived = own_key; kept_is = kept };
+    stands = record { call = call; arrived = own_key; kept_is = kept };
   }
 
   -- ---- the table
