@@ -1,30 +1,25 @@
 -- What a hello that is recorded leaves: a sound state.
 use Rattle.std.proofs.Common.{◌≡◌, inl, inr, ℕ, ◌+◌, ◌≤◌, List, ◌∷◌, [], ◌++◌, length, Option, Some, None, IfSome, IsSome, is_some, refl, sym, ap, subst, ◌∙◌, arith, option_and_then}
-use Rattle.std.proofs.lemmas.Option.{none-some, same_Some}
-use Rattle.rv_text.specs.declared.message.Key.{Key}
-use Rattle.rv_text.specs.declared.call.Call.{Call}
+use Rattle.std.proofs.lemmas.Option.{same_Some}
 use Rattle.rv_text.specs.declared.call.Side.{Side}
 use Rattle.rv_text.specs.Calls.{side_of}
-use Rattle.rv_dual.specs.Queue.{Queue}
 use Rattle.rv_session.specs.Owed.{Owed}
-use Rattle.rv_session.specs.Meanings.{IsNewer}
-use Rattle.rv_session.specs.Table.{OnlySets, OnlySettles, Table, fresh, session_of, waiting_of}
+use Rattle.rv_session.specs.Table.{OnlySets, OnlySettles, fresh, session_of, waiting_of}
 use Rattle.rv_session.specs.declared.kept.Kept.{Kept}
-use Rattle.rv_book.specs.Account.{Account, act_at, call_in, key_in, with_entry}
+use Rattle.rv_book.specs.Account.{Account, call_in, key_in, with_entry}
 use Rattle.rv_book.specs.Arriving.{entry}
 use Rattle.rv_book.specs.Calls.{IsPut}
 use Rattle.rv_book.specs.Counting.{NumberOf}
-use Rattle.rv_book.specs.declared.account.Act.TheVariants.{Arrive, Hello}
+use Rattle.rv_book.specs.declared.account.Act.TheVariants.{Hello}
 use Rattle.rv_book.specs.declared.account.Entry.{Entry}
 use Rattle.rv_book.specs.declared.state.State.{State}
 use Rattle.rv_book.specs.Legal.{HasWaiting, KeepsTime, Legal, MayFollow}
-use Rattle.rv_book.specs.Meeting.{Leaves}
 use Rattle.rv_book.specs.Parked.{AreQueues}
 use Rattle.rv_book.specs.Sessions.{HasOnlyLower}
-use Rattle.rv_book.specs.Tables.{AreSessions, Comes, EndsAt, EndsIf, HasSpace, IsReady, IsSame, IsSound, account_of}
+use Rattle.rv_book.specs.Tables.{Comes, EndsAt, EndsIf, HasSpace, IsReady, IsSound, account_of}
 use Rattle.rv_book.specs.Waiting.{Open, OpenAt, Waiting}
 use Rattle.rv_book.proofs.Following.{hello_follows}
-use Rattle.rv_book.proofs.Keeping.{Answers, sound_same, sound_with}
+use Rattle.rv_book.proofs.Keeping.{sound_same, sound_with}
 use Rattle.rv_book.proofs.Legality.{Legal-with_entry}
 use Rattle.rv_session.specs.declared.session.Session.{Session}
 use Rattle.rv_book.proofs.Numbers.{same_or_not}
@@ -118,7 +113,7 @@ module _ (old : State) (moment client incarnation : ℕ) (comes : Comes old mome
     pub sound_idle : waiting_of old.sessions client ≡ None → new.queues ≡ old.queues → new.waiting ≡ old.waiting → old.waiting ≤ new.account.room → IsSound new
     sound_idle none queues waiting room =
         let idle = λ (r : ℕ) (waits : Waiting before.entries r) (request : IsRequestOf before.entries client r).
-            none_waits before old.sessions client sound.legal sound.sessions_are none (has_one before.entries client r waits request) in
+        none_waits before old.sessions client sound.legal sound.sessions_are none (has_one before.entries client r waits request) in
         sound_by old.waiting
         (subst (AreQueues (before.entries ++ own_entry ∷ [])) (sym queues) (queues_greeted before own_entry client incarnation follows.pairs.names_free_partner refl refl old.queues sound.queues_are
         (λ side r opened request. idle r (open_waits before.entries client r opened.is_open request) request)))
@@ -138,8 +133,8 @@ module _ (old : State) (moment client incarnation : ℕ) (comes : Comes old mome
               there.waits.no_put (subst IsPut (sym same) put);
         } in
         let only = λ (r : ℕ) (there_too : Waiting before.entries r) (request : IsRequestOf before.entries client r).
-            one_waits before client r place request.key own.key sound.legal there_too there.waits
-            (record { named = ap (option_and_then key_in) request.arrived; of_client = sym request.of_client }) (record { named = ap (option_and_then key_in) own.arrived; of_client = refl }) in
+        one_waits before client r place request.key own.key sound.legal there_too there.waits
+        (record { named = ap (option_and_then key_in) request.arrived; of_client = sym request.of_client }) (record { named = ap (option_and_then key_in) own.arrived; of_client = refl }) in
         let side_is : there.waits.is_open.call ≡ ends.call = same_Some _ _ (sym there.waits.is_open.arrived ∙ ends.arrived) in
         let opened = subst (λ c. OpenAt before.entries (side_of c) place) side_is (waiting_is_open before.entries place there.waits) in
         let less = number_renewed before own_entry client incarnation follows.pairs.names_free_partner refl refl old.waiting place sound.waiting_is there.waits own only in

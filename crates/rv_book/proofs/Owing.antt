@@ -1,14 +1,12 @@
 -- Who is owed a reply: an open arrival that is no put. How many these are with one entry more.
-use Rattle.std.proofs.Common.{◌≡◌, ◌⊎◌, inl, inr, ℕ, ◌<◌, ◌≤◌, ◌+◌, List, [], ◌∷◌, ◌++◌, length, Option, Some, None, IsSome, refl, sym, ap, subst, ◌∙◌, arith, option_and_then}
-use Rattle.std.specs.Prelude.{◌↔◌}
+use Rattle.std.proofs.Common.{◌≡◌, inl, inr, ℕ, ◌<◌, ◌≤◌, ◌+◌, List, [], ◌∷◌, ◌++◌, length, Option, Some, None, IsSome, refl, sym, ap, subst, ◌∙◌, arith, option_and_then}
 use Rattle.std.proofs.lemmas.Option.{none-some, same_Some}
 use Rattle.rv_text.specs.declared.call.Call.{Call}
-use Rattle.rv_text.specs.declared.call.Side.{Side}
 use Rattle.rv_text.specs.declared.call.Wait.{Wait}
 use Rattle.rv_text.specs.declared.message.Key.{Key}
 use Rattle.rv_text.specs.Calls.{side_of, wait_of}
 use Rattle.rv_session.specs.Owed.{Owed}
-use Rattle.rv_book.specs.Account.{Account, act_at, call_at, call_in}
+use Rattle.rv_book.specs.Account.{Account, act_at, call_in}
 use Rattle.rv_book.specs.Arriving.{GoesOn, MeetsOldest}
 use Rattle.rv_book.specs.Calls.{IsPut, MayMeet, Stays}
 use Rattle.rv_book.specs.Counting.{NumberOf}
@@ -17,10 +15,10 @@ use Rattle.rv_book.specs.declared.account.Entry.{Entry}
 use Rattle.rv_book.specs.Legal.{Legal, NamesFreePartner}
 use Rattle.rv_book.specs.Meeting.{OwnDuty, PartnersDuty, ends_waiting, starts_waiting}
 use Rattle.rv_book.specs.Parked.{owed_at, owed_by, owed_in}
-use Rattle.rv_book.specs.Waiting.{Open, OpenAt, StoppedAt, Waiting}
+use Rattle.rv_book.specs.Waiting.{Open, StoppedAt, Waiting}
 use Rattle.rv_book.proofs.Counting.{number_drop, number_push, same_number}
 use Rattle.rv_book.proofs.Keys.{act_called}
-use Rattle.rv_book.proofs.Sides.{IsNewRequest, IsRequestOf, Waiting-back, Waiting-last, Waiting-on, arrival_stops_nobody, hello_stops, stopped_by_hello, waiting_is_open}
+use Rattle.rv_book.proofs.Sides.{IsRequestOf, Waiting-back, Waiting-last, Waiting-on, arrival_stops_nobody, hello_stops, stopped_by_hello, waiting_is_open}
 use Rattle.rv_book.proofs.Waiters.{met_last, open_inside}
 
 -- ---- one arrival
@@ -101,7 +99,7 @@ module _ (a : Account) (e : Entry) (key : Key) (call : Call) (legal : Legal a) (
     (λ either. elim either [
       | inl was ↦ still none r was
       | inr last ↦ subst (Waiting (a.entries ++ e ∷ [])) (sym last) (Waiting-last a e legal none (record { call = call; arrives = ap call_in arrives; stays = goes.stays; no_put = goes.no_put }))
-    ])
+    ]),
   ))
 
   number_goes : (n : ℕ) → NumberOf (Waiting a.entries) n → (GoesOn call None → ⊥) → e.partner ≡ None → NumberOf (Waiting (a.entries ++ e ∷ [])) n
@@ -112,7 +110,7 @@ module _ (a : Account) (e : Entry) (key : Key) (call : Call) (legal : Legal a) (
       | inr new ↦
           let same : new.1.call ≡ call = same_Some _ _ (sym new.1.arrives ∙ ap call_in arrives) in
           absurd (goes (record { unmet = refl; stays = subst Stays same new.1.stays; no_put = subst (λ c. IsPut c → ⊥) same new.1.no_put }))
-    ])
+    ]),
   )) count
 
   -- the entry met the arrival at p
@@ -125,13 +123,13 @@ module _ (a : Account) (e : Entry) (key : Key) (call : Call) (legal : Legal a) (
   number_met : (n p : ℕ) → NumberOf (Waiting a.entries) n → e.partner ≡ Some p → Waiting a.entries p → (k : ℕ) × (n ≡ k + 1) × NumberOf (Waiting (a.entries ++ e ∷ [])) k
   number_met n p count named waits = number_drop (Waiting a.entries) (Waiting (a.entries ++ e ∷ [])) n p count waits (λ r. (
     (λ there. was_waiting p r named there),
-    (λ both. Waiting-on a.entries e r both.0 (λ also. both.1 (same_Some _ _ (sym also ∙ named))) (unstopped r))
+    (λ both. Waiting-on a.entries e r both.0 (λ also. both.1 (same_Some _ _ (sym also ∙ named))) (unstopped r)),
   ))
 
   number_met_put : (n p : ℕ) → NumberOf (Waiting a.entries) n → e.partner ≡ Some p → (Waiting a.entries p → ⊥) → NumberOf (Waiting (a.entries ++ e ∷ [])) n
   number_met_put n p count named goes = same_number (Waiting a.entries) (Waiting (a.entries ++ e ∷ [])) n (λ r. (
     (λ waits. Waiting-on a.entries e r waits (λ also. goes (subst (Waiting a.entries) (same_Some _ _ (sym also ∙ named)) waits)) (unstopped r)),
-    (λ there. (was_waiting p r named there).0)
+    (λ there. (was_waiting p r named there).0),
   )) count
 
   -- so many wait after it, as its own duty and its partner's tell
@@ -167,5 +165,5 @@ module _ (a : Account) (e : Entry) (client incarnation : ℕ) (free : NamesFreeP
       → (k : ℕ) × (n ≡ k + 1) × NumberOf (Waiting (a.entries ++ e ∷ [])) k
   number_renewed n p count waits request only = number_drop (Waiting a.entries) (Waiting (a.entries ++ e ∷ [])) n p count waits (λ r. (
     (λ there. let was = was_there r there in (was.0, λ same. was.1 (subst (IsRequestOf a.entries client) (sym same) request))),
-    (λ both. still_there r both.0 (λ own. both.1 (only r both.0 own)))
+    (λ both. still_there r both.0 (λ own. both.1 (only r both.0 own))),
   ))

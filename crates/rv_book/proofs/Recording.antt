@@ -1,11 +1,9 @@
 -- What a request that is recorded leaves: a sound state, and what the request is told.
-use Rattle.std.proofs.Common.{◌≡◌, inl, inr, ℕ, ◌+◌, ◌≤◌, List, ◌∷◌, [], ◌++◌, length, Option, Some, None, IsSome, IfSome, is_some, option_map, refl, sym, ap, subst, ◌∙◌, arith}
-use Rattle.std.proofs.lemmas.Option.{none-some}
+use Rattle.std.proofs.Common.{◌≡◌, inl, inr, ℕ, ◌+◌, ◌≤◌, List, ◌∷◌, [], ◌++◌, length, Option, Some, None, IsSome, is_some, option_map, refl, sym, ap, subst, arith}
 use Rattle.rv_text.specs.declared.call.Call.{Call}
 use Rattle.rv_text.specs.declared.message.Key.{Key}
 use Rattle.rv_text.specs.Calls.{side_of, wait_of}
 use Rattle.rv_session.specs.Owed.{Owed}
-use Rattle.rv_session.specs.Meanings.{HasNext}
 use Rattle.rv_session.specs.Table.{OnlySets, Table, waiting_session}
 use Rattle.rv_session.specs.declared.kept.Kept.{Kept}
 use Rattle.rv_dual.specs.Queue.{Queue}
@@ -22,14 +20,14 @@ use Rattle.rv_book.specs.declared.state.State.{State}
 use Rattle.rv_book.specs.Legal.{Legal, MayFollow}
 use Rattle.rv_book.specs.Meeting.{ArrivedOn, Meets, OwnDuty, PartnersDuty, ends_waiting, starts_waiting}
 use Rattle.rv_book.specs.Parked.{AreQueues}
-use Rattle.rv_book.specs.Tables.{AreSessions, IsDueIn, IsSound, MayRecord, SettlesIf, account_of, partners_reply}
+use Rattle.rv_book.specs.Tables.{AreSessions, IsSound, MayRecord, SettlesIf, account_of, partners_reply}
 use Rattle.rv_book.specs.Waiting.{Waiting}
 use Rattle.rv_book.proofs.Following.{arrival_follows}
-use Rattle.rv_book.proofs.Keeping.{Answers, sound_with}
+use Rattle.rv_book.proofs.Keeping.{sound_with}
 use Rattle.rv_book.proofs.Legality.{Legal-with_entry}
 use Rattle.rv_book.proofs.Owing.{Waits-after, goes_not_on, goes_on}
 use Rattle.rv_book.proofs.Replying.{recorded, recorded_waits}
-use Rattle.rv_book.proofs.Settling.{own_due, partner_due, sessions_recorded}
+use Rattle.rv_book.proofs.Settling.{sessions_recorded}
 use Rattle.rv_book.proofs.Standing.{is_next}
 use Rattle.rv_book.proofs.Waiters.{meets_partner, queues_after, queues_as_before}
 

@@ -1,14 +1,12 @@
 -- From what the table of sessions says of a key or of a client to the line of the step that decides.
 use Rattle.rv_book.specs.Counting.{NumberOf}
-use Rattle.rv_text.specs.declared.message.Message.TheVariants.{Hello, Request}
 use Rattle.rv_text.specs.declared.answer.Refusal as refusal
-use Rattle.rv_text.specs.declared.answer.Answer.TheVariants.{Welcome, Replied, Refused}
 use Rattle.rv_book.specs.declared.account.Act as act
 use Rattle.rv_session.specs.declared.session.Session.{Session}
 use Rattle.rv_session.specs.declared.session.State as state
 use Rattle.rv_session.specs.declared.session.State.{State as StateOf}
 use Rattle.rv_session.specs.declared.kept.Kept.{Kept}
-use Rattle.rv_session.specs.Table.{Table, session_of, session_count, waiting_of, waiting_place}
+use Rattle.rv_session.specs.Table.{Table, session_of, session_count}
 use Rattle.rv_book.proofs.Lines.{line_other_epoch, line_no_session, line_old_incarnation, line_old_number, line_last, line_gap, line_busy}
 use Rattle.rv_session.specs.Meanings.{HasNext, HasLast, RefusalMeans}
 use Rattle.rv_session.proofs.Clients.{clients_of, clients_rise, clients_are, length-clients}
@@ -17,16 +15,15 @@ use Rattle.rv_book.specs.Tables.{AreSessions, IsSessionOf, Stands, last_key}
 use Rattle.rv_text.specs.declared.call.Call.{Call}
 use Rattle.rv_book.specs.Steps.{ClientsFullDue, KeyLines}
 use Rattle.rv_book.specs.Sessions.{HasIncarnation, HasOnlyLower, LastNumber, SaidHello}
-use Rattle.rv_book.specs.Legal.{HasWaiting, Legal}
+use Rattle.rv_book.specs.Legal.{Legal}
 use Rattle.rv_book.specs.Arriving.{IsKept, IsNext}
 use Rattle.std.specs.Prelude.{IsSome}
 use Rattle.rv_text.specs.declared.message.Key.{Key}
-use Rattle.std.proofs.Common.{None, Option, Some, ap, arith, inl, inr, option_and_then, refl, subst, sym, ℕ, ◌<◌, ◌∙◌, ◌≡◌, ◌≤◌, ◌⊎◌}
+use Rattle.std.proofs.Common.{None, Option, Some, ap, arith, inl, inr, refl, subst, sym, ℕ, ◌<◌, ◌∙◌, ◌≡◌, ◌≤◌, ◌⊎◌}
 use Rattle.rv_text.specs.declared.answer.Refusal.{Refusal}
 use Rattle.rv_book.proofs.Histories.{hellos_at_most}
 use Rattle.rv_book.proofs.WaitingTable.{has_waiting, known, none_waits, same_parts, unknown}
 use Rattle.rv_book.specs.Waiting.{Waiting}
-use Rattle.std.proofs.lemmas.Option.{none-some}
 use Rattle.rv_book.proofs.Counting.{one_number}
 
 -- ---- keys

@@ -1,26 +1,18 @@
 -- From what the parts of a step answer to the step itself.
-use Rattle.rv_text.specs.declared.message.Message.TheVariants.{Hello, Request}
-use Rattle.rv_book.specs.declared.account.Act as act
 use Rattle.rv_book.specs.declared.verdict.Said as said
-use Rattle.rv_text.specs.declared.answer.Answer.TheVariants.{Welcome, Refused}
+use Rattle.rv_text.specs.declared.answer.Answer.TheVariants.{Refused}
 use Rattle.std.specs.Prelude.{Result, Ok, Err, IsOk}
 use Rattle.rv_book.specs.Account.{Account}
 use Rattle.rv_book.specs.declared.account.Act.{Act}
-use Rattle.rv_book.specs.Steps.{Adds, EntersOrNoMemory, EpochFullDue, NextAt, RefuseOr, Refuses, Replies}
+use Rattle.rv_book.specs.Steps.{Adds, EntersOrNoMemory, EpochFullDue, NextAt, RefuseOr, Refuses}
 use Rattle.rv_text.specs.declared.answer.Answer.{Answer}
-use Rattle.rv_book.specs.declared.account.Act.TheVariants.{Arrive}
 use Rattle.rv_book.specs.Counting.{NumberOf}
 use Rattle.rv_book.specs.Waiting.{Waiting}
 use Rattle.rv_book.specs.Tables.{Becomes, NoEntryDue}
-use Rattle.std.proofs.Common.{IsErrAnd, IfErr, IfOk, OnOk, OnErr, subst, Bool, ap, false, inl, inr, length, refl, sym, true, ℕ, ◌+◌, ◌∙◌, ◌≡◌, ◌≤◌}
-use Rattle.rv_text.specs.declared.call.Call.{Call}
-use Rattle.rv_book.specs.Sessions.{HasOnlyLower}
-use Rattle.rv_book.specs.Arriving.{IsNext}
-use Rattle.rv_text.specs.declared.message.Key.{Key}
-use Rattle.rv_book.proofs.Lines.{RefuseOr-elim, RefuseOr-map, WhereElse-elim, WhereElse-map, line_newer, room_left}
+use Rattle.std.proofs.Common.{IsErrAnd, IfErr, IfOk, OnOk, OnErr, subst, ap, inl, inr, length, refl, sym, ℕ, ◌+◌, ◌≡◌, ◌≤◌}
+use Rattle.rv_book.proofs.Lines.{room_left}
 use Rattle.rv_text.specs.declared.message.Message.{Message}
 use Rattle.rv_text.specs.declared.answer.Refusal.{Refusal}
-use Rattle.rv_book.specs.Calls.{need_of}
 
 -- ---- answers of calls
 

@@ -1,6 +1,6 @@
 -- What a change of one queue is to the table of queues, side by side.
-use Rattle.std.proofs.Common.{◌≡◌, inl, inr, ℕ, zero, suc, ◌<◌, List, [], ◌∷◌, ◌++◌, length, Option, Some, None, refl, sym, ap, subst, ◌∙◌, arith, option_and_then}
-use Rattle.std.specs.List.{All, slice_get}
+use Rattle.std.proofs.Common.{◌≡◌, inl, inr, ℕ, zero, suc, ◌<◌, List, [], ◌∷◌, ◌++◌, length, Option, Some, None, refl, sym, ap, subst, ◌∙◌, option_and_then}
+use Rattle.std.specs.List.{slice_get}
 use Rattle.std.specs.Prelude.{IsSome, option_map, slice_set, unwrap_or}
 use Rattle.std.proofs.lemmas.Option.{none-some, same_Some, slice_get-map, slice_get-get_or, unwrap_or-slice_get}
 use Rattle.std.proofs.Math.ListN.{get_or}
@@ -173,11 +173,14 @@ module _ (old new : List Queue) (queue : ℕ) (q : Queue) (changed : ChangedAt o
 
   lays_down : (wait : Option Wait) (result : Arrived) → Lasts wait → LaysDown before q wait duty result → ArrivedOn old new (Gives queue) wait duty result
   lays_down wait result lasts lays = subst (ArrivedOn old new (Gives queue) wait duty) (sym lays.is) (record {
-    meets = inl ((refl, lasts), record {
-      nobody = no_takers old queue lays.nobody;
-      last = ap (λ (r : Queue). places_of r.givers) changed.here ∙ ap places_of lays.givers ∙ map-append place_of before.givers (offer_by wait duty ∷ []) ∙ ap (λ p. waiting_on old (Gives queue) ++ p ∷ []) (place_of_offer_by wait duty);
-      others = givers_change old new queue q changed lays.takers;
-    });
+    meets = inl (
+      (refl, lasts),
+      record {
+        nobody = no_takers old queue lays.nobody;
+        last = ap (λ (r : Queue). places_of r.givers) changed.here ∙ ap places_of lays.givers ∙ map-append place_of before.givers (offer_by wait duty ∷ []) ∙ ap (λ p. waiting_on old (Gives queue) ++ p ∷ []) (place_of_offer_by wait duty);
+        others = givers_change old new queue q changed lays.takers;
+      },
+    );
     own = own_of wait lasts;
     other = λ es parked. refl;
     parked = λ es parked owed. parked_changed old new queue q changed es parked (pushed_givers es wait owed lays.givers lays.takers);
@@ -227,11 +230,14 @@ module _ (old new : List Queue) (queue : ℕ) (q : Queue) (changed : ChangedAt o
 
   stands_by : (wait : Wait) (result : Arrived) → Lasts (Some wait) → StandsBy before q duty result → ArrivedOn old new (Takes queue) (Some wait) duty result
   stands_by wait result lasts stands = subst (ArrivedOn old new (Takes queue) (Some wait) duty) (sym stands.is) (record {
-    meets = inl ((refl, lasts), record {
-      nobody = no_givers old queue stands.nobody;
-      last = ap (λ (r : Queue). takers_places r.takers) changed.here ∙ ap takers_places stands.takers ∙ map-append (λ (d : Owed). d.place) before.takers (duty ∷ []);
-      others = takers_change old new queue q changed stands.givers;
-    });
+    meets = inl (
+      (refl, lasts),
+      record {
+        nobody = no_givers old queue stands.nobody;
+        last = ap (λ (r : Queue). takers_places r.takers) changed.here ∙ ap takers_places stands.takers ∙ map-append (λ (d : Owed). d.place) before.takers (duty ∷ []);
+        others = takers_change old new queue q changed stands.givers;
+      },
+    );
     own = (refl, (refl, lasts), refl);
     other = λ es parked. refl;
     parked = λ es parked owed. parked_changed old new queue q changed es parked (pushed_takers es owed stands.takers stands.givers);

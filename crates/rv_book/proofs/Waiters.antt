@@ -15,15 +15,15 @@ use Rattle.rv_dual.specs.Offers.{place_of, places_of}
 use Rattle.rv_dual.specs.Queue.{Queue}
 use Rattle.rv_book.specs.Account.{Account, act_at, call_at, call_in}
 use Rattle.rv_book.specs.Arriving.{MeetsOldest}
-use Rattle.rv_book.specs.Calls.{MayMeet, Stays, opposite}
+use Rattle.rv_book.specs.Calls.{Stays}
 use Rattle.rv_book.specs.declared.account.Act.TheVariants.{Arrive, Hello}
 use Rattle.rv_book.specs.declared.account.Entry.{Entry}
 use Rattle.rv_book.specs.declared.queues.Arrived.{Arrived}
 use Rattle.rv_book.specs.Legal.{Legal, NamesFreePartner}
 use Rattle.rv_book.specs.Meeting.{ArrivedOn, FindsNobody, Leaves, MayWait, Meets, MeetsFirst}
-use Rattle.rv_book.specs.Parked.{AreParked, AreQueues, IsLine, IsParked, owed_at, owed_by, owed_in}
+use Rattle.rv_book.specs.Parked.{AreParked, AreQueues, IsLine, owed_at, owed_by, owed_in}
 use Rattle.rv_book.specs.Views.{AllEmpty, AreBelow, SameQueues, takers_places, waiting_on}
-use Rattle.rv_book.specs.Waiting.{NamesPartner, OpenAt, StoppedAt, IsOldest}
+use Rattle.rv_book.specs.Waiting.{OpenAt, StoppedAt, IsOldest}
 use Rattle.rv_book.proofs.Deciding.{same_side}
 use Rattle.rv_book.proofs.Growing.{act_read, call_read, partner_read, reads_within}
 use Rattle.rv_book.proofs.Places.{get-append_cases, get-append, get-append_end, get-append_within}

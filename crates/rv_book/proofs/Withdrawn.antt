@@ -1,14 +1,12 @@
 -- What the table of queues is when a request was taken out of its queue.
-use Rattle.std.proofs.Common.{◌≡◌, inl, inr, ℕ, zero, suc, List, [], ◌∷◌, cond, map, Bool, true, false, Option, Some, None, refl, sym, ap, subst, ◌∙◌, arith, option_and_then}
+use Rattle.std.proofs.Common.{◌≡◌, inl, inr, ℕ, zero, suc, List, [], ◌∷◌, cond, map, Bool, true, false, Option, Some, None, refl, sym, ap, subst, ◌∙◌, option_and_then}
 use Rattle.std.specs.List.{Contains, filter, slice_get}
-use Rattle.std.specs.Prelude.{IfNone, IfSome, IsSome, not, option_map, ◌==◌}
+use Rattle.std.specs.Prelude.{IfNone, IfSome, not, option_map, ◌==◌}
 use Rattle.std.proofs.lemmas.Bool.Decides.{eqb_tells}
 use Rattle.std.proofs.lemmas.Option.{none-some, same_Some, slice_get-map, slice_get-get_or, slice_get_within}
-use Rattle.rv_text.specs.declared.call.Call.{Call}
 use Rattle.rv_text.specs.declared.call.Wait.{Wait}
 use Rattle.rv_text.specs.declared.message.Key.{Key}
-use Rattle.rv_text.specs.declared.call.Side.{Side}
-use Rattle.rv_text.specs.declared.call.Side.TheVariants.{Gives, Looks, Takes}
+use Rattle.rv_text.specs.declared.call.Side.TheVariants.{Gives, Takes}
 use Rattle.rv_text.specs.Calls.{wait_of}
 use Rattle.rv_session.specs.Owed.{Owed}
 use Rattle.rv_dual.specs.Offers.{duty_of, is_at, place_of, places_of, waits_at}
@@ -21,8 +19,8 @@ use Rattle.rv_book.specs.declared.account.Act.TheVariants.{Arrive, Hello}
 use Rattle.rv_book.specs.declared.account.Entry.{Entry}
 use Rattle.rv_book.specs.Account.{act_at}
 use Rattle.rv_book.specs.Meeting.{Leaves}
-use Rattle.rv_book.specs.Parked.{AreParked, AreQueues, IsParked, owed_at, owed_by, owed_in}
-use Rattle.rv_book.specs.Views.{queue_at, takers_places, waiting_on}
+use Rattle.rv_book.specs.Parked.{AreQueues, IsParked, owed_at, owed_by, owed_in}
+use Rattle.rv_book.specs.Views.{queue_at, takers_places}
 use Rattle.rv_book.specs.Waiting.{OpenAt}
 use Rattle.rv_book.proofs.Sides.{one_side}
 use Rattle.rv_book.proofs.Tabled.{ChangedAt, givers_change, parked_changed, takers_change}
@@ -176,10 +174,10 @@ module _ (old new : List Queue) (queue : ℕ) (q : Queue) (changed : ChangedAt o
   pub left_givers : OpenAt es (Gives queue) place → Leaves old new (Gives queue) duty result
   left_givers opened =
       let none = λ (i : ℕ) (d : Owed) (at : slice_get was.takers i ≡ Some d).
-          differs d.place place (λ is.
-          let there = (are.lines (Takes queue)).are i d.place (slice_get-map (λ (o : Owed). o.place) was.takers i ∙ ap (option_map (λ (o : Owed). o.place)) at) in
-          let sides : Takes queue ≡ Gives queue = one_side es (Takes queue) (Gives queue) place (subst (λ n. OpenAt es (Takes queue) n) is there).of_side opened.of_side in
-          absurd (cc)) in
+      differs d.place place (λ is.
+      let there = (are.lines (Takes queue)).are i d.place (slice_get-map (λ (o : Owed). o.place) was.takers i ∙ ap (option_map (λ (o : Owed). o.place)) at) in
+      let sides : Takes queue ≡ Gives queue = one_side es (Takes queue) (Gives queue) place (subst (λ n. OpenAt es (Takes queue) n) is there).of_side opened.of_side in
+      absurd (cc)) in
       let takers : q.takers ≡ was.takers = w.takers ∙ filter_all (λ (d : Owed). not (is_at place d)) was.takers none in
       record {
         is = giver_back es was place duty (are.parked queue) owed q result w (got place_of was.givers place ((are.lines (Gives queue)).each place opened));
@@ -191,10 +189,10 @@ module _ (old new : List Queue) (queue : ℕ) (q : Queue) (changed : ChangedAt o
   pub left_takers : OpenAt es (Takes queue) place → Leaves old new (Takes queue) duty result
   left_takers opened =
       let none = λ (i : ℕ) (o : Offer) (at : slice_get was.givers i ≡ Some o). passes o
-          (λ is.
-          let there = (are.lines (Gives queue)).are i (place_of o) (slice_get-map place_of was.givers i ∙ ap (option_map place_of) at) in
-          let sides : Gives queue ≡ Takes queue = one_side es (Gives queue) (Takes queue) place (subst (λ n. OpenAt es (Gives queue) n) is there).of_side opened.of_side in
-          absurd (cc)) in
+      (λ is.
+      let there = (are.lines (Gives queue)).are i (place_of o) (slice_get-map place_of was.givers i ∙ ap (option_map place_of) at) in
+      let sides : Gives queue ≡ Takes queue = one_side es (Gives queue) (Takes queue) place (subst (λ n. OpenAt es (Gives queue) n) is there).of_side opened.of_side in
+      absurd (cc)) in
       let givers : q.givers ≡ was.givers = w.givers ∙ filter_all (λ (o : Offer). not (waits_at place o)) was.givers none in
       record {
         is = taker_back es was place duty (are.parked queue) owed q result w (got (λ (d : Owed). d.place) was.takers place ((are.lines (Takes queue)).each place opened));

@@ -1,5 +1,5 @@
 -- What an arrival brings: whom it meets, and what is kept as its reply.
-use Rattle.std.specs.Prelude.{◌≡◌, ◌<◌, ◌+◌, ℕ, List, length, Option, Some, None}
+use Rattle.std.specs.Prelude.{◌≡◌, ◌+◌, ℕ, List, length, Option, Some, None}
 use Rattle.rv_text.specs.declared.message.Key.{Key}
 use Rattle.rv_text.specs.declared.call.Side.{Side}
 use Rattle.rv_text.specs.declared.call.Call.{Call}
@@ -10,10 +10,14 @@ use Rattle.rv_book.specs.declared.verdict.Said.{Said}
 use Rattle.rv_book.specs.declared.verdict.Said as said
 use Rattle.rv_book.specs.declared.account.Entry.{Entry}
 use Rattle.rv_book.specs.declared.account.Act.{Act}
+<<<<<<< HEAD
 use Rattle.rv_book.specs.declared.account.Act.TheVariants.{Hello, Arrive, Cancel}
+=======
+use Rattle.rv_book.specs.declared.account.Act.TheVariants.{Arrive}
+>>>>>>> book9
 use Rattle.rv_session.specs.declared.kept.Kept.{Kept}
 use Rattle.rv_book.specs.Account.{Account, with_entry}
-use Rattle.rv_book.specs.Calls.{opposite, need_of, IsPut, Stays}
+use Rattle.rv_book.specs.Calls.{opposite, IsPut, Stays}
 use Rattle.rv_book.specs.Waiting.{IsOldest, OpenAt}
 use Rattle.rv_book.specs.Sessions.{HasIncarnation, LastNumber}
 use Rattle.rv_book.specs.Legal.{HasWaiting, Legal}

@@ -23,8 +23,8 @@ RepliesStay = (a b : Account) (key : Key) (reply : Reply) → Legal a → Legal 
     → HasReply a.entries key reply
     → HasReply b.entries key reply × ((other : Reply) → HasReply b.entries key other → other ≡ reply)
 
--- a legal account exists in which the request's entry stands, and with it what the request is told: its reply,
--- or that it waits
+-- a legal account exists in which the request's entry stands, and with it what the request is told: its
+-- reply, or that it waits
 pub record CanEnter (a : Account) (moment : ℕ) (key : Key) (call : Call) : Type 0 where
   pub after : Account
   pub answer : Answer

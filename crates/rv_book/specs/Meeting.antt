@@ -1,5 +1,6 @@
 -- What an arrival does in the table of queues, by its side and its wait.
-use Rattle.std.specs.Prelude.{◌≡◌, ◌≢◌, ◌⊎◌, ◌<◌, ◌==◌, ℕ, List, [], ◌∷◌, ◌++◌, not, Option, Some, None, IsSome}
+use Rattle.std.specs.Prelude.{◌≡◌, ◌≢◌, ◌⊎◌, ◌<◌, ◌==◌, ℕ, List, [], ◌∷◌, ◌++◌, not, Option, Some, None}
+use Rattle.std.specs.Prelude.{IsSome}
 use Rattle.std.specs.Prelude.{option_and_then}
 use Rattle.std.specs.List.{filter}
 use Rattle.rv_text.specs.declared.call.Wait.{Wait}
@@ -75,11 +76,13 @@ ByWait wait stays goes = (Lasts wait × stays) ⊎ ((¬ Lasts wait) × goes)
 
 abbrev pub Gave : Queue → Queue → Option Wait → Owed → Arrived → Type 0
 Gave old new wait duty result =
-    GaveTo old new duty result ⊎ ByWait wait (LaysDown old new wait duty result) (GaveNobody old new duty result)
+    GaveTo old new duty result
+    ⊎ ByWait wait (LaysDown old new wait duty result) (GaveNobody old new duty result)
 
 abbrev pub Took : Queue → Queue → Option Wait → Owed → Arrived → Type 0
 Took old new wait duty result =
-    TookFrom old new duty result ⊎ ByWait wait (StandsBy old new duty result) (TookNothing old new duty result)
+    TookFrom old new duty result
+    ⊎ ByWait wait (StandsBy old new duty result) (TookNothing old new duty result)
 
 -- ---- what an arrival does
 

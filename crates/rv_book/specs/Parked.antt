@@ -1,4 +1,5 @@
--- What the table of queues says of a list of entries: who is open, in which order, and which duties are parked.
+-- What the table of queues says of a list of entries: who is open, in which order, and whose duties are
+-- parked.
 use Rattle.std.specs.Prelude.{◌≡◌, ◌<◌, ℕ, List, Option, Some, None, option_and_then, slice_get}
 use Rattle.rv_text.specs.declared.message.Key.{Key}
 use Rattle.rv_text.specs.declared.call.Wait.{Wait}

@@ -1,5 +1,5 @@
 -- What the book's private tables say of its account.
-use Rattle.std.specs.Prelude.{◌≡◌, ◌⊎◌, ◌<◌, ◌≤◌, ◌+◌, ℕ, List, length, Option, Some, None, slice_get}
+use Rattle.std.specs.Prelude.{◌≡◌, ◌⊎◌, ◌≤◌, ◌+◌, ℕ, length, Option, Some, None}
 use Rattle.rv_text.specs.declared.message.Key.{Key}
 use Rattle.rv_text.specs.declared.message.Message.{Message}
 use Rattle.rv_text.specs.declared.call.Side.{Side}
@@ -18,9 +18,8 @@ use Rattle.rv_session.specs.Standings.{standing_of}
 use Rattle.rv_session.specs.Table.{OnlySettles, Table, session_of, waiting_of}
 use Rattle.rv_session.specs.declared.standing.Standing.TheVariants as standing
 use Rattle.rv_session.specs.declared.kept.Kept.TheVariants as kept
-use Rattle.rv_book.specs.declared.account.Entry.{Entry}
 use Rattle.rv_book.specs.declared.account.Act.{Act}
-use Rattle.rv_book.specs.declared.account.Act.TheVariants.{Hello, Arrive}
+use Rattle.rv_book.specs.declared.account.Act.TheVariants.{Arrive}
 use Rattle.rv_book.specs.Replies.{CancelledFirst}
 use Rattle.rv_book.specs.declared.state.State.{State}
 use Rattle.rv_book.specs.declared.verdict.Said.{Said}
@@ -38,7 +37,7 @@ use Rattle.rv_book.specs.Steps.{EpochFullDue, NextAt, max_entries, max_moment}
 use Rattle.rv_book.specs.Verdicts.{answer_of}
 use Rattle.rv_book.specs.Views.{SameQueues}
 use Rattle.rv_session.specs.Owed.{Owed}
-use Rattle.rv_book.specs.Waiting.{OpenAt, Waiting}
+use Rattle.rv_book.specs.Waiting.{Waiting}
 
 -- ---- sessions
 
@@ -123,8 +122,8 @@ pub record IsSame (old new : State) : Type 0 where
 abbrev pub HasSpace : State → ℕ → Type 0
 HasSpace state need = length (account_of state).entries + state.waiting + need ≤ max_entries
 
--- nothing changed but the room: so many entries have their own, each request that waits has too, and so has what
--- an arrival of the side adds to the queues
+-- nothing changed but the room: so many entries have their own, each request that waits has too, and so has
+-- what an arrival of the side adds to the queues
 pub record IsReady (old new : State) (need : ℕ) (side : Option Side) : Type 0 where
   pub same : IsSame old new
   pub room : old.waiting + need ≤ new.account.room
@@ -155,8 +154,8 @@ abbrev pub SettlesIf : Table → Table → Option Owed → Kept → Type 0
 SettlesIf old new None kept = new ≡ old
 SettlesIf old new (Some duty) kept = OnlySettles old new duty.client duty.place kept
 
--- what is kept as the reply of the request that an arrival of the side, at the place, met: who gives hands its
--- own item over, and who takes received the other's
+-- what is kept as the reply of the request that an arrival of the side, at the place, met: who gives hands
+-- its own item over, and who takes received the other's
 abbrev pub partners_reply : Side → ℕ → Kept
 partners_reply (Gives queue) place = kept.Item place
 partners_reply (Takes queue) place = kept.Received

@@ -155,8 +155,8 @@ impl Account {
         }
     }
 
-    // Makes room for so many entries more. Where its growth is refused the account stays, and so does the room
-    // that it had.
+    // Makes room for so many entries more. Where its growth is refused the account stays, and so does the
+    // room that it had.
     pub(crate) fn reserve(&mut self, more: usize) -> Result<(), NoMemory>
         ensures same { self.new.account ≡ self.old.account }
         ensures kept { self.old.room ≤ self.new.room }

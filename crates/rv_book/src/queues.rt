@@ -86,7 +86,11 @@ fn put(queue: &mut Dual, duty: Duty) -> Arrived
 
 // What became of a giver that met a consumer.
 fn gave(pair: Pair) -> Arrived
-    ensures { result ≡ record { partner = Some pair.taker.place; own = duty_of pair.giver; other = Some pair.taker } }
+    ensures { result ≡ record {
+      partner = Some pair.taker.place;
+      own = duty_of pair.giver;
+      other = Some pair.taker;
+    } }
 {
     let (own, taker, _) = pair.part();
     Arrived {
@@ -98,7 +102,11 @@ fn gave(pair: Pair) -> Arrived
 
 // What became of a taker that met a giver.
 fn took(pair: Pair) -> Arrived
-    ensures { result ≡ record { partner = Some (place_of pair.giver); own = Some pair.taker; other = duty_of pair.giver } }
+    ensures { result ≡ record {
+      partner = Some (place_of pair.giver);
+      own = Some pair.taker;
+      other = duty_of pair.giver;
+    } }
 {
     let (other, own, place) = pair.part();
     Arrived {

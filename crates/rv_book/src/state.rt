@@ -136,8 +136,9 @@ impl State {
         }
     }
 
-    // Tests the epoch's room for an entry that may need one more later, and makes all growths that the entry and
-    // the queues need. It changes nothing but room; what follows it can't fail, but for a new client's session.
+    // Tests the epoch's room for an entry that may need one more later, and makes all growths that the entry
+    // and the queues need. It changes nothing but room; what follows it can't fail, but for a new client's
+    // session.
     fn make_room(&mut self, need: usize, side: Option<Side>) -> Result<(), Refusal>
         requires sound { IsSound self.old }
         requires small { need ≤ 2 }
@@ -168,8 +169,8 @@ impl State {
         }
     }
 
-    // Records a request that has its session's next number, for which there is room, and gives its reply; none
-    // where it waits.
+    // Records a request that has its session's next number, for which there is room, and gives its reply;
+    // none where it waits.
     fn record(&mut self, moment: u64, key: Key, call: Call) -> Option<Kept>
         requires { MayRecord self.old moment key call }
         ensures sound { IsSound self.new }
@@ -187,14 +188,15 @@ impl State {
             own,
             other,
         } = arrived;
-        self.account.push(moment, Act::Arrive { key, call }, partner);
+        self.account
+            .push(moment, Act::Arrive { key, call }, partner);
         self.settle(other, others);
         self.settle(own, kept);
         told
     }
 
-    // Records a request that has its session's next number, where there is room, and gives its reply; none where
-    // it waits.
+    // Records a request that has its session's next number, where there is room, and gives its reply; none
+    // where it waits.
     fn arrive(&mut self, moment: u64, key: Key, call: Call) -> Result<Option<Kept>, Refusal>
         requires comes { Comes self.old moment (Arrive key call) }
         requires stands { standing_of self.old.sessions key ≡ standing.Next }
@@ -209,9 +211,14 @@ impl State {
         Ok(self.record(moment, key, call))
     }
 
-    // What a request is told that arrived at a place, if it came with this call: the reply that is kept, or that
-    // it waits.
-    fn repeat(&self, place: Option<Place>, call: &Call, kept: Option<Kept>) -> Result<Option<Kept>, Refusal>
+    // What a request is told that arrived at a place, if it came with this call: the reply that is kept, or
+    // that it waits.
+    fn repeat(
+        &self,
+        place: Option<Place>,
+        call: &Call,
+        kept: Option<Kept>,
+    ) -> Result<Option<Kept>, Refusal>
         ensures ok { IfOk result (λ again. (again ≡ kept) × IsRepeat (account_of self.now) place call.now) }
         ensures err { IfErr result (λ refusal. (refusal ≡ OtherCall)
             × ¬ IsRepeat (account_of self.now) place call.now) }
@@ -368,8 +375,8 @@ impl State {
         self.account.push(moment, hello, None);
     }
 
-    // Records a client's hello of a greater incarnation. The request that waits in its session, if one does, is
-    // cancelled.
+    // Records a client's hello of a greater incarnation. The request that waits in its session, if one does,
+    // is cancelled.
     fn renew(
         &mut self,
         moment: u64,

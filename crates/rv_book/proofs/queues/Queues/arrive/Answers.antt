@@ -1,5 +1,5 @@
 -- What the arrival did in its queue is what it did in the table.
-use Rattle.std.proofs.Common.{◌≡◌, ◌<◌, ◌∙◌, List, Some, length, sym, ap, subst, refl, arith}
+use Rattle.std.proofs.Common.{◌<◌, ◌∙◌, List, Some, length, sym, subst, arith}
 use Rattle.std.specs.Prelude.{slice_set}
 use Rattle.rv_text.specs.declared.call.Side.TheVariants.{Gives, Takes}
 use Rattle.rv_text.specs.Calls.{queue_of, side_of, wait_of}

@@ -1,5 +1,5 @@
 -- Each queue that was made is empty.
-use Rattle.std.proofs.Common.{◌≡◌, [], ◌∷◌, ◌++◌, length, refl, sym, ap, subst, ◌∙◌, arith, length-append}
+use Rattle.std.proofs.Common.{◌≡◌, [], ◌∷◌, ◌++◌, length, sym, ap, subst, ◌∙◌, arith, length-append}
 use Rattle.rv_book.specs.Views.{AllEmpty}
 use Rattle.rv_book.proofs.Tabled.{append_empty, none_empty}
 use Rattle.rv_book.proofs.queues.Queues.empty.Goals as goal

@@ -1,12 +1,12 @@
 -- What was taken out of its queue was taken out of the table.
-use Rattle.std.proofs.Common.{◌≡◌, ◌<◌, ◌∙◌, List, length, sym, ap, subst, arith}
+use Rattle.std.proofs.Common.{◌<◌, List, length, sym, subst, arith}
 use Rattle.std.specs.Prelude.{slice_set}
 use Rattle.rv_text.specs.declared.call.Side.TheVariants.{Gives, Takes}
 use Rattle.rv_text.specs.Calls.{queue_of}
 use Rattle.rv_text.specs.Limits.{FitsQueue}
 use Rattle.rv_dual.specs.Queue.{Queue}
 use Rattle.rv_dual.specs.Withdrawing.{Withdraws}
-use Rattle.rv_book.specs.Meeting.{Leaves, Withdrew}
+use Rattle.rv_book.specs.Meeting.{Withdrew}
 use Rattle.rv_book.proofs.Tabled.{indexed, set_at}
 use Rattle.rv_book.proofs.Withdrawn.{left_givers, left_takers}
 use Rattle.rv_book.proofs.queues.Queues.withdraw.Goals as goal

@@ -1,13 +1,11 @@
 -- After a client's first hello that was recorded the account and its tables are sound.
-use Rattle.std.proofs.Common.{◌≡◌, ◌∙◌, ◌≤◌, ◌+◌, inr, None, length, refl, sym, ap, subst, arith, option_and_then}
-use Rattle.rv_session.specs.Table.{fresh, session_of, waiting_of, waiting_place}
+use Rattle.std.proofs.Common.{◌∙◌, inr, None, refl, sym, ap, subst, arith, option_and_then}
+use Rattle.rv_session.specs.Table.{fresh, session_of, waiting_place}
 use Rattle.rv_book.specs.declared.account.Act.TheVariants.{Hello}
 use Rattle.rv_book.specs.declared.state.State.{State}
 use Rattle.rv_book.specs.Account.{with_entry}
 use Rattle.rv_book.specs.Arriving.{entry}
-use Rattle.rv_book.specs.Legal.{KeepsTime}
-use Rattle.rv_book.specs.Sessions.{HasOnlyLower}
-use Rattle.rv_book.specs.Tables.{Comes, HasSpace, IsSound, NoEntryDue, account_of}
+use Rattle.rv_book.specs.Tables.{NoEntryDue, account_of}
 use Rattle.rv_book.proofs.Greeting.{comes_ready, sound_idle, space_ready}
 use Rattle.rv_book.proofs.Keeping.{sound_same}
 use Rattle.rv_book.proofs.Lines.{room_left}

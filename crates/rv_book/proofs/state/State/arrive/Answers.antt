@@ -1,12 +1,10 @@
 -- A request for which there is room may be recorded.
-use Rattle.std.proofs.Common.{◌≡◌, ◌∙◌, ◌≤◌, ◌+◌, length, sym, ap, subst, arith}
+use Rattle.std.proofs.Common.{◌∙◌, length, sym, ap, subst, arith}
 use Rattle.rv_session.specs.Meanings.{HasNext}
 use Rattle.rv_session.specs.Standings.{standing_of}
 use Rattle.rv_book.specs.Legal.{KeepsTime}
 use Rattle.rv_book.specs.Meeting.{HasRoomOn}
-use Rattle.rv_book.specs.Tables.{account_of}
 use Rattle.rv_book.proofs.Keeping.{sound_same}
-use Rattle.rv_book.proofs.Greeting.{sound_idle}
 use Rattle.rv_book.proofs.state.State.arrive.Goals as goal
 
 pub returns-in_err-make_room-clause-sound : goal.returns-in_err-make_room-clause-sound

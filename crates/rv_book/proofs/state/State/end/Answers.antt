@@ -1,5 +1,5 @@
 -- The request that waited was taken out of its queue, and its session was settled.
-use Rattle.std.proofs.Common.{◌≡◌, ◌+◌, ◌≤◌, List, Option, Some, IfSome, refl, sym, ap, subst, ◌∙◌, arith}
+use Rattle.std.proofs.Common.{◌≤◌, List, Option, Some, IfSome, sym, subst, arith}
 use Rattle.rv_session.specs.Owed.{Owed}
 use Rattle.rv_session.specs.Table.{OnlySettles}
 use Rattle.rv_text.specs.declared.call.Side.{Side}

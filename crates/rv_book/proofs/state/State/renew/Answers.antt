@@ -1,5 +1,5 @@
 -- After a hello of a greater incarnation that was recorded the account and its tables are sound.
-use Rattle.std.proofs.Common.{◌≡◌, ◌∙◌, ◌≤◌, ◌+◌, None, refl, sym, ap, subst, arith}
+use Rattle.std.proofs.Common.{◌∙◌, None, refl, sym, ap, subst, arith}
 use Rattle.rv_session.specs.Table.{OnlySets, fresh, session_of, waiting_of}
 use Rattle.rv_session.specs.declared.kept.Kept.TheVariants.{Cancelled}
 use Rattle.rv_book.specs.declared.account.Act.TheVariants.{Hello}
