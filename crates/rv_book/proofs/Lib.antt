@@ -41,6 +41,7 @@ pub mod Ending
 pub mod Keeping
 pub mod Stepping
 pub mod Recording
+pub mod Marking
 pub mod Greeting
 pub mod Standing
 pub mod Repeating

@@ -10,7 +10,7 @@ use Rattle.rv_book.specs.Account.{Account, act_at, call_in}
 use Rattle.rv_book.specs.Arriving.{GoesOn, MeetsOldest}
 use Rattle.rv_book.specs.Calls.{IsPut, MayMeet, Stays}
 use Rattle.rv_book.specs.Counting.{NumberOf}
-use Rattle.rv_book.specs.declared.account.Act.TheVariants.{Arrive, Hello}
+use Rattle.rv_book.specs.declared.account.Act.TheVariants.{Arrive}
 use Rattle.rv_book.specs.declared.account.Entry.{Entry}
 use Rattle.rv_book.specs.Legal.{Legal, NamesFreePartner}
 use Rattle.rv_book.specs.Meeting.{OwnDuty, PartnersDuty, ends_waiting, starts_waiting}
@@ -18,8 +18,8 @@ use Rattle.rv_book.specs.Parked.{owed_at, owed_by, owed_in}
 use Rattle.rv_book.specs.Waiting.{Open, StoppedAt, Waiting}
 use Rattle.rv_book.proofs.Counting.{number_drop, number_push, same_number}
 use Rattle.rv_book.proofs.Keys.{act_called}
-use Rattle.rv_book.proofs.Sides.{IsRequestOf, Waiting-back, Waiting-last, Waiting-on, arrival_stops_nobody, hello_stops, stopped_by_hello, waiting_is_open}
-use Rattle.rv_book.proofs.Waiters.{met_last, open_inside}
+use Rattle.rv_book.proofs.Sides.{Waiting-back, Waiting-last, Waiting-on, arrival_stops_nobody, waiting_is_open}
+use Rattle.rv_book.proofs.Waiters.{Stops, met_last, open_inside}
 
 -- ---- one arrival
 
@@ -146,24 +146,24 @@ module _ (a : Account) (e : Entry) (key : Key) (call : Call) (legal : Legal a) (
       let less = number_met n p count named (owed_waits a.entries p other meets.2.there.is_open (sym other_is)) in
       (less.0, (let same : n ≡ less.0 + 1 = less.1 in omega arith), less.2)
 
-module _ (a : Account) (e : Entry) (client incarnation : ℕ) (free : NamesFreePartner a.entries e) (says : e.act ≡ Hello client incarnation) (none : e.partner ≡ None) where
-  was_there : (r : ℕ) → Waiting (a.entries ++ e ∷ []) r → Waiting a.entries r × (IsRequestOf a.entries client r → ⊥)
-  was_there r waits = elim (Waiting-back a.entries e r free waits) [
-    | inl was ↦ (was.there, λ request. was.unstopped (hello_stops a.entries e client incarnation r says request))
-    | inr new ↦ absurd (none-some new.1.call (sym (ap call_in says) ∙ new.1.arrives))
+module _ (es : List Entry) (e : Entry) (P : ℕ → Type 0) (free : NamesFreePartner es e) (is : Stops es e P) where
+  was_there : (r : ℕ) → Waiting (es ++ e ∷ []) r → Waiting es r × (P r → ⊥)
+  was_there r waits = elim (Waiting-back es e r free waits) [
+    | inl was ↦ (was.there, λ own. was.unstopped (is.stops r own))
+    | inr new ↦ absurd (none-some new.1.call (sym is.no_call ∙ new.1.arrives))
   ]
 
-  still_there : (r : ℕ) → Waiting a.entries r → (IsRequestOf a.entries client r → ⊥) → Waiting (a.entries ++ e ∷ []) r
-  still_there r waits other = Waiting-on a.entries e r waits (λ named. none-some r (sym none ∙ named)) (λ stopped. other (stopped_by_hello a.entries e client incarnation r says stopped))
+  still_there : (r : ℕ) → Waiting es r → (P r → ⊥) → Waiting (es ++ e ∷ []) r
+  still_there r waits other = Waiting-on es e r waits (λ named. none-some r (sym is.none ∙ named)) (λ stopped. other (is.stopped r stopped))
 
-  -- nothing of the client waited
-  pub number_greeted : (n : ℕ) → NumberOf (Waiting a.entries) n → ((r : ℕ) → Waiting a.entries r → IsRequestOf a.entries client r → ⊥) → NumberOf (Waiting (a.entries ++ e ∷ [])) n
-  number_greeted n count idle = same_number (Waiting a.entries) (Waiting (a.entries ++ e ∷ [])) n (λ r. ((λ waits. still_there r waits (idle r waits)), (λ there. (was_there r there).0))) count
+  -- it stops nobody who waits
+  pub number_same : (n : ℕ) → NumberOf (Waiting es) n → ((r : ℕ) → Waiting es r → P r → ⊥) → NumberOf (Waiting (es ++ e ∷ [])) n
+  number_same n count idle = same_number (Waiting es) (Waiting (es ++ e ∷ [])) n (λ r. ((λ waits. still_there r waits (idle r waits)), (λ there. (was_there r there).0))) count
 
-  -- one request of the client waited
-  pub number_renewed : (n p : ℕ) → NumberOf (Waiting a.entries) n → Waiting a.entries p → IsRequestOf a.entries client p → ((r : ℕ) → Waiting a.entries r → IsRequestOf a.entries client r → r ≡ p)
-      → (k : ℕ) × (n ≡ k + 1) × NumberOf (Waiting (a.entries ++ e ∷ [])) k
-  number_renewed n p count waits request only = number_drop (Waiting a.entries) (Waiting (a.entries ++ e ∷ [])) n p count waits (λ r. (
-    (λ there. let was = was_there r there in (was.0, λ same. was.1 (subst (IsRequestOf a.entries client) (sym same) request))),
-    (λ both. still_there r both.0 (λ own. both.1 (only r both.0 own))),
+  -- it stops one request that waits
+  pub number_less : (n p : ℕ) → NumberOf (Waiting es) n → Waiting es p → P p → ((r : ℕ) → Waiting es r → P r → r ≡ p)
+      → (k : ℕ) × (n ≡ k + 1) × NumberOf (Waiting (es ++ e ∷ [])) k
+  number_less n p count waits own only = number_drop (Waiting es) (Waiting (es ++ e ∷ [])) n p count waits (λ r. (
+    (λ there. let was = was_there r there in (was.0, λ same. was.1 (subst P (sym same) own))),
+    (λ both. still_there r both.0 (λ here. both.1 (only r both.0 here)))
   ))

@@ -16,7 +16,7 @@ use Rattle.rv_dual.specs.Queue.{Queue}
 use Rattle.rv_book.specs.Account.{Account, act_at, call_at, call_in}
 use Rattle.rv_book.specs.Arriving.{MeetsOldest}
 use Rattle.rv_book.specs.Calls.{Stays}
-use Rattle.rv_book.specs.declared.account.Act.TheVariants.{Arrive, Hello}
+use Rattle.rv_book.specs.declared.account.Act.TheVariants.{Arrive}
 use Rattle.rv_book.specs.declared.account.Entry.{Entry}
 use Rattle.rv_book.specs.declared.queues.Arrived.{Arrived}
 use Rattle.rv_book.specs.Legal.{Legal, NamesFreePartner}
@@ -27,7 +27,7 @@ use Rattle.rv_book.specs.Waiting.{OpenAt, StoppedAt, IsOldest}
 use Rattle.rv_book.proofs.Deciding.{same_side}
 use Rattle.rv_book.proofs.Growing.{act_read, call_read, partner_read, reads_within}
 use Rattle.rv_book.proofs.Places.{get-append_cases, get-append, get-append_end, get-append_within}
-use Rattle.rv_book.proofs.Sides.{IsNewOn, IsRequestOf, OpenAt-back, OpenAt-last, OpenAt-on, arrival_stops_nobody, hello_stops, one_side, stopped_by_hello}
+use Rattle.rv_book.proofs.Sides.{IsNewOn, OpenAt-back, OpenAt-last, OpenAt-on, arrival_stops_nobody, one_side}
 use Rattle.rv_book.proofs.Tabled.{same_parked, same_waiting}
 use Rattle.rv_book.proofs.Withdrawn.{differs, filter_get, get_filter}
 
@@ -284,43 +284,49 @@ module _ (a : Account) (e : Entry) (old new : List Queue) (key : Key) (call : Ca
     parked = arrived.parked (a.entries ++ e ∷ []) (parked_on a.entries e old are) (owed_new duty is);
   }
 
--- ---- after a hello
+-- ---- after an entry that is no arrival
 
-module _ (a : Account) (e : Entry) (client incarnation : ℕ) (free : NamesFreePartner a.entries e) (says : e.act ≡ Hello client incarnation) (none : e.partner ≡ None) where
-  no_arrival : (side : Side) → OpenAt (a.entries ++ e ∷ []) side (length a.entries) → ⊥
+-- the entry names nobody, and these are the arrivals that it stops
+pub record Stops (es : List Entry) (e : Entry) (P : ℕ → Type 0) : Type 0 where
+  pub no_call : call_in e.act ≡ None
+  pub none : e.partner ≡ None
+  pub stops : (r : ℕ) → P r → StoppedAt (es ++ e ∷ []) r (length es)
+  pub stopped : (r : ℕ) → StoppedAt (es ++ e ∷ []) r (length es) → P r
+
+module _ (es : List Entry) (e : Entry) (P : ℕ → Type 0) (free : NamesFreePartner es e) (is : Stops es e P) where
+  no_arrival : (side : Side) → OpenAt (es ++ e ∷ []) side (length es) → ⊥
   no_arrival side opened =
-      none-some opened.of_side.call (sym (ap call_read (get-append_end a.entries e) ∙ ap call_in says) ∙ opened.of_side.arrived)
+      none-some opened.of_side.call (sym (ap call_read (get-append_end es e) ∙ is.no_call) ∙ opened.of_side.arrived)
 
-  -- nothing of the client waits
-  pub queues_greeted : (queues : List Queue) → AreQueues a.entries queues → ((side : Side) (r : ℕ) → OpenAt a.entries side r → IsRequestOf a.entries client r → ⊥) → AreQueues (a.entries ++ e ∷ []) queues
-  queues_greeted queues are idle = record {
-    lines = λ side. line_same a.entries e side (waiting_on queues side) (are.lines side) free (record {
-      unnamed = λ r opened named. none-some r (sym none ∙ named);
-      unstopped = λ r opened stopped. idle side r opened (stopped_by_hello a.entries e client incarnation r says stopped);
+  -- it stops nobody who is open
+  pub queues_unmoved : (queues : List Queue) → AreQueues es queues → ((side : Side) (r : ℕ) → OpenAt es side r → P r → ⊥) → AreQueues (es ++ e ∷ []) queues
+  queues_unmoved queues are idle = record {
+    lines = λ side. line_same es e side (waiting_on queues side) (are.lines side) free (record {
+      unnamed = λ r opened named. none-some r (sym is.none ∙ named);
+      unstopped = λ r opened stopped. idle side r opened (is.stopped r stopped);
     }) (no_arrival side);
-    parked = parked_on a.entries e queues are;
+    parked = parked_on es e queues are;
   }
 
-  -- the one request of the client that waited was taken out
-  pub queues_renewed : (old new : List Queue) (side : Side) (duty : Owed) (result : Option Owed) → AreQueues a.entries old → Leaves old new side duty result → OpenAt a.entries side duty.place → IsRequestOf a.entries client duty.place
-      → ((other : Side) (r : ℕ) → OpenAt a.entries other r → IsRequestOf a.entries client r → r ≡ duty.place) → AreQueues (a.entries ++ e ∷ []) new
-  queues_renewed old new side duty result are leaves opened request only = record {
+  -- the one whom it stops was taken out
+  pub queues_left : (old new : List Queue) (side : Side) (duty : Owed) (result : Option Owed) → AreQueues es old → Leaves old new side duty result → OpenAt es side duty.place → P duty.place
+      → ((other : Side) (r : ℕ) → OpenAt es other r → P r → r ≡ duty.place) → AreQueues (es ++ e ∷ []) new
+  queues_left old new side duty result are leaves opened own only = record {
     lines = λ other. elim (same_side other side) [
       | inl same ↦
-          subst (λ s. IsLine (a.entries ++ e ∷ []) s (waiting_on new s)) (sym same)
-          (subst (IsLine (a.entries ++ e ∷ []) side) (sym leaves.places)
-          (line_without a.entries e side (waiting_on old side) duty.place (are.lines side) free none (hello_stops a.entries e client incarnation duty.place says request)
-          (λ r there stopped. only side r there (stopped_by_hello a.entries e client incarnation r says stopped)) (no_arrival side)))
+          subst (λ s. IsLine (es ++ e ∷ []) s (waiting_on new s)) (sym same)
+          (subst (IsLine (es ++ e ∷ []) side) (sym leaves.places)
+          (line_without es e side (waiting_on old side) duty.place (are.lines side) free is.none (is.stops duty.place own) (λ r there stopped. only side r there (is.stopped r stopped)) (no_arrival side)))
       | inr apart ↦
-          subst (IsLine (a.entries ++ e ∷ []) other) (sym (leaves.others other apart))
-          (line_same a.entries e other (waiting_on old other) (are.lines other) free (record {
-            unnamed = λ r there named. none-some r (sym none ∙ named);
+          subst (IsLine (es ++ e ∷ []) other) (sym (leaves.others other apart))
+          (line_same es e other (waiting_on old other) (are.lines other) free (record {
+            unnamed = λ r there named. none-some r (sym is.none ∙ named);
             unstopped = λ r there stopped.
-                let same : r ≡ duty.place = only other r there (stopped_by_hello a.entries e client incarnation r says stopped) in
-                apart (one_side a.entries other side duty.place (subst (OpenAt a.entries other) same there).of_side opened.of_side);
+                let same : r ≡ duty.place = only other r there (is.stopped r stopped) in
+                apart (one_side es other side duty.place (subst (OpenAt es other) same there).of_side opened.of_side);
           }) (no_arrival other))
     ];
-    parked = leaves.parked (a.entries ++ e ∷ []) (parked_on a.entries e old are);
+    parked = leaves.parked (es ++ e ∷ []) (parked_on es e old are);
   }
 
 -- ---- an empty account

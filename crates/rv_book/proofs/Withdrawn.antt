@@ -15,7 +15,7 @@ use Rattle.rv_dual.specs.Withdrawing.{WaitsAt, Withdraws, without_giver, without
 use Rattle.rv_dual.specs.declared.giver.Offer.{Offer}
 use Rattle.rv_dual.specs.declared.giver.Offer.TheVariants.{Put, Waits}
 use Rattle.rv_book.specs.declared.account.Act.{Act}
-use Rattle.rv_book.specs.declared.account.Act.TheVariants.{Arrive, Hello}
+use Rattle.rv_book.specs.declared.account.Act.TheVariants.{Arrive, Cancel, Hello}
 use Rattle.rv_book.specs.declared.account.Entry.{Entry}
 use Rattle.rv_book.specs.Account.{act_at}
 use Rattle.rv_book.specs.Meeting.{Leaves}
@@ -97,6 +97,7 @@ by_wait place key (Some wait) d is = ap (λ (o : Owed). o.place) (sym (same_Some
 by_act : (place : ℕ) (o : Option Act) (d : Owed) → option_and_then (owed_in place) o ≡ Some d → d.place ≡ place
 by_act place None d is = absurd (none-some d is)
 by_act place (Some (Hello client incarnation)) d is = absurd (none-some d is)
+by_act place (Some (Cancel key)) d is = absurd (none-some d is)
 by_act place (Some (Arrive key call)) d is = by_wait place key (wait_of call) d is
 
 -- a duty is owed at its own place

@@ -6,15 +6,12 @@ use Rattle.rv_text.specs.declared.call.Call.{Call}
 use Rattle.rv_text.specs.declared.answer.Reply.{Reply}
 use Rattle.rv_text.specs.declared.answer.Reply.TheVariants as reply
 use Rattle.rv_text.specs.declared.answer.Answer.{Answer}
+use Rattle.rv_text.specs.declared.answer.Answer as answer
 use Rattle.rv_book.specs.declared.verdict.Said.{Said}
 use Rattle.rv_book.specs.declared.verdict.Said as said
 use Rattle.rv_book.specs.declared.account.Entry.{Entry}
 use Rattle.rv_book.specs.declared.account.Act.{Act}
-<<<<<<< HEAD
-use Rattle.rv_book.specs.declared.account.Act.TheVariants.{Hello, Arrive, Cancel}
-=======
-use Rattle.rv_book.specs.declared.account.Act.TheVariants.{Arrive}
->>>>>>> book9
+use Rattle.rv_book.specs.declared.account.Act.TheVariants.{Arrive, Cancel}
 use Rattle.rv_session.specs.declared.kept.Kept.{Kept}
 use Rattle.rv_book.specs.Account.{Account, with_entry}
 use Rattle.rv_book.specs.Calls.{opposite, IsPut, Stays}

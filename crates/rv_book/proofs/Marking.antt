@@ -1,0 +1,87 @@
+-- What an entry leaves that is no arrival and stops a request of one session at most: a sound state.
+use Rattle.std.proofs.Common.{◌≡◌, ℕ, ◌+◌, ◌≤◌, List, ◌∷◌, [], ◌++◌, length, Option, Some, None, refl, sym, ap, subst, ◌∙◌, arith}
+use Rattle.std.proofs.lemmas.Option.{same_Some}
+use Rattle.rv_text.specs.Calls.{side_of}
+use Rattle.rv_session.specs.declared.kept.Kept.{Kept}
+use Rattle.rv_book.specs.Account.{Account, with_entry}
+use Rattle.rv_book.specs.Arriving.{entry}
+use Rattle.rv_book.specs.Counting.{NumberOf}
+use Rattle.rv_book.specs.declared.account.Act.{Act}
+use Rattle.rv_book.specs.declared.account.Entry.{Entry}
+use Rattle.rv_book.specs.declared.state.State.{State}
+use Rattle.rv_book.specs.Legal.{Legal, MayFollow}
+use Rattle.rv_book.specs.Limits.{FitsAct}
+use Rattle.rv_book.specs.Parked.{AreQueues}
+use Rattle.rv_book.specs.Steps.{max_moment}
+use Rattle.rv_book.specs.Tables.{AreSessions, EndsAt, HasSpace, IsSound, account_of}
+use Rattle.rv_book.specs.Waiting.{Open, OpenAt, Waiting}
+use Rattle.rv_book.proofs.Keeping.{Answers, sound_with}
+use Rattle.rv_book.proofs.Legality.{Legal-with_entry}
+use Rattle.rv_book.proofs.Owing.{number_less, number_same}
+use Rattle.rv_book.proofs.Sides.{waiting_is_open}
+use Rattle.rv_book.proofs.Waiters.{Stops, queues_left, queues_unmoved}
+
+-- the act may be recorded, and it stops these arrivals, of which one waits at most
+pub record Marks (old : State) (moment : ℕ) (does : Act) (P : ℕ → Type 0) : Type 0 where
+  pub sound : IsSound old
+  pub moment_fits : moment ≤ max_moment
+  pub act_fits : FitsAct does
+  pub follows : MayFollow (account_of old) (entry moment does None)
+  pub stops : Stops (account_of old).entries (entry moment does None) P
+  pub requests : (r : ℕ) → P r → Open (account_of old).entries r → Waiting (account_of old).entries r
+  pub one : (r s : ℕ) → Waiting (account_of old).entries r → P r → Waiting (account_of old).entries s → P s → r ≡ s
+
+module _ (old : State) (moment : ℕ) (does : Act) (P : ℕ → Type 0) (is : Marks old moment does P) where
+  abbrev pub before : Account
+  before = account_of old
+
+  abbrev pub own_entry : Entry
+  own_entry = entry moment does None
+
+  pub legal_after : Legal (with_entry before own_entry)
+  legal_after = Legal-with_entry before own_entry is.sound.legal is.follows
+
+  module _ (new : State) (pushed : account_of new ≡ with_entry before own_entry) (sessions : AreSessions (with_entry before own_entry) new.sessions) where
+    sound_by : AreQueues (before.entries ++ own_entry ∷ []) new.queues → NumberOf (Waiting (before.entries ++ own_entry ∷ [])) new.waiting → length before.entries + 1 + new.waiting ≤ 100000 → new.waiting ≤ new.account.room → IsSound new
+    sound_by queues_are count space room = sound_with before own_entry new is.sound.fits (record {
+      legal = legal_after;
+      entry_fits = (is.moment_fits, is.act_fits);
+      account = pushed;
+      sessions_are = sessions;
+      queues_are = queues_are;
+      waiting_is = count;
+      space = space;
+      spare = room;
+    })
+
+    -- it stops nobody who waits
+    pub marked_idle : ((r : ℕ) → Waiting before.entries r → P r → ⊥) → new.queues ≡ old.queues → new.waiting ≡ old.waiting → HasSpace old 1 → old.waiting ≤ new.account.room → IsSound new
+    marked_idle idle queues waiting space room =
+        let enough : length before.entries + old.waiting + 1 ≤ 100000 = space in
+        let same : new.waiting ≡ old.waiting = waiting in
+        sound_by
+        (subst (AreQueues (before.entries ++ own_entry ∷ [])) (sym queues)
+        (queues_unmoved before.entries own_entry P is.follows.pairs.names_free_partner is.stops old.queues is.sound.queues_are (λ side r opened own. idle r (is.requests r own opened.is_open) own)))
+        (subst (NumberOf (Waiting (before.entries ++ own_entry ∷ []))) (sym waiting) (number_same before.entries own_entry P is.follows.pairs.names_free_partner is.stops old.waiting is.sound.waiting_is idle))
+        (omega arith) (omega arith)
+
+    -- it stops one request that waited, which was ended
+    pub marked_ended : (mid : State) (place : ℕ) (kept : Kept) → Waiting before.entries place → P place → EndsAt old mid place kept → new.queues ≡ mid.queues → new.waiting ≡ mid.waiting → old.waiting ≤ new.account.room + 1 → IsSound new
+    marked_ended mid place kept waits own ends queues waiting room =
+        let only = λ (r : ℕ) (too : Waiting before.entries r) (also : P r). is.one r place too also waits own in
+        let call : waits.is_open.call ≡ ends.call = same_Some _ _ (sym waits.is_open.arrived ∙ ends.arrived) in
+        let opened = subst (λ c. OpenAt before.entries (side_of c) place) call (waiting_is_open before.entries place waits) in
+        let less = number_less before.entries own_entry P is.follows.pairs.names_free_partner is.stops old.waiting place is.sound.waiting_is waits own only in
+        let k = less.0 in
+        let fewer : old.waiting ≡ k + 1 = less.1 in
+        let counted : old.waiting ≡ mid.waiting + 1 = ends.counted in
+        let same : new.waiting ≡ mid.waiting = waiting in
+        let is_k : k ≡ new.waiting = omega arith in
+        let filled : length before.entries + old.waiting ≤ 100000 = is.sound.fits.room old.waiting is.sound.waiting_is in
+        let at = sym ends.is_at in
+        sound_by
+        (subst (AreQueues (before.entries ++ own_entry ∷ [])) (sym queues)
+        (queues_left before.entries own_entry P is.follows.pairs.names_free_partner is.stops old.queues mid.queues (side_of ends.call) ends.duty (Some ends.duty) is.sound.queues_are ends.leaves
+        (subst (OpenAt before.entries (side_of ends.call)) at opened) (subst P at own)
+        (λ other r also there. only r (is.requests r there also.is_open) there ∙ at)))
+        (subst (NumberOf (Waiting (before.entries ++ own_entry ∷ []))) is_k less.2) (omega arith) (omega arith)
