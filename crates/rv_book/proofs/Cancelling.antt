@@ -8,7 +8,7 @@ use Rattle.rv_text.specs.declared.answer.Answer.TheVariants.{Replied}
 use Rattle.rv_text.specs.declared.answer.Reply as reply
 use Rattle.rv_text.specs.declared.call.Call as call
 use Rattle.rv_text.specs.declared.call.Call.{Call}
-use Rattle.rv_text.specs.declared.call.Wait.{Wait}
+use Rattle.rv_text.specs.declared.call.Side.{Side}
 use Rattle.rv_text.specs.declared.call.Wait.TheVariants.{Now, Forever}
 use Rattle.rv_text.specs.declared.message.Key.{Key}
 use Rattle.rv_session.specs.declared.kept.Kept as kept
@@ -20,7 +20,7 @@ use Rattle.rv_book.specs.Account.{Account, act_at, call_in, key_at, key_in, with
 use Rattle.rv_book.specs.Arriving.{IsNext}
 use Rattle.rv_book.specs.Calls.{IsPut, Stays}
 use Rattle.rv_book.specs.Legal.{Legal}
-use Rattle.rv_book.specs.Replies.{CancelledFirst, RepliesAt, RepliesUnmet}
+use Rattle.rv_book.specs.Replies.{CancelledFirst, RepliesAt}
 use Rattle.rv_book.specs.Sessions.{LastNumber}
 use Rattle.rv_book.specs.Steps.{Replies}
 use Rattle.rv_book.specs.Tables.{AreSessions, IsSession, last_key}
@@ -71,19 +71,19 @@ still_waits a e key other says none apart = λ r own call of_client arrived w.
     let same : Arrive stopped.key stopped.call ≡ Arrive own call = same_Some _ _ (sym stopped.arrived ∙ reads_on act_read refl a.entries (e ∷ []) r (Arrive own call) arrived) in
     apart (sym of_client ∙ sym (ap client_of same) ∙ sym (ap (λ (k : Key). k.client) same_key)))
 
--- what the stopped request is told, by its wait
-by_wait : (wait : Wait) (es : List Entry) (r : ℕ) (at_once : reply.Reply) → (◌≡◌ {A = Wait} wait Now → ⊥) → Stopped es r → RepliesUnmet es r wait at_once reply.TheVariants.Cancelled
-by_wait Now es r at_once lasts stopped = absurd (lasts refl)
-by_wait Forever es r at_once lasts stopped = (stopped, refl)
+no_side : (o : Option Side) → o ≡ None → IsSome o → ⊥
+no_side None is some = let no : ⊥ = cc in no
+no_side (Some side) is some = none-some side (sym is)
 
+-- what the stopped request is told
 told_cancelled : (c : Call) (es : List Entry) (r : ℕ) → Stays c → (IsPut c → ⊥) → (Met es r → ⊥) → Stopped es r → RepliesAt es r c reply.TheVariants.Cancelled
 told_cancelled (call.TheVariants.Put queue item) es r stays no_put unmet stopped = absurd (no_put (refl, refl))
 told_cancelled (call.TheVariants.Transfer queue item Now) es r stays no_put unmet stopped = absurd stays.1
 told_cancelled (call.TheVariants.Transfer queue item Forever) es r stays no_put unmet stopped = inr (unmet, (stopped, refl))
 told_cancelled (call.TheVariants.Take queue Now) es r stays no_put unmet stopped = absurd stays.1
 told_cancelled (call.TheVariants.Take queue Forever) es r stays no_put unmet stopped = inr (unmet, (stopped, refl))
-told_cancelled (call.TheVariants.Count queue) es r stays no_put unmet stopped = absurd (let meets : IsSome (None {A = ℕ}) = stays.0 in let no : ⊥ = cc in no)
-told_cancelled (call.TheVariants.Peek queue) es r stays no_put unmet stopped = absurd (let meets : IsSome (None {A = ℕ}) = stays.0 in let no : ⊥ = cc in no)
+told_cancelled (call.TheVariants.Count queue) es r stays no_put unmet stopped = absurd (no_side None refl stays.0)
+told_cancelled (call.TheVariants.Peek queue) es r stays no_put unmet stopped = absurd (no_side None refl stays.0)
 
 -- it is told that it was cancelled
 ended_reply : (a : Account) (e : Entry) (key : Key) (place : ℕ) → e.act ≡ Cancel key → e.partner ≡ None → (at : WaitsAt a.entries key place)
