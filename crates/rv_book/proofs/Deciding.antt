@@ -1,6 +1,6 @@
 -- What any list of entries decides: a client's last hello and last number, who is met, stopped, open or waiting, and whom an arrival meets.
 use Rattle.rv_book.specs.declared.account.Act.{Act}
-use Rattle.rv_book.specs.declared.account.Act.TheVariants.{Arrive, Hello}
+use Rattle.rv_book.specs.declared.account.Act.TheVariants.{Arrive, Cancel, Hello}
 use Rattle.std.proofs.Common.{Bool, List, None, Option, Some, ap, arith, false, inl, inr, length, refl, subst, suc, sym, true, zero, ℕ, ◌<◌, ◌∙◌, ◌≡◌, ◌≤◌, ◌⊎◌, [], ◌+◌, ◌∷◌}
 use Rattle.rv_text.specs.declared.call.Call.{Call}
 use Rattle.rv_book.specs.declared.account.Entry.{Entry}
@@ -16,9 +16,10 @@ use Rattle.rv_text.specs.declared.call.Wait.{Wait}
 use Rattle.rv_book.specs.Account.{act_at, call_at, key_at, partner_at}
 use Rattle.rv_book.proofs.Growing.{act_read, call_read, read_there, reads_within}
 use Rattle.std.proofs.lemmas.Bool.{cases_lt}
+use Rattle.rv_book.proofs.Places.{within}
 use Rattle.rv_book.proofs.Numbers.{first_below, last_below, same_or_not}
 use Rattle.std.specs.Prelude.{is_some}
-use Rattle.rv_book.proofs.Keys.{key_read, client_of, hello_is_own}
+use Rattle.rv_book.proofs.Keys.{key_read, client_of, hello_is_own, cancel_no_hello}
 use Rattle.std.proofs.lemmas.Option.{none-some, same_Some}
 use Rattle.rv_text.specs.Calls.{side_of, wait_of}
 use Rattle.rv_book.specs.Legal.{HasWaiting}
@@ -45,6 +46,7 @@ hello_of c (Some (Hello d j)) = elim (same_or_not d c) [
   | inr other ↦ inr (λ h. other (other_client c d h.0 j h.1))
 ]
 hello_of c (Some (Arrive key call)) = inr (λ h. arrives_no_hello key call c h.0 h.1)
+hello_of c (Some (Cancel key)) = inr (λ h. cancel_no_hello key c h.0 h.1)
 
 pub find_hello : (es : List Entry) (c : ℕ) → ((i : ℕ) × HasIncarnation es c i) ⊎ ((r i : ℕ) → act_at es r ≡ Some (Hello c i) → ⊥)
 find_hello es c = elim (last_below (HelloAt es c) (λ r. hello_of c (act_at es r)) (length es)) [
@@ -191,10 +193,32 @@ met_or_not es r = elim (first_below (PartAt es r) (part_at es r) (length es)) [
 
 -- ---- who is stopped
 
--- what ends a wait is a hello of its client
-ends_hello : (act : Act) (moment : ℕ) (key : Key) (limit : Option ℕ) → EndsWait act moment key limit → (i : ℕ) × (act ≡ Hello key.client i)
-ends_hello (Hello client i) moment key limit same = (i, ap (λ n. Hello n i) same)
-ends_hello (Arrive other call) moment key limit ends = absurd ends
+same_fields : (a b c d e f g h : ℕ) → a ≡ b → c ≡ d → e ≡ f → g ≡ h
+    → ◌≡◌ {A = Key} (record { epoch = a; client = c; incarnation = e; number = g }) (record { epoch = b; client = d; incarnation = f; number = h })
+same_fields a b c d e f g h p q r s = cc
+
+pub same_key : (k key : Key) → k.epoch ≡ key.epoch → k.client ≡ key.client → k.incarnation ≡ key.incarnation → k.number ≡ key.number → k ≡ key
+same_key k key p q r s = same_fields k.epoch key.epoch k.client key.client k.incarnation key.incarnation k.number key.number p q r s
+
+pub key_or_other : (k key : Key) → (k ≡ key) ⊎ (k ≡ key → ⊥)
+key_or_other k key = elim (same_or_not k.epoch key.epoch) [
+  | inr apart ↦ inr (λ is. apart (ap (λ (x : Key). x.epoch) is))
+  | inl epoch ↦ elim (same_or_not k.client key.client) [
+    | inr apart ↦ inr (λ is. apart (ap (λ (x : Key). x.client) is))
+    | inl client ↦ elim (same_or_not k.incarnation key.incarnation) [
+      | inr apart ↦ inr (λ is. apart (ap (λ (x : Key). x.incarnation) is))
+      | inl incarnation ↦ elim (same_or_not k.number key.number) [
+        | inr apart ↦ inr (λ is. apart (ap (λ (x : Key). x.number) is))
+        | inl number ↦ inl (same_key k key epoch client incarnation number)
+      ]
+    ]
+  ]
+]
+
+ends_or_not : (act : Act) (moment : ℕ) (key : Key) (limit : Option ℕ) → EndsWait act moment key limit ⊎ (EndsWait act moment key limit → ⊥)
+ends_or_not (Hello client i) moment key limit = same_or_not client key.client
+ends_or_not (Arrive other call) moment key limit = inr (λ ends. ends)
+ends_or_not (Cancel other) moment key limit = key_or_other other key
 
 none_or_some : (wait : Option Wait) → (wait ≡ None) ⊎ (wait ≡ None → ⊥)
 none_or_some None = inl refl
@@ -206,50 +230,48 @@ put_or_not call = elim (meets_or_not call) [
   | inl meets ↦ elim (none_or_some (wait_of call)) [ inl none ↦ inl (meets, none) | inr waits ↦ inr (λ put. waits put.1) ]
 ]
 
--- a hello of the client stands behind r
-abbrev HelloBehind : List Entry → ℕ → ℕ → ℕ → Type 0
-HelloBehind es client r s = (r < s) × HelloAt es client s
+-- behind r stands what ends a wait with this key and this limit
+record EndBehind (es : List Entry) (key : Key) (limit : Option ℕ) (r s : ℕ) : Type 0 where
+  later : r < s
+  stopper : Entry
+  there : slice_get es s ≡ Some stopper
+  ends : EndsWait stopper.act stopper.moment key limit
 
-hello_behind : (es : List Entry) (client r s : ℕ) → HelloBehind es client r s ⊎ (HelloBehind es client r s → ⊥)
-hello_behind es client r s = elim (cases_lt r s) [
-  | inr most ↦ inr (λ h. let later : r < s = h.0 in omega arith)
-  | inl later ↦ elim (hello_of client (act_at es s)) [ inl hello ↦ inl (later, hello) | inr none ↦ inr (λ h. none h.1) ]
+end_of : (es : List Entry) (key : Key) (limit : Option ℕ) (r s : ℕ) (o : Option Entry) → slice_get es s ≡ o → r < s → EndBehind es key limit r s ⊎ (EndBehind es key limit r s → ⊥)
+end_of es key limit r s None there later = inr (λ h. none-some h.stopper (sym there ∙ h.there))
+end_of es key limit r s (Some e) there later = elim (ends_or_not e.act e.moment key limit) [
+  | inl ends ↦ inl (record { later = later; stopper = e; there = there; ends = ends })
+  | inr not_here ↦ inr (λ h. not_here (subst (λ (x : Entry). EndsWait x.act x.moment key limit) (same_Some _ _ (sym h.there ∙ there)) h.ends))
+]
+
+end_behind : (es : List Entry) (key : Key) (limit : Option ℕ) (r s : ℕ) → EndBehind es key limit r s ⊎ (EndBehind es key limit r s → ⊥)
+end_behind es key limit r s = elim (cases_lt r s) [
+  | inr most ↦ inr (λ h. let later : r < s = h.later in omega arith)
+  | inl later ↦ end_of es key limit r s (slice_get es s) refl later
 ]
 
 same_parts : (key other : Key) (call more : Call) → Some (Arrive key call) ≡ Some (Arrive other more) → (key ≡ other) × (call ≡ more)
 same_parts key other call more e = (cc, cc)
 
 stopped_by : (es : List Entry) (r : ℕ) (key : Key) (call : Call) → act_at es r ≡ Some (Arrive key call) → (IsPut call → ⊥) → Stopped es r ⊎ (Stopped es r → ⊥)
-stopped_by es r key call arrived no_put = elim (first_below (HelloBehind es key.client r) (hello_behind es key.client r) (length es)) [
+stopped_by es r key call arrived no_put = elim (first_below (EndBehind es key (limit_at es r) r) (end_behind es key (limit_at es r) r) (length es)) [
   | inl found ↦
-      let s = found.0 in
-      let at = read_there act_read refl (slice_get es s) (Hello key.client found.2.1.0) found.2.1.1 in
-      let says : Hello key.client found.2.1.0 ≡ at.0.act = sym (same_Some _ _ at.2) in
-      inl (
-        s,
-        record {
-          key = key;
-          call = call;
-          stopper = at.0;
-          arrived = arrived;
-          no_put = no_put;
-          later = found.2.0;
-          there = at.1;
-          ends = subst (λ act. EndsWait act at.0.moment key (limit_at es r)) says refl;
-        },
-      )
+      let at = found.2 in
+      inl (found.0, record { key = key; call = call; stopper = at.stopper; arrived = arrived; no_put = no_put; later = at.later; there = at.there; ends = at.ends })
   | inr none ↦ inr (λ stopped.
-      let s = stopped.0 in
       let h = stopped.1 in
       let own : h.key ≡ key = (same_parts h.key key h.call call (sym h.arrived ∙ arrived)).0 in
-      let hello = ends_hello h.stopper.act h.stopper.moment h.key (limit_at es r) h.ends in
-      let says : act_at es s ≡ Some (Hello key.client hello.0) = ap act_read h.there ∙ ap Some hello.1 ∙ ap (λ (k : Key). Some (Hello k.client hello.0)) own in
-      none s (reads_within act_read refl es s (Hello key.client hello.0) says) (h.later, (hello.0, says)))
+      let ends = subst (λ (k : Key). EndsWait h.stopper.act h.stopper.moment k (limit_at es r)) own h.ends in
+      none stopped.0 (within es stopped.0 h.stopper h.there) (record { later = h.later; stopper = h.stopper; there = h.there; ends = ends }))
 ]
+
+arrives_no_cancel : (key : Key) (call : Call) (other : Key) → Some (Arrive key call) ≡ Some (Cancel other) → ⊥
+arrives_no_cancel key call other e = cc
 
 stopped_of : (es : List Entry) (r : ℕ) (o : Option Act) → act_at es r ≡ o → Stopped es r ⊎ (Stopped es r → ⊥)
 stopped_of es r None there = inr (λ stopped. none-some _ (sym there ∙ stopped.1.arrived))
 stopped_of es r (Some (Hello client i)) there = inr (λ stopped. arrives_no_hello stopped.1.key stopped.1.call client i (sym stopped.1.arrived ∙ there))
+stopped_of es r (Some (Cancel key)) there = inr (λ stopped. arrives_no_cancel stopped.1.key stopped.1.call key (sym stopped.1.arrived ∙ there))
 stopped_of es r (Some (Arrive key call)) there = elim (put_or_not call) [
   | inr no_put ↦ stopped_by es r key call there no_put
   | inl put ↦ inr (λ stopped. stopped.1.no_put (subst IsPut (sym (same_parts stopped.1.key key stopped.1.call call (sym stopped.1.arrived ∙ there)).1) put))

@@ -1,8 +1,8 @@
 -- Which entries may stand behind an account: a hello, and an arrival that meets the oldest; each by its moments, its numbers and its pairs.
-use Rattle.std.proofs.Common.{◌≡◌, ℕ, List, Option, Some, None, option_and_then, refl, sym, ap, subst, ◌∙◌, arith}
+use Rattle.std.proofs.Common.{◌≡◌, ◌⊎◌, ℕ, List, Option, Some, None, option_and_then, refl, sym, ap, subst, ◌∙◌, arith}
 use Rattle.rv_book.specs.Account.{Account, call_in}
 use Rattle.rv_book.specs.declared.account.Act.{Act}
-use Rattle.rv_book.specs.declared.account.Act.TheVariants.{Arrive, Hello}
+use Rattle.rv_book.specs.declared.account.Act.TheVariants.{Arrive, Cancel, Hello}
 use Rattle.rv_text.specs.declared.call.Call.{Call}
 use Rattle.rv_book.specs.declared.account.Entry.{Entry}
 use Rattle.rv_text.specs.declared.message.Key.{Key}
@@ -13,7 +13,7 @@ use Rattle.rv_text.specs.declared.call.Wait.{Wait}
 use Rattle.rv_text.specs.declared.call.Wait.TheVariants.{Now, Forever}
 use Rattle.std.specs.List.{slice_get}
 use Rattle.rv_book.specs.Sessions.{HasIncarnation, HasOnlyLower}
-use Rattle.rv_book.specs.Legal.{IsFreePartner, IsNextNumber, IsOpenOpposite, KeepsLimits, KeepsMoments, KeepsNumbers, KeepsPairs, KeepsTime, MayFollow, NothingDue}
+use Rattle.rv_book.specs.Legal.{IsFreePartner, IsNextNumber, IsOpenOpposite, KeepsLimits, KeepsMoments, KeepsNumbers, KeepsPairs, KeepsTime, MayFollow, NothingDue, WaitsUnder}
 use Rattle.rv_book.specs.Arriving.{IsNext, MeetsOldest, entry}
 use Rattle.rv_book.specs.Calls.{MayMeet, limit_after, limit_of}
 use Rattle.rv_book.specs.Waiting.{OpenAt, SideAt, limit_in}
@@ -42,6 +42,7 @@ nothing_due es moment r limit waits is = absurd (none-some limit (sym (no_limit_
 keeps_limits : (es : List Entry) (moment : ℕ) (does : Act) → KeepsLimits es moment does
 keeps_limits es moment (Hello client incarnation) = nothing_due es moment
 keeps_limits es moment (Arrive key call) = nothing_due es moment
+keeps_limits es moment (Cancel key) = nothing_due es moment
 
 keeps_moments : (a : Account) (moment : ℕ) (does : Act) → KeepsTime a moment → KeepsMoments a moment does
 keeps_moments a moment does time = record { keeps_time = time; keeps_limits = keeps_limits a.entries moment does }
@@ -56,6 +57,7 @@ hello_numbers a client incarnation lower = record {
       subst (HasOnlyLower a.entries c) same_incarnation (subst (λ n. HasOnlyLower a.entries n incarnation) same_client lower);
   of_session = λ key is. absurd (none-some key is);
   counts_up = λ key call is. absurd (let no : ⊥ = cc in no);
+  cancels = λ key is. absurd (let no : ⊥ = cc in no);
 }
 
 next_number : (a : Account) (key : Key) → IsNext a key → IsNextNumber a.entries key
@@ -69,6 +71,18 @@ arrival_numbers a key call next = record {
   raises_incarnation = λ c i is. absurd (let no : ⊥ = cc in no);
   of_session = λ other is. subst (λ (k : Key). (k.epoch ≡ a.epoch) × HasIncarnation a.entries k.client k.incarnation) (same_Some _ _ is) (next.epoch, next.incarnation);
   counts_up = λ other more is. subst (IsNextNumber a.entries) (same_key _ _ _ _ is) (next_number a key next);
+  cancels = λ other is. absurd (let no : ⊥ = cc in no);
+}
+
+same_cancel : (key other : Key) → Cancel key ≡ Cancel other → key ≡ other
+same_cancel key other e = cc
+
+cancel_numbers : (a : Account) (key : Key) → key.epoch ≡ a.epoch → HasIncarnation a.entries key.client key.incarnation → WaitsUnder a.entries key ⊎ IsNextNumber a.entries key → KeepsNumbers a (Cancel key)
+cancel_numbers a key epoch has turn = record {
+  raises_incarnation = λ c i is. absurd (let no : ⊥ = cc in no);
+  of_session = λ other is. subst (λ (k : Key). (k.epoch ≡ a.epoch) × HasIncarnation a.entries k.client k.incarnation) (same_Some _ _ is) (epoch, has);
+  counts_up = λ other more is. absurd (let no : ⊥ = cc in no);
+  cancels = λ other is. subst (λ (k : Key). WaitsUnder a.entries k ⊎ IsNextNumber a.entries k) (same_cancel _ _ is) turn;
 }
 
 -- ---- pairs
@@ -115,7 +129,7 @@ arrival_pairs es moment key call (Some p) (side, opposes, oldest) =
       pairs_where_possible = λ r other is calls opposes. none-some p (sym is);
     }
 
--- ---- both kinds of entry
+-- ---- each kind of entry
 
 pub hello_follows : (a : Account) (moment client incarnation : ℕ) → KeepsTime a moment → HasOnlyLower a.entries client incarnation → MayFollow a (entry moment (Hello client incarnation) None)
 hello_follows a moment client incarnation time lower = record {
@@ -130,4 +144,12 @@ arrival_follows a moment key call partner time next meets = record {
   moments = keeps_moments a moment (Arrive key call) time;
   numbers = arrival_numbers a key call next;
   pairs = arrival_pairs a.entries moment key call partner meets;
+}
+
+pub cancel_follows : (a : Account) (moment : ℕ) (key : Key) → KeepsTime a moment → key.epoch ≡ a.epoch → HasIncarnation a.entries key.client key.incarnation → WaitsUnder a.entries key ⊎ IsNextNumber a.entries key
+    → MayFollow a (entry moment (Cancel key) None)
+cancel_follows a moment key time epoch has turn = record {
+  moments = keeps_moments a moment (Cancel key) time;
+  numbers = cancel_numbers a key epoch has turn;
+  pairs = no_pairs a.entries (entry moment (Cancel key) None) refl refl;
 }

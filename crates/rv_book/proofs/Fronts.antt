@@ -70,3 +70,19 @@ pub naming : (a : Account) (p q : ℕ) → Legal a → NamesPartner a.entries p 
 naming a p q legal names =
     let at = read_there partner_read refl (slice_get a.entries p) q names.named in
     record { entry = at.0; there = at.1; named = at.2; follows = legal p at.0 at.1 }
+
+-- ---- a front of a legal account is legal
+
+front_of_front : {X : Type 0} (xs : List X) (m n : ℕ) → m ≤ n → take m (take n xs) ≡ take m xs
+front_of_front xs zero n h = refl
+front_of_front [] (suc m) zero h = refl
+front_of_front [] (suc m) (suc n) h = refl
+front_of_front (x ∷ xs) (suc m) zero h = absurd (omega arith)
+front_of_front (x ∷ xs) (suc m) (suc n) h = ap (λ ys. x ∷ ys) (front_of_front xs m n (omega arith))
+
+pub Legal-before : (a : Account) (n : ℕ) → Legal a → Legal (before a n)
+Legal-before a n legal j e there =
+    let whole = read_whole (λ (o : Option Entry). o) refl a.entries n j e there in
+    let same : take j (take n a.entries) ≡ take j a.entries = front_of_front a.entries j n (omega arith) in
+    let P : List Entry → Type 0 = λ entries. MayFollow (record { epoch = a.epoch; opened = a.opened; entries = entries }) e in
+    subst P (sym same) (legal j e whole.1)

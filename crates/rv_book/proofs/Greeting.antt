@@ -16,7 +16,7 @@ use Rattle.rv_book.specs.declared.state.State.{State}
 use Rattle.rv_book.specs.Legal.{HasWaiting, KeepsTime, Legal, MayFollow}
 use Rattle.rv_book.specs.Parked.{AreQueues}
 use Rattle.rv_book.specs.Sessions.{HasOnlyLower}
-use Rattle.rv_book.specs.Tables.{Comes, EndsAt, EndsIf, HasSpace, IsReady, IsSound, account_of}
+use Rattle.rv_book.specs.Tables.{AreSessions, Comes, EndsAt, EndsIf, HasSpace, IsReady, IsSound, account_of}
 use Rattle.rv_book.specs.Waiting.{Open, OpenAt, Waiting}
 use Rattle.rv_book.proofs.Following.{hello_follows}
 use Rattle.rv_book.proofs.Keeping.{sound_same, sound_with}

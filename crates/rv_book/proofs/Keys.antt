@@ -1,12 +1,12 @@
 -- Whose session an act belongs to, and what one more entry leaves of hellos and keys.
 use Rattle.rv_book.specs.Account.{call_in, key_in}
 use Rattle.rv_book.specs.declared.account.Act.{Act}
-use Rattle.rv_book.specs.declared.account.Act.TheVariants.{Arrive, Hello}
+use Rattle.rv_book.specs.declared.account.Act.TheVariants.{Arrive, Cancel, Hello}
 use Rattle.rv_text.specs.declared.call.Call.{Call}
 use Rattle.rv_book.specs.declared.account.Entry.{Entry}
 use Rattle.rv_book.specs.Sessions.{LastHello, NamesKey}
 use Rattle.rv_text.specs.declared.message.Key.{Key}
-use Rattle.std.proofs.Common.{List, None, Option, Some, [], ap, inl, inr, length, option_and_then, refl, ℕ, ◌++◌, ◌∷◌, ◌≡◌, ◌⊎◌}
+use Rattle.std.proofs.Common.{List, None, Option, Some, [], ap, inl, inr, length, option_and_then, refl, ℕ, ◌++◌, ◌∙◌, ◌∷◌, ◌≡◌, ◌⊎◌}
 use Rattle.rv_book.proofs.Growing.{act_read, reads_back, reads_on}
 use Rattle.std.proofs.lemmas.Option.{none-some, same_Some}
 
@@ -17,23 +17,36 @@ key_read o = option_and_then key_in (act_read o)
 abbrev pub client_of : Act → ℕ
 client_of (Hello client incarnation) = client
 client_of (Arrive key call) = key.client
+client_of (Cancel key) = key.client
 
--- ---- where a key or a call stands, an arrival does
+-- ---- where a call stands, an arrival does; where a key stands, that or a cancel
 
-pub act_named : (o : Option Act) (key : Key) → option_and_then key_in o ≡ Some key → (call : Call) × (o ≡ Some (Arrive key call))
+pub act_named : (o : Option Act) (key : Key) → option_and_then key_in o ≡ Some key → ((call : Call) × (o ≡ Some (Arrive key call))) ⊎ (o ≡ Some (Cancel key))
 act_named None key is = absurd (none-some key is)
 act_named (Some (Hello client incarnation)) key is = absurd (none-some key is)
-act_named (Some (Arrive other call)) key is = (call, ap (λ k. Some (Arrive k call)) (same_Some _ _ is))
+act_named (Some (Arrive other call)) key is = inl (call, ap (λ k. Some (Arrive k call)) (same_Some _ _ is))
+act_named (Some (Cancel other)) key is = inr (ap (λ k. Some (Cancel k)) (same_Some _ _ is))
 
 pub act_called : (o : Option Act) (call : Call) → option_and_then call_in o ≡ Some call → (key : Key) × (o ≡ Some (Arrive key call))
 act_called None call is = absurd (none-some call is)
 act_called (Some (Hello client incarnation)) call is = absurd (none-some call is)
 act_called (Some (Arrive key other)) call is = (key, ap (λ c. Some (Arrive key c)) (same_Some _ _ is))
+act_called (Some (Cancel key)) call is = absurd (none-some call is)
+
+-- where both stand, the arrival has both
+pub act_arrives : (o : Option Act) (key : Key) (call : Call) → option_and_then key_in o ≡ Some key → option_and_then call_in o ≡ Some call → o ≡ Some (Arrive key call)
+act_arrives None key call names calls = absurd (none-some key names)
+act_arrives (Some (Hello client incarnation)) key call names calls = absurd (none-some key names)
+act_arrives (Some (Arrive other more)) key call names calls = ap (λ k. Some (Arrive k more)) (same_Some _ _ names) ∙ ap (λ c. Some (Arrive key c)) (same_Some _ _ calls)
+act_arrives (Some (Cancel other)) key call names calls = absurd (none-some call calls)
 
 -- ---- one more entry
 
 pub no_hello : (key : Key) (call : Call) (c i : ℕ) → Some (Arrive key call) ≡ Some (Hello c i) → ⊥
 no_hello key call c i e = cc
+
+pub cancel_no_hello : (key : Key) (c i : ℕ) → Some (Cancel key) ≡ Some (Hello c i) → ⊥
+cancel_no_hello key c i e = cc
 
 pub same_hello : (c i d j : ℕ) → Some (Hello c i) ≡ Some (Hello d j) → c ≡ d
 same_hello c i d j e = cc
@@ -42,11 +55,13 @@ same_hello c i d j e = cc
 pub hello_is_own : (act : Act) (c i : ℕ) → Some act ≡ Some (Hello c i) → client_of act ≡ c
 hello_is_own (Hello d j) c i e = same_hello d j c i e
 hello_is_own (Arrive key call) c i e = absurd (no_hello key call c i e)
+hello_is_own (Cancel key) c i e = absurd (cancel_no_hello key c i e)
 
 -- the key that the entry names is its client's
 pub key_is_own : (act : Act) (key : Key) → key_in act ≡ Some key → client_of act ≡ key.client
 key_is_own (Hello d j) key e = absurd (none-some key e)
 key_is_own (Arrive own call) key e = ap (λ (k : Key). k.client) (same_Some _ _ e)
+key_is_own (Cancel own) key e = ap (λ (k : Key). k.client) (same_Some _ _ e)
 
 pub LastHello-on : (es : List Entry) (e : Entry) (c i h : ℕ) → ((j : ℕ) → Some e.act ≡ Some (Hello c j) → ⊥) → LastHello es c i h → LastHello (es ++ e ∷ []) c i h
 LastHello-on es e c i h other last = record {

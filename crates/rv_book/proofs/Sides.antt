@@ -10,7 +10,7 @@ use Rattle.rv_book.specs.Legal.{Legal, NamesFreePartner}
 use Rattle.rv_book.specs.Waiting.{EndsWait, Met, NamesPartner, Open, OpenAt, SideAt, Stopped, StoppedAt, Waiting, limit_at}
 use Rattle.rv_book.proofs.Growing.{NamesPartner-back, Open-back, Open-on, act_read, call_read, partner_read, read_there, reads_back, reads_on, reads_within}
 use Rattle.rv_book.specs.Calls.{IsPut, Stays}
-use Rattle.rv_book.specs.declared.account.Act.TheVariants.{Arrive, Hello}
+use Rattle.rv_book.specs.declared.account.Act.TheVariants.{Arrive, Cancel, Hello}
 use Rattle.rv_text.specs.declared.message.Key.{Key}
 use Rattle.rv_book.proofs.Places.{get-append_cases, get-append_end}
 
@@ -69,6 +69,38 @@ stopped_by_hello es e client incarnation r says stopped =
       call = stopped.call;
       arrived = elim (reads_back act_read refl es e r (Arrive stopped.key stopped.call) stopped.arrived) [ inl inside ↦ inside.1 | inr last ↦ absurd (omega arith) ];
       of_client = subst (λ act. EndsWait act stopped.stopper.moment stopped.key (limit_at (es ++ e ∷ []) r)) (sym (ap (λ (x : Entry). x.act) own) ∙ says) stopped.ends;
+      no_put = stopped.no_put;
+    }
+
+-- the request with this key arrived at r, and it is no put
+pub record IsRequestUnder (es : List Entry) (key : Key) (r : ℕ) : Type 0 where
+  pub call : Call
+  pub arrived : act_at es r ≡ Some (Arrive key call)
+  pub no_put : IsPut call → ⊥
+
+-- a cancel stops the request with its key, but no put
+pub cancel_stops : (es : List Entry) (e : Entry) (key : Key) (r : ℕ) → e.act ≡ Cancel key → IsRequestUnder es key r → StoppedAt (es ++ e ∷ []) r (length es)
+cancel_stops es e key r says request = record {
+  key = key;
+  call = request.call;
+  stopper = e;
+  arrived = reads_on act_read refl es (e ∷ []) r (Arrive key request.call) request.arrived;
+  no_put = request.no_put;
+  later = reads_within act_read refl es r (Arrive key request.call) request.arrived;
+  there = get-append_end es e;
+  ends = subst (λ act. EndsWait act e.moment key (limit_at (es ++ e ∷ []) r)) (sym says) refl;
+}
+
+-- and no other
+pub stopped_by_cancel : (es : List Entry) (e : Entry) (key : Key) (r : ℕ) → e.act ≡ Cancel key → StoppedAt (es ++ e ∷ []) r (length es) → IsRequestUnder es key r
+stopped_by_cancel es e key r says stopped =
+    let own : e ≡ stopped.stopper = same_Some _ _ (sym (get-append_end es e) ∙ stopped.there) in
+    let later : r < length es = stopped.later in
+    let named : key ≡ stopped.key = subst (λ act. EndsWait act stopped.stopper.moment stopped.key (limit_at (es ++ e ∷ []) r)) (sym (ap (λ (x : Entry). x.act) own) ∙ says) stopped.ends in
+    let arrived : act_at es r ≡ Some (Arrive stopped.key stopped.call) = elim (reads_back act_read refl es e r (Arrive stopped.key stopped.call) stopped.arrived) [ inl inside ↦ inside.1 | inr last ↦ absurd (omega arith) ] in
+    record {
+      call = stopped.call;
+      arrived = subst (λ (k : Key). act_at es r ≡ Some (Arrive k stopped.call)) (sym named) arrived;
       no_put = stopped.no_put;
     }
 

@@ -1,19 +1,19 @@
 -- What a legal account says of the requests that wait: each is its session's last, and a client has one at most.
-use Rattle.std.proofs.Common.{◌≡◌, inl, inr, ℕ, ◌+◌, ◌<◌, ◌≤◌, take, Some, option_and_then, refl, sym, ap, subst, ◌∙◌, arith}
+use Rattle.std.proofs.Common.{◌≡◌, ◌⊎◌, inl, inr, ℕ, ◌+◌, ◌<◌, ◌≤◌, take, Some, option_and_then, refl, sym, ap, subst, ◌∙◌, arith}
 use Rattle.std.specs.List.{slice_get}
 use Rattle.std.proofs.lemmas.Bool.{cases_order}
 use Rattle.std.proofs.lemmas.Option.{same_Some}
 use Rattle.rv_text.specs.declared.message.Key.{Key}
 use Rattle.rv_text.specs.declared.call.Call.{Call}
-use Rattle.rv_book.specs.declared.account.Act.TheVariants.{Hello, Arrive}
+use Rattle.rv_book.specs.declared.account.Act.TheVariants.{Hello, Arrive, Cancel}
 use Rattle.rv_book.specs.Account.{Account, act_at, key_in, call_in}
 use Rattle.rv_book.specs.Calls.{IsPut}
 use Rattle.rv_book.specs.Sessions.{HasIncarnation, LastHello, LastNumber, NamesKey}
-use Rattle.rv_book.specs.Legal.{IsNextNumber, Legal}
+use Rattle.rv_book.specs.Legal.{IsNextNumber, Legal, WaitsUnder, before}
 use Rattle.rv_book.specs.Waiting.{EndsWait, Waiting, limit_at}
 use Rattle.rv_book.proofs.Growing.{act_read, read_there}
-use Rattle.rv_book.proofs.Keys.{act_called, act_named, key_read, no_hello}
-use Rattle.rv_book.proofs.Fronts.{read_front, read_whole, waiting_in_front}
+use Rattle.rv_book.proofs.Keys.{act_arrives, act_called, act_named, key_read, no_hello}
+use Rattle.rv_book.proofs.Fronts.{Legal-before, read_front, read_whole, waiting_in_front}
 
 -- what a legal account says of the arrival at r, of those before it
 pub record IsArrival (a : Account) (r : ℕ) (key : Key) : Type 0 where
@@ -28,6 +28,20 @@ arrival a r key call legal arrived =
     let numbers = (legal r at.0 at.1).numbers in
     let session = numbers.of_session key (ap key_in does) in
     record { epoch = session.0; incarnation = session.1; next = numbers.counts_up key call does }
+
+-- what a legal account says of the cancel at r, of those before it
+pub record IsCancel (a : Account) (r : ℕ) (key : Key) : Type 0 where
+  pub epoch : key.epoch ≡ a.epoch
+  pub incarnation : HasIncarnation (take r a.entries) key.client key.incarnation
+  pub turn : WaitsUnder (take r a.entries) key ⊎ IsNextNumber (take r a.entries) key
+
+pub cancel : (a : Account) (r : ℕ) (key : Key) → Legal a → act_at a.entries r ≡ Some (Cancel key) → IsCancel a r key
+cancel a r key legal cancelled =
+    let at = read_there act_read refl (slice_get a.entries r) (Cancel key) cancelled in
+    let does = same_Some _ _ at.2 in
+    let numbers = (legal r at.0 at.1).numbers in
+    let session = numbers.of_session key (ap key_in does) in
+    record { epoch = session.0; incarnation = session.1; turn = numbers.cancels key does }
 
 -- the key of a request that waits
 pub key_of_waiting : (a : Account) (r : ℕ) → Waiting a.entries r → (key : Key) × (call : Call) × (act_at a.entries r ≡ Some (Arrive key call))
@@ -57,16 +71,71 @@ no_hello_behind a r h key call incarnation w arrived hello later =
     )
 
 -- no arrival of its client, which would have found it waiting
-pub no_key_behind : (a : Account) (r s client : ℕ) (key other : Key) → Legal a → Waiting a.entries r → NamesKey a.entries client r key → NamesKey a.entries client s other → r < s → ⊥
-no_key_behind a r s client key other legal w names later_names later =
-    let does = act_named (act_at a.entries s) other later_names.named in
-    let own : client ≡ other.client = sym later_names.of_client in
-    (arrival a s other does.0 legal does.1).next.idle (record {
+no_arrival_behind : (a : Account) (r s client : ℕ) (key other : Key) (call : Call) → Legal a → Waiting a.entries r → NamesKey a.entries client r key → other.client ≡ client
+    → act_at a.entries s ≡ Some (Arrive other call) → r < s → ⊥
+no_arrival_behind a r s client key other call legal w names of_client arrived later =
+    (arrival a s other call legal arrived).next.idle (record {
       place = r;
       key = key;
       waits = waiting_in_front a.entries s r later w;
-      names = record { named = read_front key_read a.entries s r key later names.named; of_client = names.of_client ∙ own };
+      names = record { named = read_front key_read a.entries s r key later names.named; of_client = names.of_client ∙ sym of_client };
     })
+
+-- a client has one at most
+waits_behind : (a : Account) (client r s : ℕ) (key other : Key) → Legal a → Waiting a.entries r → Waiting a.entries s → NamesKey a.entries client r key → NamesKey a.entries client s other → r < s → ⊥
+waits_behind a client r s key other legal first second names also later =
+    no_arrival_behind a r s client key other second.is_open.call legal first names also.of_client (act_arrives (act_at a.entries s) other second.is_open.call also.named second.is_open.arrived) later
+
+pub one_waits : (a : Account) (client r s : ℕ) (key other : Key) → Legal a → Waiting a.entries r → Waiting a.entries s → NamesKey a.entries client r key → NamesKey a.entries client s other → r ≡ s
+one_waits a client r s key other legal first second names also = elim (cases_order r s) [
+  | inl same ↦ same
+  | inr differ ↦ elim differ [
+    | inl less ↦ absurd (waits_behind a client r s key other legal first second names also less)
+    | inr more ↦ absurd (waits_behind a client s r other key legal second first also names more)
+  ]
+]
+
+-- a cancel of the request that waits would have stopped it
+no_cancel_behind : (a : Account) (r s : ℕ) (key : Key) (call : Call) → Waiting a.entries r → act_at a.entries r ≡ Some (Arrive key call) → act_at a.entries s ≡ Some (Cancel key) → r < s → ⊥
+no_cancel_behind a r s key call w arrived cancelled later =
+    let at = read_there act_read refl (slice_get a.entries s) (Cancel key) cancelled in
+    let same : w.is_open.call ≡ call = same_Some _ _ (sym w.is_open.arrived ∙ ap (option_and_then call_in) arrived) in
+    let says : Cancel key ≡ at.0.act = sym (same_Some _ _ at.2) in
+    w.is_open.unstopped (
+      s,
+      record {
+        key = key;
+        call = call;
+        stopper = at.0;
+        arrived = arrived;
+        no_put = λ put. w.no_put (subst IsPut (sym same) put);
+        later = later;
+        there = at.1;
+        ends = subst (λ act. EndsWait act at.0.moment key (limit_at a.entries r)) says refl;
+      },
+    )
+
+-- no cancel of its client: with it waiting, that names it
+cancel_names_it : (a : Account) (r s client : ℕ) (key other : Key) → Legal a → Waiting a.entries r → NamesKey a.entries client r key → other.client ≡ client
+    → act_at a.entries s ≡ Some (Cancel other) → r < s → ⊥
+cancel_names_it a r s client key other legal w names of_client cancelled later =
+    let before_it : Waiting (take s a.entries) r = waiting_in_front a.entries s r later w in
+    let named_before : NamesKey (take s a.entries) client r key = record { named = read_front key_read a.entries s r key later names.named; of_client = names.of_client } in
+    elim (cancel a s other legal cancelled).turn [
+      | inr next ↦ next.idle (record { place = r; key = key; waits = before_it; names = record { named = named_before.named; of_client = names.of_client ∙ sym of_client } })
+      | inl waits ↦
+          let named_it : NamesKey (take s a.entries) client waits.place other = record { named = ap (option_and_then key_in) waits.arrived; of_client = of_client } in
+          let same : waits.place ≡ r = one_waits (before a s) client waits.place r other key (Legal-before a s legal) waits.waits before_it named_it named_before in
+          let arrived = read_whole act_read refl a.entries s waits.place (Arrive other waits.call) waits.arrived in
+          no_cancel_behind a r s other waits.call w (ap (act_at a.entries) (sym same) ∙ arrived.1) cancelled later
+    ]
+
+-- so no key of its client
+pub no_key_behind : (a : Account) (r s client : ℕ) (key other : Key) → Legal a → Waiting a.entries r → NamesKey a.entries client r key → NamesKey a.entries client s other → r < s → ⊥
+no_key_behind a r s client key other legal w names later_names later = elim (act_named (act_at a.entries s) other later_names.named) [
+  | inl does ↦ no_arrival_behind a r s client key other does.0 legal w names later_names.of_client does.1 later
+  | inr does ↦ cancel_names_it a r s client key other legal w names later_names.of_client does later
+]
 
 -- ---- its session
 
@@ -122,14 +191,3 @@ waiting_is_last a r key call legal w arrived =
         reached = inr (r, key, before_it, names, refl);
       };
     }
-
--- ---- a client has one at most
-
-pub one_waits : (a : Account) (client r s : ℕ) (key other : Key) → Legal a → Waiting a.entries r → Waiting a.entries s → NamesKey a.entries client r key → NamesKey a.entries client s other → r ≡ s
-one_waits a client r s key other legal first second names also = elim (cases_order r s) [
-  | inl same ↦ same
-  | inr differ ↦ elim differ [
-    | inl less ↦ absurd (no_key_behind a r s client key other legal first names also less)
-    | inr more ↦ absurd (no_key_behind a s r client other key legal second also names more)
-  ]
-]
