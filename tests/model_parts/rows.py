@@ -1,4 +1,5 @@
-"""Worked rows, by which the model is tested itself: what each line is told, with values that were set beforehand.
+"""Worked rows: what each line is told, with values that were set beforehand. The model is tested by all of them, and
+the program by those whose messages it knows.
 
 A row is lines `[@MOMENT] WHAT => ANSWER`; without @MOMENT the moment is 0. WHAT is `hello CLIENT/INCARNATION`,
 `cancel KEY`, `KEY CALL`, or `line` and the line's text itself. KEY is `CLIENT#NUMBER` with incarnation 1, or
@@ -59,6 +60,46 @@ ROWS = [
         @3 3#5 take 3 now => empty
         @3 3#6 peek 3 => empty
         """),
+    ("items in one order, and nobody gives up", 1, THREE + """
+        1#1 put 3 "a" => done
+        1#2 put 3 "b" => done
+        2#1 transfer 3 "c" forever => waiting
+        @1 3#1 count 3 => counted 3 0
+        @1 3#2 peek 3 => peeked "a"
+        @2 3#1 count 3 => refused 5 2
+        @2 3#2 peek 3 => peeked "a"
+        @3 3#3 take 3 now => item "a"
+        @3 3#4 take 3 forever => item "b"
+        @3 3#5 peek 3 => peeked "c"
+        @3 2#1 transfer 3 "c" forever => waiting
+        @4 3#6 take 3 now => item "c"
+        @4 3#7 peek 3 => empty
+        @4 3#8 count 3 => counted 0 0
+        @5 2#1 transfer 3 "c" forever => received
+        """),
+    ("consumers in one order, and nobody gives up", 1, THREE + """
+        1#1 take 3 forever => waiting
+        2#1 take 3 forever => waiting
+        @1 3#1 count 3 => counted 0 2
+        @1 3#2 peek 3 => empty
+        @1 3#3 count 4 => counted 0 0
+        @2 3#4 put 3 "x" => done
+        @2 3#5 count 3 => counted 0 1
+        @3 3#6 transfer 3 "y" now => received
+        @3 3#7 transfer 3 "z" now => nobody
+        @4 1#1 take 3 forever => item "x"
+        @4 2#1 take 3 forever => item "y"
+        """),
+    ("queues that know nothing of each other", 1, THREE + """
+        1#1 transfer 3 "a" forever => waiting
+        2#1 take 4 forever => waiting
+        3#1 count 3 => counted 1 0
+        3#2 count 4 => counted 0 1
+        3#3 put 4 "b" => done
+        2#1 take 4 forever => item "b"
+        2#2 take 3 forever => item "a"
+        1#1 transfer 3 "a" forever => received
+        """),
     ("consumers in order", 1, THREE + """
         1#1 take 3 forever => waiting
         2#1 take 3 forever => waiting
@@ -87,6 +128,15 @@ ROWS = [
         @5 1/2#1 put 3 "b" => done
         @6 hello 1/3 => welcome
         @7 2#2 take 3 now => item "b"
+        """),
+    ("a consumer starts anew", 1, THREE + """
+        1#1 take 3 forever => waiting
+        2#1 take 3 forever => waiting
+        @1 hello 1/2 => welcome
+        @2 3#1 put 3 "a" => done
+        @2 2#1 take 3 forever => item "a"
+        @3 1/2#1 take 3 now => empty
+        @3 1#1 take 3 forever => refused 4 2
         """),
     ("partners swap", 1, THREE + """
         1#1 swap 63 "a" forever => waiting
@@ -123,6 +173,25 @@ ROWS = [
         cancel 1#4 => refused 8 2
         9#1 put 3 "a" => refused 3
         """),
+    ("a session that waits is busy", 1, THREE + """
+        1#1 put 3 "a" => done
+        1#2 transfer 4 "t" forever => waiting
+        1#2 transfer 5 "t" forever => refused 6
+        1#2 transfer 4 "t" now => refused 6
+        1#2 transfer 4 "u" forever => refused 6
+        1#2 put 4 "t" => refused 6
+        1#3 put 3 "c" => refused 7 2
+        1#9 put 3 "c" => refused 7 2
+        1#1 put 3 "a" => refused 5 2
+        9#1 put 3 "a" => refused 3
+        1#2 transfer 4 "t" forever => waiting
+        hello 1/1 => welcome
+        1#2 transfer 4 "t" forever => waiting
+        2#1 take 4 now => item "t"
+        1#2 transfer 4 "t" forever => received
+        1#2 transfer 5 "t" forever => refused 6
+        1#3 put 3 "c" => done
+        """),
     ("limits of items and queues", 1, f"""
         hello 1/1 => welcome
         1#1 put 3 {X512} => done
@@ -130,6 +199,27 @@ ROWS = [
         1#2 put 64 "a" => refused 1
         1#2 put 3.0 "a" => refused 1
         1#2 put 63 "" => done
+        """),
+    ("limits of transfers, counts and peeks", 1, THREE + f"""
+        1#1 transfer 3 {X513} forever => refused 1
+        1#1 transfer 64 "a" forever => refused 1
+        1#1 transfer 3.0 "a" forever => refused 1
+        1#1 transfer 3 "a" later => refused 1
+        1#1 transfer 3 "a" => refused 1
+        1#1 transfer 3 "a" 86400001 => refused 1
+        1#1 take 64 forever => refused 1
+        1#1 take 3 Forever => refused 1
+        1#1 take 3 => refused 1
+        1#1 count 64 => refused 1
+        1#1 count 3.0 => refused 1
+        1#1 count 3 now => refused 1
+        1#1 peek 64 => refused 1
+        1#1 peek 3 forever => refused 1
+        1#1 transfer 63 {X512} forever => waiting
+        2#1 count 63 => counted 1 0
+        2#2 peek 63 => peeked {X512}
+        2#3 take 63 forever => item {X512}
+        1#1 transfer 63 {X512} forever => received
         """),
     ("another epoch", 2, """
         1:1#1 put 3 "a" => refused 2 2
@@ -161,6 +251,12 @@ ROWS = [
         line 0  => refused 1
         line x {"client":1,"incarnation":1,"kind":"hello"} => refused 1
         line  => refused 1
+        """),
+    ("other forms of moments and spaces", 1, """
+        line 0{"client":1,"incarnation":1,"kind":"hello"} => refused 1
+        line  0 {"client":1,"incarnation":1,"kind":"hello"} => refused 1
+        line 00000000000000000000 {"client":1,"incarnation":1,"kind":"hello"} => refused 1
+        line 9999999999999999999  {"client":1,"incarnation":1,"kind":"hello"} => {"client":1,"epoch":1,"incarnation":1,"kind":"welcome"}
         """),
     ("an item with escapes", 1, r"""
         hello 1/1 => welcome
@@ -235,17 +331,22 @@ def answer_of(text, key):
     return written({"kind": "reply", **key, **members})
 
 
-def row_fault(epoch, lines):
-    """What is wrong with a row, if something is."""
-    account = Account(epoch, 0)
+def pairs_of(epoch, lines):
+    """The lines of a row, and the texts that answer them."""
     for row in filter(None, map(str.strip, lines.splitlines())):
         what, _, expected = row.rpartition("=>")
         moment, what = what.removeprefix("@").split(" ", 1) if row.startswith("@") else (0, what)
-        what = what.removesuffix(" ")
-        line, key = line_of(what, moment, epoch)
+        line, key = line_of(what.removesuffix(" "), moment, epoch)
+        yield line, answer_of(expected.strip(), key)
+
+
+def row_fault(epoch, lines):
+    """What is wrong with the model's answers to a row, if something is."""
+    account = Account(epoch, 0)
+    for line, expected in pairs_of(epoch, lines):
         account, got = told(account, line.encode(), WHOLE)
-        if got != answer_of(expected.strip(), key):
-            return f"{row}: got {got}"
+        if got != expected:
+            return f"{line}: got {got}"
     fault = first_fault(account) if len(account.entries) < 100 else None
     return f"the account breaks a rule: {fault}" if fault else None
 

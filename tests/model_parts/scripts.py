@@ -36,11 +36,13 @@ class Script:
         self.have = have
         self.account = Account(epoch, 0)
         self.now = 0
-        self.clients = chance.sample([1, 2, 3, 4, 5, 6, 7, 8, 1000, MAX_IDENTIFIER], chance.randint(1, 6))
+        self.clients = chance.sample([*range(1, 15), 1000, MAX_IDENTIFIER], chance.choice([1, 2, 3, 4, 5, 6, 9, 12, 16]))
         self.queues = chance.sample(range(64), chance.randint(1, 3))
         self.steps = chance.choice(STEPS)
         self.restarts = chance.choice([0.05, 0.1, 0.3])
         self.gives = chance.choice([0.35, 0.5, 0.65])
+        self.puts = chance.choice([0.1, 0.4, 0.7])
+        self.patience = chance.choice([0.2, 0.5, 0.9])
         self.longs = chance.random() < 0.2
         self.leaps = chance.random() < 0.2
         self.crowd = []
@@ -150,24 +152,27 @@ class Script:
 
     def call(self):
         """The members of a call, mostly of one that exists."""
-        word = self.chance.choice(["put", "transfer"]) if self.odds(self.gives) else "take"
+        word = "take"
+        if self.odds(self.gives):
+            word = "put" if self.odds(self.puts) else "transfer"
         if self.odds(0.25):
             word = self.chance.choice(["swap", "swap", "count", "peek"])
-        if not self.have.get(word, True) and self.odds(0.9):
+        if not self.have[word] and self.odds(0.9):
             word = "put" if self.odds(self.gives) else "take"
         at = self.chance.randrange(65) if self.odds(0.02) else self.chance.choice(self.queues)
         members = {"call": word, "exchanger" if word == "swap" else "queue": at}
         if word in ("put", "transfer", "swap"):
             members["item"] = self.item()
         if word in ("transfer", "take", "swap"):
-            members["wait"] = self.wait(word)
+            members["wait"] = self.wait()
         return members
 
-    def wait(self, word):
+    def wait(self):
         """A wait, mostly one that exists."""
-        if word == "take" and not self.have["take that waits"] and self.odds(0.95):
-            return "now"
-        return self.chance.choice(WAITS)
+        wait = self.chance.choice(WAITS)
+        if isinstance(wait, int) and not self.have["waits in milliseconds"] and self.odds(0.95):
+            return "forever" if self.odds(self.patience) else "now"
+        return wait
 
     def item(self):
         """A text of some letters, now and then as long as one may be, or a byte longer."""

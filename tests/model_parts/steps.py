@@ -7,13 +7,13 @@ from model_parts.texts import NoReading, demand, read_line, written
 # What the whole model has. `kept replies` are lines 5 to 8 of the step, `client limit` is line 13.
 WHOLE = {
     "put": True,
-    "take that does not wait": True,
-    "take that waits": True,
+    "take": True,
     "transfer": True,
     "swap": True,
     "count": True,
     "peek": True,
     "cancel": True,
+    "waits in milliseconds": True,
     "kept replies": True,
     "client limit": True,
 }
@@ -21,13 +21,13 @@ WHOLE = {
 # What the program has today: each change of the program flips its entries here.
 TODAY = {
     "put": True,
-    "take that does not wait": True,
-    "take that waits": False,
-    "transfer": False,
+    "take": True,
+    "transfer": True,
     "swap": False,
-    "count": False,
-    "peek": False,
+    "count": True,
+    "peek": True,
     "cancel": False,
+    "waits in milliseconds": False,
     "kept replies": True,
     "client limit": True,
 }
@@ -52,9 +52,7 @@ def exists(message, have):
         case Cancel():
             return have["cancel"]
     call = message.call
-    if call.word == "take":
-        return have["take that does not wait" if call.wait == "now" else "take that waits"]
-    return have[call.word]
+    return have[call.word] and (have["waits in milliseconds"] or not isinstance(call.wait, int))
 
 
 def refused(code, **detail):

@@ -1,202 +1,122 @@
--- After a cancel the table of sessions is what the account says: the request that waited is settled as cancelled, or the
--- session's next number is, and all others stay.
-use Rattle.std.proofs.Common.{◌≡◌, inl, inr, ℕ, ◌+◌, ◌<◌, ◌≤◌, List, [], ◌∷◌, ◌++◌, length, take, Option, Some, None, IsSome, option_and_then, refl, sym, ap, subst, ◌∙◌, arith}
-use Rattle.std.specs.List.{slice_get}
-use Rattle.std.proofs.lemmas.Bool.{cases_order}
-use Rattle.std.proofs.lemmas.Option.{none-some, same_Some}
-use Rattle.rv_text.specs.declared.answer.Answer.TheVariants.{Replied}
-use Rattle.rv_text.specs.declared.answer.Reply as reply
-use Rattle.rv_text.specs.declared.call.Call as call
-use Rattle.rv_text.specs.declared.call.Call.{Call}
-use Rattle.rv_text.specs.declared.call.Side.{Side}
-use Rattle.rv_text.specs.declared.call.Wait.TheVariants.{Now, Forever}
+-- What a cancel that is recorded leaves: a sound state.
+use Rattle.std.proofs.Common.{◌≡◌, inl, inr, ℕ, ◌+◌, ◌≤◌, List, ◌∷◌, [], ◌++◌, length, Option, Some, None, refl, sym, ap, subst, ◌∙◌, arith, option_and_then}
+use Rattle.std.proofs.lemmas.Option.{same_Some}
 use Rattle.rv_text.specs.declared.message.Key.{Key}
-use Rattle.rv_session.specs.declared.kept.Kept as kept
-use Rattle.rv_session.specs.declared.session.Session.{Session}
-use Rattle.rv_session.specs.Table.{Table, OnlySets, OnlySettles, session_of, settled_session}
-use Rattle.rv_book.specs.declared.account.Act.TheVariants.{Arrive, Cancel, Hello}
+use Rattle.rv_text.specs.declared.answer.Answer.TheVariants.{Replied}
+use Rattle.rv_text.specs.declared.answer.Reply.TheVariants as reply
+use Rattle.rv_session.specs.Meanings.{HasLast, HasNext}
+use Rattle.rv_session.specs.declared.session.State.TheVariants as state
+use Rattle.rv_session.specs.Owed.{Owed}
+use Rattle.rv_session.specs.Table.{OnlySets, OnlySettles, settled_session}
+use Rattle.rv_session.specs.declared.kept.Kept.TheVariants as kept
+use Rattle.rv_book.specs.Account.{Account, act_at, call_in, key_in, with_entry}
+use Rattle.rv_book.specs.Arriving.{IsCancelled, IsNext, entry}
+use Rattle.rv_book.specs.Calls.{IsPut}
+use Rattle.rv_book.specs.declared.account.Act.TheVariants.{Arrive, Cancel}
 use Rattle.rv_book.specs.declared.account.Entry.{Entry}
-use Rattle.rv_book.specs.Account.{Account, act_at, call_in, key_at, key_in, with_entry}
-use Rattle.rv_book.specs.Arriving.{IsNext}
-use Rattle.rv_book.specs.Calls.{IsPut, Stays}
-use Rattle.rv_book.specs.Legal.{Legal}
-use Rattle.rv_book.specs.Replies.{CancelledFirst, RepliesAt}
-use Rattle.rv_book.specs.Sessions.{LastNumber}
-use Rattle.rv_book.specs.Steps.{Replies}
-use Rattle.rv_book.specs.Tables.{AreSessions, IsSession, last_key}
-use Rattle.rv_book.specs.Waiting.{EndsWait, Met, Stopped, StoppedAt, Waiting, limit_at}
-use Rattle.rv_book.proofs.Fronts.{read_front, read_whole}
-use Rattle.rv_book.proofs.Growing.{Met-back, act_read, call_read, read_there, reads_back, reads_on, reads_within}
-use Rattle.rv_book.proofs.Histories.{one_last_hello}
-use Rattle.rv_book.proofs.Keys.{client_of, key_read}
-use Rattle.rv_book.proofs.Places.{get-append_end}
-use Rattle.rv_book.proofs.SessionTable.{StillWaits, named_at, sessions_changed, set_changes}
-use Rattle.rv_book.proofs.Sides.{Waiting-on}
-use Rattle.rv_book.proofs.WaitingTable.{waiting_there, waits_in_table}
+use Rattle.rv_book.specs.declared.state.State.{State}
+use Rattle.rv_book.specs.Legal.{IsNextNumber, MayFollow, WaitsUnder}
+use Rattle.rv_book.specs.Tables.{Comes, EndsAt, HasSpace, IsSound, account_of}
+use Rattle.rv_book.specs.Waiting.{Open, Waiting}
+use Rattle.rv_book.proofs.Following.{cancel_follows}
+use Rattle.rv_book.proofs.Marking.{Marks, legal_after, marked_ended, marked_idle}
+use Rattle.rv_book.proofs.OnePartner.{arrives_once}
+use Rattle.rv_book.proofs.Owing.{waiting_owed}
+use Rattle.rv_book.proofs.Settling.{buried_replies, ended_replies, sessions_buried, sessions_ended}
+use Rattle.rv_book.proofs.Sides.{IsRequestUnder, cancel_stops, stopped_by_cancel}
+use Rattle.rv_book.proofs.Standing.{is_next, waits}
+use Rattle.rv_book.proofs.Waits.{waiting_is_last}
 
--- ---- the request that a cancel stops
+module _ (old : State) (moment : ℕ) (key : Key) (comes : Comes old moment (Cancel key)) where
+  abbrev pub before : Account
+  before = account_of old
 
--- the request with this key waits at the place
-pub record WaitsAt (es : List Entry) (key : Key) (place : ℕ) : Type 0 where
-  pub call : Call
-  pub arrived : act_at es place ≡ Some (Arrive key call)
-  pub waits : Waiting es place
+  abbrev pub own_entry : Entry
+  own_entry = entry moment (Cancel key) None
 
--- it is no put
-no_put_waits : (es : List Entry) (key : Key) (place : ℕ) (at : WaitsAt es key place) → IsPut at.call → ⊥
-no_put_waits es key place at put =
-    let same : at.waits.is_open.call ≡ at.call = same_Some _ _ (sym at.waits.is_open.arrived ∙ ap (option_and_then call_in) at.arrived) in
-    at.waits.no_put (subst IsPut (sym same) put)
+  abbrev pub UnderKey : ℕ → Type 0
+  UnderKey r = IsRequestUnder (account_of old).entries key r
 
--- a cancel stops it
-cancel_ends : (es : List Entry) (e : Entry) (key : Key) (place : ℕ) → e.act ≡ Cancel key → WaitsAt es key place → StoppedAt (es ++ e ∷ []) place (length es)
-cancel_ends es e key place says at = record {
-  key = key;
-  call = at.call;
-  stopper = e;
-  arrived = reads_on act_read refl es (e ∷ []) place (Arrive key at.call) at.arrived;
-  no_put = no_put_waits es key place at;
-  later = reads_within act_read refl es place (Arrive key at.call) at.arrived;
-  there = get-append_end es e;
-  ends = subst (λ act. EndsWait act e.moment key (limit_at (es ++ e ∷ []) place)) (sym says) refl;
-}
+  open_waits : (r : ℕ) → UnderKey r → Open before.entries r → Waiting before.entries r
+  open_waits r request opened =
+      let same : request.call ≡ opened.call = same_Some _ _ (sym (ap (option_and_then call_in) request.arrived) ∙ opened.arrived) in
+      record { is_open = opened; no_put = subst (λ c. IsPut c → ⊥) same request.no_put }
 
--- and no other, so that what waits of other clients still does
-still_waits : (a : Account) (e : Entry) (key : Key) (other : ℕ) → e.act ≡ Cancel key → e.partner ≡ None → (other ≡ key.client → ⊥) → StillWaits a e other
-still_waits a e key other says none apart = λ r own call of_client arrived w.
-    Waiting-on a.entries e r w (λ named. none-some r (sym none ∙ named)) (λ stopped.
-    let is : e ≡ stopped.stopper = same_Some _ _ (sym (get-append_end a.entries e) ∙ stopped.there) in
-    let same_key : key ≡ stopped.key =
-    subst (λ act. EndsWait act stopped.stopper.moment stopped.key (limit_at (a.entries ++ e ∷ []) r)) (sym (ap (λ (x : Entry). x.act) is) ∙ says) stopped.ends in
-    let same : Arrive stopped.key stopped.call ≡ Arrive own call = same_Some _ _ (sym stopped.arrived ∙ reads_on act_read refl a.entries (e ∷ []) r (Arrive own call) arrived) in
-    apart (sym of_client ∙ sym (ap client_of same) ∙ sym (ap (λ (k : Key). k.client) same_key)))
+  marks : MayFollow before own_entry → Marks old moment (Cancel key) UnderKey
+  marks follows = record {
+    sound = comes.sound;
+    moment_fits = comes.moment_fits;
+    act_fits = comes.act_fits;
+    follows = follows;
+    stops = record {
+      no_call = refl;
+      none = refl;
+      stops = λ r request. cancel_stops before.entries own_entry key r refl request;
+      stopped = λ r stopped. stopped_by_cancel before.entries own_entry key r refl stopped;
+    };
+    requests = open_waits;
+    one = λ r s too first also second. arrives_once before r s key first.call second.call comes.sound.legal first.arrived second.arrived;
+  }
 
-no_side : (o : Option Side) → o ≡ None → IsSome o → ⊥
-no_side None is some = let no : ⊥ = cc in no
-no_side (Some side) is some = none-some side (sym is)
+  -- ---- while the request waits
 
--- what the stopped request is told
-told_cancelled : (c : Call) (es : List Entry) (r : ℕ) → Stays c → (IsPut c → ⊥) → (Met es r → ⊥) → Stopped es r → RepliesAt es r c reply.TheVariants.Cancelled
-told_cancelled (call.TheVariants.Put queue item) es r stays no_put unmet stopped = absurd (no_put (refl, refl))
-told_cancelled (call.TheVariants.Transfer queue item Now) es r stays no_put unmet stopped = absurd stays.1
-told_cancelled (call.TheVariants.Transfer queue item Forever) es r stays no_put unmet stopped = inr (unmet, (stopped, refl))
-told_cancelled (call.TheVariants.Take queue Now) es r stays no_put unmet stopped = absurd stays.1
-told_cancelled (call.TheVariants.Take queue Forever) es r stays no_put unmet stopped = inr (unmet, (stopped, refl))
-told_cancelled (call.TheVariants.Count queue) es r stays no_put unmet stopped = absurd (no_side None refl stays.0)
-told_cancelled (call.TheVariants.Peek queue) es r stays no_put unmet stopped = absurd (no_side None refl stays.0)
+  module _ (place : ℕ) (has : HasLast old.sessions key (state.Waits place)) where
+    there : Rattle.rv_book.proofs.Standing.Waits before old.sessions comes.sound.sessions_are comes.sound.legal key place
+    there = waits before old.sessions comes.sound.sessions_are comes.sound.legal key place has
 
--- it is told that it was cancelled
-ended_reply : (a : Account) (e : Entry) (key : Key) (place : ℕ) → e.act ≡ Cancel key → e.partner ≡ None → (at : WaitsAt a.entries key place)
-    → RepliesAt (with_entry a e).entries place at.call reply.TheVariants.Cancelled
-ended_reply a e key place says none at =
-    let opened = at.waits.is_open in
-    let same : opened.call ≡ at.call = same_Some _ _ (sym opened.arrived ∙ ap (option_and_then call_in) at.arrived) in
-    told_cancelled at.call (with_entry a e).entries place (subst Stays same opened.stays) (no_put_waits a.entries key place at)
-    (λ met. elim (Met-back a.entries e place met) [
-      | inl before ↦ opened.unmet before
-      | inr new ↦ elim new [
-        | inl last ↦ let inside : place < length a.entries = reads_within act_read refl a.entries place (Arrive key at.call) at.arrived in omega arith
-        | inr named ↦ none-some place (sym none ∙ named)
-      ]
-    ])
-    (length a.entries, cancel_ends a.entries e key place says at)
+    ends_marks : Marks old moment (Cancel key) UnderKey
+    ends_marks =
+        let last = waiting_is_last before place key there.call comes.sound.legal there.waits there.arrived in
+        marks (cancel_follows before moment key comes.time last.epoch last.incarnation (inl (record { place = place; call = there.call; arrived = there.arrived; waits = there.waits })))
 
-pub ended_replies : (a : Account) (e : Entry) (key : Key) (place : ℕ) → e.act ≡ Cancel key → e.partner ≡ None → WaitsAt a.entries key place
-    → Replies (with_entry a e) key (Replied key reply.TheVariants.Cancelled)
-ended_replies a e key place says none at = record {
-  reply = reply.TheVariants.Cancelled;
-  has = inl (record {
-    place = place;
-    call = at.call;
-    arrived = reads_on act_read refl a.entries (e ∷ []) place (Arrive key at.call) at.arrived;
-    replies = ended_reply a e key place says none at;
-  });
-  is = refl;
-}
+    pub ended_sound : (mid new : State) → EndsAt old mid place kept.Cancelled → mid.account ≡ old.account → account_of new ≡ with_entry (account_of mid) own_entry → new.sessions ≡ mid.sessions → new.queues ≡ mid.queues
+        → new.waiting ≡ mid.waiting → mid.account.room ≤ new.account.room + 1 → IsSound new
+    ended_sound mid new ends same pushed sessions queues waiting room =
+        let legal = legal_after old moment (Cancel key) UnderKey ends_marks in
+        let owed = waiting_owed before.entries place key there.call there.waits there.arrived in
+        let own : ends.duty.client ≡ key.client = ap (λ (d : Owed). d.client) (same_Some _ _ (sym ends.owed ∙ owed)) in
+        let settled = subst (λ c. OnlySettles old.sessions mid.sessions c place kept.Cancelled) own ends.settles in
+        let tables = sessions_ended before own_entry old.sessions mid.sessions key there.call place comes.sound.sessions_are comes.sound.legal legal refl refl there.arrived there.waits settled in
+        let request : UnderKey place = record {
+          call = there.call;
+          arrived = there.arrived;
+          no_put = λ put.
+              let called : there.waits.is_open.call ≡ there.call = same_Some _ _ (sym there.waits.is_open.arrived ∙ ap (option_and_then call_in) there.arrived) in
+              there.waits.no_put (subst IsPut (sym called) put);
+        } in
+        marked_ended old moment (Cancel key) UnderKey ends_marks new (pushed ∙ ap (λ stored. with_entry stored.account own_entry) same) (subst (Rattle.rv_book.specs.Tables.AreSessions (with_entry before own_entry)) (sym sessions) tables)
+        mid place kept.Cancelled there.waits request ends queues waiting (omega (arith, room, comes.sound.spare, ap (λ stored. stored.room) same))
 
--- after the cancel of a request that waited the table is what the account says
-pub sessions_ended : (a : Account) (e : Entry) (old new : Table) (key : Key) (place : ℕ) → AreSessions a old → Legal a → Legal (with_entry a e) → e.act ≡ Cancel key → e.partner ≡ None
-    → WaitsAt a.entries key place → OnlySettles old new key.client place kept.TheVariants.Cancelled → AreSessions (with_entry a e) new
-sessions_ended a e old new key place are before legal says none at settles =
-    let b = with_entry a e in
-    let found = waiting_there a old key.client place are (waits_in_table a old place key at.call before are at.waits at.arrived) in
-    let s = found.session in
-    let one : Arrive (last_key a key.client s) found.waits.call ≡ Arrive key at.call = same_Some _ _ (sym found.waits.arrived ∙ at.arrived) in
-    let same_key : last_key a key.client s ≡ key = same_Some _ _ (ap key_in one) in
-    let number : s.last ≡ key.number = ap (λ (k : Key). k.number) same_key in
-    let most : s.last ≤ key.number = omega arith in
-    let named = named_at a.entries e key s.incarnation s.last (ap key_in says) (record { incarnation = found.is.incarnation; number = found.is.number }) most in
-    let own : IsSession b key.client (settled_session s.incarnation s.last (Some place) kept.TheVariants.Cancelled) = record {
-      incarnation = named.incarnation;
-      number = subst (LastNumber b.entries key.client) (sym number) named.number;
-      stands = record {
-        call = at.call;
-        arrived = reads_on act_read refl a.entries (e ∷ []) place (Arrive key at.call) at.arrived ∙ ap (λ k. Some (Arrive k at.call)) (sym same_key);
-        kept_is = record { reply = reply.TheVariants.Cancelled; is = refl; replies = ended_reply a e key place says none at };
-      };
-    } in
-    let same : s ≡ settles.session = same_Some _ _ (sym found.there ∙ settles.there) in
-    let its = subst (λ (x : Session). IsSession b key.client (settled_session x.incarnation x.last (Some place) kept.TheVariants.Cancelled)) same own in
-    sessions_changed a e old new key.client (settled_session settles.session.incarnation settles.session.last (Some place) kept.TheVariants.Cancelled) are legal (ap client_of says)
-    (λ other. still_waits a e key other says none) (set_changes old new key.client _ settles.sets) its
+    pub ended_cancelled : IsCancelled before (with_entry before own_entry) moment key
+    ended_cancelled =
+        let legal = legal_after old moment (Cancel key) UnderKey ends_marks in
+        record {
+          adds = record { entry = own_entry; moment_is = refl; act_is = refl; follows = refl; legal = legal };
+          replies = ended_replies before own_entry key there.call place comes.sound.legal legal refl refl there.arrived there.waits;
+        }
 
--- ---- a number that is cancelled first
+  -- ---- before the request comes
 
-hello_or_key : (es : List Entry) (r : ℕ) (key : Key) (c i : ℕ) → key_at es r ≡ Some key → act_at es r ≡ Some (Hello c i) → ⊥
-hello_or_key es r key c i named hello = none-some key (sym (ap (option_and_then key_in) hello) ∙ named)
+  module _ (has : HasNext old.sessions key) where
+    next : IsNext before key
+    next = is_next before old.sessions comes.sound.sessions_are comes.sound.legal key has
 
--- nothing named the session's next number before
-next_unnamed : (a : Account) (key : Key) (r : ℕ) → Legal a → IsNext a key → key_at a.entries r ≡ Some key → ⊥
-next_unnamed a key r legal next named =
-    let at = read_there key_read refl (slice_get a.entries r) key named in
-    let has = ((legal r at.0 at.1).numbers.of_session key at.2).1 in
-    let h = next.is_last.h in
-    let same : h ≡ next.incarnation.0 = one_last_hello a.entries key.client next.is_last.incarnation key.incarnation h next.incarnation.0 next.is_last.hello next.incarnation.1 in
-    let hello : act_at a.entries h ≡ Some (Hello key.client key.incarnation) = ap (act_at a.entries) same ∙ next.incarnation.1.hello in
-    elim (cases_order r h) [
-      | inl is ↦ hello_or_key a.entries r key key.client key.incarnation named (ap (act_at a.entries) is ∙ hello)
-      | inr differ ↦ elim differ [
-        | inl less ↦
-            let there = read_whole act_read refl a.entries r has.0 (Hello key.client key.incarnation) has.1.hello in
-            let inside : has.0 < r = there.0 in
-            let below : has.0 < h = omega arith in
-            let entry = read_there act_read refl (slice_get a.entries h) (Hello key.client key.incarnation) hello in
-            let raises : key.incarnation < key.incarnation = (legal h entry.0 entry.1).numbers.raises_incarnation key.client key.incarnation (same_Some _ _ entry.2) has.0 key.incarnation
-            (read_front act_read a.entries h has.0 (Hello key.client key.incarnation) below there.1) in
-            omega arith
-        | inr more ↦
-            let most : key.number ≤ next.last = next.is_last.greatest r key more (record { named = named; of_client = refl }) in
-            let number : key.number ≡ next.last + 1 = next.next in
-            omega arith
-      ]
-    ]
+    bury_marks : Marks old moment (Cancel key) UnderKey
+    bury_marks = marks (cancel_follows before moment key comes.time next.epoch next.incarnation (inr (record { last = next.last; is_last = next.is_last; next = next.next; idle = next.idle })))
 
-no_arrival : (key other : Key) (c : Call) → ◌≡◌ (Cancel key) (Arrive other c) → ⊥
-no_arrival key other c is = none-some c (ap call_in is)
+    pub buried_sound : (new : State) → account_of new ≡ with_entry before own_entry → OnlySets old.sessions new.sessions key.client (settled_session key.incarnation key.number None kept.Cancelled) → new.queues ≡ old.queues
+        → new.waiting ≡ old.waiting → HasSpace old 1 → old.waiting ≤ new.account.room → IsSound new
+    buried_sound new pushed sets queues waiting space room =
+        let legal = legal_after old moment (Cancel key) UnderKey bury_marks in
+        marked_idle old moment (Cancel key) UnderKey bury_marks new pushed
+        (sessions_buried before own_entry old.sessions new.sessions key comes.sound.sessions_are comes.sound.legal legal next refl refl sets)
+        (λ r waits request. next.idle (record { place = r; key = key; waits = waits; names = record { named = ap (option_and_then key_in) request.arrived; of_client = refl } }))
+        queues waiting space room
 
--- it was cancelled first
-cancelled_first : (a : Account) (e : Entry) (key : Key) → Legal a → IsNext a key → e.act ≡ Cancel key → CancelledFirst (with_entry a e).entries key
-cancelled_first a e key legal next says = record {
-  place = length a.entries;
-  cancelled = ap act_read (get-append_end a.entries e) ∙ ap Some says;
-  not_arrived = λ r c arrived. elim (reads_back act_read refl a.entries e r (Arrive key c) arrived) [
-    | inl inside ↦ next_unnamed a key r legal next (ap (option_and_then key_in) inside.1)
-    | inr own ↦ no_arrival key key c (sym says ∙ same_Some _ _ own.1)
-  ];
-}
-
-pub buried_replies : (a : Account) (e : Entry) (key : Key) → Legal a → IsNext a key → e.act ≡ Cancel key → Replies (with_entry a e) key (Replied key reply.TheVariants.Cancelled)
-buried_replies a e key legal next says = record { reply = reply.TheVariants.Cancelled; has = inr (cancelled_first a e key legal next says, refl); is = refl }
-
--- after the cancel of a session's next number the table is what the account says
-pub sessions_buried : (a : Account) (e : Entry) (old new : Table) (key : Key) → AreSessions a old → Legal a → Legal (with_entry a e) → IsNext a key → e.act ≡ Cancel key → e.partner ≡ None
-    → OnlySets old new key.client (settled_session key.incarnation key.number None kept.TheVariants.Cancelled) → AreSessions (with_entry a e) new
-sessions_buried a e old new key are before legal next says none sets =
-    let above : key.number ≡ next.last + 1 = next.next in
-    let most : next.last ≤ key.number = omega arith in
-    let named = named_at a.entries e key key.incarnation next.last (ap key_in says) (record { incarnation = next.incarnation; number = next.is_last }) most in
-    let first = subst (λ epoch. CancelledFirst (with_entry a e).entries (record { epoch = epoch; client = key.client; incarnation = key.incarnation; number = key.number })) next.epoch
-    (cancelled_first a e key before next says) in
-    sessions_changed a e old new key.client (settled_session key.incarnation key.number None kept.TheVariants.Cancelled) are legal (ap client_of says)
-    (λ other. still_waits a e key other says none) (set_changes old new key.client _ sets)
-    (record { incarnation = named.incarnation; number = named.number; stands = (first, refl) })
+    pub buried_cancelled : IsCancelled before (with_entry before own_entry) moment key
+    buried_cancelled =
+        let legal = legal_after old moment (Cancel key) UnderKey bury_marks in
+        record {
+          adds = record { entry = own_entry; moment_is = refl; act_is = refl; follows = refl; legal = legal };
+          replies = buried_replies before own_entry key comes.sound.legal legal next refl refl;
+        }

@@ -29,8 +29,8 @@ pub mod Peeks
 pub mod Replying
 pub mod WaitingTable
 pub mod SessionTable
+pub mod CancelledSessions
 pub mod Settling
-pub mod Cancelling
 pub mod Deciding
 pub mod Staying
 pub mod Entering
@@ -43,5 +43,6 @@ pub mod Stepping
 pub mod Recording
 pub mod Marking
 pub mod Greeting
+pub mod Cancelling
 pub mod Standing
 pub mod Repeating

@@ -1,7 +1,9 @@
 //! What a request asks for: its call, and what a call is.
-ghost use Rattle.std.specs.Prelude.{◌≡◌, ◌↔◌, IsTrue, length, option_map};
+ghost use Rattle.std.specs.Prelude.{◌≡◌, ◌↔◌, IfOk, IsTrue, length, option_map};
 
+use crate::fault::NoMemory;
 use crate::item::Item;
+use std::alloc::Global;
 
 /// The greatest number of a queue; the least is 0.
 pub const MAX_QUEUE: u64 = 63;
@@ -100,6 +102,25 @@ impl Call {
         ensures { IsTrue result ↔ (self.now ≡ other.now) }
     {
         self == other
+    }
+
+    /// A copy of the call. It fails only where memory for its item was refused.
+    pub fn copy(&self, alloc: Global) -> Result<Call, NoMemory>
+        ensures same { IfOk result (λ call. call ≡ self.now) }
+    {
+        match self {
+            Call::Put { queue, item } => {
+                let item = item.copy(alloc)?;
+                Ok(Call::Put {
+                    queue: *queue,
+                    item,
+                })
+            }
+            Call::Take { queue, wait } => Ok(Call::Take {
+                queue: *queue,
+                wait: *wait,
+            }),
+        }
     }
 
     // How many members the call has in a body: its word and its place, its wait and its item.

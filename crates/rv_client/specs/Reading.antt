@@ -1,0 +1,67 @@
+-- What stands of a source after one frame was read of it, or a part of one; for the proofs.
+use Rattle.std.specs.Prelude.{ℕ, ◌≡◌, ◌<◌, ◌≤◌, List, Option, Result, Ok, Err, true, false, length, take}
+use Rattle.rv_frame.specs.Cut.{FitsLength, IsBody, IsUnfinished, frame_bytes, length_bytes}
+use Rattle.rv_frame.specs.Source.{source_failed}
+use Rattle.rv_frame.specs.declared.source.Source.{Source}
+use Rattle.rv_client.specs.declared.fault.LinkFault.{LinkFault}
+use Rattle.rv_client.specs.declared.fault.LinkFault.TheVariants.{ReadFault, WriteFault, Closed, BadFrame}
+use Rattle.rv_client.specs.declared.fault.LinkFault.TheVariants.{BadBody, NoMemory}
+use Rattle.rv_client.specs.Link.{Gives, HasEnded}
+
+module _ {R : Type 0} where
+  -- no read failed, before and after
+  pub record Unfailed (old new : Source R) : Type 0 where
+    pub before : source_failed old ≡ false
+    pub after : source_failed new ≡ false
+
+  -- a read failed; a source that had failed before stays as it was
+  pub record FailsAgain (old new : Source R) : Type 0 where
+    pub failed : source_failed new ≡ true
+    pub stays_failed : source_failed old ≡ true → new ≡ old
+
+module _ {R : Type 0} (remaining : R → Option (List ℕ)) where
+  -- why the source gave no more
+  abbrev pub StopsFor : Source R → Source R → LinkFault → Type 0
+  StopsFor old new ReadFault = FailsAgain old new
+  StopsFor old new Closed = HasEnded remaining new × Unfailed old new
+  StopsFor old new (WriteFault sent) = ⊥
+  StopsFor old new BadFrame = ⊥
+  StopsFor old new BadBody = ⊥
+  StopsFor old new NoMemory = ⊥
+
+  -- the source gave fewer bytes than wanted
+  pub record FallsShort (old new : Source R) (wanted : ℕ) (fault : LinkFault) : Type 0 where
+    pub bytes : List ℕ
+    pub fewer : length bytes < wanted
+    pub given : Gives remaining old new bytes
+    pub stops : StopsFor old new fault
+
+  -- the source gave bytes that are no whole frame, and no more
+  pub record BreaksOff (old new : Source R) (fault : LinkFault) : Type 0 where
+    pub bytes : List ℕ
+    pub unfinished : IsUnfinished bytes
+    pub given : Gives remaining old new bytes
+    pub stops : StopsFor old new fault
+
+  -- the source gave a bad length, and no more
+  pub record GivesBadLength (old new : Source R) : Type 0 where
+    pub n : ℕ
+    pub is_bad : ¬ FitsLength n
+    pub given : Gives remaining old new (length_bytes n)
+    pub unfailed : Unfailed old new
+
+  -- the source gave the frame of the body of this length at the front of the buffer
+  pub record GivesFrame (old new : Source R) (buffer : List ℕ) (size : ℕ) : Type 0 where
+    pub within : size ≤ length buffer
+    pub is_body : IsBody (take size buffer)
+    pub given : Gives remaining old new (frame_bytes (take size buffer))
+    pub unfailed : Unfailed old new
+
+  abbrev pub ReadsFrame : Source R → Source R → List ℕ → Result ℕ LinkFault → Type 0
+  ReadsFrame old new buffer (Ok size) = GivesFrame old new buffer size
+  ReadsFrame old new buffer (Err ReadFault) = BreaksOff old new ReadFault
+  ReadsFrame old new buffer (Err Closed) = BreaksOff old new Closed
+  ReadsFrame old new buffer (Err BadFrame) = GivesBadLength old new
+  ReadsFrame old new buffer (Err (WriteFault sent)) = ⊥
+  ReadsFrame old new buffer (Err BadBody) = ⊥
+  ReadsFrame old new buffer (Err NoMemory) = ⊥

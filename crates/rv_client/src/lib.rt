@@ -1,0 +1,19 @@
+//! The typed client: what a process may say next is a type. And its link: one request and one answer over a
+//! source and a sink.
+#![tactic(auto)]
+
+mod calling;
+mod fault;
+mod hello;
+pub mod laws;
+mod link;
+mod request;
+
+pub use calling::{Called, call};
+pub use fault::LinkFault;
+pub use hello::{Greeted, New};
+pub use link::ask;
+pub use request::{Heard, Idle, Outstanding};
+
+#[cfg(test)]
+mod tests;

@@ -1,0 +1,480 @@
+//! Requests over devices in memory: what is heard, what goes out, and what is read.
+ghost use Rattle.std.specs.Prelude.{◌≡◌, IfOk, Some};
+ghost use Rattle.rv_text.specs.Limits.{FitsCall, FitsMessage};
+
+use crate::{Called, Greeted, Heard, Idle, LinkFault, New, ask, call, laws};
+use rv_frame::testing::{Stop, TestReader, TestWriter};
+use rv_frame::{Sink, Source};
+use rv_text::{Answer, Call, Item, Key, Message, Refusal, Reply, Wait};
+use std::alloc::{AllocError, Global};
+use std::io::{ErrorKind, Read, Write};
+use std::process::Abort;
+use std::test::Fail;
+
+// The first request of client 2.
+const REQUEST: &[u8] = b"{\"call\":\"take\",\"client\":2,\"epoch\":1,\"incarnation\":1,\
+    \"kind\":\"request\",\"number\":1,\"queue\":3,\"wait\":\"now\"}";
+
+// An answer to it that says nothing final.
+const NOTHING_FINAL: &[u8] = b"{\"code\":2,\"current\":1,\"kind\":\"refused\"}";
+
+// Its reply.
+const REPLY: &[u8] = b"{\"client\":2,\"epoch\":1,\"incarnation\":1,\"item\":\"a\",\
+    \"kind\":\"reply\",\"number\":1,\"reply\":\"item\"}";
+
+const REPLY_FRAME: &[u8] = b"\x00\x5a{\"client\":2,\"epoch\":1,\"incarnation\":1,\"item\":\"a\",\
+    \"kind\":\"reply\",\"number\":1,\"reply\":\"item\"}";
+
+const HELLO: &[u8] = b"{\"client\":1,\"incarnation\":1,\"kind\":\"hello\"}";
+
+// What came of a request, as plain data.
+#[derive(Debug, PartialEq, Eq, Drop)]
+enum Came {
+    Settled(Option<Key>, Reply),
+    Unsettled(Key, Option<LinkFault>),
+    EpochEnded(Key, u64),
+    Replaced(Key, u64),
+}
+
+fn plain(called: Called) -> Came {
+    match called {
+        Called::Settled(idle, reply) => Came::Settled(idle.next_key(), reply),
+        Called::Unsettled(outstanding, fault) => Came::Unsettled(outstanding.abandon(), fault),
+        Called::EpochEnded(key, current) => Came::EpochEnded(key, current),
+        Called::Replaced(key, current) => Came::Replaced(key, current),
+    }
+}
+
+fn key(client: u64, incarnation: u64, number: u64) -> Key {
+    Key {
+        epoch: 1,
+        client,
+        incarnation,
+        number,
+    }
+}
+
+// Client 2, which was welcomed in epoch 1.
+fn idle() -> Result<Idle, Fail>
+    ensures { IfOk result (λ idle.
+        idle ≡ Some (record { epoch = 1; client = 2; incarnation = 1; number = 1 })) }
+{
+    let welcome = Answer::Welcome {
+        epoch: 1,
+        client: 2,
+        incarnation: 1,
+    };
+    match New::start(2, 1).welcome(&welcome) {
+        Greeted::Idle(idle) => Ok(idle),
+        _ => Err(Fail::new("it isn't welcome")),
+    }
+}
+
+fn take() -> Call
+    ensures { FitsCall result }
+{
+    Call::Take {
+        queue: 3,
+        wait: Wait::Now,
+    }
+}
+
+// What an answer is to client 2's first request.
+fn hears(answer: Answer) -> Result<Came, Fail> {
+    Ok(match idle()?.begin(take()).hear(answer) {
+        Heard::Settled(idle, reply) => Came::Settled(idle.next_key(), reply),
+        Heard::Still(outstanding) => Came::Unsettled(outstanding.abandon(), None),
+        Heard::EpochEnded(key, current) => Came::EpochEnded(key, current),
+        Heard::Replaced(key, current) => Came::Replaced(key, current),
+    })
+}
+
+// The frames of these bodies in a row.
+fn frames(alloc: Global, bodies: &[&[u8]]) -> Result<Vec<u8>, Fail> {
+    let mut all = Vec::new(alloc);
+    for body in bodies {
+        all.push((body.len() / 256 % 256) as u8)?;
+        all.push((body.len() % 256) as u8)?;
+        all.extend_from_slice(body)?;
+    }
+    Ok(all)
+}
+
+// How many bytes the source has left.
+fn unread<R: Read>(source: &mut Source<R>) -> usize {
+    let mut buffer = [0u8; 1];
+    for count in 0..10_000 {
+        if source.read(&mut buffer) != Ok(1) {
+            return count;
+        }
+    }
+    10_000
+}
+
+// Calls over these bytes. It came to this, the request went out so often, and so many bytes are left.
+fn calls(
+    rt: &impl Abort,
+    alloc: Global,
+    bytes: &[u8],
+    tries: u32,
+    want: Came,
+    times: usize,
+    left: usize,
+) -> Result<(), Fail> {
+    for most in [1, 3, 10_000] {
+        let mut source = Source::new(TestReader::new(bytes, most));
+        let mut device = TestWriter::new(alloc, 50);
+        let mut sink = Sink::new(&mut device);
+        let called = plain(call(alloc, idle()?, &mut source, &mut sink, take(), tries));
+        assert!(rt; called == want, "{called:?}");
+        assert_eq!(rt; unread(&mut source), left);
+        let mut sent = Vec::new(alloc);
+        for _ in 0..times {
+            sent.extend_from_slice(&frames(alloc, [REQUEST].as_slice())?)?;
+        }
+        assert_eq!(rt; device.taken(), sent.as_slice());
+    }
+    Ok(())
+}
+
+#[test]
+fn a_call_is_asked_until_it_settles(rt: HostRuntime) -> Result<(), Fail> {
+    let alloc = rt.alloc();
+    let bytes = frames(alloc, [NOTHING_FINAL, REPLY].as_slice())?;
+    let item = Item::from_text(String::from_str(alloc, "a")?);
+    let settled = Came::Settled(Some(key(2, 1, 2)), Reply::Item(item));
+    calls(&rt, alloc, &bytes, 3, settled, 2, 0)?;
+    let unsettled = Came::Unsettled(key(2, 1, 1), None);
+    calls(&rt, alloc, &bytes, 1, unsettled, 1, 92)?;
+    let untried = Came::Unsettled(key(2, 1, 1), None);
+    calls(&rt, alloc, &bytes, 0, untried, 0, bytes.len())
+}
+
+#[test]
+fn a_call_ends_by_a_later_epoch_or_incarnation(rt: HostRuntime) -> Result<(), Fail> {
+    let alloc = rt.alloc();
+    let ended = b"{\"code\":2,\"current\":2,\"kind\":\"refused\"}";
+    let bytes = frames(alloc, [NOTHING_FINAL, ended.as_slice(), REPLY].as_slice())?;
+    let want = Came::EpochEnded(key(2, 1, 1), 2);
+    calls(&rt, alloc, &bytes, 3, want, 2, 92)?;
+    let replaced = b"{\"code\":4,\"current\":3,\"kind\":\"refused\"}";
+    let bytes = frames(alloc, [replaced.as_slice()].as_slice())?;
+    let want = Came::Replaced(key(2, 1, 1), 3);
+    calls(&rt, alloc, &bytes, 3, want, 1, 0)
+}
+
+#[test]
+fn a_call_tells_what_was_wrong_with_its_answer(rt: HostRuntime) -> Result<(), Fail> {
+    let alloc = rt.alloc();
+    let hello = frames(alloc, [HELLO].as_slice())?;
+    let rows = [
+        (b"".as_slice(), LinkFault::Closed, 0),
+        (b"\x00", LinkFault::Closed, 0),
+        (b"\x00\x02", LinkFault::Closed, 0),
+        (b"\x00\x02{", LinkFault::Closed, 0),
+        (b"\x00\x00", LinkFault::BadFrame, 0),
+        (b"\x00\x00\x00\x02{}", LinkFault::BadFrame, 4),
+        (b"\x10\x01{}", LinkFault::BadFrame, 2),
+        (b"\xff\xff{}", LinkFault::BadFrame, 2),
+        (b"\x00\x02{}", LinkFault::BadBody, 0),
+        (b"\x00\x01{}", LinkFault::BadBody, 1),
+        (hello.as_slice(), LinkFault::BadBody, 0),
+    ];
+    for (bytes, fault, left) in rows {
+        let want = Came::Unsettled(key(2, 1, 1), Some(fault));
+        calls(&rt, alloc, bytes, 3, want, 1, left)?;
+    }
+    let mut bytes = frames(alloc, [NOTHING_FINAL].as_slice())?;
+    bytes.extend_from_slice(b"\x00")?;
+    let want = Came::Unsettled(key(2, 1, 1), Some(LinkFault::Closed));
+    calls(&rt, alloc, &bytes, 3, want, 2, 0)
+}
+
+// The longest body, and one byte behind its frame: a frame takes 4,098 reads where each gives one byte.
+#[test]
+fn an_answer_is_read_to_its_last_byte_and_no_further(rt: HostRuntime) -> Result<(), Fail> {
+    let alloc = rt.alloc();
+    let mut body = NOTHING_FINAL.to_vec(alloc)?;
+    for _ in 0..4_096 - NOTHING_FINAL.len() {
+        body.push(b' ')?;
+    }
+    let mut bytes = frames(alloc, [body.as_slice()].as_slice())?;
+    bytes.push(0)?;
+    let mut reader = TestReader::new(&bytes, 1);
+    let mut device = TestWriter::new(alloc, 10_000);
+    let hello = New::start(1, 1).message();
+    let answer = ask(
+        alloc,
+        &mut Source::new(&mut reader),
+        &mut Sink::new(&mut device),
+        &hello,
+    );
+    assert!(rt; answer == Ok(Answer::Refused(Refusal::OtherEpoch(1))));
+    assert_eq!(rt; reader.reads(), 4_098);
+    assert_eq!(rt; unread(&mut Source::new(&mut reader)), 1);
+    assert_eq!(rt;
+        device.taken(),
+        frames(alloc, [HELLO].as_slice())?.as_slice()
+    );
+    Ok(())
+}
+
+#[test]
+fn a_read_that_fails(rt: HostRuntime) -> Result<(), Fail> {
+    let alloc = rt.alloc();
+    let bytes = frames(alloc, [REPLY].as_slice())?;
+    let hello = New::start(1, 1).message();
+    for fault in 1..93 {
+        let mut reader = TestReader::new(&bytes, 1).failing_at(fault, ErrorKind::Interrupted);
+        let mut source = Source::new(&mut reader);
+        let mut device = TestWriter::new(alloc, 10_000);
+        let mut sink = Sink::new(&mut device);
+        let answer = ask(alloc, &mut source, &mut sink, &hello);
+        assert!(rt; answer == Err(LinkFault::ReadFault), "{fault}");
+        assert!(rt; source.failed());
+        assert_eq!(rt; reader.reads(), fault);
+        assert_eq!(rt; device.taken().len(), 45);
+    }
+    Ok(())
+}
+
+#[test]
+fn a_write_that_fails(rt: HostRuntime) -> Result<(), Fail> {
+    let alloc = rt.alloc();
+    let bytes = frames(alloc, [REPLY].as_slice())?;
+    let hello = New::start(1, 1).message();
+    for room in 0..45 {
+        for stop in [Stop::TakesNothing, Stop::Error(ErrorKind::Other)] {
+            let mut reader = TestReader::new(&bytes, 1);
+            let mut source = Source::new(&mut reader);
+            let mut device = TestWriter::new(alloc, 7).stopping_after(room, stop);
+            let mut sink = Sink::new(&mut device);
+            let answer = ask(alloc, &mut source, &mut sink, &hello);
+            assert!(rt; answer == Err(LinkFault::WriteFault(room)), "{room}");
+            assert!(rt; sink.failed());
+            let again = ask(alloc, &mut source, &mut sink, &hello);
+            assert!(rt; again == Err(LinkFault::WriteFault(0)), "{room}");
+            assert_eq!(rt; device.taken().len(), room);
+            assert_eq!(rt; reader.reads(), 0);
+        }
+    }
+    Ok(())
+}
+
+#[test]
+fn what_each_answer_is_to_a_request(rt: HostRuntime) -> Result<(), Fail> {
+    let first = key(2, 1, 1);
+    let ignored = [
+        Refusal::BadText,
+        Refusal::OtherEpoch(1),
+        Refusal::NoSession,
+        Refusal::OldIncarnation(1),
+        Refusal::OldNumber(2),
+        Refusal::OtherCall,
+        Refusal::Busy(1),
+        Refusal::Gap(0),
+        Refusal::ClientsFull,
+        Refusal::EpochFull,
+        Refusal::NoMemory,
+    ];
+    for refusal in ignored {
+        assert!(rt;
+            hears(Answer::Refused(refusal))? == Came::Unsettled(first, None),
+            "{refusal}"
+        );
+    }
+    let ended = hears(Answer::Refused(Refusal::OtherEpoch(2)))?;
+    assert!(rt; ended == Came::EpochEnded(first, 2));
+    let replaced = hears(Answer::Refused(Refusal::OldIncarnation(3)))?;
+    assert!(rt; replaced == Came::Replaced(first, 3));
+
+    let settled = Came::Settled(Some(key(2, 1, 2)), Reply::Empty);
+    let own = Answer::Replied {
+        key: first,
+        reply: Reply::Empty,
+    };
+    assert!(rt; hears(own)? == settled);
+    let mut later_epoch = first;
+    later_epoch.epoch = 2;
+    for key in [key(2, 1, 2), key(2, 2, 1), key(3, 1, 1), later_epoch] {
+        let reply = Reply::Empty;
+        let late = Answer::Replied { key, reply };
+        assert!(rt; hears(late)? == Came::Unsettled(first, None));
+    }
+    Ok(())
+}
+
+#[test]
+fn what_each_answer_is_to_a_new_client(rt: HostRuntime) -> Result<(), Fail> {
+    let welcome = |client, incarnation| Answer::Welcome {
+        epoch: 7,
+        client,
+        incarnation,
+    };
+    let first = Key {
+        epoch: 7,
+        client: 2,
+        incarnation: 3,
+        number: 1,
+    };
+    let reply = Answer::Replied {
+        key: first,
+        reply: Reply::Done,
+    };
+    let mut new = New::start(2, 3);
+    for answer in [welcome(2, 2), welcome(2, 4), welcome(3, 3), reply] {
+        new = match new.welcome(&answer) {
+            Greeted::Again(same) => same,
+            _ => return Err(Fail::new("it is to pass the answer by")),
+        };
+    }
+    new = match new.welcome(&Answer::Refused(Refusal::OldIncarnation(9))) {
+        Greeted::Refused(same, refusal) => {
+            assert_eq!(rt; refusal, Refusal::OldIncarnation(9));
+            same
+        }
+        _ => return Err(Fail::new("it is to be turned away")),
+    };
+    let hello = Message::Hello {
+        client: 2,
+        incarnation: 3,
+    };
+    assert!(rt; new.message() == hello);
+    match new.welcome(&welcome(2, 3)) {
+        Greeted::Idle(idle) => assert_eq!(rt; idle.next_key(), Some(first)),
+        _ => return Err(Fail::new("it is to be welcome")),
+    }
+    Ok(())
+}
+
+// The client and the reply of a call that settled.
+fn settled(called: Called) -> Result<(Idle, Reply), Fail>
+    ensures { IfOk result (λ told. called ≡ Called.Settled told.0 told.1) }
+{
+    match called {
+        Called::Settled(idle, reply) => Ok((idle, reply)),
+        other => {
+            let _ = plain(other);
+            Err(Fail::new("it isn't settled"))
+        }
+    }
+}
+
+// A call over devices of its own, where a growth may be refused: whether it settled. Else nothing
+// happened, or the request went out and the whole reply was read; or the device itself found no memory.
+fn settles(rt: &impl Abort, alloc: Global) -> Result<bool, Fail> {
+    let mut reader = TestReader::new(REPLY_FRAME, 7);
+    let mut device = TestWriter::new(alloc, 10_000);
+    let called = plain(call(
+        alloc,
+        idle()?,
+        &mut Source::new(&mut reader),
+        &mut Sink::new(&mut device),
+        take(),
+        1,
+    ));
+    let happened = (device.taken().len(), reader.reads());
+    match called {
+        Came::Settled(_, _) => return Ok(true),
+        Came::Unsettled(_, Some(LinkFault::NoMemory)) => {
+            assert!(rt; happened == (0, 0) || happened == (105, 14), "{happened:?}");
+        }
+        Came::Unsettled(_, Some(LinkFault::WriteFault(sent))) => {
+            assert_eq!(rt; happened, (sent, 0));
+        }
+        other => assert!(rt; false, "{other:?}"),
+    }
+    Ok(false)
+}
+
+// Says hello, puts "a" and takes it: what each of these asks for follows from the contracts of those
+// before it.
+fn converse<R: Read, W: Write>(
+    alloc: Global,
+    source: &mut Source<R>,
+    sink: &mut Sink<W>,
+) -> Result<(Reply, Reply), Fail> {
+    laws::keys_fit();
+    let new = New::start(2, 1);
+    let answer = ask(alloc, source, sink, &new.message())?;
+    let Greeted::Idle(idle) = new.welcome(&answer) else {
+        return Err(Fail::new("it isn't welcome"));
+    };
+    let put = put(alloc)?;
+    if !put.fits() {
+        return Err(Fail::new("the item is too long"));
+    }
+    let (idle, first) = settled(call(alloc, idle, source, sink, put, 3))?;
+    if idle.next_key().is_none() {
+        return Err(Fail::new("the greatest number was used up"));
+    }
+    let (_, second) = settled(call(alloc, idle, source, sink, take(), 3))?;
+    Ok((first, second))
+}
+
+#[test]
+fn a_conversation(rt: HostRuntime) -> Result<(), Fail> {
+    let alloc = rt.alloc();
+    let welcome = b"{\"client\":2,\"epoch\":1,\"incarnation\":1,\"kind\":\"welcome\"}";
+    let done = b"{\"client\":2,\"epoch\":1,\"incarnation\":1,\"kind\":\"reply\",\
+        \"number\":1,\"reply\":\"done\"}";
+    let empty = b"{\"client\":2,\"epoch\":1,\"incarnation\":1,\"kind\":\"reply\",\
+        \"number\":2,\"reply\":\"empty\"}";
+    let bodies = [
+        welcome.as_slice(),
+        NOTHING_FINAL,
+        done.as_slice(),
+        done.as_slice(),
+        empty.as_slice(),
+    ];
+    let bytes = frames(alloc, bodies.as_slice())?;
+    let mut source = Source::new(TestReader::new(&bytes, 5));
+    let mut device = TestWriter::new(alloc, 50);
+    let replies = converse(alloc, &mut source, &mut Sink::new(&mut device))?;
+    assert!(rt; replies == (Reply::Done, Reply::Empty));
+    assert_eq!(rt; unread(&mut source), 0);
+    Ok(())
+}
+
+// Passes too where any one growth is refused.
+#[test]
+fn a_refused_growth_leaves_what_it_says(rt: HostRuntime) -> Result<(), Fail> {
+    let settled = settles(&rt, rt.alloc())? || settles(&rt, rt.alloc())?;
+    assert!(rt; settled);
+    Ok(())
+}
+
+// The put of "a" into queue 3; once more, where memory is refused.
+fn put(alloc: Global) -> Result<Call, AllocError> {
+    let text = match String::from_str(alloc, "a") {
+        Ok(text) => text,
+        Err(_) => String::from_str(alloc, "a")?,
+    };
+    let item = Item::from_text(text);
+    Ok(Call::Put { queue: 3, item })
+}
+
+// Passes too where any one growth is refused.
+#[test]
+fn a_request_is_the_same_each_time(rt: HostRuntime) -> Result<(), Fail> {
+    let alloc = rt.alloc();
+    let want = Message::Request {
+        key: key(2, 1, 1),
+        call: put(alloc)?,
+    };
+    let call = put(alloc)?;
+    let outstanding = idle()?.begin(call);
+    assert_eq!(rt; outstanding.key(), key(2, 1, 1));
+    let mut refused = false;
+    for _ in 0..3 {
+        match outstanding.message(alloc) {
+            Ok(message) => assert!(rt; message == want),
+            Err(_) => {
+                assert!(rt; !refused);
+                refused = true;
+            }
+        }
+    }
+    assert_eq!(rt; outstanding.abandon(), key(2, 1, 1));
+    Ok(())
+}
