@@ -32,6 +32,7 @@ pub mod SessionTable
 pub mod Settling
 pub mod Deciding
 pub mod Staying
+pub mod ToldCancelled
 pub mod Entering
 pub mod OneStep
 pub mod Fitting
