@@ -1,5 +1,5 @@
 -- Which line of the step decides, from what the table of sessions says of a key or of a hello.
-use Rattle.rv_text.specs.declared.message.Message.TheVariants.{Hello, Request}
+use Rattle.rv_text.specs.declared.message.Message.TheVariants.{Hello, Request, Cancel}
 use Rattle.rv_text.specs.declared.answer.Refusal.TheVariants.{OldIncarnation, OtherCall, ClientsFull}
 use Rattle.rv_text.specs.declared.answer.Answer.TheVariants.{Welcome, Replied, Refused, Waiting}
 use Rattle.rv_book.specs.declared.account.Act as act
@@ -8,15 +8,20 @@ use Rattle.rv_session.specs.declared.session.State as state
 use Rattle.rv_session.specs.Table.{Table, session_of, session_count}
 use Rattle.rv_session.specs.Meanings.{HasNext, HasLast, RefusalMeans, IsOlder, IsNewer}
 use Rattle.rv_session.specs.Meanings as means
-use Rattle.rv_book.proofs.Standing.{settled, waits, refused_lines, last_lines, is_next, not_new, room_for_client, clients_full, none_lower, newer_lower}
+use Rattle.rv_book.proofs.Standing.{settled, cancelled_first, waits, refused_lines, last_lines, is_next, not_new, room_for_client, clients_full, none_lower, newer_lower}
 use Rattle.rv_book.proofs.Lines.{line_next, line_old_hello, line_again, line_newer}
 use Rattle.rv_book.specs.Account.{Account, act_at, call_in}
 use Rattle.rv_text.specs.declared.answer.Answer.{Answer}
 use Rattle.rv_book.specs.Tables.{AreSessions, Becomes, IsRepeat}
 use Rattle.rv_text.specs.declared.call.Call.{Call}
-use Rattle.rv_book.specs.Steps.{EntersOrNoMemory, EpochFullDue, NextAt, OtherCallDue, RefuseOr, Refuses, Repeats, Answers}
+use Rattle.rv_book.specs.Steps.{Answers, EntersOrNoMemory, EpochFullDue, KeyWaits, NextAt, OtherCallDue, RefuseOr, Refuses, Repeats, Replies}
 use Rattle.rv_book.specs.Sessions.{HasIncarnation}
-use Rattle.rv_book.specs.Replies.{HasReply}
+use Rattle.rv_book.specs.Arriving.{IsCancelled}
+use Rattle.rv_book.specs.Replies.{RepliesToArrival}
+use Rattle.rv_book.specs.Verdicts.{reply_of}
+use Rattle.rv_text.specs.declared.answer.Reply.{Reply}
+use Rattle.rv_text.specs.declared.answer.Reply as reply
+use Rattle.rv_session.specs.declared.kept.Kept as kept
 use Rattle.rv_session.specs.declared.kept.Kept.{Kept}
 use Rattle.rv_text.specs.declared.message.Key.{Key}
 use Rattle.rv_book.specs.Legal.{Legal}
@@ -52,20 +57,48 @@ module _ (a : Account) (t : Table) (moment : ℕ) (are : AreSessions a t) (legal
   repeats_told : (key : Key) (x : Answer) → Answers a key x → Repeats a a key x
   repeats_told key x told = record { account = refl; answers = told; only = λ other also. one_told a key x other legal told also }
 
+  -- what the key of a settled request is told
+  record ToldReply (key : Key) (k : Kept) : Type 0 where
+    told : Reply
+    is : reply_of a.entries k ≡ Some told
+    answers : Answers a key (Replied key told)
+
+  told_settled : (key : Key) (at : ℕ) (k : Kept) → HasLast t key (state.TheVariants.Settled (Some at) k) → ToldReply key k
+  told_settled key at k has =
+      let there = settled a t are legal key at k has in
+      let replies : RepliesToArrival a.entries key there.kept_is.reply = record { place = at; call = there.call; arrived = there.arrived; replies = there.kept_is.replies } in
+      record { told = there.kept_is.reply; is = there.kept_is.is; answers = inl (record { reply = there.kept_is.reply; has = inl replies; is = refl }) }
+
+  told_first : (key : Key) (k : Kept) → HasLast t key (state.TheVariants.Settled None k) → ToldReply key k
+  told_first key k has =
+      let first = cancelled_first a t are legal key k has in
+      record {
+        told = reply.TheVariants.Cancelled;
+        is = ap (reply_of a.entries) first.1;
+        answers = inl (record { reply = reply.TheVariants.Cancelled; has = inr (first.0, refl); is = refl });
+      }
+
+  told_at : (key : Key) (place : Option ℕ) (k : Kept) → HasLast t key (state.TheVariants.Settled place k) → ToldReply key k
+  told_at key (Some at) k has = told_settled key at k has
+  told_at key None k has = told_first key k has
+
+  -- no other call arrived under the key of a settled request that this repeats
+  no_other_call : (key : Key) (call : Call) (place : Option ℕ) (k : Kept) → HasLast t key (state.TheVariants.Settled place k) → IsRepeat a place call → (refusal : Refusal) → OtherCallDue a key call refusal → ⊥
+  no_other_call key call (Some at) k has repeat =
+      let there = settled a t are legal key at k has in
+      one_arrival key at call (repeats_it key at there.call call there.arrived repeat)
+  no_other_call key call None k has repeat = λ refusal due. (cancelled_first a t are legal key k has).0.not_arrived due.place due.other due.arrived
+
   -- a repeat of a request that was settled
   pub repeated : (key : Key) (call : Call) (place : Option ℕ) (k : Kept) → HasLast t key (state.TheVariants.Settled place k) → 1 ≤ key.number → IsRepeat a place call
       → Becomes a moment (Request key call) a (said.TheVariants.Replied key k)
   repeated key call place k has positive repeat =
-      let there = settled a t are legal key place k has in
-      let kept_is = there.kept_is in
-      let reply = Replied key kept_is.reply in
-      let replies : HasReply a.entries key kept_is.reply = record { place = there.at; call = there.call; arrived = there.arrived; replies = kept_is.replies } in
-      let told : Answers a key reply = inl (record { reply = kept_is.reply; has = replies; is = refl }) in
-      let arrived = repeats_it key there.at there.call call there.arrived (subst (λ o. IsRepeat a o call) there.is repeat) in
+      let told = told_at key place k has in
+      let x = Replied key told.told in
       record {
-        answer = reply;
-        is = ap (option_map (Replied key)) kept_is.is;
-        step = last_lines a t are legal (Refuses a a reply) _ _ key _ has positive (inr (one_arrival key there.at call arrived, repeats_told key reply told));
+        answer = x;
+        is = ap (option_map (Replied key)) told.is;
+        step = last_lines a t are legal (Refuses a a x) _ _ key _ has positive (inr (no_other_call key call place k has repeat, repeats_told key x told.answers));
       }
 
   -- a repeat of a request that waits
@@ -91,9 +124,10 @@ module _ (a : Account) (t : Table) (moment : ℕ) (are : AreSessions a t) (legal
 
   pub repeated_otherwise : (key : Key) (call : Call) (place : Option ℕ) (k : Kept) → HasLast t key (state.TheVariants.Settled place k) → 1 ≤ key.number → (IsRepeat a place call → ⊥)
       → NextAt a moment (Request key call) a (Refused OtherCall)
-  repeated_otherwise key call place k has positive not_repeat =
-      let there = settled a t are legal key place k has in
-      other_call key call _ there.at there.call has positive there.arrived (λ repeat. not_repeat (subst (λ o. IsRepeat a o call) (sym there.is) repeat))
+  repeated_otherwise key call (Some at) k has positive not_repeat =
+      let there = settled a t are legal key at k has in
+      other_call key call _ at there.call has positive there.arrived not_repeat
+  repeated_otherwise key call None k has positive not_repeat = absurd (not_repeat tt)
 
   pub waiting_otherwise : (key : Key) (call : Call) (place : ℕ) → HasLast t key (state.TheVariants.Waits place) → 1 ≤ key.number → (IsRepeat a (Some place) call → ⊥)
       → NextAt a moment (Request key call) a (Refused OtherCall)
@@ -104,6 +138,45 @@ module _ (a : Account) (t : Table) (moment : ℕ) (are : AreSessions a t) (legal
   pub next_key : (b : Account) (key : Key) (call : Call) (x : Answer) → HasNext t key
       → RefuseOr (EpochFullDue a (need_of call)) (Refuses a b x) (EntersOrNoMemory a moment (act.TheVariants.Arrive key call) b x (Answers b key x)) → NextAt a moment (Request key call) b x
   next_key b key call x next last = line_next (Refuses a b x) _ _ a key (is_next a t are legal key next) last
+
+  -- ---- cancels
+
+  pub refused_cancel : (key : Key) (refusal : Refusal) → RefusalMeans t key refusal → NextAt a moment (Cancel key) a (Refused refusal)
+  refused_cancel key refusal is = refused_lines a t are legal (Refuses a a (Refused refusal)) _ _ key refusal is (refl, refl)
+
+  waiting_or_replied : (key : Key) (told : Reply) → ◌≡◌ {A = Answer} (Waiting key) (Replied key told) → ⊥
+  waiting_or_replied key told e = cc
+
+  -- a cancel of a request that was settled
+  pub cancelled_late : (key : Key) (place : Option ℕ) (k : Kept) → HasLast t key (state.TheVariants.Settled place k) → 1 ≤ key.number
+      → Becomes a moment (Cancel key) a (said.TheVariants.Replied key k)
+  cancelled_late key place k has positive =
+      let told = told_at key place k has in
+      let x = Replied key told.told in
+      let not_waiting = λ (waits : KeyWaits a key). waiting_or_replied key told.told (one_told a key x (Waiting key) legal told.answers (inr (waits, refl))) in
+      record {
+        answer = x;
+        is = ap (option_map (Replied key)) told.is;
+        step = last_lines a t are legal (Refuses a a x) _ _ key _ has positive (inr (not_waiting, repeats_told key x told.answers));
+      }
+
+  -- a cancel of the request that waits
+  pub cancelled_waiting : (b : Account) (key : Key) (place : ℕ) → HasLast t key (state.TheVariants.Waits place) → 1 ≤ key.number → IsCancelled a b moment key
+      → Becomes a moment (Cancel key) b (said.TheVariants.Replied key kept.TheVariants.Cancelled)
+  cancelled_waiting b key place has positive done =
+      let there = waits a t are legal key place has in
+      let x = Replied key reply.TheVariants.Cancelled in
+      record {
+        answer = x;
+        is = refl;
+        step = last_lines a t are legal (Refuses a b x) _ _ key _ has positive
+            (inl (record { place = place; call = there.call; arrived = there.arrived; waits = there.waits }, (done.adds, refl)));
+      }
+
+  -- a cancel of the session's next number
+  pub next_cancel : (b : Account) (key : Key) (x : Answer) → HasNext t key
+      → RefuseOr (EpochFullDue a 1) (Refuses a b x) (EntersOrNoMemory a moment (act.TheVariants.Cancel key) b x (Replies b key x)) → NextAt a moment (Cancel key) b x
+  next_cancel b key x next last = line_next (Refuses a b x) _ _ a key (is_next a t are legal key next) last
 
   -- ---- hellos
 

@@ -6,7 +6,8 @@ use Rattle.rv_session.specs.declared.session.Session.{Session}
 use Rattle.rv_session.specs.declared.kept.Kept.{Kept}
 use Rattle.rv_session.specs.Table.{Table, OnlySets, OnlySettles, fresh, session_of}
 use Rattle.rv_book.specs.Account.{Account, act_at, call_at, call_in, key_at, key_in, with_entry}
-use Rattle.rv_book.specs.Tables.{AreSessions, IsSession, IsSessionOf, Stands}
+use Rattle.rv_book.specs.Tables.{AreSessions, IsSession, IsSessionOf, Stands, last_key}
+use Rattle.rv_book.specs.Replies.{CancelledFirst}
 use Rattle.rv_book.specs.declared.account.Act.TheVariants.{Arrive, Hello}
 use Rattle.rv_text.specs.declared.call.Call.{Call}
 use Rattle.rv_book.specs.declared.account.Entry.{Entry}
@@ -22,7 +23,7 @@ use Rattle.rv_book.proofs.Places.{get-append_end}
 use Rattle.rv_book.proofs.Staying.{kept_stays}
 use Rattle.std.proofs.lemmas.Option.{none-some, same_Some}
 use Rattle.rv_book.proofs.Numbers.{same_or_not}
-use Rattle.rv_book.proofs.Keys.{LastHello-on, NamesKey-back, NamesKey-on, client_of, hello_is_own, key_is_own, key_read, no_hello}
+use Rattle.rv_book.proofs.Keys.{LastHello-on, NamesKey-back, NamesKey-on, client_of, hello_is_own, key_is_own, key_read}
 use Rattle.rv_book.proofs.Replying.{reply_laws}
 pub use Rattle.rv_book.proofs.WaitingTable.{waits_in_table}
 
@@ -52,11 +53,11 @@ IsAt-on es e c i n other is =
       };
     }
 
--- after an arrival its number is the session's last
-pub arrived_at : (es : List Entry) (e : Entry) (key : Key) (call : Call) (i n : ℕ) → e.act ≡ Arrive key call → IsAt es key.client i n → n ≤ key.number → IsAt (es ++ e ∷ []) key.client i key.number
-arrived_at es e key call i n is session above =
-    let no_hello_of = λ (j : ℕ) (own : Some e.act ≡ Some (Hello key.client j)). no_hello key call key.client j (ap Some (sym is) ∙ own) in
-    let last : key_at (es ++ e ∷ []) (length es) ≡ Some key = ap key_read (get-append_end es e) ∙ ap key_in is in
+-- after an entry that names a key its number is the session's last
+pub named_at : (es : List Entry) (e : Entry) (key : Key) (i n : ℕ) → key_in e.act ≡ Some key → IsAt es key.client i n → n ≤ key.number → IsAt (es ++ e ∷ []) key.client i key.number
+named_at es e key i n is session above =
+    let no_hello_of = λ (j : ℕ) (own : Some e.act ≡ Some (Hello key.client j)). none-some key (sym (ap key_in (same_Some _ _ own)) ∙ is) in
+    let last : key_at (es ++ e ∷ []) (length es) ≡ Some key = ap key_read (get-append_end es e) ∙ is in
     let inside : session.number.h < length es = reads_within act_read refl es session.number.h _ session.number.hello.hello in
     record {
       incarnation = (session.incarnation.0, LastHello-on es e key.client i session.incarnation.0 no_hello_of session.incarnation.1);
@@ -66,7 +67,7 @@ arrived_at es e key call i n is session above =
         hello = LastHello-on es e key.client session.number.incarnation session.number.h no_hello_of session.number.hello;
         greatest = λ r other later names. elim (NamesKey-back es e key.client r other names) [
           | inl before ↦ let bound : other.number ≤ n = session.number.greatest r other later before in omega arith
-          | inr own ↦ let same : key.number ≡ other.number = ap (λ (k : Key). k.number) (same_Some _ _ (sym (ap key_in is) ∙ own.1)) in omega arith
+          | inr own ↦ let same : key.number ≡ other.number = ap (λ (k : Key). k.number) (same_Some _ _ (sym is ∙ own.1)) in omega arith
         ];
         reached = inr (length es, key, inside, record { named = last; of_client = refl }, refl);
       };
@@ -106,20 +107,31 @@ IsKept-on a e r call k legal arrived is = record {
 abbrev pub StillWaits : Account → Entry → ℕ → Type 0
 StillWaits a e client = (r : ℕ) (key : Key) (call : Call) → key.client ≡ client → act_at a.entries r ≡ Some (Arrive key call) → Waiting a.entries r → Waiting (with_entry a e).entries r
 
-Stands-on : (a : Account) (e : Entry) (client : ℕ) (s : Session) (stands : StateOf) → Legal (with_entry a e) → StillWaits a e client → Stands a client s stands → Stands (with_entry a e) client s stands
-Stands-on a e client s state.TheVariants.Fresh legal still is = is
-Stands-on a e client s (state.TheVariants.Waits r) legal still is = record {
+-- a number that was cancelled first stays so behind an entry of another client
+CancelledFirst-on : (es : List Entry) (e : Entry) (key : Key) → (client_of e.act ≡ key.client → ⊥) → CancelledFirst es key → CancelledFirst (es ++ e ∷ []) key
+CancelledFirst-on es e key other first = record {
+  place = first.place;
+  cancelled = reads_on act_read refl es (e ∷ []) first.place _ first.cancelled;
+  not_arrived = λ r call arrived. elim (reads_back act_read refl es e r (Arrive key call) arrived) [
+    | inl inside ↦ first.not_arrived r call inside.1
+    | inr own ↦ other (ap client_of (same_Some _ _ own.1))
+  ];
+}
+
+Stands-on : (a : Account) (e : Entry) (client : ℕ) (s : Session) (stands : StateOf) → Legal (with_entry a e) → (client_of e.act ≡ client → ⊥) → StillWaits a e client → Stands a client s stands
+    → Stands (with_entry a e) client s stands
+Stands-on a e client s state.TheVariants.Fresh legal other still is = is
+Stands-on a e client s (state.TheVariants.Waits r) legal other still is = record {
   call = is.call;
   arrived = reads_on act_read refl a.entries (e ∷ []) r _ is.arrived;
   waits = still r _ is.call refl is.arrived is.waits;
 }
-Stands-on a e client s (state.TheVariants.Settled r k) legal still is = record {
-  place = is.place;
-  is = is.is;
+Stands-on a e client s (state.TheVariants.Settled (Some r) k) legal other still is = record {
   call = is.call;
-  arrived = reads_on act_read refl a.entries (e ∷ []) is.place _ is.arrived;
-  kept_is = IsKept-on a e is.place is.call k legal (ap (option_and_then call_in) is.arrived) is.kept_is;
+  arrived = reads_on act_read refl a.entries (e ∷ []) r _ is.arrived;
+  kept_is = IsKept-on a e r is.call k legal (ap (option_and_then call_in) is.arrived) is.kept_is;
 }
+Stands-on a e client s (state.TheVariants.Settled None k) legal other still is = (CancelledFirst-on a.entries e (last_key a client s) other is.0, is.1)
 
 -- ---- the table
 
@@ -149,7 +161,7 @@ session_on a e client None legal other still none = λ said. elim (reads_back ac
 ]
 session_on a e client (Some s) legal other still is =
     let at = IsAt-on a.entries e client s.incarnation s.last other (record { incarnation = is.incarnation; number = is.number }) in
-    record { incarnation = at.incarnation; number = at.number; stands = Stands-on a e client s s.state legal still is.stands }
+    record { incarnation = at.incarnation; number = at.number; stands = Stands-on a e client s s.state legal other still is.stands }
 
 -- after a hello nothing waits but what waited before, of another client
 after_hello : (a : Account) (e : Entry) (client incarnation other : ℕ) → e.act ≡ Hello client incarnation → e.partner ≡ None → (other ≡ client → ⊥) → StillWaits a e other
@@ -159,21 +171,27 @@ after_hello a e client incarnation other says none apart = λ r key call of_clie
     let same : Arrive request.key request.call ≡ Arrive key call = same_Some _ _ (sym request.arrived ∙ arrived) in
     apart (sym of_client ∙ sym (ap client_of same) ∙ sym request.of_client))
 
--- after a hello its session is fresh
-pub sessions_greeted : (a : Account) (e : Entry) (old new : Table) (client incarnation : ℕ) → AreSessions a old → Legal a → Legal (with_entry a e) → e.act ≡ Hello client incarnation → e.partner ≡ None
-    → Changes old new client (fresh incarnation) → AreSessions (with_entry a e) new
-sessions_greeted a e old new client incarnation are before legal is none changes =
-    let at = greeted_at a.entries e client incarnation is in
+-- a table in which one client's session changed is what the account says, where that session is
+pub sessions_changed : (a : Account) (e : Entry) (old new : Table) (client : ℕ) (s : Session) → AreSessions a old → Legal (with_entry a e) → client_of e.act ≡ client
+    → ((other : ℕ) → (other ≡ client → ⊥) → StillWaits a e other) → Changes old new client s → IsSession (with_entry a e) client s → AreSessions (with_entry a e) new
+sessions_changed a e old new client s are legal of_client still changes own =
     let b = with_entry a e in
-    let own : IsSession b client (fresh incarnation) = record { incarnation = at.incarnation; number = at.number; stands = refl } in
     record {
       epoch = changes.epoch ∙ are.epoch;
       each = λ c. elim (same_or_not c client) [
         | inl same ↦ subst (λ n. IsSessionOf b n (session_of new n)) (sym same) (subst (IsSessionOf b client) (sym changes.own) own)
         | inr apart ↦ subst (IsSessionOf b c) (sym (changes.others c apart))
-            (session_on a e c (session_of old c) legal (λ here. apart (sym here ∙ ap client_of is)) (after_hello a e client incarnation c is none apart) (are.each c))
+            (session_on a e c (session_of old c) legal (λ here. apart (sym here ∙ of_client)) (still c apart) (are.each c))
       ];
     }
+
+-- after a hello its session is fresh
+pub sessions_greeted : (a : Account) (e : Entry) (old new : Table) (client incarnation : ℕ) → AreSessions a old → Legal a → Legal (with_entry a e) → e.act ≡ Hello client incarnation → e.partner ≡ None
+    → Changes old new client (fresh incarnation) → AreSessions (with_entry a e) new
+sessions_greeted a e old new client incarnation are before legal is none changes =
+    let at = greeted_at a.entries e client incarnation is in
+    sessions_changed a e old new client (fresh incarnation) are legal (ap client_of is) (λ other. after_hello a e client incarnation other is none) changes
+    (record { incarnation = at.incarnation; number = at.number; stands = refl })
 
 -- an empty table is that of an empty account
 pub no_sessions : (a : Account) (t : Table) → a.entries ≡ [] → t.epoch ≡ a.epoch → ((client : ℕ) → session_of t client ≡ None) → AreSessions a t

@@ -25,7 +25,8 @@ use Rattle.rv_book.proofs.Keys.{act_called, client_of}
 use Rattle.rv_book.proofs.Numbers.{same_or_not}
 use Rattle.rv_book.proofs.Places.{get-append_end}
 use Rattle.rv_book.proofs.Replying.{reply_laws}
-use Rattle.rv_book.proofs.SessionTable.{IsAt, IsAt-on, StillWaits, arrived_at, session_on}
+pub use Rattle.rv_book.proofs.CancelledSessions.{buried_replies, ended_replies, sessions_buried, sessions_ended}
+use Rattle.rv_book.proofs.SessionTable.{IsAt, IsAt-on, StillWaits, named_at, session_on}
 use Rattle.rv_book.proofs.Sides.{Waiting-last, Waiting-on, arrival_stops_nobody}
 use Rattle.rv_book.proofs.WaitingTable.{waiting_there, waits_in_table}
 
@@ -160,8 +161,6 @@ module _ (a : Account) (e : Entry) (key : Key) (call : Call) (partner : Option â
         incarnation = at.incarnation;
         number = at.number;
         stands = record {
-          place = d.place;
-          is = refl;
           call = found.waits.call;
           arrived = arrived;
           kept_is = subst (Î» c. IsKept b.entries d.place c (partners_reply (side_of call) place)) (sym one) k;
@@ -198,7 +197,7 @@ module _ (a : Account) (e : Entry) (key : Key) (call : Call) (partner : Option â
   own_at : IsAt b.entries key.client key.incarnation key.number
   own_at =
       let above : key.number â‰¡ next.last + 1 = next.next in
-      arrived_at a.entries e key call key.incarnation next.last says (record { incarnation = next.incarnation; number = next.is_last }) (omega arith)
+      named_at a.entries e key key.incarnation next.last (ap key_in says) (record { incarnation = next.incarnation; number = next.is_last }) (omega arith)
 
   own_waits : OwnDuty (side_of call) (wait_of call) partner (record { place = place; client = key.client }) None â†’ IsSession b key.client (waiting_session key.incarnation key.number place)
   own_waits own = record {
@@ -215,7 +214,7 @@ module _ (a : Account) (e : Entry) (key : Key) (call : Call) (partner : Option â
   own_settled k kept = record {
     incarnation = own_at.incarnation;
     number = own_at.number;
-    stands = record { place = place; is = refl; call = call; arrived = own_key; kept_is = kept };
+    stands = record { call = call; arrived = own_key; kept_is = kept };
   }
 
   -- ---- the table

@@ -6,6 +6,8 @@ use Rattle.rv_session.specs.declared.session.Session.{Session}
 use Rattle.rv_session.specs.declared.session.State as state
 use Rattle.rv_session.specs.declared.session.State.{State as StateOf}
 use Rattle.rv_session.specs.declared.kept.Kept.{Kept}
+use Rattle.rv_session.specs.declared.kept.Kept as kept
+use Rattle.rv_book.specs.Replies.{CancelledFirst}
 use Rattle.rv_session.specs.Table.{Table, session_of, session_count}
 use Rattle.rv_book.proofs.Lines.{line_other_epoch, line_no_session, line_old_incarnation, line_old_number, line_last, line_gap, line_busy}
 use Rattle.rv_session.specs.Meanings.{HasNext, HasLast, RefusalMeans}
@@ -85,10 +87,8 @@ module _ (a : Account) (t : Table) (are : AreSessions a t) (legal : Legal a) whe
 
   -- ---- the last number
 
-  -- the key's request arrived here, and this is kept as its reply
-  pub record Settled (key : Key) (place : Option ℕ) (k : Kept) : Type 0 where
-    pub at : ℕ
-    pub is : place ≡ Some at
+  -- the key's request arrived at the place, and this is kept as its reply
+  pub record Settled (key : Key) (at : ℕ) (k : Kept) : Type 0 where
     pub call : Call
     pub arrived : act_at a.entries at ≡ Some (act.TheVariants.Arrive key call)
     pub kept_is : IsKept a.entries at call k
@@ -104,16 +104,16 @@ module _ (a : Account) (t : Table) (are : AreSessions a t) (legal : Legal a) whe
   stood : (key : Key) (stands : StateOf) (has : HasLast t key stands) → Stands a key.client has.session stands
   stood key stands has = subst (Stands a key.client has.session) has.state (known a t key.client has.session are has.of_key.there).stands
 
-  pub settled : (key : Key) (place : Option ℕ) (k : Kept) → HasLast t key (state.TheVariants.Settled place k) → Settled key place k
-  settled key place k has =
+  pub settled : (key : Key) (at : ℕ) (k : Kept) → HasLast t key (state.TheVariants.Settled (Some at) k) → Settled key at k
+  settled key at k has =
       let stands = stood key _ has in
-      record {
-        at = stands.place;
-        is = stands.is;
-        call = stands.call;
-        arrived = stands.arrived ∙ ap (λ k. Some (act.TheVariants.Arrive k stands.call)) (last_is_key key _ has);
-        kept_is = stands.kept_is;
-      }
+      record { call = stands.call; arrived = stands.arrived ∙ ap (λ k. Some (act.TheVariants.Arrive k stands.call)) (last_is_key key _ has); kept_is = stands.kept_is }
+
+  -- the key was cancelled before its request came
+  pub cancelled_first : (key : Key) (k : Kept) → HasLast t key (state.TheVariants.Settled None k) → CancelledFirst a.entries key × (k ≡ kept.TheVariants.Cancelled)
+  cancelled_first key k has =
+      let stands = stood key _ has in
+      (subst (CancelledFirst a.entries) (last_is_key key _ has) stands.0, stands.1)
 
   -- the key's request arrived here, and waits
   pub record Waits (key : Key) (place : ℕ) : Type 0 where

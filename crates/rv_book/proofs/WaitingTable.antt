@@ -14,7 +14,7 @@ use Rattle.rv_book.specs.Legal.{HasWaiting, Legal}
 use Rattle.rv_book.specs.Tables.{AreSessions, IsSession, IsSessionOf, IsSettledAt, IsWaitingAt, Stands, last_key}
 use Rattle.rv_book.specs.Waiting.{Waiting}
 use Rattle.rv_book.proofs.Histories.{one_incarnation, one_last_number}
-use Rattle.rv_book.proofs.Keys.{act_named}
+use Rattle.rv_book.proofs.Keys.{act_called}
 use Rattle.rv_book.proofs.OnePartner.{arrives_once}
 use Rattle.rv_book.proofs.Replying.{reply_laws}
 use Rattle.rv_book.specs.Sessions.{SaidHello}
@@ -35,17 +35,18 @@ same_parts a b c d e f client p q r = cc
 
 -- the place that is told of a session in which this request is the last and waits
 module _ (a : Account) (r : ℕ) (key : Key) (call : Call) (legal : Legal a) (w : Waiting a.entries r) (arrived : act_at a.entries r ≡ Some (Arrive key call)) where
-  settled_not : (s : Session) (at : Option ℕ) (k : Kept) → last_key a key.client s ≡ key → IsSettledAt a key.client s at k → ⊥
+  settled_not : (s : Session) (at : ℕ) (k : Kept) → last_key a key.client s ≡ key → IsSettledAt a key.client s at k → ⊥
   settled_not s at k same is =
-      let there : act_at a.entries is.place ≡ Some (Arrive key is.call) = is.arrived ∙ ap (λ x. Some (Arrive x is.call)) same in
-      let place : r ≡ is.place = arrives_once a r is.place key call is.call legal arrived there in
-      (reply_laws is.call).waits_not a is.place is.kept_is.reply legal (ap (option_and_then call_in) there) (subst (Waiting a.entries) place w) is.kept_is.replies
+      let there : act_at a.entries at ≡ Some (Arrive key is.call) = is.arrived ∙ ap (λ x. Some (Arrive x is.call)) same in
+      let place : r ≡ at = arrives_once a r at key call is.call legal arrived there in
+      (reply_laws is.call).waits_not a at is.kept_is.reply legal (ap (option_and_then call_in) there) (subst (Waiting a.entries) place w) is.kept_is.replies
 
   by_state : (s : Session) (stands : StateOf) → last_key a key.client s ≡ key → 1 ≤ s.last → Stands a key.client s stands → waiting_place stands ≡ Some r
   by_state s state.TheVariants.Fresh same positive is = let zero_last : s.last ≡ 0 = is in absurd (omega arith)
   by_state s (state.TheVariants.Waits place) same positive is =
       ap Some (arrives_once a place r key is.call call legal (is.arrived ∙ ap (λ x. Some (Arrive x is.call)) same) arrived)
-  by_state s (state.TheVariants.Settled at k) same positive is = absurd (settled_not s at k same is)
+  by_state s (state.TheVariants.Settled (Some at) k) same positive is = absurd (settled_not s at k same is)
+  by_state s (state.TheVariants.Settled None k) same positive is = absurd (is.0.not_arrived r call (arrived ∙ ap (λ x. Some (Arrive x call)) (sym same)))
 
   by_session : (o : Option Session) → IsSessionOf a key.client o → option_and_then (λ (s : Session). waiting_place s.state) o ≡ Some r
   by_session None is = let last = waiting_is_last a r key call legal w arrived in absurd (is (last.incarnation.0, key.incarnation, last.incarnation.1.hello))
@@ -65,9 +66,11 @@ waits_in_table a t r key call legal are w arrived = by_session a r key call lega
 -- and so where the table tells of none, none waits
 pub none_waits : (a : Account) (t : Table) (client : ℕ) → Legal a → AreSessions a t → waiting_of t client ≡ None → HasWaiting a.entries client → ⊥
 none_waits a t client legal are none h =
-    let does = act_named (act_at a.entries h.place) h.key h.names.named in
-    let there : waiting_of t h.key.client ≡ Some h.place = waits_in_table a t h.place h.key does.0 legal are h.waits does.1 in
-    none-some h.place (sym none ∙ ap (waiting_of t) (sym h.names.of_client) ∙ there)
+    let does = act_called (act_at a.entries h.place) h.waits.is_open.call h.waits.is_open.arrived in
+    let same : does.0 ≡ h.key = same_Some _ _ (sym (ap (option_and_then key_in) does.1) ∙ h.names.named) in
+    let of_client : does.0.client ≡ client = ap (λ (k : Key). k.client) same ∙ h.names.of_client in
+    let there : waiting_of t does.0.client ≡ Some h.place = waits_in_table a t h.place does.0 h.waits.is_open.call legal are h.waits does.1 in
+    none-some h.place (sym none ∙ ap (waiting_of t) (sym of_client) ∙ there)
 
 -- ---- from the table to the account
 
