@@ -92,7 +92,7 @@ module _ (old : State) (moment : ℕ) (key : Key) (comes : Comes old moment (Can
         let legal = legal_after old moment (Cancel key) UnderKey ends_marks in
         record {
           adds = record { entry = own_entry; moment_is = refl; act_is = refl; follows = refl; legal = legal };
-          replies = ended_replies before own_entry key there.call place comes.sound.legal legal refl refl there.arrived there.waits;
+          replies = ended_replies before own_entry key there.call place refl refl there.arrived there.waits;
         }
 
   -- ---- before the request comes
@@ -118,5 +118,5 @@ module _ (old : State) (moment : ℕ) (key : Key) (comes : Comes old moment (Can
         let legal = legal_after old moment (Cancel key) UnderKey bury_marks in
         record {
           adds = record { entry = own_entry; moment_is = refl; act_is = refl; follows = refl; legal = legal };
-          replies = buried_replies before own_entry key comes.sound.legal legal next refl refl;
+          replies = buried_replies before own_entry key comes.sound.legal next refl;
         }
