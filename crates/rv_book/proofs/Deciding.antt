@@ -265,7 +265,7 @@ stopped_by es r key call arrived no_put = elim (first_below (EndBehind es key (l
       none stopped.0 (within es stopped.0 h.stopper h.there) (record { later = h.later; stopper = h.stopper; there = h.there; ends = ends }))
 ]
 
-arrives_no_cancel : (key : Key) (call : Call) (other : Key) → Some (Arrive key call) ≡ Some (Cancel other) → ⊥
+pub arrives_no_cancel : (key : Key) (call : Call) (other : Key) → Some (Arrive key call) ≡ Some (Cancel other) → ⊥
 arrives_no_cancel key call other e = cc
 
 stopped_of : (es : List Entry) (r : ℕ) (o : Option Act) → act_at es r ≡ o → Stopped es r ⊎ (Stopped es r → ⊥)

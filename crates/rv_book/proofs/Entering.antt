@@ -1,27 +1,33 @@
 -- Where an own entry is due, a legal next account exists.
-use Rattle.rv_book.specs.Account.{Account, with_entry, act_at, call_in, key_in}
-use Rattle.rv_book.specs.Steps.{Adds, EpochFullDue, HelloLines, KeyLines, RefuseOr, max_entries, own_moment, step_moment, ClientsFullDue, OtherCallDue, Answers}
-use Rattle.rv_book.specs.declared.account.Act.TheVariants.{Arrive, Hello}
+use Rattle.rv_book.specs.Account.{Account, with_entry, act_at, call_in, key_at, key_in}
+use Rattle.rv_book.specs.Steps.{Adds, EpochFullDue, HelloLines, KeyLines, RefuseOr, max_entries, own_moment, step_moment, ClientsFullDue, OtherCallDue, Answers, Replies, WhereElse}
+use Rattle.rv_book.specs.declared.account.Act.TheVariants.{Arrive, Cancel, Hello}
+use Rattle.rv_book.specs.declared.account.Act.{Act}
+use Rattle.rv_book.specs.Replies.{CancelledFirst, HasReply}
+use Rattle.rv_text.specs.declared.answer.Reply.TheVariants.{Cancelled}
+use Rattle.rv_book.proofs.Numbers.{first_below}
+use Rattle.rv_book.proofs.Waits.{waiting_is_last}
+use Rattle.rv_book.proofs.ToldCancelled.{next_replies, waiting_replies}
 use Rattle.rv_text.specs.declared.call.Call.{Call}
-use Rattle.rv_book.specs.Laws.{CanEnter, HellosCanEnter, RequestsCanEnter}
+use Rattle.rv_book.specs.Laws.{CanCancel, CanEnter, CancelsCanEnter, HellosCanEnter, RequestsCanEnter}
 use Rattle.rv_book.specs.declared.account.Entry.{Entry}
 use Rattle.rv_text.specs.declared.answer.Refusal.TheVariants.{EpochFull}
 use Rattle.rv_book.specs.Sessions.{HasIncarnation, HasOnlyLower, LastHello, LastNumber, SaidHello}
 use Rattle.rv_book.specs.Arriving.{IsNext, entry}
-use Rattle.rv_book.specs.Legal.{KeepsTime, Legal, before}
+use Rattle.rv_book.specs.Legal.{KeepsTime, Legal, MayFollow, WaitsUnder}
 use Rattle.rv_text.specs.declared.message.Key.{Key}
 use Rattle.rv_book.proofs.Legality.{Legal-with_entry}
-use Rattle.std.proofs.Common.{None, Option, Some, ap, arith, inl, inr, length, option_map, refl, subst, sym, ℕ, ◌+◌, ◌-◌, ◌<◌, ◌∙◌, ◌≡◌, ◌≤◌, List, option_and_then, take}
+use Rattle.std.proofs.Common.{None, Option, Some, ap, arith, ◌⊎◌, inl, inr, length, option_map, refl, subst, sym, ℕ, ◌+◌, ◌-◌, ◌<◌, ◌∙◌, ◌≡◌, ◌≤◌, List, option_and_then, take}
 use Rattle.rv_text.specs.declared.answer.Answer.TheVariants.{Replied, Waiting}
-use Rattle.rv_book.proofs.Following.{arrival_follows, hello_follows}
+use Rattle.rv_book.proofs.Following.{arrival_follows, cancel_follows, hello_follows, next_number}
 use Rattle.std.proofs.lemmas.Bool.{cases_lt, cases_order}
-use Rattle.rv_book.proofs.Deciding.{find_hello, find_last, find_partner, find_clients, find_waiting, has_waiting_or_not, said_or_not}
+use Rattle.rv_book.proofs.Deciding.{arrives_no_cancel, find_hello, find_last, key_or_other, same_key, find_partner, find_clients, find_waiting, has_waiting_or_not, said_or_not}
 use Rattle.rv_book.proofs.Histories.{hellos_at_most, one_incarnation}
 use Rattle.rv_book.proofs.Lines.{line_again, line_busy, line_gap, line_newer, line_next, line_no_session, line_old_hello, line_old_incarnation, line_old_number, line_other_epoch, no_room, room_left}
 use Rattle.rv_book.proofs.Growing.{moment_read, reads_within, act_read, read_there}
 use Rattle.rv_book.specs.Calls.{need_of}
 use Rattle.std.proofs.lemmas.Option.{none-some, same_Some, slice_get_cases}
-use Rattle.rv_book.proofs.Keys.{act_named}
+use Rattle.rv_book.proofs.Keys.{act_named, key_read, no_hello}
 use Rattle.rv_book.proofs.Places.{get-append_end}
 use Rattle.rv_book.proofs.Replying.{reply_laws}
 use Rattle.rv_book.proofs.Fronts.{read_front, read_whole}
@@ -34,7 +40,7 @@ use Rattle.rv_book.proofs.Lines.{line_last}
 use Rattle.rv_text.specs.declared.answer.Answer.{Answer}
 use Rattle.rv_text.specs.declared.answer.Refusal.{Refusal}
 use Rattle.rv_book.proofs.OnePartner.{arrives_once}
-use Rattle.rv_book.proofs.Staying.{one_call}
+use Rattle.rv_book.proofs.Staying.{one_call, reply_or_waits}
 use Rattle.rv_book.proofs.Counting.{one_number}
 
 -- ---- the step's moment
@@ -83,43 +89,72 @@ hello_in_front es n c i h less last = record {
   last = λ r other later there. last.last r other later (read_whole act_read refl es n r (Hello c other) there).1;
 }
 
-same_fields : (a b c d e f g h : ℕ) → a ≡ b → c ≡ d → e ≡ f → g ≡ h
-    → ◌≡◌ {A = Key} (record { epoch = a; client = c; incarnation = e; number = g }) (record { epoch = b; client = d; incarnation = f; number = h })
-same_fields a b c d e f g h p q r s = cc
-
-same_key : (k key : Key) → k.epoch ≡ key.epoch → k.client ≡ key.client → k.incarnation ≡ key.incarnation → k.number ≡ key.number → k ≡ key
-same_key k key p q r s = same_fields k.epoch key.epoch k.client key.client k.incarnation key.incarnation k.number key.number p q r s
-
 -- the account has the arrival of the key's request
 pub record Arrived (a : Account) (key : Key) : Type 0 where
   pub place : ℕ
   pub call : Call
   pub arrived : act_at a.entries place ≡ Some (Arrive key call)
 
-last_arrival : (a : Account) (key : Key) → Legal a → key.epoch ≡ a.epoch → HasIncarnation a.entries key.client key.incarnation → LastNumber a.entries key.client key.number → 1 ≤ key.number → Arrived a key
-last_arrival a key legal epoch has is positive = elim is.reached [
+-- the session's last number is that of a key that stands
+last_named : (a : Account) (key : Key) → Legal a → key.epoch ≡ a.epoch → HasIncarnation a.entries key.client key.incarnation → LastNumber a.entries key.client key.number → 1 ≤ key.number → (r : ℕ) × (key_at a.entries r ≡ Some key)
+last_named a key legal epoch has is positive = elim is.reached [
   | inl none ↦ let zero_number : key.number ≡ 0 = none in absurd (omega arith)
   | inr there ↦
       let r = there.0 in
       let k = there.1 in
-      let named = act_named (act_at a.entries r) k there.3.named in
       let client : k.client ≡ key.client = there.3.of_client in
-      let at = read_there act_read refl (slice_get a.entries r) (Arrive k named.0) named.1 in
-      let session = (legal r at.0 at.1).numbers.of_session k (ap key_in (same_Some _ _ at.2)) in
+      let at = read_there key_read refl (slice_get a.entries r) k there.3.named in
+      let session = (legal r at.0 at.1).numbers.of_session k at.2 in
       let front = hello_in_front a.entries r key.client is.incarnation is.h there.2 is.hello in
       let own = subst (λ c. HasIncarnation (take r a.entries) c k.incarnation) client session.1 in
       let incarnation : k.incarnation ≡ key.incarnation =
       one_incarnation (take r a.entries) key.client k.incarnation is.incarnation own (is.h, front) ∙ one_incarnation a.entries key.client is.incarnation key.incarnation (is.h, is.hello) has in
       let same : k ≡ key = same_key k key (session.0 ∙ sym epoch) client incarnation there.4 in
-      record { place = r; call = named.0; arrived = named.1 ∙ ap (λ x. Some (Arrive x named.0)) same }
+      (r, there.3.named ∙ ap Some same)
 ]
+
+-- the request with this key arrives at r
+ArrivesAt : List Entry → Key → ℕ → Type 0
+ArrivesAt es key r = (call : Call) × (act_at es r ≡ Some (Arrive key call))
+
+arrives_at : (es : List Entry) (key : Key) (r : ℕ) (o : Option Act) → act_at es r ≡ o → ArrivesAt es key r ⊎ (ArrivesAt es key r → ⊥)
+unfolding ArrivesAt
+arrives_at es key r None there = inr (λ h. none-some _ (sym there ∙ h.1))
+arrives_at es key r (Some (Hello client incarnation)) there = inr (λ h. no_hello key h.0 client incarnation (sym h.1 ∙ there))
+arrives_at es key r (Some (Cancel other)) there = inr (λ h. arrives_no_cancel key h.0 other (sym h.1 ∙ there))
+arrives_at es key r (Some (Arrive other call)) there = elim (key_or_other other key) [
+  | inl same ↦ inl (call, there ∙ ap (λ k. Some (Arrive k call)) same)
+  | inr apart ↦ inr (λ h. apart (same_Some _ _ (ap (option_and_then key_in) (sym there ∙ h.1))))
+]
+
+-- so its request arrived, or was cancelled before it came
+last_came : (a : Account) (key : Key) → Legal a → key.epoch ≡ a.epoch → HasIncarnation a.entries key.client key.incarnation → LastNumber a.entries key.client key.number → 1 ≤ key.number
+    → Arrived a key ⊎ CancelledFirst a.entries key
+unfolding ArrivesAt
+last_came a key legal epoch has is positive =
+    let named = last_named a key legal epoch has is positive in
+    elim (first_below (ArrivesAt a.entries key) (λ r. arrives_at a.entries key r (act_at a.entries r) refl) (length a.entries)) [
+      | inl found ↦ inl (record { place = found.0; call = found.2.0; arrived = found.2.1 })
+      | inr none ↦ elim (act_named (act_at a.entries named.0) key named.1) [
+        | inl arrives ↦ inl (record { place = named.0; call = arrives.0; arrived = arrives.1 })
+        | inr cancels ↦ inr (record {
+          place = named.0;
+          cancelled = cancels;
+          not_arrived = λ r call arrived. none r (reads_within act_read refl a.entries r (Arrive key call) arrived) (call, arrived);
+        })
+      ]
+    ]
+
+-- a request that was cancelled first is told that
+first_told : (a : Account) (key : Key) → CancelledFirst a.entries key → (x : Answer) × Replies a key x
+first_told a key first = (Replied key Cancelled, record { reply = Cancelled; has = inr (first, refl); is = refl })
 
 -- ---- requests
 
 -- each arrival in a legal account is told something
 answer_at : (a : Account) (place : ℕ) (key : Key) (call : Call) → Legal a → act_at a.entries place ≡ Some (Arrive key call) → (x : Answer) × Answers a key x
 answer_at a place key call legal arrived = elim ((reply_laws call).exists a place legal (ap (option_and_then call_in) arrived)) [
-  | inl told ↦ (Replied key told.0, inl (record { reply = told.0; has = record { place = place; call = call; arrived = arrived; replies = told.1 }; is = refl }))
+  | inl told ↦ (Replied key told.0, inl (record { reply = told.0; has = inl (record { place = place; call = call; arrived = arrived; replies = told.1 }); is = refl }))
   | inr waits ↦ (Waiting key, inr (record { place = place; call = call; arrived = arrived; waits = waits }, refl))
 ]
 
@@ -153,17 +188,16 @@ no_other_call a key call there legal same refusal due =
     due.differs (other ∙ same)
 
 -- what a repeat is told: its answer, or that it came with another call
-at_last : (a : Account) (key : Key) (call : Call) → Legal a → Arrived a key → RefuseOr (OtherCallDue a key call) (λ refusal. Unit {0}) ((x : Answer) × Answers a key x)
-at_last a key call legal there = elim (same_call there.call call) [
+at_last : (a : Account) (key : Key) (call : Call) → Legal a → Arrived a key ⊎ CancelledFirst a.entries key → RefuseOr (OtherCallDue a key call) (λ refusal. Unit {0}) ((x : Answer) × Answers a key x)
+at_last a key call legal (inl there) = elim (same_call there.call call) [
   | inr differs ↦ inl (record { refusal = OtherCall; is_due = record { place = there.place; other = there.call; arrived = there.arrived; differs = differs; is = refl }; refuses_it = tt })
   | inl same ↦ inr (no_other_call a key call there legal same, answer_at a there.place key there.call legal there.arrived)
 ]
+at_last a key call legal (inr first) = let told = first_told a key first in inr ((λ refusal due. first.not_arrived due.place due.other due.arrived), (told.0, inl told.1))
 
 -- the session of the key's client decides which line applies
-by_session : (a : Account) (key : Key) (call : Call) (G : Type 0) → Legal a → key.epoch ≡ a.epoch → (IsNext a key → G)
-    → KeyLines a key (λ refusal. Unit {0}) (RefuseOr (OtherCallDue a key call) (λ refusal. Unit {0}) ((x : Answer) × Answers a key x)) G
-by_session a key call G legal epoch goes_on =
-    let L : Type 0 = RefuseOr (OtherCallDue a key call) (λ refusal. Unit {0}) ((x : Answer) × Answers a key x) in
+by_session : (a : Account) (key : Key) (L G : Type 0) → Legal a → key.epoch ≡ a.epoch → (Arrived a key ⊎ CancelledFirst a.entries key → L) → (IsNext a key → G) → KeyLines a key (λ refusal. Unit {0}) L G
+by_session a key L G legal epoch again goes_on =
     elim (find_hello a.entries key.client) [
       | inr none ↦ line_no_session (λ refusal. Unit {0}) L G a key epoch (λ r incarnation hello. absurd (none r incarnation hello)) tt
       | inl found ↦ elim (cases_order found.0 key.incarnation) [
@@ -180,7 +214,7 @@ by_session a key call G legal epoch goes_on =
                 | inr zero_number ↦ line_old_number (λ refusal. Unit {0}) L G a key last.0 epoch has last.1 (inr (omega arith)) tt
                 | inl positive ↦
                     let own = subst (LastNumber a.entries key.client) (sym is) last.1 in
-                    line_last (λ refusal. Unit {0}) L G a key epoch has own (omega arith) (at_last a key call legal (last_arrival a key legal epoch has own (omega arith)))
+                    line_last (λ refusal. Unit {0}) L G a key epoch has own (omega arith) (again (last_came a key legal epoch has own (omega arith)))
               ]
               | inr differ ↦ elim differ [
                 | inl below ↦ line_old_number (λ refusal. Unit {0}) L G a key last.0 epoch has last.1 (inl below) tt
@@ -199,16 +233,61 @@ by_session a key call G legal epoch goes_on =
       ]
     ]
 
+by_key : (a : Account) (key : Key) (L G : Type 0) → Legal a → (Arrived a key ⊎ CancelledFirst a.entries key → L) → (IsNext a key → G) → KeyLines a key (λ refusal. Unit {0}) L G
+by_key a key L G legal again goes_on = elim (cases_order key.epoch a.epoch) [
+  | inl same ↦ by_session a key L G legal same again goes_on
+  | inr differ ↦ line_other_epoch (λ refusal. Unit {0}) L G a key (λ same. elim differ [ inl less ↦ omega arith | inr more ↦ omega arith ]) tt
+]
+
 pub requests_can_enter : RequestsCanEnter
 requests_can_enter a now key call legal =
     let G : Type 0 = CanEnter a (step_moment a now) key call in
-    let L : Type 0 = RefuseOr (OtherCallDue a key call) (λ refusal. Unit {0}) ((x : Answer) × Answers a key x) in
-    let R : Type 0 = RefuseOr (EpochFullDue a (need_of call)) (λ refusal. Unit {0}) G in
-    elim (cases_order key.epoch a.epoch) [
-      | inl same ↦ by_session a key call R legal same
-          (λ next. room_or a (need_of call) G (enters a (step_moment a now) key call legal (step_keeps_time a now legal) next))
-      | inr differ ↦ line_other_epoch (λ refusal. Unit {0}) L R a key (λ same. elim differ [ inl less ↦ omega arith | inr more ↦ omega arith ]) tt
-    ]
+    by_key a key (RefuseOr (OtherCallDue a key call) (λ refusal. Unit {0}) ((x : Answer) × Answers a key x)) (RefuseOr (EpochFullDue a (need_of call)) (λ refusal. Unit {0}) G) legal
+    (at_last a key call legal)
+    (λ next. room_or a (need_of call) G (enters a (step_moment a now) key call legal (step_keeps_time a now legal) next))
+
+-- ---- cancels
+
+can_cancel : (a : Account) (moment : ℕ) (key : Key) → Legal a → MayFollow a (entry moment (Cancel key) None) → Replies (with_entry a (entry moment (Cancel key) None)) key (Replied key Cancelled) → CanCancel a moment key
+can_cancel a moment key legal follows replies =
+    let e = entry moment (Cancel key) None in
+    record {
+      after = with_entry a e;
+      adds = record { entry = e; moment_is = refl; act_is = refl; follows = refl; legal = Legal-with_entry a e legal follows };
+      replies = replies;
+    }
+
+cancels_waiting : (a : Account) (moment : ℕ) (key : Key) → Legal a → KeepsTime a moment → WaitsUnder a.entries key → CanCancel a moment key
+cancels_waiting a moment key legal time waits =
+    let last = waiting_is_last a waits.place key waits.call legal waits.waits waits.arrived in
+    can_cancel a moment key legal (cancel_follows a moment key time last.epoch last.incarnation (inl waits)) (waiting_replies a (entry moment (Cancel key) None) key refl refl waits)
+
+cancels_next : (a : Account) (moment : ℕ) (key : Key) → Legal a → KeepsTime a moment → IsNext a key → CanCancel a moment key
+cancels_next a moment key legal time next =
+    let number = next_number a key next in
+    can_cancel a moment key legal (cancel_follows a moment key time next.epoch next.incarnation (inr number)) (next_replies a (entry moment (Cancel key) None) key legal next.incarnation number refl)
+
+-- what a cancel of the last number does: it ends the wait, or repeats the reply
+cancels_last : (a : Account) (moment : ℕ) (key : Key) → Legal a → KeepsTime a moment → Arrived a key ⊎ CancelledFirst a.entries key
+    → WhereElse (WaitsUnder a.entries key) (CanCancel a moment key) ((x : Answer) × Replies a key x)
+cancels_last a moment key legal time (inr first) = inr ((λ waits. first.not_arrived waits.place waits.call waits.arrived), first_told a key first)
+cancels_last a moment key legal time (inl there) = elim ((reply_laws there.call).exists a there.place legal (ap (option_and_then call_in) there.arrived)) [
+  | inl told ↦
+      let has : HasReply a.entries key told.0 = inl (record { place = there.place; call = there.call; arrived = there.arrived; replies = told.1 }) in
+      inr ((λ waits. reply_or_waits a key told.0 legal has waits), (Replied key told.0, record { reply = told.0; has = has; is = refl }))
+  | inr waits ↦
+      let under : WaitsUnder a.entries key = record { place = there.place; call = there.call; arrived = there.arrived; waits = waits } in
+      inl (under, cancels_waiting a moment key legal time under)
+]
+
+pub cancels_can_enter : CancelsCanEnter
+cancels_can_enter a now key legal =
+    let moment : ℕ = step_moment a now in
+    let time = step_keeps_time a now legal in
+    let G : Type 0 = CanCancel a moment key in
+    by_key a key (WhereElse (WaitsUnder a.entries key) G ((x : Answer) × Replies a key x)) (RefuseOr (EpochFullDue a 1) (λ refusal. Unit {0}) G) legal
+    (cancels_last a moment key legal time)
+    (λ next. room_or a 1 G (cancels_next a moment key legal time next))
 
 -- ---- hellos
 

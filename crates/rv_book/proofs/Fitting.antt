@@ -1,12 +1,15 @@
 -- What a step answers is within the limits, where its message and its account are.
 use Rattle.rv_book.specs.declared.account.Act as act
-use Rattle.rv_text.specs.declared.message.Message.TheVariants.{Hello, Request}
+use Rattle.rv_text.specs.declared.message.Message.TheVariants.{Cancel, Hello, Request}
 use Rattle.rv_book.specs.Account.{Account, act_at, key_in}
 use Rattle.rv_book.specs.declared.account.Act.{Act}
 use Rattle.rv_text.specs.declared.answer.Answer.{Answer}
-use Rattle.rv_book.specs.Steps.{EntersOrNoMemory, EpochFullDue, GapDue, NextAt, NoSessionDue, OldIncarnationDue, OldNumberDue, OtherEpochDue, RefuseOr, Refuses, Answers, BusyDue, ClientsFullDue, OtherCallDue}
+use Rattle.rv_book.specs.Steps.{EntersOrNoMemory, EpochFullDue, GapDue, NextAt, NoSessionDue, OldIncarnationDue, OldNumberDue, OtherEpochDue, RefuseOr, Refuses, Answers, BusyDue, ClientsFullDue, OtherCallDue, Replies}
 use Rattle.rv_book.specs.Limits.{FitsAccount}
-use Rattle.rv_text.specs.Limits.{FitsAnswer, FitsIdentifier, FitsKey, FitsLast, FitsMessage, FitsRefusal}
+use Rattle.rv_text.specs.Limits.{FitsAnswer, FitsIdentifier, FitsKey, FitsLast, FitsMessage, FitsRefusal, FitsReply}
+use Rattle.rv_text.specs.declared.answer.Reply.{Reply}
+use Rattle.rv_text.proofs.Kept.{cancelled_fits}
+use Rattle.rv_book.specs.Replies.{HasReply}
 use Rattle.rv_book.specs.Sessions.{HasIncarnation, LastNumber}
 use Rattle.rv_text.specs.declared.message.Key.{Key}
 use Rattle.std.proofs.Common.{Some, ap, arith, inl, inr, subst, sym, ℕ, ◌∙◌, ◌≡◌, ◌≤◌}
@@ -15,9 +18,10 @@ use Rattle.rv_text.specs.declared.answer.Refusal.{Refusal}
 use Rattle.rv_book.proofs.Limits.{act_fits, act_there, key_of_act}
 use Rattle.rv_book.proofs.Lines.{RefuseOr-elim, WhereElse-elim}
 use Rattle.rv_book.proofs.Replying.{reply_laws}
-use Rattle.rv_text.specs.declared.answer.Answer.TheVariants.{Welcome}
+use Rattle.rv_text.specs.declared.answer.Answer.TheVariants.{Replied, Welcome}
+use Rattle.rv_text.specs.declared.answer.Reply.TheVariants.{Cancelled}
 use Rattle.rv_book.specs.Legal.{HasWaiting, before}
-use Rattle.rv_book.proofs.Keys.{act_named, no_hello}
+use Rattle.rv_book.proofs.Keys.{act_arrives, no_hello}
 use Rattle.rv_book.proofs.Waits.{no_hello_behind}
 use Rattle.std.proofs.lemmas.Bool.{cases_order}
 use Rattle.rv_text.specs.declared.call.Call.{Call}
@@ -40,9 +44,13 @@ last_fits a client last fits is = elim is.reached [
 
 -- ---- what a step answers fits
 
+reply_fits : (b : Account) (key : Key) (told : Reply) → FitsAccount b → HasReply b.entries key told → FitsReply told
+reply_fits b key told fits (inl has) = (reply_laws has.call).fits b has.place told fits has.replies
+reply_fits b key told fits (inr first) = subst FitsReply (sym first.1) cancelled_fits
+
 told_fits : (b : Account) (key : Key) (x : Answer) → FitsAccount b → FitsKey key → Answers b key x → FitsAnswer x
 told_fits b key x fits key_fits (inr waits) = subst FitsAnswer (sym waits.1) key_fits
-told_fits b key x fits key_fits (inl told) = subst FitsAnswer (sym told.is) (key_fits, (reply_laws told.has.call).fits b told.has.place told.reply fits told.has.replies)
+told_fits b key x fits key_fits (inl told) = subst FitsAnswer (sym told.is) (key_fits, reply_fits b key told.reply fits told.has)
 
 entered_fits : (a b : Account) (moment : ℕ) (does : Act) (x : Answer) (G : Type 0) → (G → FitsAnswer x) → EntersOrNoMemory a moment does b x G → FitsAnswer x
 entered_fits a b moment does x G answers (inl refuses) = subst FitsAnswer (sym refuses.1) tt
@@ -74,16 +82,17 @@ other_call_fits a key call refusal due = refusal_is _ refusal due.is tt
 waiting_reached : (a : Account) (client last : ℕ) → FitsAccount a → LastNumber a.entries client last → HasWaiting a.entries client → 1 ≤ last
 waiting_reached a client last fits is_last waits =
     let key = waits.key in
-    let named = act_named (act_at a.entries waits.place) key waits.names.named in
+    let call = waits.waits.is_open.call in
+    let arrived = act_arrives (act_at a.entries waits.place) key call waits.names.named waits.waits.is_open.arrived in
     let same : key.client ≡ client = waits.names.of_client in
-    let fitting : FitsKey key = (act_fits a waits.place (act.TheVariants.Arrive key named.0) fits named.1).0 in
+    let fitting : FitsKey key = (act_fits a waits.place (act.TheVariants.Arrive key call) fits arrived).0 in
     let hello = is_last.hello.hello in
     elim (cases_order waits.place is_last.h) [
-      | inl at ↦ absurd (no_hello key named.0 client is_last.incarnation (sym named.1 ∙ ap (act_at a.entries) at ∙ hello))
+      | inl at ↦ absurd (no_hello key call client is_last.incarnation (sym arrived ∙ ap (act_at a.entries) at ∙ hello))
       | inr differ ↦ elim differ [
         | inl less ↦
             let own : act_at a.entries is_last.h ≡ Some (act.TheVariants.Hello key.client is_last.incarnation) = subst (λ c. act_at a.entries is_last.h ≡ Some (act.TheVariants.Hello c is_last.incarnation)) (sym same) hello in
-            absurd (no_hello_behind a waits.place is_last.h key named.0 is_last.incarnation waits.waits named.1 own less)
+            absurd (no_hello_behind a waits.place is_last.h key call is_last.incarnation waits.waits arrived own less)
         | inr more ↦
             let most : key.number ≤ last = is_last.greatest waits.place key more waits.names in
             let least : 1 ≤ key.number = fitting.3.0 in
@@ -125,3 +134,14 @@ step_fits a b moment (Request key call) x before after fits =
     (line_fits _ _ a b x (gap_fits a key before)
     (line_fits _ _ a b x (full_fits a _)
     (entered_fits a b moment _ x _ (told_fits b key x after fits.0)))))))))
+step_fits a b moment (Cancel key) x before after fits =
+    let cancelled = λ (is : x ≡ Replied key Cancelled). subst FitsAnswer (sym is) (fits, cancelled_fits) in
+    line_fits _ _ a b x (other_epoch_fits a key before)
+    (line_fits _ _ a b x (no_session_fits a key)
+    (line_fits _ _ a b x (old_incarnation_fits a key.client key.incarnation before)
+    (line_fits _ _ a b x (old_number_fits a key before)
+    (WhereElse-elim _ _ _ (FitsAnswer x) (λ is. WhereElse-elim _ _ _ (FitsAnswer x) (λ waits ends. cancelled ends.1) (λ again. told_fits a key x before fits again.answers))
+    (line_fits _ _ a b x (busy_fits a key before)
+    (line_fits _ _ a b x (gap_fits a key before)
+    (line_fits _ _ a b x (full_fits a 1)
+    (entered_fits a b moment _ x _ (λ (replies : Replies b key x). told_fits b key x after fits (inl replies))))))))))

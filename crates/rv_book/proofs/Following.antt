@@ -60,7 +60,7 @@ hello_numbers a client incarnation lower = record {
   cancels = λ key is. absurd (let no : ⊥ = cc in no);
 }
 
-next_number : (a : Account) (key : Key) → IsNext a key → IsNextNumber a.entries key
+pub next_number : (a : Account) (key : Key) → IsNext a key → IsNextNumber a.entries key
 next_number a key next = record { last = next.last; is_last = next.is_last; next = next.next; idle = next.idle }
 
 same_key : (key other : Key) (call more : Call) → Arrive key call ≡ Arrive other more → key ≡ other

@@ -33,6 +33,7 @@ pub mod CancelledSessions
 pub mod Settling
 pub mod Deciding
 pub mod Staying
+pub mod ToldCancelled
 pub mod Entering
 pub mod OneStep
 pub mod Fitting

@@ -1,22 +1,23 @@
 -- In a legal account each arrival is in one pair at most, a key arrives once, and nobody meets a request that does not stay.
-use Rattle.rv_book.specs.Account.{Account, act_at, call_at, call_in, key_in}
+use Rattle.rv_book.specs.Account.{Account, act_at, call_at, call_in, key_at, key_in}
+use Rattle.rv_book.specs.declared.account.Act.{Act}
 use Rattle.rv_book.specs.declared.account.Act.TheVariants.{Arrive, Hello}
 use Rattle.rv_text.specs.declared.call.Call.{Call}
 use Rattle.rv_book.specs.declared.account.Entry.{Entry}
 use Rattle.rv_book.specs.Sessions.{HasIncarnation}
-use Rattle.rv_book.specs.Legal.{IsOpenOpposite, Legal, before}
+use Rattle.rv_book.specs.Legal.{IsNextNumber, IsOpenOpposite, Legal, before}
 use Rattle.rv_text.specs.declared.message.Key.{Key}
-use Rattle.std.proofs.Common.{List, Some, ap, arith, inl, inr, option_and_then, refl, subst, sym, take, ℕ, ◌+◌, ◌<◌, ◌∙◌, ◌≡◌, ◌≤◌}
+use Rattle.std.proofs.Common.{List, Option, Some, ap, arith, inl, inr, option_and_then, refl, subst, sym, take, ℕ, ◌+◌, ◌<◌, ◌∙◌, ◌≡◌, ◌≤◌}
 use Rattle.rv_book.specs.Replies.{Meet}
 use Rattle.rv_book.specs.Waiting.{Met, NamesPartner}
 use Rattle.rv_book.specs.Calls.{Stays}
 use Rattle.rv_book.proofs.Growing.{act_read, call_read, read_there}
 use Rattle.std.proofs.lemmas.Bool.{cases_order}
 use Rattle.rv_book.proofs.Keys.{key_read}
-use Rattle.rv_book.proofs.Fronts.{names_in_front, naming, read_front, read_whole}
+use Rattle.rv_book.proofs.Fronts.{Legal-before, names_in_front, naming, read_front, read_whole}
 use Rattle.rv_book.proofs.Histories.{one_last_hello}
 use Rattle.rv_book.proofs.Sides.{partner_before}
-use Rattle.std.proofs.lemmas.Option.{same_Some}
+use Rattle.std.proofs.lemmas.Option.{none-some, same_Some}
 use Rattle.std.specs.List.{slice_get}
 
 -- ---- partners
@@ -66,42 +67,46 @@ meets_one a r s t legal (inr first) (inr second) = names_one a.entries r s t fir
 
 -- ---- keys
 
-no_hello : (key : Key) (call : Call) (c i : ℕ) → Some (Arrive key call) ≡ Some (Hello c i) → ⊥
-no_hello key call c i e = cc
+no_hello : (c i : ℕ) (key : Key) → (o : Option Act) → o ≡ Some (Hello c i) → option_and_then key_in o ≡ Some key → ⊥
+no_hello c i key o hello names = none-some key (sym (ap (option_and_then key_in) hello) ∙ names)
 
--- the session of an arrival, before it
-of_session : (a : Account) (q : ℕ) (key : Key) (call : Call) → Legal a → act_at a.entries q ≡ Some (Arrive key call) → HasIncarnation (take q a.entries) key.client key.incarnation
-of_session a q key call legal arrived =
-    let at = read_there act_read refl (slice_get a.entries q) (Arrive key call) arrived in
-    let names : key_in at.0.act ≡ Some key = ap key_in (same_Some _ _ at.2) in
-    ((legal q at.0 at.1).numbers.of_session key names).1
+-- the session of a key that stands, before it
+of_session : (a : Account) (p : ℕ) (key : Key) → Legal a → key_at a.entries p ≡ Some key → HasIncarnation (take p a.entries) key.client key.incarnation
+of_session a p key legal named =
+    let at = read_there key_read refl (slice_get a.entries p) key named in
+    ((legal p at.0 at.1).numbers.of_session key at.2).1
 
-arrives_later : (a : Account) (p q : ℕ) (key : Key) (c d : Call) → Legal a → act_at a.entries p ≡ Some (Arrive key c) → act_at a.entries q ≡ Some (Arrive key d) → p < q → ⊥
-arrives_later a p q key c d legal first second less =
-    let at = read_there act_read refl (slice_get a.entries q) (Arrive key d) second in
-    let next = (legal q at.0 at.1).numbers.counts_up key d (same_Some _ _ at.2) in
-    let has = of_session a q key d legal second in
-    let same : next.is_last.h ≡ has.0 = one_last_hello (take q a.entries) key.client next.is_last.incarnation key.incarnation next.is_last.h has.0 next.is_last.hello has.1 in
+-- a key that stands is not its session's next
+pub named_not_next : (a : Account) (p : ℕ) (key : Key) → Legal a → key_at a.entries p ≡ Some key → HasIncarnation a.entries key.client key.incarnation → IsNextNumber a.entries key → ⊥
+named_not_next a p key legal named has next =
+    let same : next.is_last.h ≡ has.0 = one_last_hello a.entries key.client next.is_last.incarnation key.incarnation next.is_last.h has.0 next.is_last.hello has.1 in
     elim (cases_order p has.0) [
-      | inl is ↦
-          let hello = (read_whole act_read refl a.entries q has.0 _ has.1.hello).1 in
-          no_hello key c key.client key.incarnation (sym first ∙ ap (act_at a.entries) is ∙ hello)
+      | inl is ↦ no_hello key.client key.incarnation key (act_at a.entries p) (ap (act_at a.entries) is ∙ has.1.hello) named
       | inr differ ↦ elim differ [
-        | inl before ↦
-            let hello = (read_whole act_read refl a.entries q has.0 _ has.1.hello).1 in
-            let earlier = of_session a p key c legal first in
+        | inl less ↦
+            let earlier = of_session a p key legal named in
             let there = read_whole act_read refl a.entries p earlier.0 _ earlier.1.hello in
             let below : earlier.0 < has.0 = omega arith in
-            let entry = read_there act_read refl (slice_get a.entries has.0) (Hello key.client key.incarnation) hello in
+            let entry = read_there act_read refl (slice_get a.entries has.0) (Hello key.client key.incarnation) has.1.hello in
             let raises = (legal has.0 entry.0 entry.1).numbers.raises_incarnation key.client key.incarnation (same_Some _ _ entry.2) earlier.0 key.incarnation (read_front act_read a.entries has.0 earlier.0 _ below there.1) in
             omega arith
-        | inr after ↦
-            let named = read_front key_read a.entries q p key less (ap (option_and_then key_in) first) in
+        | inr more ↦
             let most : key.number ≤ next.last = next.is_last.greatest p key (omega arith) (record { named = named; of_client = refl }) in
             let number : key.number ≡ next.last + 1 = next.next in
             omega arith
       ]
     ]
+
+-- so no request comes whose key stands before it
+pub arrives_first : (a : Account) (p q : ℕ) (key : Key) (call : Call) → Legal a → key_at a.entries p ≡ Some key → act_at a.entries q ≡ Some (Arrive key call) → p < q → ⊥
+arrives_first a p q key call legal named arrived less =
+    let at = read_there act_read refl (slice_get a.entries q) (Arrive key call) arrived in
+    let next = (legal q at.0 at.1).numbers.counts_up key call (same_Some _ _ at.2) in
+    let has = of_session a q key legal (ap (option_and_then key_in) arrived) in
+    named_not_next (before a q) p key (Legal-before a q legal) (read_front key_read a.entries q p key less named) has next
+
+arrives_later : (a : Account) (p q : ℕ) (key : Key) (c d : Call) → Legal a → act_at a.entries p ≡ Some (Arrive key c) → act_at a.entries q ≡ Some (Arrive key d) → p < q → ⊥
+arrives_later a p q key c d legal first second less = arrives_first a p q key d legal (ap (option_and_then key_in) first) second less
 
 pub arrives_once : (a : Account) (p q : ℕ) (key : Key) (c d : Call) → Legal a → act_at a.entries p ≡ Some (Arrive key c) → act_at a.entries q ≡ Some (Arrive key d) → p ≡ q
 arrives_once a p q key c d legal first second =

@@ -1,9 +1,9 @@
 -- A step leaves no choice, want of memory aside.
 use Rattle.rv_book.specs.declared.account.Act as act
-use Rattle.rv_text.specs.declared.message.Message.TheVariants.{Hello, Request}
+use Rattle.rv_text.specs.declared.message.Message.TheVariants.{Cancel, Hello, Request}
 use Rattle.rv_book.specs.Account.{Account, call_in, with_entry}
 use Rattle.rv_book.specs.declared.account.Act.{Act}
-use Rattle.rv_book.specs.Steps.{Adds, EntersOrNoMemory, EpochFullDue, GapDue, NextAt, NoSessionDue, OldIncarnationDue, OldNumberDue, OtherEpochDue, RefuseOr, Refuses, Answers, WhereElse, step_moment, BusyDue, ClientsFullDue, OtherCallDue, Repeats}
+use Rattle.rv_book.specs.Steps.{Adds, EntersOrNoMemory, EpochFullDue, GapDue, NextAt, NoSessionDue, OldIncarnationDue, OldNumberDue, OtherEpochDue, RefuseOr, Refuses, Answers, WhereElse, step_moment, BusyDue, ClientsFullDue, OtherCallDue, Repeats, Replies}
 use Rattle.rv_text.specs.declared.answer.Answer.{Answer}
 use Rattle.rv_text.specs.declared.call.Call.{Call}
 use Rattle.rv_book.specs.declared.account.Entry.{Entry}
@@ -132,13 +132,18 @@ one_welcome a b c moment client incarnation x y w ample enough (inl h) k = absur
 one_welcome a b c moment client incarnation x y w ample enough (inr h) (inl k) = absurd (enough k.1)
 one_welcome a b c moment client incarnation x y w ample enough (inr h) (inr k) = (one_added a b c moment _ h.0 k.0, h.1 ∙ sym k.1)
 
-one_replied : (a b c : Account) (moment : ℕ) (key : Key) (call : Call) (x y : Answer) → x ≢ Refused NoMemory → y ≢ Refused NoMemory
-    → EntersOrNoMemory a moment (act.TheVariants.Arrive key call) b x (Answers b key x) → EntersOrNoMemory a moment (act.TheVariants.Arrive key call) c y (Answers c key y) → Same b c x y
-one_replied a b c moment key call x y ample enough (inl h) k = absurd (ample h.1)
-one_replied a b c moment key call x y ample enough (inr h) (inl k) = absurd (enough k.1)
-one_replied a b c moment key call x y ample enough (inr h) (inr k) =
+one_replied : (a b c : Account) (moment : ℕ) (key : Key) (does : Act) (x y : Answer) → x ≢ Refused NoMemory → y ≢ Refused NoMemory
+    → EntersOrNoMemory a moment does b x (Answers b key x) → EntersOrNoMemory a moment does c y (Answers c key y) → Same b c x y
+one_replied a b c moment key does x y ample enough (inl h) k = absurd (ample h.1)
+one_replied a b c moment key does x y ample enough (inr h) (inl k) = absurd (enough k.1)
+one_replied a b c moment key does x y ample enough (inr h) (inr k) =
     let same = one_added a b c moment _ h.0 k.0 in
     (same, one_answer b c key x y k.0.legal same h.1 k.1)
+
+-- a reply is an answer
+with_answers : (a b : Account) (moment : ℕ) (does : Act) (key : Key) (x : Answer) → EntersOrNoMemory a moment does b x (Replies b key x) → EntersOrNoMemory a moment does b x (Answers b key x)
+with_answers a b moment does key x (inl h) = inl h
+with_answers a b moment does key x (inr h) = inr (h.0, inl h.1)
 
 one_repeat : (a b c : Account) (key : Key) (x y : Answer) → Repeats a b key x → Repeats a c key y → Same b c x y
 one_repeat a b c key x y first second = (first.account ∙ sym second.account, second.only x first.answers)
@@ -160,7 +165,18 @@ one_next_at a b c moment (Request key call) x y first second ample enough =
     (both_refuse _ _ _ _ _ (Same b c x y) (one_busy a key) (λ p. one_refused a b c x y p)
     (both_refuse _ _ _ _ _ (Same b c x y) (one_gap a key) (λ p. one_refused a b c x y p)
     (both_refuse _ _ _ _ _ (Same b c x y) (one_full a _) (λ p. one_refused a b c x y p)
-    (one_replied a b c moment key call x y ample enough))))))))
+    (one_replied a b c moment key (act.TheVariants.Arrive key call) x y ample enough))))))))
+    first second
+one_next_at a b c moment (Cancel key) x y first second ample enough =
+    both_refuse _ _ _ _ _ (Same b c x y) (one_other_epoch a key) (λ p. one_refused a b c x y p)
+    (both_refuse _ _ _ _ _ (Same b c x y) (one_no_session a key) (λ p. one_refused a b c x y p)
+    (both_refuse _ _ _ _ _ (Same b c x y) (one_old_incarnation a key.client key.incarnation) (λ p. one_refused a b c x y p)
+    (both_refuse _ _ _ _ _ (Same b c x y) (one_old_number a key) (λ p. one_refused a b c x y p)
+    (both_where _ _ _ _ _ (Same b c x y) (both_where _ _ _ _ _ (Same b c x y) (λ h k. (one_added a b c moment _ h.0 k.0, h.1 ∙ sym k.1)) (one_repeat a b c key x y))
+    (both_refuse _ _ _ _ _ (Same b c x y) (one_busy a key) (λ p. one_refused a b c x y p)
+    (both_refuse _ _ _ _ _ (Same b c x y) (one_gap a key) (λ p. one_refused a b c x y p)
+    (both_refuse _ _ _ _ _ (Same b c x y) (one_full a 1) (λ p. one_refused a b c x y p)
+    (λ h k. one_replied a b c moment key (act.TheVariants.Cancel key) x y ample enough (with_answers a b moment (act.TheVariants.Cancel key) key x h) (with_answers a c moment (act.TheVariants.Cancel key) key y k)))))))))
     first second
 
 pub one_next : OneNext

@@ -38,7 +38,7 @@ pub recorded : (a b : Account) (moment : ℕ) (key : Key) (call : Call) (partner
 recorded a b moment key call partner said will before after follows =
     let e = entry moment (Arrive key call) partner in
     let there = will moment key before (subst Legal follows after) in
-    let has : HasReply (with_entry a e).entries key there.reply = record { place = length a.entries; call = call; arrived = arrived_last a e key call refl; replies = there.replies } in
+    let has : HasReply (with_entry a e).entries key there.reply = inl (record { place = length a.entries; call = call; arrived = arrived_last a e key call refl; replies = there.replies }) in
     let P : Account → Type 0 = λ c. IsRecorded a c moment key call (Some said) in
     subst P (sym follows) (record {
       answer = answer.TheVariants.Replied key there.reply;

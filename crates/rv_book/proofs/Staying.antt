@@ -4,30 +4,32 @@ use Rattle.rv_text.specs.declared.answer.Answer as answer
 use Rattle.rv_book.specs.declared.account.Act as act
 use Rattle.rv_session.specs.declared.kept.Kept as kept
 use Rattle.rv_book.specs.declared.verdict.Said as said
-use Rattle.rv_text.specs.declared.message.Message.TheVariants.{Hello, Request}
-use Rattle.rv_book.specs.Account.{Account, Extends, act_at, call_in}
+use Rattle.rv_text.specs.declared.message.Message.TheVariants.{Cancel, Hello, Request}
+use Rattle.rv_book.specs.Account.{Account, Extends, act_at, call_in, key_in}
 use Rattle.rv_book.specs.declared.account.Act.{Act}
-use Rattle.rv_book.specs.Steps.{Adds, Answers, EntersOrNoMemory, KeyWaits, NextAt, Refuses}
+use Rattle.rv_book.specs.Steps.{Adds, Answers, EntersOrNoMemory, KeyWaits, NextAt, Refuses, Replies}
 use Rattle.rv_book.specs.Waiting.{Waiting}
 use Rattle.rv_text.specs.declared.answer.Answer.{Answer}
 use Rattle.rv_text.specs.declared.call.Call.{Call}
 use Rattle.rv_book.specs.declared.account.Entry.{Entry}
-use Rattle.rv_book.specs.Replies.{HasReply, RepliesAt}
+use Rattle.rv_book.specs.Replies.{CancelledFirst, HasReply, RepliesAt, RepliesToArrival}
 use Rattle.rv_session.specs.declared.kept.Kept.{Kept}
 use Rattle.rv_text.specs.declared.message.Key.{Key}
 use Rattle.rv_book.specs.Legal.{Legal, before}
-use Rattle.std.proofs.Common.{List, None, Option, Some, [], ap, append-nil, inl, inr, option_and_then, option_map, refl, subst, sym, ℕ, ◌++◌, ◌∙◌, ◌∷◌, ◌≡◌}
+use Rattle.std.proofs.Common.{List, None, Option, Some, [], ap, append-nil, arith, inl, inr, length, option_and_then, option_map, refl, subst, sym, ℕ, ◌++◌, ◌<◌, ◌∙◌, ◌∷◌, ◌≡◌}
 use Rattle.rv_text.specs.declared.message.Message.{Message}
-use Rattle.rv_book.proofs.Growing.{act_read, call_read, reads_on}
+use Rattle.rv_book.proofs.Growing.{act_read, call_read, reads_on, reads_within}
 use Rattle.rv_text.specs.declared.answer.Refusal.{Refusal}
 use Rattle.rv_book.proofs.Lines.{RefuseOr-elim, WhereElse-elim}
 use Rattle.rv_book.specs.Laws.{RepliesStay, StepsExtend, VerdictsStay}
 use Rattle.rv_text.specs.declared.answer.Reply.{Reply}
 use Rattle.rv_book.specs.declared.verdict.Said.{Said}
 use Rattle.rv_book.specs.Verdicts.{answer_of, item_at, reply_of}
-use Rattle.rv_book.proofs.OnePartner.{arrives_once}
+use Rattle.rv_book.proofs.OnePartner.{arrives_first, arrives_once}
 use Rattle.rv_book.proofs.Replying.{reply_laws}
 use Rattle.rv_text.specs.Calls.{item_of}
+use Rattle.rv_book.proofs.Places.{get-append_within}
+use Rattle.std.proofs.lemmas.Bool.{cases_lt}
 use Rattle.std.proofs.lemmas.Option.{none-some}
 use Rattle.std.specs.List.{slice_get}
 
@@ -63,6 +65,18 @@ step_extends a b moment (Request key call) x next =
     (RefuseOr-elim _ _ _ (Extends a b) (refused _)
     (RefuseOr-elim _ _ _ (Extends a b) (refused _)
     (WhereElse-elim _ _ _ (Extends a b) (λ is. RefuseOr-elim _ _ _ (Extends a b) (refused _) (λ again. same_extends a b again.account))
+    (RefuseOr-elim _ _ _ (Extends a b) (refused _)
+    (RefuseOr-elim _ _ _ (Extends a b) (refused _)
+    (RefuseOr-elim _ _ _ (Extends a b) (refused _)
+    entered))))))) next
+step_extends a b moment (Cancel key) x next =
+    let refused = λ (D : Refusal → Type 0) (refusal : Refusal) (due : D refusal) (refuses : Refuses a b x refusal). same_extends a b refuses.0 in
+    let entered = λ (h : EntersOrNoMemory a moment (act.TheVariants.Cancel key) b x (Replies b key x)). entered_extends a b moment _ x _ h in
+    RefuseOr-elim _ _ _ (Extends a b) (refused _)
+    (RefuseOr-elim _ _ _ (Extends a b) (refused _)
+    (RefuseOr-elim _ _ _ (Extends a b) (refused _)
+    (RefuseOr-elim _ _ _ (Extends a b) (refused _)
+    (WhereElse-elim _ _ _ (Extends a b) (λ is. WhereElse-elim _ _ _ (Extends a b) (λ waits ends. added_extends a b moment _ ends.0) (λ again. same_extends a b again.account))
     (RefuseOr-elim _ _ _ (Extends a b) (refused _)
     (RefuseOr-elim _ _ _ (Extends a b) (refused _)
     (RefuseOr-elim _ _ _ (Extends a b) (refused _)
@@ -108,18 +122,22 @@ pub one_call : (key : Key) (c d : Call) → Some (act.TheVariants.Arrive key c) 
 one_call key c d e = cc
 
 pub one_reply : (b : Account) (key : Key) (x y : Reply) → Legal b → HasReply b.entries key x → HasReply b.entries key y → y ≡ x
-one_reply b key x y legal first second =
+one_reply b key x y legal (inl first) (inl second) =
     let place : second.place ≡ first.place = arrives_once b second.place first.place key second.call first.call legal second.arrived first.arrived in
     let call : second.call ≡ first.call = one_call key second.call first.call (sym second.arrived ∙ ap (act_at b.entries) place ∙ first.arrived) in
     let moved = subst (λ r. RepliesAt b.entries r first.call y) place (subst (λ c. RepliesAt b.entries second.place c y) call second.replies) in
     (reply_laws first.call).one b first.place x y legal first.replies moved
+one_reply b key x y legal (inl first) (inr second) = absurd (second.0.not_arrived first.place first.call first.arrived)
+one_reply b key x y legal (inr first) (inl second) = absurd (first.0.not_arrived second.place second.call second.arrived)
+one_reply b key x y legal (inr first) (inr second) = second.1 ∙ sym first.1
 
 -- who waits has no reply
 pub reply_or_waits : (b : Account) (key : Key) (reply : Reply) → Legal b → HasReply b.entries key reply → KeyWaits b key → ⊥
-reply_or_waits b key reply legal has waits =
+reply_or_waits b key reply legal (inl has) waits =
     let place : waits.place ≡ has.place = arrives_once b waits.place has.place key waits.call has.call legal waits.arrived has.arrived in
     let there : Waiting b.entries has.place = subst (Waiting b.entries) place waits.waits in
     (reply_laws has.call).waits_not b has.place reply legal (ap (option_and_then call_in) has.arrived) there has.replies
+reply_or_waits b key reply legal (inr first) waits = first.0.not_arrived waits.place waits.call waits.arrived
 
 -- a key is told one thing
 pub one_told : (b : Account) (key : Key) (x y : Answer) → Legal b → Answers b key x → Answers b key y → y ≡ x
@@ -128,13 +146,32 @@ one_told b key x y legal (inl first) (inr second) = absurd (reply_or_waits b key
 one_told b key x y legal (inr first) (inl second) = absurd (reply_or_waits b key second.reply legal second.has first.0)
 one_told b key x y legal (inr first) (inr second) = second.1 ∙ sym first.1
 
-reply_on : (es more : List Entry) (epoch opened : ℕ) (key : Key) (reply : Reply) → Legal (record { epoch = epoch; opened = opened; entries = es ++ more }) → HasReply es key reply → HasReply (es ++ more) key reply
-reply_on es more epoch opened key reply legal has = record {
+arrival_on : (es more : List Entry) (epoch opened : ℕ) (key : Key) (reply : Reply) → Legal (record { epoch = epoch; opened = opened; entries = es ++ more }) → RepliesToArrival es key reply → RepliesToArrival (es ++ more) key reply
+arrival_on es more epoch opened key reply legal has = record {
   place = has.place;
   call = has.call;
   arrived = reads_on act_read refl es more has.place (act.TheVariants.Arrive key has.call) has.arrived;
   replies = (reply_laws has.call).stays es more epoch opened has.place reply legal (ap (option_and_then call_in) has.arrived) has.replies;
 }
+
+-- a request that was cancelled first does not come
+cancelled_on : (es more : List Entry) (epoch opened : ℕ) (key : Key) → Legal (record { epoch = epoch; opened = opened; entries = es ++ more }) → CancelledFirst es key → CancelledFirst (es ++ more) key
+cancelled_on es more epoch opened key legal first =
+    let whole : Account = record { epoch = epoch; opened = opened; entries = es ++ more } in
+    let there = reads_on act_read refl es more first.place (act.TheVariants.Cancel key) first.cancelled in
+    let inside : first.place < length es = reads_within act_read refl es first.place (act.TheVariants.Cancel key) first.cancelled in
+    record {
+      place = first.place;
+      cancelled = there;
+      not_arrived = λ r call arrived. elim (cases_lt r (length es)) [
+        | inl before ↦ first.not_arrived r call (ap act_read (sym (get-append_within es more r before)) ∙ arrived)
+        | inr behind ↦ arrives_first whole first.place r key call legal (ap (option_and_then key_in) there) arrived (omega arith)
+      ];
+    }
+
+reply_on : (es more : List Entry) (epoch opened : ℕ) (key : Key) (reply : Reply) → Legal (record { epoch = epoch; opened = opened; entries = es ++ more }) → HasReply es key reply → HasReply (es ++ more) key reply
+reply_on es more epoch opened key reply legal (inl has) = inl (arrival_on es more epoch opened key reply legal has)
+reply_on es more epoch opened key reply legal (inr first) = inr (cancelled_on es more epoch opened key legal first.0, first.1)
 
 pub replies_stay : RepliesStay
 replies_stay a b key reply before after extends has =

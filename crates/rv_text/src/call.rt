@@ -109,17 +109,21 @@ impl Call {
         ensures same { IfOk result (λ call. call ≡ self.now) }
     {
         match self {
-            Call::Put { queue, item } => {
-                let item = item.copy(alloc)?;
-                Ok(Call::Put {
-                    queue: *queue,
-                    item,
-                })
-            }
+            Call::Put { queue, item } => Ok(Call::Put {
+                queue: *queue,
+                item: item.copy(alloc)?,
+            }),
+            Call::Transfer { queue, item, wait } => Ok(Call::Transfer {
+                queue: *queue,
+                item: item.copy(alloc)?,
+                wait: *wait,
+            }),
             Call::Take { queue, wait } => Ok(Call::Take {
                 queue: *queue,
                 wait: *wait,
             }),
+            Call::Count { queue } => Ok(Call::Count { queue: *queue }),
+            Call::Peek { queue } => Ok(Call::Peek { queue: *queue }),
         }
     }
 

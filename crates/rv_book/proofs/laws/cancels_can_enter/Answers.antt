@@ -1,0 +1,6 @@
+-- The law, which Entering proves.
+use Rattle.rv_book.proofs.Entering.{cancels_can_enter}
+use Rattle.rv_book.proofs.laws.cancels_can_enter.Goals as goal
+
+pub returns : goal.returns
+returns c = cancels_can_enter
