@@ -12,7 +12,7 @@ use Rattle.rv_text.specs.Members.{whole, code_numbers}
 use Rattle.rv_text.specs.Rows.{reply_row, code_of, detail_row, answer_row}
 use Rattle.rv_text.specs.Reading.{whole_among, item_among}
 use Rattle.rv_text.specs.Reading.{key_among}
-use Rattle.rv_text.specs.Reading.{reply_lines, reply_among, telling, refusal_lines, refusal_among, welcome_among, replied_among, refused_among, answer_lines, answer_among, answers}
+use Rattle.rv_text.specs.Reading.{counted_among, reply_lines, reply_among, telling, refusal_lines, refusal_among, welcome_among, replied_among, waiting_among, refused_among, answer_lines, answer_among, answers}
 use Rattle.rv_text.proofs.Sound.{answer_sound}
 use Rattle.rv_text.proofs.Steps.{step_found, last_found, Has, HasRow, whole_found, text_found, among_found, numbered_found, IsReader}
 use Rattle.rv_text.proofs.Readers.{key_found, find_key}
@@ -23,17 +23,47 @@ module _ (ms : Members) where
   abbrev HasReply : Reply → Type 0
   HasReply reply = HasRow ms (reply_row reply)
 
+  counted_found : Has ms (codes "reply", string (codes "counted")) → (reply : Reply) → counted_among ms ≡ Some reply → HasReply reply
+  counted_found word =
+      step_found HasReply (whole_among (codes "items") ms) _ (λ items i.
+      step_found HasReply (whole_among (codes "consumers") ms) _ (λ consumers c.
+      last_found HasReply (reply.Counted items consumers)
+      (word, (whole_found ms (codes "items") items i, (whole_found ms (codes "consumers") consumers c, tt)))))
+
   reply_found : (reply : Reply) → reply_among ms ≡ Some reply → HasReply reply
   reply_found = among_found ms HasReply (codes "reply") reply_lines (
     (λ word. last_found HasReply reply.Done (word, tt)),
     (
-      (λ word. step_found HasReply (item_among ms) _ (λ item i. last_found HasReply (reply.Item item) (word, (text_found ms (codes "item") item i, tt)))),
-      ((λ word. last_found HasReply reply.Empty (word, tt)), tt),
+      (λ word. last_found HasReply reply.Received (word, tt)),
+      (
+        (λ word. last_found HasReply reply.Nobody (word, tt)),
+        (
+          (λ word. step_found HasReply (item_among ms) _ (λ item i. last_found HasReply (reply.Item item) (word, (text_found ms (codes "item") item i, tt)))),
+          (
+            (λ word. last_found HasReply reply.Empty (word, tt)),
+            (
+              (λ word. last_found HasReply reply.TimedOut (word, tt)),
+              (
+                (λ word. last_found HasReply reply.Cancelled (word, tt)),
+                (
+                  counted_found,
+                  (
+                    (λ word. step_found HasReply (item_among ms) _ (λ item i. last_found HasReply (reply.Peeked item) (word, (text_found ms (codes "item") item i, tt)))),
+                    tt,
+                  ),
+                ),
+              ),
+            ),
+          ),
+        ),
+      ),
     ),
   )
 
   find_reply : (reply : Reply) → HasReply reply → reply_among ms ≡ Some reply
   find_reply (reply.Item item) has = rw (has.0, has.1.0) refl
+  find_reply (reply.Peeked item) has = rw (has.0, has.1.0) refl
+  find_reply (reply.Counted items consumers) has = rw (has.0, has.1.0, has.1.1.0) refl
   find_reply _ has = rw has.0 refl
 
   abbrev HasRefusal : Refusal → Type 0
@@ -104,18 +134,23 @@ module _ (ms : Members) where
       last_found HasAnswer (answer.Replied key reply)
       (let has = key_found ms key k in (word, (has.0, (has.1.0, (has.1.1.0, (has.1.1.1.0, reply_found reply r))))))))
 
+  waiting_found : Has ms (codes "kind", string (codes "waiting")) → (answer : Answer) → waiting_among ms ≡ Some answer → HasAnswer answer
+  waiting_found word =
+      step_found HasAnswer (key_among ms) _ (λ key k. last_found HasAnswer (answer.Waiting key) (word, key_found ms key k))
+
   refused_found : Has ms (codes "kind", string (codes "refused")) → (answer : Answer) → refused_among ms ≡ Some answer → HasAnswer answer
   refused_found word =
       step_found HasAnswer (refusal_among ms) _ (λ refusal r. last_found HasAnswer (answer.Refused refusal) (word, refusal_found refusal r))
 
   answer_found : (answer : Answer) → answer_among ms ≡ Some answer → HasAnswer answer
-  answer_found = among_found ms HasAnswer (codes "kind") answer_lines (welcome_found, (replied_found, (refused_found, tt)))
+  answer_found = among_found ms HasAnswer (codes "kind") answer_lines (welcome_found, (replied_found, (waiting_found, (refused_found, tt))))
 
   find_answer : (answer : Answer) → HasAnswer answer → answer_among ms ≡ Some answer
   find_answer (answer.Welcome epoch client incarnation) has = rw (has.0, has.1.0, has.1.1.0, has.1.1.1.0) refl
   find_answer (answer.Replied key reply) has =
       let of_key = find_key ms key (has.1.0, (has.1.1.0, (has.1.1.1.0, (has.1.1.1.1.0, tt)))) in
       rw (has.0, of_key, find_reply reply has.1.1.1.1.1) refl
+  find_answer (answer.Waiting key) has = rw (has.0, find_key ms key has.1) refl
   find_answer (answer.Refused refusal) has = rw (has.0, find_refusal refusal has.1) refl
 
 pub answer_reader : IsReader Answer answers

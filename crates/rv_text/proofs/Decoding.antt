@@ -1,20 +1,18 @@
 -- From what an object's readers answer to what a decoder promises of the bytes.
-use Rattle.std.proofs.Common.{◌≡◌, ℕ, List, map, Some, Result, Ok, Err, String, Global, BTreeMap, string_cmp, refl, sym, ap, ◌∙◌, subst, inl, inr}
+use Rattle.std.proofs.Common.{◌≡◌, ℕ, List, map, Some, Result, Ok, Err, String, Global, BTreeMap, string_cmp, refl, sym, ap, ◌∙◌, inl, inr}
 use Rattle.std.proofs.lemmas.List.{length-map}
 use Rattle.std.proofs.lemmas.Option.{same_Some}
 use Rattle.std.specs.BTreeMap.{IsOrdered}
-use Rattle.std.specs.Prelude.{◌⊎◌}
-use Rattle.std.specs.Result.{IfOk, OnOk}
 use Rattle.serde_json.specs.Data.{Data, null, boolean, number, string, array, object, Members}
 use Rattle.serde_json.specs.Find.{as_object}
 use Rattle.serde_json.specs.View.{members_view}
 use Rattle.serde_json.specs.declared.value.Value.{Value}
 use Rattle.rv_text.specs.declared.fault.TextFault.{TextFault}
 use Rattle.rv_text.specs.declared.fault.TextFault.TheVariants.{NotJson, NotMessage, NoMemory}
-use Rattle.rv_text.specs.Bodies.{HasBodyLength, Reads, IsBody}
+use Rattle.rv_text.specs.Bodies.{HasBodyLength, IsBody, Decodes}
 use Rattle.rv_text.specs.Members.{Field, field_of, members_of, object_of}
 use Rattle.rv_text.specs.Laws.{AtMostOne}
-use Rattle.rv_text.specs.Reading.{Shape, IsAlone, FindsAlone}
+use Rattle.rv_text.specs.Reading.{Shape, IsAlone, IsAloneIn, HasNone, FindsIn}
 use Rattle.rv_text.proofs.Steps.{IsReader}
 use Rattle.rv_text.proofs.Objects.{IsSorted-entries, with_fields-found, found-with_fields, members_len-with_fields}
 
@@ -36,7 +34,8 @@ module _ (A : Type 0) (shape : Shape A) (reader : IsReader A shape) where
       let distinct = (reader.sound x).distinct in
       record {
         found = reader.finds (members_of (shape.row x)) x (found-with_fields (fields_of x) distinct);
-        whole = (members_len-with_fields (fields_of x) distinct ∙ length-map (shape.row x) field_of, fits);
+        whole = members_len-with_fields (fields_of x) distinct ∙ length-map (shape.row x) field_of;
+        fits = fits;
       }
 
   -- where a value is alone, the object is that of its row
@@ -45,7 +44,7 @@ module _ (A : Type 0) (shape : Shape A) (reader : IsReader A shape) where
   alone_object m x ordered alone =
       let ms = members_view m.entries in
       ap object (with_fields-found (fields_of x) ms (IsSorted-entries m.entries ordered) (reader.sound x).distinct
-      (reader.has ms x alone.found) (alone.whole.0 ∙ sym (length-map (shape.row x) field_of)))
+      (reader.has ms x alone.found) (alone.whole ∙ sym (length-map (shape.row x) field_of)))
 
   -- each value is found again in its object
   pub at_most_one : AtMostOne (IsBody shape.row shape.Fits)
@@ -54,21 +53,64 @@ module _ (A : Type 0) (shape : Shape A) (reader : IsReader A shape) where
       let members : members_of (shape.row x) ≡ members_of (shape.row y) = cc in
       same_Some _ _ (sym (IsAlone-members_of x p.2).found ∙ ap shape.found members ∙ (IsAlone-members_of y q.2).found)
 
-  module _ (bytes : List ℕ) (value : Data) (m : BTreeMap (String Global) Value) (is : value ≡ object (members_view m.entries)) (reads : Reads bytes value) where
-    -- what is answered is what the bytes are the body of
-    pub decoded : (answer : Result A TextFault) → HasBodyLength bytes → FindsAlone shape answer (members_view m.entries) → OnOk answer (IsOrdered string_cmp m) → IfOk answer (IsBody shape.row shape.Fits bytes)
-    decoded (Ok x) fits alone ordered = (fits, (reads.0, reads.1 ∙ ap Some (is ∙ alone_object m x ordered alone)), alone.whole.1)
-    decoded (Err fault) fits alone ordered = tt
+  -- what the bytes read as is the object of the row of what is alone in it
+  body_of : (bytes : List ℕ) (x : A) → HasBodyLength bytes → IsAloneIn A shape bytes x → IsBody shape.row shape.Fits bytes x
+  body_of bytes x long alone =
+      (long, (alone.reads.0, alone.reads.1 ∙ ap Some (alone_object alone.map x alone.ordered alone.alone)), alone.alone.fits)
 
-    -- what the bytes are the body of is answered
-    pub decodes : (answer : Result A TextFault) → FindsAlone shape answer (members_view m.entries) → (x : A) → IsBody shape.row shape.Fits bytes x → (answer ≡ Ok x) ⊎ (answer ≡ Err NoMemory)
-    decodes answer alone x body =
-        let same : Some (object (members_view m.entries)) ≡ Some (object_of (shape.row x)) = ap Some (sym is) ∙ sym reads.1 ∙ body.1.1 in
-        let members : members_of (shape.row x) ≡ members_view m.entries = cc in
-        one_alone answer x (subst (λ ms. IsAlone A shape ms x) members (IsAlone-members_of x body.2)) alone
-      where
-        one_alone : (answer : Result A TextFault) (x : A) → IsAlone A shape (members_view m.entries) x → FindsAlone shape answer (members_view m.entries) → (answer ≡ Ok x) ⊎ (answer ≡ Err NoMemory)
-        one_alone (Ok other) x body alone = inl (ap Ok (same_Some _ _ (sym alone.found ∙ body.found)))
-        one_alone (Err NotJson) x body alone = absurd alone
-        one_alone (Err NotMessage) x body alone = absurd (alone x body)
-        one_alone (Err NoMemory) x body alone = inr refl
+  -- bytes that have a body hold no object in which nothing is alone
+  has_some : (bytes : List ℕ) (x : A) → IsBody shape.row shape.Fits bytes x → HasNone A shape bytes → ⊥
+  has_some bytes x body has =
+      let same : Some has.value ≡ Some (object_of (shape.row x)) = sym has.reads.1 ∙ body.1.1 in
+      has.none (members_of (shape.row x)) (same_Some _ _ same) x (IsAlone-members_of x body.2)
+
+  module _ (bytes : List ℕ) where
+    abbrev Is : A → Type 0
+    Is = IsBody shape.row shape.Fits bytes
+
+    abbrev Right : Result A TextFault → Type 0
+    Right answer = Decodes A (IsBody shape.row shape.Fits) bytes answer
+
+    -- what is found among the members is what the bytes are the body of
+    pub decodes : (answer : Result A TextFault) → FindsIn shape bytes answer → Right answer
+    decodes (Ok x) h =
+        let body : Is x = body_of bytes x h.0 h.1 in
+        record {
+          found = body;
+          only = λ y other. inl (ap Ok (at_most_one bytes x y body other));
+          length_first = λ short. absurd (short h.0);
+          not_json = λ e. absurd (let no : ⊥ = cc in no);
+          json_first = λ unread long. absurd (unread _ h.1.reads);
+          not_message = λ e. absurd (let no : ⊥ = cc in no);
+          is_json = λ e. absurd (let no : ⊥ = cc in no);
+        }
+    decodes (Err NotJson) h =
+        record {
+          found = tt;
+          only = λ y other. absurd (h.1 _ other.1);
+          length_first = λ short. absurd (short h.0);
+          not_json = λ e. h;
+          json_first = λ unread long. inl refl;
+          not_message = λ e. absurd (let no : ⊥ = cc in no);
+          is_json = λ e. absurd (let no : ⊥ = cc in no);
+        }
+    decodes (Err NotMessage) h =
+        record {
+          found = tt;
+          only = λ y other. absurd (has_some bytes y other (h other.0));
+          length_first = λ short. refl;
+          not_json = λ e. absurd (let no : ⊥ = cc in no);
+          json_first = λ unread long. absurd (let has = h long in unread has.value has.reads);
+          not_message = λ e y other. has_some bytes y other (h other.0);
+          is_json = λ e long unread. let has = h long in unread has.value has.reads;
+        }
+    decodes (Err NoMemory) h =
+        record {
+          found = tt;
+          only = λ y other. inr refl;
+          length_first = λ short. absurd (short h);
+          not_json = λ e. absurd (let no : ⊥ = cc in no);
+          json_first = λ unread long. inr refl;
+          not_message = λ e. absurd (let no : ⊥ = cc in no);
+          is_json = λ e. absurd (let no : ⊥ = cc in no);
+        }

@@ -1,5 +1,5 @@
 -- For crates that keep calls and give replies: what fits, part by part, and that two calls are the same or not.
-use Rattle.std.proofs.Common.{◌≡◌, ◌⊎◌, inl, inr, ℕ, List, Bool, true, false, Option, Some, None, refl, ap, subst, arith, Decides}
+use Rattle.std.proofs.Common.{◌≡◌, ◌⊎◌, inl, inr, ℕ, List, Bool, true, false, Option, Some, None, refl, subst, arith, Decides}
 use Rattle.std.specs.Str.{bytes_eq}
 use Rattle.std.proofs.lemmas.Slice.Eq.{bytes_eq-Decides}
 use Rattle.std.proofs.lemmas.Bool.{cases_order, false≢true}
@@ -40,6 +40,22 @@ done_fits = tt
 pub empty_fits : FitsReply reply.Empty
 empty_fits = tt
 
+pub received_fits : FitsReply reply.Received
+received_fits = tt
+
+pub nobody_fits : FitsReply reply.Nobody
+nobody_fits = tt
+
+pub timed_out_fits : FitsReply reply.TimedOut
+timed_out_fits = tt
+
+pub cancelled_fits : FitsReply reply.Cancelled
+cancelled_fits = tt
+
+-- a peek's item that fits fits
+pub peeked_fits : (item : List ℕ) → FitsItem item → FitsReply (reply.Peeked item)
+peeked_fits item fits = fits
+
 -- ---- whether two calls are the same
 
 decided : (b : Bool) (A : Type 0) → Decides b A → A ⊎ (A → ⊥)
@@ -55,19 +71,48 @@ same_number m n = elim (cases_order m n) [
   | inr differ ↦ inr (λ same. elim differ [ inl less ↦ omega arith | inr more ↦ omega arith ])
 ]
 
-other_queue : (q r : ℕ) (i j : List ℕ) → (q ≡ r → ⊥) → call.Put q i ≡ call.Put r j → ⊥
-other_queue q r i j apart e = apart (cc)
+-- a fact that follows from another and leads to it
+alone : {A C : Type 0} → A ⊎ (A → ⊥) → (A → C) → (C → A) → C ⊎ (C → ⊥)
+alone (inl a) make part = inl (make a)
+alone (inr apart) make part = inr (λ c. apart (part c))
 
-other_item : (q r : ℕ) (i j : List ℕ) → (i ≡ j → ⊥) → call.Put q i ≡ call.Put r j → ⊥
-other_item q r i j apart e = apart (cc)
+millis_part : (m n : ℕ) → wait.Millis m ≡ wait.Millis n → m ≡ n
+millis_part m n e = cc
 
-other_take : (q r : ℕ) (v w : Wait) → (q ≡ r → ⊥) → call.Take q v ≡ call.Take r w → ⊥
-other_take q r v w apart e = apart (cc)
+same_wait : (v w : Wait) → (v ≡ w) ⊎ (v ≡ w → ⊥)
+same_wait wait.Now wait.Now = inl refl
+same_wait (wait.Millis m) (wait.Millis n) = alone (same_number m n) (λ millis. cc) (millis_part m n)
+same_wait wait.Forever wait.Forever = inl refl
+same_wait _ _ = inr (λ e. absurd (let no : ⊥ = cc in no))
+
+-- two facts that make a third, and follow from it
+both : {A B C : Type 0} → A ⊎ (A → ⊥) → B ⊎ (B → ⊥) → (A → B → C) → (C → A × B) → C ⊎ (C → ⊥)
+both (inl a) (inl b) make parts = inl (make a b)
+both (inl a) (inr apart) make parts = inr (λ c. apart (parts c).1)
+both (inr apart) b make parts = inr (λ c. apart (parts c).0)
+
+put_parts : (q r : ℕ) (i j : List ℕ) → call.Put q i ≡ call.Put r j → (q ≡ r) × (i ≡ j)
+put_parts q r i j e = (cc, cc)
+
+transfer_parts : (q r : ℕ) (i j : List ℕ) (v w : Wait) → call.Transfer q i v ≡ call.Transfer r j w → (call.Put q i ≡ call.Put r j) × (v ≡ w)
+transfer_parts q r i j v w e = let queue : q ≡ r = cc in let item : i ≡ j = cc in (cc, cc)
+
+take_parts : (q r : ℕ) (v w : Wait) → call.Take q v ≡ call.Take r w → (q ≡ r) × (v ≡ w)
+take_parts q r v w e = (cc, cc)
+
+count_part : (q r : ℕ) → call.Count q ≡ call.Count r → q ≡ r
+count_part q r e = cc
+
+peek_part : (q r : ℕ) → call.Peek q ≡ call.Peek r → q ≡ r
+peek_part q r e = cc
+
+same_put : (q r : ℕ) (i j : List ℕ) → (call.Put q i ≡ call.Put r j) ⊎ (call.Put q i ≡ call.Put r j → ⊥)
+same_put q r i j = both (same_number q r) (same_text i j) (λ queue item. cc) (put_parts q r i j)
 
 pub same_call : (c d : Call) → (c ≡ d) ⊎ (c ≡ d → ⊥)
-same_call (call.Put q i) (call.Put r j) = elim (same_number q r) [
-  | inr apart ↦ inr (other_queue q r i j apart)
-  | inl same ↦ elim (same_text i j) [ inr apart ↦ inr (other_item q r i j apart) | inl also ↦ inl (cc) ]
-]
-same_call (call.Take q wait.Now) (call.Take r wait.Now) = elim (same_number q r) [ inr apart ↦ inr (other_take q r wait.Now wait.Now apart) | inl same ↦ inl (ap (λ n. call.Take n wait.Now) same) ]
+same_call (call.Put q i) (call.Put r j) = same_put q r i j
+same_call (call.Transfer q i v) (call.Transfer r j w) = both (same_put q r i j) (same_wait v w) (λ put wait. let parts = put_parts q r i j put in cc) (transfer_parts q r i j v w)
+same_call (call.Take q v) (call.Take r w) = both (same_number q r) (same_wait v w) (λ queue wait. cc) (take_parts q r v w)
+same_call (call.Count q) (call.Count r) = alone (same_number q r) (λ queue. cc) (count_part q r)
+same_call (call.Peek q) (call.Peek r) = alone (same_number q r) (λ queue. cc) (peek_part q r)
 same_call _ _ = inr (λ e. absurd (let no : ⊥ = cc in no))

@@ -1,5 +1,5 @@
 -- What holds of the row of each message and answer: no name stands twice, all is plain, and there is room for it.
-use Rattle.std.proofs.Common.{◌≡◌, ℕ, ◌≤◌, List, ◌∷◌, ◌++◌, map, codes, true, Option, Some, None, IfSome, IsUtf8, refl, arith}
+use Rattle.std.proofs.Common.{◌≡◌, ℕ, ◌≤◌, List, [], ◌∷◌, ◌++◌, map, codes, true, Option, Some, None, IfSome, IsUtf8, refl, arith}
 use Rattle.rv_text.specs.declared.message.Key.{Key}
 use Rattle.rv_text.specs.declared.message.Message.{Message}
 use Rattle.rv_text.specs.declared.message.Message.TheVariants as message
@@ -49,12 +49,17 @@ request_sound key name at None None plain = record { distinct = refl; plain = rw
 request_sound key name at None (Some item) plain = record { distinct = refl; plain = rw plain refl; room = omega arith; in_order = refl }
 request_sound key name at (Some wait.Now) None plain = record { distinct = refl; plain = rw plain refl; room = omega arith; in_order = refl }
 request_sound key name at (Some wait.Now) (Some item) plain = record { distinct = refl; plain = rw plain refl; room = omega arith; in_order = refl }
+request_sound key name at (Some (wait.Millis millis)) None plain = record { distinct = refl; plain = rw plain refl; room = omega arith; in_order = refl }
+request_sound key name at (Some (wait.Millis millis)) (Some item) plain = record { distinct = refl; plain = rw plain refl; room = omega arith; in_order = refl }
+request_sound key name at (Some wait.Forever) None plain = record { distinct = refl; plain = rw plain refl; room = omega arith; in_order = refl }
+request_sound key name at (Some wait.Forever) (Some item) plain = record { distinct = refl; plain = rw plain refl; room = omega arith; in_order = refl }
 
 pub message_sound : (message : Message) → IsSound (message_row message)
 message_sound (message.Hello client incarnation) = record { distinct = refl; plain = refl; room = omega arith; in_order = refl }
 message_sound (message.Request key call) =
     let nature = nature_of call in
     request_sound key nature.word nature.side nature.wait nature.item (call_word call)
+message_sound (message.Cancel key) = record { distinct = refl; plain = refl; room = omega arith; in_order = refl }
 
 key_within : (key : Key) (row : List Member) → FitsKey key → Each IsWithin row → Each IsWithin (key_row key ++ row)
 key_within key row fits rest = (fits.0, (fits.1, (fits.2, (fits.3, rest))))
@@ -62,10 +67,13 @@ key_within key row fits rest = (fits.0, (fits.1, (fits.2, (fits.3, rest))))
 pub message_within : (message : Message) → FitsMessage message → Each IsWithin (message_row message)
 message_within (message.Hello client incarnation) fits = (tt, (fits.0, (fits.1, tt)))
 message_within (message.Request key call) fits = (tt, key_within key (call_row call) fits.0 (each_within (call_row call) fits.1))
+message_within (message.Cancel key) fits = (tt, key_within key [] fits tt)
 
 wait_text : (waits : Option Wait) → Each IsText (wait_row waits)
 wait_text None = tt
 wait_text (Some wait.Now) = (tt, tt)
+wait_text (Some (wait.Millis millis)) = (tt, tt)
+wait_text (Some wait.Forever) = (tt, tt)
 
 item_is_text : (gives : Option (List ℕ)) → IfSome gives IsUtf8 → Each IsText (item_row gives)
 item_is_text None utf8 = tt
@@ -79,6 +87,7 @@ call_text call utf8 =
 pub message_has_text : (message : Message) → HasUtf8 message → Each IsText (message_row message)
 message_has_text (message.Hello client incarnation) utf8 = (tt, (tt, (tt, tt)))
 message_has_text (message.Request key call) utf8 = (tt, (tt, (tt, (tt, (tt, call_text call utf8)))))
+message_has_text (message.Cancel key) utf8 = (tt, (tt, (tt, (tt, (tt, tt)))))
 
 -- ---- answers
 
@@ -93,6 +102,7 @@ refusal_sound _ = record { distinct = refl; plain = refl; room = omega arith; in
 pub answer_sound : (answer : Answer) → IsSound (answer_row answer)
 answer_sound (answer.Welcome epoch client incarnation) = record { distinct = refl; plain = refl; room = omega arith; in_order = refl }
 answer_sound (answer.Replied key reply) = reply_sound key reply
+answer_sound (answer.Waiting key) = record { distinct = refl; plain = refl; room = omega arith; in_order = refl }
 answer_sound (answer.Refused refusal) = refusal_sound refusal
 
 code_within : (refusal : Refusal) → Keeps code_numbers (code_of refusal)
@@ -102,10 +112,13 @@ code_within _ = (omega arith, omega arith)
 pub answer_within : (answer : Answer) → FitsAnswer answer → Each IsWithin (answer_row answer)
 answer_within (answer.Welcome epoch client incarnation) fits = (tt, (fits.0, (fits.1, (fits.2, tt))))
 answer_within (answer.Replied key reply) fits = (tt, key_within key (reply_row reply) fits.0 (each_within (reply_row reply) fits.1))
+answer_within (answer.Waiting key) fits = (tt, key_within key [] fits tt)
 answer_within (answer.Refused refusal) fits = (tt, (code_within refusal, each_within (detail_row refusal) fits))
 
 reply_text : (reply : Reply) → ReplyHasUtf8 reply → Each IsText (reply_row reply)
 reply_text (reply.Item item) utf8 = (tt, (utf8, tt))
+reply_text (reply.Peeked item) utf8 = (tt, (utf8, tt))
+reply_text (reply.Counted items consumers) utf8 = (tt, (tt, (tt, tt)))
 reply_text _ utf8 = (tt, tt)
 
 detail_text : (refusal : Refusal) → Each IsText (detail_row refusal)
@@ -119,4 +132,5 @@ detail_text _ = tt
 pub answer_has_text : (answer : Answer) → AnswerHasUtf8 answer → Each IsText (answer_row answer)
 answer_has_text (answer.Welcome epoch client incarnation) utf8 = (tt, (tt, (tt, (tt, tt))))
 answer_has_text (answer.Replied key reply) utf8 = (tt, (tt, (tt, (tt, (tt, reply_text reply utf8)))))
+answer_has_text (answer.Waiting key) utf8 = (tt, (tt, (tt, (tt, (tt, tt)))))
 answer_has_text (answer.Refused refusal) utf8 = (tt, (tt, detail_text refusal))

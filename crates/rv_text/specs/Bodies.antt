@@ -1,9 +1,11 @@
 -- Which bytes are the body of which value, and the one text that is written for a value: RFC 8259, as
 -- `serde_json` reads and writes its `Value`.
-use Rattle.std.specs.Prelude.{◌≡◌, ℕ, ◌≤◌, List, length, Some, IfSome, IsUtf8}
+use Rattle.std.specs.Prelude.{◌≡◌, ◌⊎◌, ℕ, ◌≤◌, List, length, Some, IfSome, IfOk, IsUtf8, Result, Ok, Err}
 use Rattle.serde_json.specs.Data.{Data}
 use Rattle.serde_json.specs.Read.{read}
 use Rattle.serde_json.specs.Written.{compact_text}
+use Rattle.rv_text.specs.declared.fault.TextFault.{TextFault}
+use Rattle.rv_text.specs.declared.fault.TextFault.TheVariants as fault
 use Rattle.rv_text.specs.declared.message.Message.{Message}
 use Rattle.rv_text.specs.declared.message.Message.TheVariants as message
 use Rattle.rv_text.specs.declared.answer.Reply.{Reply}
@@ -38,19 +40,34 @@ IsMessageBody bytes message = IsBody message_row FitsMessage bytes message
 abbrev pub IsAnswerBody : List ℕ → Answer → Type 0
 IsAnswerBody bytes answer = IsBody answer_row FitsAnswer bytes answer
 
+-- what a decoder answers for bytes
+pub record Decodes (A : Type 0) (IsBodyOf : List ℕ → A → Type 0) (bytes : List ℕ) (result : Result A TextFault) : Type 0 where
+  -- with both: a value comes exactly where the bytes are its body, unless memory ran out
+  pub found : IfOk result (IsBodyOf bytes)
+  pub only : (x : A) → IsBodyOf bytes x → (result ≡ Ok x) ⊎ (result ≡ Err fault.NoMemory)
+  pub length_first : ¬ HasBodyLength bytes → result ≡ Err fault.NotMessage
+  pub not_json : result ≡ Err fault.NotJson → HasBodyLength bytes × IsNotJson bytes
+  pub json_first : IsNotJson bytes → HasBodyLength bytes
+      → (result ≡ Err fault.NotJson) ⊎ (result ≡ Err fault.NoMemory)
+  pub not_message : result ≡ Err fault.NotMessage → (x : A) → ¬ IsBodyOf bytes x
+  pub is_json : result ≡ Err fault.NotMessage → HasBodyLength bytes → ¬ IsNotJson bytes
+
 -- the item is text; every `Item` is, and a variable of a law ranges over all lists of numbers
 abbrev pub HasUtf8 : Message → Type 0
 HasUtf8 (message.Hello client incarnation) = Unit {0}
 HasUtf8 (message.Request key call) = IfSome (item_of call) IsUtf8
+HasUtf8 (message.Cancel key) = Unit {0}
 
 -- the same of an answer
 abbrev pub ReplyHasUtf8 : Reply → Type 0
 ReplyHasUtf8 (reply.Item item) = IsUtf8 item
+ReplyHasUtf8 (reply.Peeked item) = IsUtf8 item
 ReplyHasUtf8 _ = Unit {0}
 
 abbrev pub AnswerHasUtf8 : Answer → Type 0
 AnswerHasUtf8 (answer.Welcome epoch client incarnation) = Unit {0}
 AnswerHasUtf8 (answer.Replied key reply) = ReplyHasUtf8 reply
+AnswerHasUtf8 (answer.Waiting key) = Unit {0}
 AnswerHasUtf8 (answer.Refused refusal) = Unit {0}
 
 -- the body that is written for a message

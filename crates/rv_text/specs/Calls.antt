@@ -20,8 +20,14 @@ pub record Nature : Type 0 where
 abbrev pub nature_of : Call → Nature
 nature_of (call.Put queue item) =
     record { word = codes "put"; side = side.Gives queue; wait = None; item = Some item }
+nature_of (call.Transfer queue item wait) =
+    record { word = codes "transfer"; side = side.Gives queue; wait = Some wait; item = Some item }
 nature_of (call.Take queue wait) =
     record { word = codes "take"; side = side.Takes queue; wait = Some wait; item = None }
+nature_of (call.Count queue) =
+    record { word = codes "count"; side = side.Looks queue; wait = None; item = None }
+nature_of (call.Peek queue) =
+    record { word = codes "peek"; side = side.Looks queue; wait = None; item = None }
 
 abbrev pub side_of : Call → Side
 side_of call = (nature_of call).side

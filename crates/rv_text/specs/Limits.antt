@@ -35,6 +35,7 @@ abbrev pub FitsMessage : Message → Type 0
 FitsMessage (message.Hello client incarnation) =
     FitsIdentifier client × FitsIdentifier incarnation
 FitsMessage (message.Request key call) = FitsKey key × FitsCall call
+FitsMessage (message.Cancel key) = FitsKey key
 
 abbrev pub FitsReply : Reply → Type 0
 FitsReply reply = members.AllWithin (reply_row reply)
@@ -46,4 +47,5 @@ abbrev pub FitsAnswer : Answer → Type 0
 FitsAnswer (answer.Welcome epoch client incarnation) =
     FitsIdentifier epoch × FitsIdentifier client × FitsIdentifier incarnation
 FitsAnswer (answer.Replied key reply) = FitsKey key × FitsReply reply
+FitsAnswer (answer.Waiting key) = FitsKey key
 FitsAnswer (answer.Refused refusal) = FitsRefusal refusal

@@ -30,6 +30,14 @@ last_numbers = up_to max_identifier
 abbrev pub queue_numbers : Limit
 queue_numbers = up_to 63
 
+-- a wait's milliseconds: at most a day
+abbrev pub wait_numbers : Limit
+wait_numbers = up_to 86400000
+
+-- how many items, or consumers, there are
+abbrev pub counted_numbers : Limit
+counted_numbers = up_to 100000
+
 -- a refusal's code
 abbrev pub code_numbers : Limit
 code_numbers = from_one_to 11

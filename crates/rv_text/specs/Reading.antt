@@ -1,11 +1,12 @@
 -- For private clauses: what the decoder looks for among the members of an object, each by its name, and what
 -- the encoder puts there.
 use Rattle.std.specs.Prelude.{◌≡◌, ℕ, Bool, List, [], ◌∷◌, length, map, codes, if◌then◌else◌}
-use Rattle.std.specs.Prelude.{Option, Some, None, option_and_then, nat_eq, Result, Ok, Err, String}
+use Rattle.std.specs.Prelude.{Option, Some, None, option_and_then, nat_eq, Result, Ok, Err, String, string_cmp}
 use Rattle.std.specs.declared.alloc.Global.{Global}
-use Rattle.std.specs.BTreeMap.{BTreeMap}
+use Rattle.std.specs.BTreeMap.{BTreeMap, IsOrdered}
 use Rattle.std.specs.Str.{bytes_eq}
-use Rattle.serde_json.specs.Data.{Members}
+use Rattle.serde_json.specs.Data.{Data, Members}
+use Rattle.serde_json.specs.Data as json
 use Rattle.serde_json.specs.Events.{members_len}
 use Rattle.serde_json.specs.View.{members_view}
 use Rattle.serde_json.specs.declared.value.Value.{Value}
@@ -26,7 +27,7 @@ use Rattle.rv_text.specs.declared.answer.Refusal.TheVariants as refusal
 use Rattle.rv_text.specs.declared.answer.Answer.{Answer}
 use Rattle.rv_text.specs.declared.answer.Answer.TheVariants as answer
 use Rattle.rv_text.specs.Members.{Member, Field, field_of, with_fields}
-use Rattle.rv_text.specs.Bodies.{HasBodyLength, IsNotJson}
+use Rattle.rv_text.specs.Bodies.{HasBodyLength, Reads, IsNotJson}
 use Rattle.rv_text.specs.Rows.{message_row, answer_row}
 use Rattle.rv_text.specs.Limits.{FitsMessage, FitsAnswer}
 
@@ -105,10 +106,18 @@ abbrev pub item_among : Members → Option (List ℕ)
 item_among = text_among (codes "item")
 
 abbrev pub wait_lines : List (Line (List ℕ) Wait)
-wait_lines = (codes "now", λ ms. Some wait.Now) ∷ []
+wait_lines = (codes "now", λ ms. Some wait.Now) ∷ (codes "forever", λ ms. Some wait.Forever) ∷ []
+
+abbrev pub wait_word_among : Members → Option Wait
+wait_word_among members = among (codes "wait") wait_lines members
+
+-- a number of milliseconds, or else what its word says
+abbrev pub millis_or : Option ℕ → Option Wait → Option Wait
+millis_or None waits = waits
+millis_or (Some millis) waits = Some (wait.Millis millis)
 
 abbrev pub wait_among : Members → Option Wait
-wait_among members = among (codes "wait") wait_lines members
+wait_among members = millis_or (whole_among (codes "wait") members) (wait_word_among members)
 
 abbrev pub key_among : Members → Option Key
 key_among members = do
@@ -118,10 +127,20 @@ key_among members = do
   number ← whole_among (codes "number") members
   Some (record { epoch = epoch; client = client; incarnation = incarnation; number = number })
 
+abbrev pub transfer_among : Members → Option Call
+transfer_among members = do
+  queue ← queue_among members
+  item ← item_among members
+  wait ← wait_among members
+  Some (call.Transfer queue item wait)
+
 abbrev pub call_lines : List (Line (List ℕ) Call)
 call_lines =
     (codes "put", λ ms. queue_among ms >>= λ queue. item_among ms >>= λ item. Some (call.Put queue item)) ∷
+    (codes "transfer", transfer_among) ∷
     (codes "take", λ ms. queue_among ms >>= λ queue. wait_among ms >>= λ wait. Some (call.Take queue wait)) ∷
+    (codes "count", λ ms. queue_among ms >>= λ queue. Some (call.Count queue)) ∷
+    (codes "peek", λ ms. queue_among ms >>= λ queue. Some (call.Peek queue)) ∷
     []
 
 abbrev pub call_among : Members → Option Call
@@ -139,17 +158,35 @@ request_among members = do
   call ← call_among members
   Some (message.Request key call)
 
+abbrev pub cancel_among : Members → Option Message
+cancel_among members = do
+  key ← key_among members
+  Some (message.Cancel key)
+
 abbrev pub message_lines : List (Line (List ℕ) Message)
-message_lines = (codes "hello", hello_among) ∷ (codes "request", request_among) ∷ []
+message_lines =
+    (codes "hello", hello_among) ∷ (codes "request", request_among) ∷ (codes "cancel", cancel_among) ∷ []
 
 abbrev pub message_among : Members → Option Message
 message_among members = among (codes "kind") message_lines members
 
+abbrev pub counted_among : Members → Option Reply
+counted_among members = do
+  items ← whole_among (codes "items") members
+  consumers ← whole_among (codes "consumers") members
+  Some (reply.Counted items consumers)
+
 abbrev pub reply_lines : List (Line (List ℕ) Reply)
 reply_lines =
     (codes "done", λ ms. Some reply.Done) ∷
+    (codes "received", λ ms. Some reply.Received) ∷
+    (codes "nobody", λ ms. Some reply.Nobody) ∷
     (codes "item", λ ms. item_among ms >>= λ item. Some (reply.Item item)) ∷
     (codes "empty", λ ms. Some reply.Empty) ∷
+    (codes "timedout", λ ms. Some reply.TimedOut) ∷
+    (codes "cancelled", λ ms. Some reply.Cancelled) ∷
+    (codes "counted", counted_among) ∷
+    (codes "peeked", λ ms. item_among ms >>= λ item. Some (reply.Peeked item)) ∷
     []
 
 abbrev pub reply_among : Members → Option Reply
@@ -192,6 +229,11 @@ replied_among members = do
   reply ← reply_among members
   Some (answer.Replied key reply)
 
+abbrev pub waiting_among : Members → Option Answer
+waiting_among members = do
+  key ← key_among members
+  Some (answer.Waiting key)
+
 abbrev pub refused_among : Members → Option Answer
 refused_among members = do
   refusal ← refusal_among members
@@ -201,6 +243,7 @@ abbrev pub answer_lines : List (Line (List ℕ) Answer)
 answer_lines =
     (codes "welcome", welcome_among) ∷
     (codes "reply", replied_among) ∷
+    (codes "waiting", waiting_among) ∷
     (codes "refused", refused_among) ∷
     []
 
@@ -222,14 +265,11 @@ messages = record { found = message_among; row = message_row; Fits = FitsMessage
 abbrev pub answers : Shape Answer
 answers = record { found = answer_among; row = answer_row; Fits = FitsAnswer }
 
--- it has as many members as the object, and is within the limits
-abbrev pub IsWhole : {A : Type 0} → Shape A → Members → A → Type 0
-IsWhole shape members x = (members_len members ≡ length (shape.row x)) × shape.Fits x
-
 -- it is found, with no other members and within the limits
 pub record IsAlone (A : Type 0) (shape : Shape A) (members : Members) (x : A) : Type 0 where
   pub found : shape.found members ≡ Some x
-  pub whole : IsWhole shape members x
+  pub whole : members_len members ≡ length (shape.row x)
+  pub fits : shape.Fits x
 
 -- a reader answers that value exactly where there is one, unless memory ran out
 abbrev pub FindsAlone : {A : Type 0} → Shape A → Result A TextFault → Members → Type 0
@@ -237,6 +277,26 @@ FindsAlone {A} shape (Ok x) object = IsAlone A shape object x
 FindsAlone shape (Err fault.NotJson) object = ⊥
 FindsAlone {A} shape (Err fault.NotMessage) object = (x : A) → ¬ IsAlone A shape object x
 FindsAlone shape (Err fault.NoMemory) object = Unit {0}
+
+-- the bytes read as the object that the map is, and the value is alone in it
+pub record IsAloneIn (A : Type 0) (shape : Shape A) (bytes : List ℕ) (x : A) : Type 0 where
+  pub map : Map
+  pub ordered : IsOrdered string_cmp map
+  pub reads : Reads bytes (json.object (members_view map.entries))
+  pub alone : IsAlone A shape (members_view map.entries) x
+
+-- the bytes read as a value that is no object in which one is alone
+pub record HasNone (A : Type 0) (shape : Shape A) (bytes : List ℕ) : Type 0 where
+  pub value : Data
+  pub reads : Reads bytes value
+  pub none : (members : Members) → value ≡ json.object members → (x : A) → ¬ IsAlone A shape members x
+
+-- what a decoder answers for bytes
+abbrev pub FindsIn : {A : Type 0} → Shape A → List ℕ → Result A TextFault → Type 0
+FindsIn {A} shape bytes (Ok x) = HasBodyLength bytes × IsAloneIn A shape bytes x
+FindsIn shape bytes (Err fault.NotJson) = HasBodyLength bytes × IsNotJson bytes
+FindsIn {A} shape bytes (Err fault.NotMessage) = HasBodyLength bytes → HasNone A shape bytes
+FindsIn shape bytes (Err fault.NoMemory) = HasBodyLength bytes
 
 -- ---- what a writer puts
 

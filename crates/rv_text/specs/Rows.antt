@@ -25,6 +25,9 @@ identifier name n = whole name members.identifiers n
 abbrev last : ℕ → Member
 last n = whole (codes "last") members.last_numbers n
 
+abbrev counted : List ℕ → ℕ → Member
+counted name n = whole name members.counted_numbers n
+
 abbrev item : List ℕ → Member
 item bytes = item_text (codes "item") bytes
 
@@ -44,6 +47,8 @@ side_row side = whole (codes "queue") members.queue_numbers (queue_of side) ∷ 
 abbrev pub wait_row : Option Wait → List Member
 wait_row None = []
 wait_row (Some wait.Now) = word (codes "wait") (codes "now") ∷ []
+wait_row (Some (wait.Millis millis)) = whole (codes "wait") members.wait_numbers millis ∷ []
+wait_row (Some wait.Forever) = word (codes "wait") (codes "forever") ∷ []
 
 abbrev pub item_row : Option (List ℕ) → List Member
 item_row None = []
@@ -65,13 +70,24 @@ message_row (message.Hello client incarnation) =
     []
 message_row (message.Request key call) =
     word (codes "kind") (codes "request") ∷ (key_row key ++ call_row call)
+message_row (message.Cancel key) = word (codes "kind") (codes "cancel") ∷ key_row key
 
 -- ---- answers
 
 abbrev pub reply_row : Reply → List Member
 reply_row reply.Done = word (codes "reply") (codes "done") ∷ []
+reply_row reply.Received = word (codes "reply") (codes "received") ∷ []
+reply_row reply.Nobody = word (codes "reply") (codes "nobody") ∷ []
 reply_row (reply.Item bytes) = word (codes "reply") (codes "item") ∷ item bytes ∷ []
 reply_row reply.Empty = word (codes "reply") (codes "empty") ∷ []
+reply_row reply.TimedOut = word (codes "reply") (codes "timedout") ∷ []
+reply_row reply.Cancelled = word (codes "reply") (codes "cancelled") ∷ []
+reply_row (reply.Counted items consumers) =
+    word (codes "reply") (codes "counted") ∷
+    counted (codes "items") items ∷
+    counted (codes "consumers") consumers ∷
+    []
+reply_row (reply.Peeked bytes) = word (codes "reply") (codes "peeked") ∷ item bytes ∷ []
 
 -- the refusals in the order in which a message is checked
 abbrev pub code_of : Refusal → ℕ
@@ -110,6 +126,7 @@ answer_row (answer.Welcome epoch client incarnation) =
     []
 answer_row (answer.Replied key reply) =
     word (codes "kind") (codes "reply") ∷ (key_row key ++ reply_row reply)
+answer_row (answer.Waiting key) = word (codes "kind") (codes "waiting") ∷ key_row key
 answer_row (answer.Refused refusal) =
     word (codes "kind") (codes "refused") ∷
     whole (codes "code") members.code_numbers (code_of refusal) ∷

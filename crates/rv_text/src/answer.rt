@@ -6,15 +6,31 @@ use crate::item::Item;
 use crate::message::{Key, MAX_IDENTIFIER, fits_identifier};
 use thiserror::Error;
 
+/// The greatest number that a count tells: as many items or consumers as an epoch can have.
+pub const MAX_COUNTED: u64 = 100_000;
+
 /// What became of a request. Once given, it stays the request's reply.
 #[derive(Debug, PartialEq, Eq, Drop)]
 pub enum Reply {
     /// A put was accepted.
     Done,
+    /// A transfer's item was given to a consumer.
+    Received,
+    /// A transfer that does not wait found no consumer.
+    Nobody,
     /// A take got this item.
     Item(Item),
-    /// A take found no item.
+    /// A take that does not wait, or a peek, found no item.
     Empty,
+    /// The request waited no longer than it may, and met nobody.
+    TimedOut,
+    /// The request waited and was ended, by a cancel or by its client's hello of a greater incarnation.
+    Cancelled,
+    /// How many items wait in the queue, those of puts and of transfers, and how many consumers: 0 to
+    /// 100,000 each.
+    Counted { items: u64, consumers: u64 },
+    /// A peek saw this item, the queue's oldest.
+    Peeked(Item),
 }
 
 /// Why a message was refused. Its number is [`Refusal::code`].
@@ -59,22 +75,28 @@ impl Reply {
     ghost use Rattle.rv_text.specs.Rows.{reply_row};
     ghost use Rattle.rv_text.specs.Limits.{FitsReply};
 
-    // How many members the reply has in a body: its word and its item.
-    fn member_count(&self) -> usize
+    // How many members the reply has in a body: its word, and its item or its numbers.
+    pub(crate) fn member_count(&self) -> usize
         ensures { result ≡ length (reply_row self.now) }
     {
         match self {
+            Reply::Counted { .. } => 3,
             Reply::Item(_) => 2,
+            Reply::Peeked(_) => 2,
             _ => 1,
         }
     }
 
-    /// Whether its item, if it has one, has at most 512 bytes.
+    /// Whether its item, if it has one, has at most 512 bytes, and its numbers are at most 100,000.
     pub fn fits(&self) -> bool
         ensures { IsTrue result ↔ FitsReply self.now }
     {
         match self {
             Reply::Item(item) => item.fits(),
+            Reply::Peeked(item) => item.fits(),
+            Reply::Counted { items, consumers } => {
+                *items <= MAX_COUNTED && *consumers <= MAX_COUNTED
+            }
             _ => true,
         }
     }
@@ -85,21 +107,16 @@ impl Refusal {
     ghost use Rattle.rv_text.specs.Limits.{FitsRefusal};
 
     // How many members the refusal has in a body beside its code.
-    fn detail_count(&self) -> usize
+    pub(crate) fn detail_count(&self) -> usize
         ensures { result ≡ length (detail_row self.now) }
     {
         match self {
-            Refusal::OtherEpoch(_)
-            | Refusal::OldIncarnation(_)
-            | Refusal::OldNumber(_)
-            | Refusal::Busy(_)
-            | Refusal::Gap(_) => 1,
-            Refusal::BadText
-            | Refusal::NoSession
-            | Refusal::OtherCall
-            | Refusal::ClientsFull
-            | Refusal::EpochFull
-            | Refusal::NoMemory => 0,
+            Refusal::OtherEpoch(_) => 1,
+            Refusal::OldIncarnation(_) => 1,
+            Refusal::OldNumber(_) => 1,
+            Refusal::Busy(_) => 1,
+            Refusal::Gap(_) => 1,
+            _ => 0,
         }
     }
 
@@ -114,12 +131,7 @@ impl Refusal {
             Refusal::Busy(number) => fits_identifier(*number),
             Refusal::OldNumber(last) => *last <= MAX_IDENTIFIER,
             Refusal::Gap(last) => *last <= MAX_IDENTIFIER,
-            Refusal::BadText
-            | Refusal::NoSession
-            | Refusal::OtherCall
-            | Refusal::ClientsFull
-            | Refusal::EpochFull
-            | Refusal::NoMemory => true,
+            _ => true,
         }
     }
 
@@ -157,24 +169,16 @@ pub enum Answer {
         key: Key,
         reply: Reply,
     },
+    /// The request of this key waits; what becomes of it is told when the message is sent again.
+    Waiting {
+        key: Key,
+    },
     /// The message was refused.
     Refused(Refusal),
 }
 
 impl Answer {
-    ghost use Rattle.rv_text.specs.Rows.{answer_row};
     ghost use Rattle.rv_text.specs.Limits.{FitsAnswer};
-
-    // How many members the answer has in its body.
-    pub(crate) fn member_count(&self) -> usize
-        ensures { result ≡ length (answer_row self.now) }
-    {
-        match self {
-            Answer::Welcome { .. } => 4,
-            Answer::Replied { reply, .. } => 5 + reply.member_count(),
-            Answer::Refused(refusal) => 2 + refusal.detail_count(),
-        }
-    }
 
     /// Whether every number and the item are within their limits.
     pub fn fits(&self) -> bool
@@ -189,6 +193,7 @@ impl Answer {
                 fits_identifier(*epoch) && fits_identifier(*client) && fits_identifier(*incarnation)
             }
             Answer::Replied { key, reply } => key.fits() && reply.fits(),
+            Answer::Waiting { key } => key.fits(),
             Answer::Refused(refusal) => refusal.fits(),
         }
     }

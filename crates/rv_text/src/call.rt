@@ -8,11 +8,18 @@ use std::alloc::Global;
 /// The greatest number of a queue; the least is 0.
 pub const MAX_QUEUE: u64 = 63;
 
+/// The most milliseconds that a request may wait: one day.
+pub const MAX_WAIT: u64 = 86_400_000;
+
 /// How long a request may wait for its partner.
 #[derive(Clone, Copy, Debug, PartialEq, Eq)]
 pub enum Wait {
     /// Not at all, as Java's untimed `poll`.
     Now,
+    /// At most so many milliseconds, 0 to 86,400,000; 0 are over at once, as in Java's timed `poll`.
+    Millis(u64),
+    /// Until it is met, cancelled, or its client says hello anew, as Java's `take`.
+    Forever,
 }
 
 /// What a request asks of a queue.
@@ -20,8 +27,14 @@ pub enum Wait {
 pub enum Call {
     /// Appends the item at the queue's tail and never waits (Java's `TransferQueue.put`).
     Put { queue: u64, item: Item },
-    /// Takes the queue's oldest item (Java's `poll`).
+    /// Hands the item over to a consumer, and may wait for one (Java's `transfer` and `tryTransfer`).
+    Transfer { queue: u64, item: Item, wait: Wait },
+    /// Takes the queue's oldest item, and may wait for one (Java's `take` and `poll`).
     Take { queue: u64, wait: Wait },
+    /// Counts the items and the consumers that are there.
+    Count { queue: u64 },
+    /// Shows the oldest item and removes nothing.
+    Peek { queue: u64 },
 }
 
 /// Where a call acts, and on which side of it: whom it may meet.
@@ -33,6 +46,23 @@ pub enum Side {
     Takes(u64),
     /// It looks at this queue, and meets nobody.
     Looks(u64),
+}
+
+impl Wait {
+    ghost use Rattle.std.specs.Prelude.{Some};
+    ghost use Rattle.rv_text.specs.Members.{AllWithin};
+    ghost use Rattle.rv_text.specs.Rows.{wait_row};
+
+    // Whether it is at most a day, or has no number.
+    fn fits(&self) -> bool
+        ensures { IsTrue result ↔ AllWithin (wait_row (Some self.now)) }
+    {
+        match self {
+            Wait::Millis(millis) => *millis <= MAX_WAIT,
+            Wait::Now => true,
+            Wait::Forever => true,
+        }
+    }
 }
 
 impl Side {
@@ -60,7 +90,10 @@ impl Call {
     {
         match self {
             Call::Put { queue, .. } => Side::Gives(*queue),
+            Call::Transfer { queue, .. } => Side::Gives(*queue),
             Call::Take { queue, .. } => Side::Takes(*queue),
+            Call::Count { queue } => Side::Looks(*queue),
+            Call::Peek { queue } => Side::Looks(*queue),
         }
     }
 
@@ -69,6 +102,7 @@ impl Call {
         ensures { result ≡ wait_of self.now }
     {
         match self {
+            Call::Transfer { wait, .. } => Some(*wait),
             Call::Take { wait, .. } => Some(*wait),
             _ => None,
         }
@@ -80,6 +114,7 @@ impl Call {
     {
         match self {
             Call::Put { item, .. } => Some(item),
+            Call::Transfer { item, .. } => Some(item),
             _ => None,
         }
     }
@@ -117,10 +152,13 @@ impl Call {
         2 + usize::from(self.wait().is_some()) + usize::from(self.item().is_some())
     }
 
-    /// Whether the queue is 0 to 63 and the item has at most 512 bytes.
+    /// Whether the queue is 0 to 63, the wait at most 86,400,000 milliseconds and the item of at most
+    /// 512 bytes.
     pub fn fits(&self) -> bool
         ensures { IsTrue result ↔ FitsCall self.now }
     {
-        self.side().fits() && self.item().is_none_or(Item::fits)
+        self.side().fits()
+            && self.wait().is_none_or(|wait| wait.fits())
+            && self.item().is_none_or(Item::fits)
     }
 }

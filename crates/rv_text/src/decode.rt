@@ -1,20 +1,17 @@
-//! The message whose body given bytes are, and their JSON value.
-ghost use Rattle.std.specs.Prelude.{◌≡◌, ◌⊎◌, ◌↔◌, IsTrue, IfOk, IfErr, OnOk, string_cmp};
-ghost use Rattle.std.specs.BTreeMap.{IsOrdered};
-ghost use Rattle.serde_json.specs.View.{view, members_view};
-ghost use Rattle.rv_text.specs.Bodies.{HasBodyLength, Reads, IsNotJson, IsMessageBody};
-ghost use Rattle.rv_text.specs.Reading.{FindsAmong, Unread, IsWhole, FindsAlone};
-ghost use Rattle.rv_text.specs.Reading.{message_among, messages};
+//! The message, answer or call whose body given bytes are.
+ghost use Rattle.std.specs.Prelude.{◌≡◌};
+ghost use Rattle.rv_text.specs.Bodies.{IsMessageBody, IsAnswerBody, Decodes};
+ghost use Rattle.rv_text.specs.Reading.{messages, answers};
 ghost use Rattle.rv_text.specs.declared.message.Message.{Message};
+ghost use Rattle.rv_text.specs.declared.answer.Answer.{Answer};
 
+use crate::answer::Answer;
+use crate::body::{Body, decode};
 use crate::fault::TextFault;
-use crate::members::{read_call, read_key, read_text, read_whole};
+use crate::members::{read_call, read_key, read_refusal, read_reply, read_text, read_whole};
 use crate::message::Message;
 use serde_json::{Map, Value};
 use std::alloc::Global;
-
-/// The most bytes that a body has; the least is 1.
-pub const MAX_BODY_BYTES: usize = 4096;
 
 /// The message whose body the bytes are.
 ///
@@ -23,89 +20,83 @@ pub const MAX_BODY_BYTES: usize = 4096;
 /// [`TextFault::NotMessage`]. A name that stands twice counts with its last value.
 /// [`TextFault::NoMemory`] comes only where a growth was refused.
 pub fn decode_message(alloc: Global, bytes: &[u8]) -> Result<Message, TextFault>
-    // With both: a message comes exactly where the bytes are its body, unless memory ran out.
-    ensures found { IfOk result (IsMessageBody bytes.now) }
-    ensures only { (m : Message) → IsMessageBody bytes.now m
-        → (result ≡ Ok m) ⊎ (result ≡ Err TextFault.NoMemory) }
-
-    ensures length_first { ¬ HasBodyLength bytes.now → result ≡ Err TextFault.NotMessage }
-
-    ensures not_json { result ≡ Err TextFault.NotJson
-        → HasBodyLength bytes.now × IsNotJson bytes.now }
-    ensures json_first { IsNotJson bytes.now → HasBodyLength bytes.now
-        → (result ≡ Err TextFault.NotJson) ⊎ (result ≡ Err TextFault.NoMemory) }
-
-    ensures not_message { result ≡ Err TextFault.NotMessage
-        → (m : Message) → ¬ IsMessageBody bytes.now m }
-    ensures is_json { result ≡ Err TextFault.NotMessage
-        → HasBodyLength bytes.now → ¬ IsNotJson bytes.now }
+    ensures { Decodes Message IsMessageBody bytes.now result }
 {
-    let value = read_value(alloc, bytes)?;
-    let members = value.as_object().ok_or(TextFault::NotMessage)?;
-    read_message(alloc, members)
+    decode::<Message>(alloc, bytes)
 }
 
-// The JSON value of bytes that have a body's length.
-pub(crate) fn read_value(alloc: Global, bytes: &[u8]) -> Result<Value, TextFault>
-    ensures value { IfOk result (λ value. HasBodyLength bytes.now × Reads bytes.now (view value)) }
-    ensures fault { IfErr result (Unread bytes.now) }
+/// The answer whose body the bytes are, as [`decode_message`] reads a message.
+pub fn decode_answer(alloc: Global, bytes: &[u8]) -> Result<Answer, TextFault>
+    ensures { Decodes Answer IsAnswerBody bytes.now result }
 {
-    if !has_body_length(bytes) {
-        return Err(TextFault::NotMessage);
+    decode::<Answer>(alloc, bytes)
+}
+
+impl Body for Message {
+    ghost shape = { messages };
+
+    fn read(alloc: Global, members: &Map<String, Value>) -> Result<Message, TextFault> {
+        match read_text(members, "kind")? {
+            "hello" => Ok(Message::Hello {
+                client: read_whole(members, "client")?,
+                incarnation: read_whole(members, "incarnation")?,
+            }),
+            "request" => Ok(Message::Request {
+                key: read_key(members)?,
+                call: read_call(alloc, members)?,
+            }),
+            "cancel" => Ok(Message::Cancel {
+                key: read_key(members)?,
+            }),
+            _ => Err(TextFault::NotMessage),
+        }
     }
-    read_json(alloc, bytes)
-}
 
-fn has_body_length(bytes: &[u8]) -> bool
-    ensures { IsTrue result ↔ HasBodyLength bytes.now }
-{
-    (1..=MAX_BODY_BYTES).contains(&bytes.len())
-}
+    fn member_count(&self) -> usize {
+        match self {
+            Message::Hello { .. } => 3,
+            Message::Request { call, .. } => 5 + call.member_count(),
+            Message::Cancel { .. } => 5,
+        }
+    }
 
-fn read_json(alloc: Global, bytes: &[u8]) -> Result<Value, TextFault>
-    ensures value { IfOk result (λ value. Reads bytes.now (view value)) }
-    ensures fault { IfErr result (λ fault. (fault ≡ TextFault.NoMemory)
-        ⊎ ((fault ≡ TextFault.NotJson) × IsNotJson bytes.now)) }
-{
-    match Value::from_slice(alloc, bytes) {
-        Ok(value) => Ok(value),
-        Err(error) if error.is_memory() => Err(TextFault::NoMemory),
-        Err(_) => Err(TextFault::NotJson),
+    fn is_within(&self) -> bool {
+        self.fits()
     }
 }
 
-fn read_message(alloc: Global, members: &Map<String, Value>) -> Result<Message, TextFault>
-    ensures alone { FindsAlone messages result (members_view members.now.entries) }
-    ensures ordered { OnOk result (IsOrdered string_cmp members.now) }
-{
-    let message = read_kind(alloc, members)?;
-    if !is_alone(members, &message) {
-        return Err(TextFault::NotMessage);
+impl Body for Answer {
+    ghost shape = { answers };
+
+    fn read(alloc: Global, members: &Map<String, Value>) -> Result<Answer, TextFault> {
+        match read_text(members, "kind")? {
+            "welcome" => Ok(Answer::Welcome {
+                epoch: read_whole(members, "epoch")?,
+                client: read_whole(members, "client")?,
+                incarnation: read_whole(members, "incarnation")?,
+            }),
+            "reply" => Ok(Answer::Replied {
+                key: read_key(members)?,
+                reply: read_reply(alloc, members)?,
+            }),
+            "waiting" => Ok(Answer::Waiting {
+                key: read_key(members)?,
+            }),
+            "refused" => Ok(Answer::Refused(read_refusal(members)?)),
+            _ => Err(TextFault::NotMessage),
+        }
     }
-    Ok(message)
-}
 
-// Whether an object that has the message's members has no others, and the message is within its limits.
-#[tactic(auto, using(crate::proofs::Steps::members_counted))]
-fn is_alone(members: &Map<String, Value>, message: &Message) -> bool
-    ensures alone { IsTrue result ↔ IsWhole messages (members_view members.now.entries) message.now }
-    ensures ordered { IsOrdered string_cmp members.now }
-{
-    members.len() == message.member_count() && message.fits()
-}
+    fn member_count(&self) -> usize {
+        match self {
+            Answer::Welcome { .. } => 4,
+            Answer::Replied { reply, .. } => 5 + reply.member_count(),
+            Answer::Waiting { .. } => 5,
+            Answer::Refused(refusal) => 2 + refusal.detail_count(),
+        }
+    }
 
-fn read_kind(alloc: Global, members: &Map<String, Value>) -> Result<Message, TextFault>
-    ensures { FindsAmong members.now result message_among }
-{
-    match read_text(members, "kind")? {
-        "hello" => Ok(Message::Hello {
-            client: read_whole(members, "client")?,
-            incarnation: read_whole(members, "incarnation")?,
-        }),
-        "request" => Ok(Message::Request {
-            key: read_key(members)?,
-            call: read_call(alloc, members)?,
-        }),
-        _ => Err(TextFault::NotMessage),
+    fn is_within(&self) -> bool {
+        self.fits()
     }
 }

@@ -66,6 +66,10 @@ fn put_message(
             put_key(members, alloc, key)?;
             put_call(members, alloc, call)
         }
+        Message::Cancel { key } => {
+            put_text(members, alloc, "kind", "cancel")?;
+            put_key(members, alloc, key)
+        }
     }
 }
 
@@ -78,10 +82,24 @@ fn put_call(members: &mut Map<String, Value>, alloc: Global, call: &Call) -> Res
             put_whole(members, alloc, "queue", *queue)?;
             put_item(members, alloc, item)
         }
+        Call::Transfer { queue, item, wait } => {
+            put_text(members, alloc, "call", "transfer")?;
+            put_whole(members, alloc, "queue", *queue)?;
+            put_wait(members, alloc, *wait)?;
+            put_item(members, alloc, item)
+        }
         Call::Take { queue, wait } => {
             put_text(members, alloc, "call", "take")?;
             put_whole(members, alloc, "queue", *queue)?;
             put_wait(members, alloc, *wait)
+        }
+        Call::Count { queue } => {
+            put_text(members, alloc, "call", "count")?;
+            put_whole(members, alloc, "queue", *queue)
+        }
+        Call::Peek { queue } => {
+            put_text(members, alloc, "call", "peek")?;
+            put_whole(members, alloc, "queue", *queue)
         }
     }
 }
@@ -91,6 +109,8 @@ fn put_wait(members: &mut Map<String, Value>, alloc: Global, wait: Wait) -> Resu
 {
     match wait {
         Wait::Now => put_text(members, alloc, "wait", "now"),
+        Wait::Millis(millis) => put_whole(members, alloc, "wait", millis),
+        Wait::Forever => put_text(members, alloc, "wait", "forever"),
     }
 }
 
@@ -123,6 +143,10 @@ fn put_answer(
             put_key(members, alloc, key)?;
             put_reply(members, alloc, reply)
         }
+        Answer::Waiting { key } => {
+            put_text(members, alloc, "kind", "waiting")?;
+            put_key(members, alloc, key)
+        }
         Answer::Refused(refusal) => {
             put_text(members, alloc, "kind", "refused")?;
             put_whole(members, alloc, "code", refusal.code())?;
@@ -145,11 +169,24 @@ fn put_reply(members: &mut Map<String, Value>, alloc: Global, reply: &Reply) -> 
 {
     match reply {
         Reply::Done => put_text(members, alloc, "reply", "done"),
+        Reply::Received => put_text(members, alloc, "reply", "received"),
+        Reply::Nobody => put_text(members, alloc, "reply", "nobody"),
         Reply::Item(item) => {
             put_text(members, alloc, "reply", "item")?;
             put_item(members, alloc, item)
         }
         Reply::Empty => put_text(members, alloc, "reply", "empty"),
+        Reply::TimedOut => put_text(members, alloc, "reply", "timedout"),
+        Reply::Cancelled => put_text(members, alloc, "reply", "cancelled"),
+        Reply::Counted { items, consumers } => {
+            put_text(members, alloc, "reply", "counted")?;
+            put_whole(members, alloc, "items", *items)?;
+            put_whole(members, alloc, "consumers", *consumers)
+        }
+        Reply::Peeked(item) => {
+            put_text(members, alloc, "reply", "peeked")?;
+            put_item(members, alloc, item)
+        }
     }
 }
 
@@ -167,12 +204,7 @@ fn put_detail(
         Refusal::OldNumber(last) => put_whole(members, alloc, "last", last),
         Refusal::Gap(last) => put_whole(members, alloc, "last", last),
         Refusal::Busy(number) => put_whole(members, alloc, "open", number),
-        Refusal::BadText
-        | Refusal::NoSession
-        | Refusal::OtherCall
-        | Refusal::ClientsFull
-        | Refusal::EpochFull
-        | Refusal::NoMemory => Ok(()),
+        _ => Ok(()),
     }
 }
 

@@ -2,7 +2,7 @@
 #![tactic(auto)]
 
 mod answer;
-mod answer_body;
+mod body;
 mod call;
 mod decode;
 mod encode;
@@ -12,10 +12,10 @@ pub mod laws;
 mod members;
 mod message;
 
-pub use answer::{Answer, Refusal, Reply};
-pub use answer_body::decode_answer;
-pub use call::{Call, MAX_QUEUE, Side, Wait};
-pub use decode::{MAX_BODY_BYTES, decode_message};
+pub use answer::{Answer, MAX_COUNTED, Refusal, Reply};
+pub use body::MAX_BODY_BYTES;
+pub use call::{Call, MAX_QUEUE, MAX_WAIT, Side, Wait};
+pub use decode::{decode_answer, decode_message};
 pub use encode::{BAD_TEXT_BODY, NO_MEMORY_BODY, encode_answer, encode_message};
 pub use fault::{NoMemory, TextFault};
 pub use item::Item;

@@ -3,7 +3,8 @@ ghost use Rattle.std.specs.Prelude.{◌≡◌, option_map};
 ghost use Rattle.serde_json.specs.Find.{get_member};
 ghost use Rattle.serde_json.specs.View.{view, members_view};
 ghost use Rattle.rv_text.specs.Reading.{FindsAmong, FindsSeenAmong, whole_among, text_among};
-ghost use Rattle.rv_text.specs.Reading.{queue_among, item_among, wait_among, key_among, call_among};
+ghost use Rattle.rv_text.specs.Reading.{queue_among, item_among, wait_word_among, wait_among};
+ghost use Rattle.rv_text.specs.Reading.{key_among, call_among};
 ghost use Rattle.rv_text.specs.Reading.{reply_among, refusal_among};
 
 use crate::answer::{Refusal, Reply};
@@ -56,8 +57,18 @@ fn read_item(alloc: Global, members: &Map<String, Value>) -> Result<Item, TextFa
 fn read_wait(members: &Map<String, Value>) -> Result<Wait, TextFault>
     ensures { FindsAmong members.now result wait_among }
 {
+    match member(members, "wait").and_then(Value::as_u64) {
+        Some(millis) => Ok(Wait::Millis(millis)),
+        None => read_wait_word(members),
+    }
+}
+
+fn read_wait_word(members: &Map<String, Value>) -> Result<Wait, TextFault>
+    ensures { FindsAmong members.now result wait_word_among }
+{
     match read_text(members, "wait")? {
         "now" => Ok(Wait::Now),
+        "forever" => Ok(Wait::Forever),
         _ => Err(TextFault::NotMessage),
     }
 }
@@ -81,9 +92,20 @@ pub(crate) fn read_call(alloc: Global, members: &Map<String, Value>) -> Result<C
             queue: read_queue(members)?,
             item: read_item(alloc, members)?,
         }),
+        "transfer" => Ok(Call::Transfer {
+            queue: read_queue(members)?,
+            item: read_item(alloc, members)?,
+            wait: read_wait(members)?,
+        }),
         "take" => Ok(Call::Take {
             queue: read_queue(members)?,
             wait: read_wait(members)?,
+        }),
+        "count" => Ok(Call::Count {
+            queue: read_queue(members)?,
+        }),
+        "peek" => Ok(Call::Peek {
+            queue: read_queue(members)?,
         }),
         _ => Err(TextFault::NotMessage),
     }
@@ -94,8 +116,17 @@ pub(crate) fn read_reply(alloc: Global, members: &Map<String, Value>) -> Result<
 {
     match read_text(members, "reply")? {
         "done" => Ok(Reply::Done),
+        "received" => Ok(Reply::Received),
+        "nobody" => Ok(Reply::Nobody),
         "item" => Ok(Reply::Item(read_item(alloc, members)?)),
         "empty" => Ok(Reply::Empty),
+        "timedout" => Ok(Reply::TimedOut),
+        "cancelled" => Ok(Reply::Cancelled),
+        "counted" => Ok(Reply::Counted {
+            items: read_whole(members, "items")?,
+            consumers: read_whole(members, "consumers")?,
+        }),
+        "peeked" => Ok(Reply::Peeked(read_item(alloc, members)?)),
         _ => Err(TextFault::NotMessage),
     }
 }

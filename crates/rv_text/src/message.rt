@@ -1,5 +1,5 @@
-//! What clients send: hellos, and requests with their keys.
-ghost use Rattle.std.specs.Prelude.{◌≡◌, IsTrue, ◌↔◌, length};
+//! What clients send: hellos, requests with their keys, and cancels.
+ghost use Rattle.std.specs.Prelude.{IsTrue, ◌↔◌};
 ghost use Rattle.rv_text.specs.Limits.{FitsIdentifier};
 
 use crate::call::Call;
@@ -27,6 +27,8 @@ pub enum Message {
     Hello { client: u64, incarnation: u64 },
     /// Asks for a call; the same key with the same call is a repeat.
     Request { key: Key, call: Call },
+    /// Ends the request of this key where it waits; it may also come before its request.
+    Cancel { key: Key },
 }
 
 impl Key {
@@ -43,18 +45,7 @@ impl Key {
 }
 
 impl Message {
-    ghost use Rattle.rv_text.specs.Rows.{message_row};
     ghost use Rattle.rv_text.specs.Limits.{FitsMessage};
-
-    // How many members the message has in its body.
-    pub(crate) fn member_count(&self) -> usize
-        ensures { result ≡ length (message_row self.now) }
-    {
-        match self {
-            Message::Hello { .. } => 3,
-            Message::Request { call, .. } => 5 + call.member_count(),
-        }
-    }
 
     /// Whether every number and the item are within their limits.
     pub fn fits(&self) -> bool
@@ -66,6 +57,7 @@ impl Message {
                 incarnation,
             } => { fits_identifier(*client) && fits_identifier(*incarnation) }
             Message::Request { key, call } => key.fits() && call.fits(),
+            Message::Cancel { key } => key.fits(),
         }
     }
 }

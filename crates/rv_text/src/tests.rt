@@ -1,375 +1,287 @@
-//! The texts of the format byte for byte, and what each bad input gives.
+//! The texts of the format byte for byte, and what each answer's body gives.
 use crate::{
-    Answer, BAD_TEXT_BODY, Call, Item, Key, Message, NO_MEMORY_BODY, Refusal, Reply, TextFault,
-    Wait, decode_answer, decode_message, encode_answer, encode_message,
+    Answer, BAD_TEXT_BODY, Call, Item, Key, Message, NO_MEMORY_BODY, Refusal, Reply, Side,
+    TextFault, Wait, decode_answer, decode_message, encode_answer, encode_message,
 };
 use std::alloc::{AllocError, AllocGlobal, Global};
 use std::process::Abort;
 use std::test::Fail;
 
-// The key of the client's first request.
-fn key(client: u64) -> Key {
-    Key {
-        epoch: 1,
-        client,
-        incarnation: 1,
-        number: 1,
-    }
-}
+const KEY: Key = Key {
+    epoch: 1,
+    client: 1,
+    incarnation: 1,
+    number: 1,
+};
 
-fn item(alloc: Global, text: &str) -> Result<Item, AllocError> {
-    Ok(Item::from_text(String::from_str(alloc, text)?))
-}
-
-fn replied(client: u64, reply: Reply) -> Answer {
-    Answer::Replied {
-        key: key(client),
-        reply,
-    }
-}
-
-// Asserts that the answer is within its limits, that its text is this, and that this is read back.
-fn is_answer(
-    rt: &(impl Abort + AllocGlobal),
-    answer: &Answer,
-    text: &str,
-) -> Result<(), TextFault> {
-    assert!(rt; answer.fits(), "{text}");
-    assert_eq!(rt; encode_answer(rt.alloc(), answer)?.as_str(), text);
-    let read = decode_answer(rt.alloc(), text.as_bytes())?;
-    assert!(rt; read == *answer, "{text}");
-    Ok(())
-}
-
-// The same of a message.
-fn is_message(
-    rt: &(impl Abort + AllocGlobal),
-    message: &Message,
-    text: &str,
-) -> Result<(), TextFault> {
-    assert!(rt; message.fits(), "{text}");
-    assert_eq!(rt; encode_message(rt.alloc(), message)?.as_str(), text);
-    let read = decode_message(rt.alloc(), text.as_bytes())?;
-    assert!(rt; read == *message, "{text}");
-    Ok(())
-}
+// The bodies of messages, and behind each what it is.
+const MESSAGES: &[&str] = &[
+    r#"{"client":1,"incarnation":1,"kind":"hello"}"#,
+    "Hello { client: 1, incarnation: 1 }",
+    r#"{"client":1,"epoch":1,"incarnation":1,"kind":"cancel","number":1}"#,
+    "Cancel",
+    r#"{"call":"put","client":1,"epoch":1,"incarnation":1,"item":"a","kind":"request","number":1,"queue":3}"#,
+    r#"Put { queue: 3, item: Item { text: "a" } }"#,
+    "{\"call\":\"transfer\",\"client\":1,\"epoch\":1,\"incarnation\":1,\"item\":\"a\",\
+        \"kind\":\"request\",\"number\":1,\"queue\":0,\"wait\":\"now\"}",
+    r#"Transfer { queue: 0, item: Item { text: "a" }, wait: Now }"#,
+    "{\"call\":\"take\",\"client\":1,\"epoch\":1,\"incarnation\":1,\
+        \"kind\":\"request\",\"number\":1,\"queue\":3,\"wait\":\"now\"}",
+    "Take { queue: 3, wait: Now }",
+    "{\"call\":\"take\",\"client\":1,\"epoch\":1,\"incarnation\":1,\
+        \"kind\":\"request\",\"number\":1,\"queue\":63,\"wait\":\"forever\"}",
+    "Take { queue: 63, wait: Forever }",
+    "{\"call\":\"take\",\"client\":1,\"epoch\":1,\"incarnation\":1,\
+        \"kind\":\"request\",\"number\":1,\"queue\":0,\"wait\":86400000}",
+    "Take { queue: 0, wait: Millis(86400000) }",
+    r#"{"call":"count","client":1,"epoch":1,"incarnation":1,"kind":"request","number":1,"queue":3}"#,
+    "Count { queue: 3 }",
+    r#"{"call":"peek","client":1,"epoch":1,"incarnation":1,"kind":"request","number":1,"queue":3}"#,
+    "Peek { queue: 3 }",
+];
 
 #[test]
-fn answers_are_written_and_read(rt: HostRuntime) -> Result<(), Fail> {
+fn messages_are_read_and_written(rt: HostRuntime) -> Result<(), Fail> {
     let alloc = rt.alloc();
-    let welcome = Answer::Welcome {
-        epoch: 1,
-        client: 1,
-        incarnation: 1,
-    };
-    let want = "{\"client\":1,\"epoch\":1,\"incarnation\":1,\"kind\":\"welcome\"}";
-    is_answer(&rt, &welcome, want)?;
-    let done = replied(1, Reply::Done);
-    let want = "{\"client\":1,\"epoch\":1,\"incarnation\":1,\"kind\":\"reply\",\"number\":1,\
-        \"reply\":\"done\"}";
-    is_answer(&rt, &done, want)?;
-    let taken = replied(2, Reply::Item(item(alloc, "a")?));
-    let want = "{\"client\":2,\"epoch\":1,\"incarnation\":1,\"item\":\"a\",\"kind\":\"reply\",\
-        \"number\":1,\"reply\":\"item\"}";
-    is_answer(&rt, &taken, want)?;
-    let empty = replied(2, Reply::Empty);
-    let want = "{\"client\":2,\"epoch\":1,\"incarnation\":1,\"kind\":\"reply\",\"number\":1,\
-        \"reply\":\"empty\"}";
-    is_answer(&rt, &empty, want)?;
-    Ok(())
-}
-
-#[test]
-fn refusals_are_written_and_read(rt: HostRuntime) -> Result<(), Fail> {
-    for (refusal, want) in [
-        (Refusal::BadText, BAD_TEXT_BODY),
-        (Refusal::BadText, "{\"code\":1,\"kind\":\"refused\"}"),
-        (
-            Refusal::OtherEpoch(2),
-            "{\"code\":2,\"current\":2,\"kind\":\"refused\"}",
-        ),
-        (Refusal::NoSession, "{\"code\":3,\"kind\":\"refused\"}"),
-        (
-            Refusal::OldIncarnation(2),
-            "{\"code\":4,\"current\":2,\"kind\":\"refused\"}",
-        ),
-        (
-            Refusal::OldNumber(2),
-            "{\"code\":5,\"kind\":\"refused\",\"last\":2}",
-        ),
-        (Refusal::OtherCall, "{\"code\":6,\"kind\":\"refused\"}"),
-        (
-            Refusal::Busy(2),
-            "{\"code\":7,\"kind\":\"refused\",\"open\":2}",
-        ),
-        (
-            Refusal::Gap(1),
-            "{\"code\":8,\"kind\":\"refused\",\"last\":1}",
-        ),
-        (Refusal::ClientsFull, "{\"code\":9,\"kind\":\"refused\"}"),
-        (Refusal::EpochFull, "{\"code\":10,\"kind\":\"refused\"}"),
-        (Refusal::NoMemory, "{\"code\":11,\"kind\":\"refused\"}"),
-        (Refusal::NoMemory, NO_MEMORY_BODY),
-    ] {
-        is_answer(&rt, &Answer::Refused(refusal), want)?;
-    }
-    Ok(())
-}
-
-#[test]
-fn items_are_escaped(rt: HostRuntime) -> Result<(), Fail> {
-    let alloc = rt.alloc();
-    let body = "{\"kind\":\"request\",\"epoch\":1,\"client\":1,\"incarnation\":1,\"number\":1,\
-        \"call\":\"put\",\"queue\":3,\"item\":\"\\u0001\\\"\\\\\\u00e9\"}";
-    let Message::Request {
-        call: Call::Put { item, .. },
-        ..
-    } = decode_message(alloc, body.as_bytes())?
-    else {
-        return Err(Fail::new("the body is no put"));
-    };
-    assert_eq!(rt; item.as_str(), "\u{1}\"\\é");
-    let answer = replied(2, Reply::Item(item.copy(alloc)?));
-    let want = "{\"client\":2,\"epoch\":1,\"incarnation\":1,\"item\":\"\\u0001\\\"\\\\é\",\
-        \"kind\":\"reply\",\"number\":1,\"reply\":\"item\"}";
-    assert_eq!(rt; encode_answer(alloc, &answer)?.as_str(), want);
-    Ok(())
-}
-
-#[test]
-fn hellos_are_read(rt: HostRuntime) -> Result<(), Fail> {
-    for body in [
-        "{\"client\":7,\"incarnation\":1,\"kind\":\"hello\"}",
-        "{ \"kind\":\"hello\", \"incarnation\":1, \"client\":7 }",
-        "\r\n\t {\"kind\" : \"h\\u0065llo\" ,\n\"incarnation\":1,\"client\":7}\t",
-        // The last of two counts.
-        "{\"client\":8,\"client\":7,\"incarnation\":1,\"kind\":\"hello\"}",
-    ] {
-        let hello = Message::Hello {
-            client: 7,
-            incarnation: 1,
+    for row in MESSAGES.chunks_exact(2) {
+        let [text, want] = row else {
+            return Err(Fail::new("a row of other than two"));
         };
-        let read = decode_message(rt.alloc(), body.as_bytes())?;
-        assert!(rt; read == hello, "{body}");
+        let message = decode_message(alloc, text.as_bytes())?;
+        assert!(rt; message.fits(), "{text}");
+        assert_eq!(rt; encode_message(alloc, &message)?.as_str(), *text);
+        let found = match &message {
+            Message::Request { key, call } => {
+                assert_eq!(rt; *key, KEY);
+                format!(in alloc; "{call:?}")?
+            }
+            Message::Cancel { key } => {
+                assert_eq!(rt; *key, KEY);
+                String::from_str(alloc, "Cancel")?
+            }
+            other => format!(in alloc; "{other:?}")?,
+        };
+        assert_eq!(rt; found.as_str(), *want);
     }
-    let body = "{\"client\":9007199254740991,\"incarnation\":9007199254740991,\"kind\":\"hello\"}";
-    let greatest = Message::Hello {
-        client: 9_007_199_254_740_991,
-        incarnation: 9_007_199_254_740_991,
-    };
-    assert!(rt; decode_message(rt.alloc(), body.as_bytes())? == greatest);
     Ok(())
 }
+
+// The bodies of answers, and behind each what it is.
+const ANSWERS: &[&str] = &[
+    r#"{"client":1,"epoch":1,"incarnation":1,"kind":"welcome"}"#,
+    "Welcome { epoch: 1, client: 1, incarnation: 1 }",
+    r#"{"client":1,"epoch":1,"incarnation":1,"kind":"waiting","number":1}"#,
+    "Waiting",
+    r#"{"client":1,"epoch":1,"incarnation":1,"kind":"reply","number":1,"reply":"done"}"#,
+    "Done",
+    r#"{"client":1,"epoch":1,"incarnation":1,"kind":"reply","number":1,"reply":"received"}"#,
+    "Received",
+    r#"{"client":1,"epoch":1,"incarnation":1,"kind":"reply","number":1,"reply":"nobody"}"#,
+    "Nobody",
+    r#"{"client":1,"epoch":1,"incarnation":1,"item":"a","kind":"reply","number":1,"reply":"item"}"#,
+    r#"Item(Item { text: "a" })"#,
+    "{\"client\":1,\"epoch\":1,\"incarnation\":1,\"item\":\"\\u0001\\\"\\\\é\",\"kind\":\"reply\",\
+        \"number\":1,\"reply\":\"item\"}",
+    "Item(Item { text: \"\\u{1}\\\"\\\\é\" })",
+    r#"{"client":1,"epoch":1,"incarnation":1,"kind":"reply","number":1,"reply":"empty"}"#,
+    "Empty",
+    r#"{"client":1,"epoch":1,"incarnation":1,"kind":"reply","number":1,"reply":"timedout"}"#,
+    "TimedOut",
+    r#"{"client":1,"epoch":1,"incarnation":1,"kind":"reply","number":1,"reply":"cancelled"}"#,
+    "Cancelled",
+    "{\"client\":1,\"consumers\":0,\"epoch\":1,\"incarnation\":1,\"items\":3,\"kind\":\"reply\",\
+        \"number\":1,\"reply\":\"counted\"}",
+    "Counted { items: 3, consumers: 0 }",
+    r#"{"client":1,"epoch":1,"incarnation":1,"item":"","kind":"reply","number":1,"reply":"peeked"}"#,
+    r#"Peeked(Item { text: "" })"#,
+    BAD_TEXT_BODY,
+    "BadText",
+    r#"{"code":1,"kind":"refused"}"#,
+    "BadText",
+    r#"{"code":2,"current":2,"kind":"refused"}"#,
+    "OtherEpoch(2)",
+    r#"{"code":3,"kind":"refused"}"#,
+    "NoSession",
+    r#"{"code":4,"current":2,"kind":"refused"}"#,
+    "OldIncarnation(2)",
+    r#"{"code":5,"kind":"refused","last":2}"#,
+    "OldNumber(2)",
+    r#"{"code":6,"kind":"refused"}"#,
+    "OtherCall",
+    r#"{"code":7,"kind":"refused","open":2}"#,
+    "Busy(2)",
+    r#"{"code":8,"kind":"refused","last":1}"#,
+    "Gap(1)",
+    r#"{"code":9,"kind":"refused"}"#,
+    "ClientsFull",
+    r#"{"code":10,"kind":"refused"}"#,
+    "EpochFull",
+    r#"{"code":11,"kind":"refused"}"#,
+    "NoMemory",
+    NO_MEMORY_BODY,
+    "NoMemory",
+];
 
 #[test]
-fn messages_are_written_and_read(rt: HostRuntime) -> Result<(), Fail> {
+fn answers_are_read_and_written(rt: HostRuntime) -> Result<(), Fail> {
     let alloc = rt.alloc();
-    let hello = Message::Hello {
-        client: 1,
-        incarnation: 1,
-    };
-    let body = "{\"client\":1,\"incarnation\":1,\"kind\":\"hello\"}";
-    is_message(&rt, &hello, body)?;
-    let body = "{\"call\":\"put\",\"client\":1,\"epoch\":1,\"incarnation\":1,\"item\":\"a\",\
-        \"kind\":\"request\",\"number\":1,\"queue\":3}";
-    let put = Message::Request {
-        key: key(1),
-        call: Call::Put {
-            queue: 3,
-            item: item(alloc, "a")?,
-        },
-    };
-    is_message(&rt, &put, body)?;
-    let body = "{\"call\":\"take\",\"client\":2,\"epoch\":1,\"incarnation\":1,\
-        \"kind\":\"request\",\"number\":1,\"queue\":3,\"wait\":\"now\"}";
-    let take = Message::Request {
-        key: key(2),
-        call: Call::Take {
-            queue: 3,
-            wait: Wait::Now,
-        },
-    };
-    is_message(&rt, &take, body)?;
+    for row in ANSWERS.chunks_exact(2) {
+        let [text, want] = row else {
+            return Err(Fail::new("a row of other than two"));
+        };
+        let answer = decode_answer(alloc, text.as_bytes())?;
+        assert!(rt; answer.fits(), "{text}");
+        assert_eq!(rt; encode_answer(alloc, &answer)?.as_str(), *text);
+        let found = match &answer {
+            Answer::Replied { key, reply } => {
+                assert!(rt; *key == KEY && reply.fits());
+                format!(in alloc; "{reply:?}")?
+            }
+            Answer::Waiting { key } => {
+                assert_eq!(rt; *key, KEY);
+                String::from_str(alloc, "Waiting")?
+            }
+            Answer::Refused(refusal) => format!(in alloc; "{refusal:?}")?,
+            other => format!(in alloc; "{other:?}")?,
+        };
+        assert_eq!(rt; found.as_str(), *want);
+    }
     Ok(())
 }
 
-const HELLO: &[u8] = b"{\"client\":7,\"incarnation\":1,\"kind\":\"hello\"}";
+// What stands before the word of a reply and before its item's text, and before a refusal's code.
+const REPLY: &[u8] = br#"{"client":1,"epoch":1,"incarnation":1,"kind":"reply","number":1,"reply":"#;
 
-// What follows the client in a hello, the queue in a take, and what stands before the item's text in
-// a put.
-const REST: &[u8] = b",\"incarnation\":1,\"kind\":\"hello\"}";
+const TAKEN: &[u8] =
+    br#"{"client":1,"epoch":1,"incarnation":1,"kind":"reply","number":1,"reply":"item","item":""#;
 
-const TAKE_REST: &[u8] = b",\"call\":\"take\",\"client\":2,\"epoch\":1,\"incarnation\":1,\
-    \"kind\":\"request\",\"number\":1,\"wait\":\"now\"}";
+const PEEKED: &[u8] =
+    br#"{"client":1,"epoch":1,"incarnation":1,"kind":"reply","number":1,"reply":"peeked","item":""#;
 
-const PUT: &[u8] = b"{\"call\":\"put\",\"client\":1,\"epoch\":1,\"incarnation\":1,\
-    \"kind\":\"request\",\"number\":1,\"queue\":3,\"item\":\"";
+const REFUSED: &[u8] = br#"{"kind":"refused","code":"#;
 
-// A body, as its pieces, each as often as its number says.
-type Input = (&'static str, &'static [(&'static [u8], usize)]);
+// A text: what it begins with, what then stands so many times, and its end.
+type Input = (&'static [u8], &'static [u8], usize, &'static [u8]);
 
-// Bodies of messages.
-const MESSAGES: &[Input] = &[
-    ("a hello", &[(HELLO, 1)]),
-    ("4,096 bytes", &[(HELLO, 1), (b" ", 4053)]),
-    ("twice", &[(b"{\"client\":0,\"client\":7", 1), (REST, 1)]),
-    ("surrogates", &[(PUT, 1), (b"\\ud83d\\ude00\"}", 1)]),
-    ("512 bytes", &[(PUT, 1), (b"x", 512), (b"\"}", 1)]),
-    ("queue 63", &[(b"{\"queue\":63", 1), (TAKE_REST, 1)]),
+// Bodies of answers.
+const GOOD: &[Input] = &[
+    (b" \t\r\n", REPLY, 1, b" \"done\" } "),
+    (REPLY, b" ", 4017, b"\"done\"}"),
+    (REFUSED, b"", 0, b"8,\"last\":0}"),
+    (REFUSED, b"", 0, b"5,\"last\":9007199254740991}"),
+    (TAKEN, b"x", 512, b"\"}"),
+    (PEEKED, b"x", 512, b"\"}"),
+    (
+        REPLY,
+        b"",
+        0,
+        b"\"counted\",\"items\":100000,\"consumers\":100000}",
+    ),
 ];
 
 // Not JSON.
 const NO_JSON: &[Input] = &[
-    ("not UTF-8", &[(b"{\"x\xff\":1,\"client\":7", 1), (REST, 1)]),
-    ("128 arrays", &[(b"[", 128), (b"]", 128)]),
-    ("a lone surrogate", &[(PUT, 1), (b"\\ud800\"}", 1)]),
+    (b"{\"\xff\":1}", b"", 0, b""),
+    (REPLY, b"\"done\"}", 2, b""),
 ];
 
-// JSON, or too long, and no message.
-const NO_MESSAGES: &[Input] = &[
-    ("no bytes", &[]),
-    ("4,097 bytes", &[(HELLO, 1), (b" ", 4054)]),
-    ("4,097 bytes that are no JSON", &[(b"?", 4097)]),
-    ("127 arrays", &[(b"[", 127), (b"]", 127)]),
-    ("client 1.0", &[(b"{\"client\":1.0", 1), (REST, 1)]),
-    ("client -0", &[(b"{\"client\":-0", 1), (REST, 1)]),
-    ("client 0", &[(b"{\"client\":0", 1), (REST, 1)]),
-    (
-        "client 2^53",
-        &[(b"{\"client\":9007199254740992", 1), (REST, 1)],
-    ),
-    ("member x", &[(b"{\"x\":1,\"client\":7", 1), (REST, 1)]),
-    ("missing", &[(b"{\"client\":7,\"kind\":\"hello\"}", 1)]),
-    ("513 bytes", &[(PUT, 1), (b"x", 513), (b"\"}", 1)]),
-    ("257 escapes", &[(PUT, 1), (b"\\u00e9", 257), (b"\"}", 1)]),
-    ("queue 64", &[(b"{\"queue\":64", 1), (TAKE_REST, 1)]),
-    (
-        "a take with an item",
-        &[(b"{\"item\":\"\",\"queue\":3", 1), (TAKE_REST, 1)],
-    ),
-];
-
-const DONE: &[u8] = b"{\"client\":1,\"epoch\":1,\"incarnation\":1,\"kind\":\"reply\",\"number\":1,\
-    \"reply\":\"done\"}";
-
-// What stands before the word of a reply, before the text of a reply's item, and before a refusal's
-// code.
-const REPLY: &[u8] = b"{\"client\":1,\"epoch\":1,\"incarnation\":1,\"kind\":\"reply\",\"number\":1,\
-    \"reply\":";
-
-const TAKEN: &[u8] = b"{\"client\":1,\"epoch\":1,\"incarnation\":1,\"kind\":\"reply\",\"number\":1,\
-    \"reply\":\"item\",\"item\":\"";
-
-const REFUSED: &[u8] = b"{\"kind\":\"refused\",\"code\":";
-
-// Bodies of answers.
-const ANSWERS: &[Input] = &[
-    ("a reply", &[(DONE, 1)]),
-    ("4,096 bytes", &[(DONE, 1), (b" ", 4017)]),
-    ("code 1", &[(REFUSED, 1), (b"1}", 1)]),
-    ("code 11", &[(REFUSED, 1), (b"11}", 1)]),
-    ("last 0", &[(REFUSED, 1), (b"8,\"last\":0}", 1)]),
-    (
-        "the greatest last",
-        &[(REFUSED, 1), (b"5,\"last\":9007199254740991}", 1)],
-    ),
-    ("512 bytes", &[(TAKEN, 1), (b"x", 512), (b"\"}", 1)]),
-];
-
-// Where an answer is wanted, not JSON.
-const NO_JSON_FOR_ANSWERS: &[Input] = &[
-    ("not UTF-8", &[(b"{\"\xff\":1}", 1)]),
-    ("128 arrays", &[(b"[", 128), (b"]", 128)]),
-];
-
-// JSON, or too long, and no answer.
+// JSON, or of another length than a body's, and no answer.
 const NO_ANSWERS: &[Input] = &[
-    ("no bytes", &[]),
-    ("4,097 bytes", &[(DONE, 1), (b" ", 4018)]),
-    ("4,097 bytes that are no JSON", &[(b"?", 4097)]),
-    ("127 arrays", &[(b"[", 127), (b"]", 127)]),
-    ("a message", &[(HELLO, 1)]),
-    ("code 0", &[(REFUSED, 1), (b"0}", 1)]),
-    ("code 1.0", &[(REFUSED, 1), (b"1.0}", 1)]),
-    ("code \"1\"", &[(REFUSED, 1), (b"\"1\"}", 1)]),
-    ("code 12", &[(REFUSED, 1), (b"12}", 1)]),
-    ("no code", &[(b"{\"kind\":\"refused\"}", 1)]),
-    ("a missing detail", &[(REFUSED, 1), (b"2}", 1)]),
-    ("other detail", &[(REFUSED, 1), (b"2,\"last\":2}", 1)]),
+    (b"", b"", 0, b""),
+    (REPLY, b" ", 4018, b"\"done\"}"),
+    (b"", b"?", 4097, b""),
     (
-        "two details",
-        &[(REFUSED, 1), (b"2,\"current\":2,\"last\":2}", 1)],
+        b"{\"client\":1,\"incarnation\":1,",
+        b"",
+        0,
+        b"\"kind\":\"hello\"}",
     ),
-    ("a detail", &[(REFUSED, 1), (b"3,\"current\":2}", 1)]),
-    ("current 0", &[(REFUSED, 1), (b"4,\"current\":0}", 1)]),
-    ("open 0", &[(REFUSED, 1), (b"7,\"open\":0}", 1)]),
+    (b"{\"kind\":\"refused\"}", b"", 0, b""),
+    (REFUSED, b"", 0, b"0}"),
+    (REFUSED, b"", 0, b"1.0}"),
+    (REFUSED, b"", 0, b"\"1\"}"),
+    (REFUSED, b"", 0, b"12}"),
+    (REFUSED, b"", 0, b"2}"),
+    (REFUSED, b"", 0, b"2,\"last\":2}"),
+    (REFUSED, b"", 0, b"2,\"current\":2,\"last\":2}"),
+    (REFUSED, b"", 0, b"3,\"current\":2}"),
+    (REFUSED, b"", 0, b"4,\"current\":0}"),
+    (REFUSED, b"", 0, b"7,\"open\":0}"),
+    (REFUSED, b"", 0, b"5,\"last\":9007199254740992}"),
+    (REPLY, b"", 0, b"\"put\"}"),
+    (REPLY, b"", 0, b"\"item\"}"),
+    (REPLY, b"", 0, b"\"peeked\"}"),
+    (REPLY, b"", 0, b"\"done\",\"item\":\"\"}"),
+    (REPLY, b"", 0, b"\"counted\",\"items\":3}"),
     (
-        "last 2^53",
-        &[(REFUSED, 1), (b"5,\"last\":9007199254740992}", 1)],
+        REPLY,
+        b"",
+        0,
+        b"\"counted\",\"consumers\":0,\"items\":100001}",
     ),
-    ("a word of no reply", &[(REPLY, 1), (b"\"put\"}", 1)]),
-    ("no item", &[(REPLY, 1), (b"\"item\"}", 1)]),
-    ("done, item", &[(REPLY, 1), (b"\"done\",\"item\":\"\"}", 1)]),
-    ("513 bytes", &[(TAKEN, 1), (b"x", 513), (b"\"}", 1)]),
+    (
+        REPLY,
+        b"",
+        0,
+        b"\"counted\",\"consumers\":100001,\"items\":0}",
+    ),
+    (TAKEN, b"x", 513, b"\"}"),
+    (PEEKED, b"\\u00e9", 257, b"\"}"),
 ];
 
-fn joined(alloc: Global, pieces: &[(&[u8], usize)]) -> Result<Vec<u8>, AllocError> {
-    let mut body = Vec::new(alloc);
-    for (piece, times) in pieces {
-        for _ in 0..*times {
-            body.extend_from_slice(piece)?;
-        }
-    }
-    Ok(body)
-}
-
-// Asserts what the decoder of messages gives for each of these.
-fn messages_give(
-    rt: &(impl Abort + AllocGlobal),
-    inputs: &[Input],
-    want: Option<TextFault>,
-) -> Result<(), AllocError> {
-    for (name, pieces) in inputs {
-        let body = joined(rt.alloc(), pieces)?;
-        let found = decode_message(rt.alloc(), body.as_slice()).err();
-        assert_eq!(rt; found, want, "{name}");
+#[test]
+fn each_input_has_its_result(rt: HostRuntime) -> Result<(), Fail> {
+    answers_give(&rt, GOOD, None)?;
+    answers_give(&rt, NO_JSON, Some(TextFault::NotJson))?;
+    answers_give(&rt, NO_ANSWERS, Some(TextFault::NotMessage))?;
+    for (depth, want) in [(127, TextFault::NotMessage), (128, TextFault::NotJson)] {
+        let mut body = "[".repeat(rt.alloc(), depth)?;
+        body.push_str("]".repeat(rt.alloc(), depth)?.as_str())?;
+        let found = decode_answer(rt.alloc(), body.as_bytes()).err();
+        assert_eq!(rt; found, Some(want));
     }
     Ok(())
 }
 
-// Asserts what the decoder of answers gives for each of these.
+// Asserts what the decoder gives for each of these.
 fn answers_give(
     rt: &(impl Abort + AllocGlobal),
     inputs: &[Input],
     want: Option<TextFault>,
 ) -> Result<(), AllocError> {
-    for (name, pieces) in inputs {
-        let body = joined(rt.alloc(), pieces)?;
+    for (front, piece, times, end) in inputs {
+        let mut body = Vec::from_slice(rt.alloc(), front)?;
+        for _ in 0..*times {
+            body.extend_from_slice(piece)?;
+        }
+        body.extend_from_slice(end)?;
         let found = decode_answer(rt.alloc(), body.as_slice()).err();
-        assert_eq!(rt; found, want, "{name}");
+        assert_eq!(rt; found, want, "{front:?} {end:?}");
     }
     Ok(())
 }
 
+// Values that no body has, and what a call is.
 #[test]
-fn each_input_has_its_result(rt: HostRuntime) -> Result<(), Fail> {
-    messages_give(&rt, MESSAGES, None)?;
-    messages_give(&rt, NO_JSON, Some(TextFault::NotJson))?;
-    messages_give(&rt, NO_MESSAGES, Some(TextFault::NotMessage))?;
-    answers_give(&rt, ANSWERS, None)?;
-    answers_give(&rt, NO_JSON_FOR_ANSWERS, Some(TextFault::NotJson))?;
-    answers_give(&rt, NO_ANSWERS, Some(TextFault::NotMessage))?;
-    Ok(())
-}
-
-#[test]
-fn answers_know_their_limits(rt: HostRuntime) -> Result<(), Fail> {
-    let long = joined(rt.alloc(), &[(b"x", 513)])?;
-    let text = String::from_str(rt.alloc(), str::from_utf8(long.as_slice())?)?;
-    let taken = Reply::Item(Item::from_text(text));
-    assert!(rt; !taken.fits());
-    assert!(rt; !replied(1, taken).fits());
-    assert!(rt; !replied(0, Reply::Empty).fits());
+fn values_know_their_limits(rt: HostRuntime) -> Result<(), Fail> {
+    let mut text = String::new(rt.alloc());
+    for _ in 0..513 {
+        text.push('x')?;
+    }
+    let item = Item::from_text(text);
+    let call = Call::Transfer {
+        queue: 64,
+        item: item.copy(rt.alloc())?,
+        wait: Wait::Forever,
+    };
+    assert!(rt; call.is_same(&call) && !call.fits());
+    assert_eq!(rt; call.side(), Side::Gives(64));
+    assert_eq!(rt; call.wait(), Some(Wait::Forever));
+    assert_eq!(rt; call.item().map(|item| item.as_str().len()), Some(513));
+    assert!(rt; !Reply::Peeked(item).fits());
+    let key = Key { epoch: 0, ..KEY };
+    assert!(rt; !key.fits() && !Answer::Waiting { key }.fits() && !Message::Cancel { key }.fits());
+    assert_eq!(rt; Refusal::Gap(0).code(), 8);
     for (refusal, want) in [
         (Refusal::OtherEpoch(0), false),
         (Refusal::Busy(9_007_199_254_740_992), false),
@@ -377,56 +289,25 @@ fn answers_know_their_limits(rt: HostRuntime) -> Result<(), Fail> {
         (Refusal::OldNumber(9_007_199_254_740_992), false),
     ] {
         assert_eq!(rt; refusal.fits(), want);
-        assert_eq!(rt; Answer::Refused(refusal).fits(), want);
     }
     Ok(())
 }
 
-// With ample memory these four calls succeed, as the tests above show. Under `rt try --test
-// --fail-alloc N` the Nth growth is refused, and then they answer want of memory and nothing else.
+// With ample memory these calls succeed, as the tests above show. Under `rt try --test --fail-alloc N`
+// the Nth growth is refused, and then the call that wanted it answers want of memory and nothing else.
 #[test]
-fn a_refused_growth_of_decode_message(rt: HostRuntime) {
-    let body =
-        b"{\"call\":\"put\",\"client\":1,\"epoch\":1,\"incarnation\":1,\"item\":\"a\\u0041\",\
+fn a_refused_growth_is_told(rt: HostRuntime) {
+    if let Err(fault) = all_calls(rt.alloc()) {
+        assert_eq!(rt; fault, TextFault::NoMemory);
+    }
+}
+
+fn all_calls(alloc: Global) -> Result<(), TextFault> {
+    let put = b"{\"call\":\"put\",\"client\":1,\"epoch\":1,\"incarnation\":1,\"item\":\"a\\u0041\",\
         \"kind\":\"request\",\"number\":1,\"queue\":3}";
-    match decode_message(rt.alloc(), body) {
-        Ok(message) => assert!(rt; message.fits()),
-        Err(fault) => assert_eq!(rt; fault, TextFault::NoMemory),
-    }
-}
-
-#[test]
-fn a_refused_growth_of_encode_answer(rt: HostRuntime) {
-    let Ok(item) = item(rt.alloc(), "a") else {
-        return;
-    };
-    let answer = replied(2, Reply::Item(item));
-    if let Ok(body) = encode_answer(rt.alloc(), &answer) {
-        assert!(rt; body.as_str().ends_with("\"reply\":\"item\"}"));
-    }
-}
-
-#[test]
-fn a_refused_growth_of_decode_answer(rt: HostRuntime) {
-    let body =
-        b"{\"client\":1,\"epoch\":1,\"incarnation\":1,\"item\":\"a\\u0041\",\"kind\":\"reply\",\
-        \"number\":1,\"reply\":\"item\"}";
-    match decode_answer(rt.alloc(), body) {
-        Ok(answer) => assert!(rt; answer.fits()),
-        Err(fault) => assert_eq!(rt; fault, TextFault::NoMemory),
-    }
-}
-
-#[test]
-fn a_refused_growth_of_encode_message(rt: HostRuntime) {
-    let Ok(item) = item(rt.alloc(), "a") else {
-        return;
-    };
-    let message = Message::Request {
-        key: key(1),
-        call: Call::Put { queue: 3, item },
-    };
-    if let Ok(body) = encode_message(rt.alloc(), &message) {
-        assert!(rt; body.as_str().ends_with("\"number\":1,\"queue\":3}"));
-    }
+    encode_message(alloc, &decode_message(alloc, put)?)?;
+    let taken = b"{\"client\":1,\"epoch\":1,\"incarnation\":1,\"item\":\"a\\u0041\",\
+        \"kind\":\"reply\",\"number\":1,\"reply\":\"item\"}";
+    encode_answer(alloc, &decode_answer(alloc, taken)?)?;
+    Ok(())
 }

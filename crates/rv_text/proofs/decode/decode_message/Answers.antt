@@ -1,21 +1,8 @@
--- The value that was read is an object, whose readers have answered.
-use Rattle.std.proofs.Common.{option_map, sym, ap, ◌∙◌}
-use Rattle.serde_json.specs.View.{view, members_view}
+-- What is found among the members is what the bytes are the body of.
 use Rattle.rv_text.specs.Reading.{messages}
 use Rattle.rv_text.proofs.Readers.{message_reader}
-use Rattle.rv_text.proofs.Decoding.{as_object_is, decoded, decodes}
+use Rattle.rv_text.proofs.Decoding.{decodes}
 use Rattle.rv_text.proofs.decode.decode_message.Goals as goal
 
-pub returns-clause-found : goal.returns-clause-found
-returns-clause-found c =
-    let value = view c.in_ok-value.value in
-    let map = c.in_ok-members.members.now in
-    let object_read = as_object_is value (members_view map.entries) (sym c.as_object.ensures ∙ ap (option_map (λ m. members_view m.now.entries)) c.in_ok-members.ensures.ok_part) in
-    decoded _ messages message_reader c.args.bytes.now value map object_read c.in_ok-value.ensures.value.1 c.read_message.result c.in_ok-value.ensures.value.0 c.read_message.ensures.alone c.read_message.ensures.ordered
-
-pub returns-clause-only : goal.returns-clause-only
-returns-clause-only c =
-    let value = view c.in_ok-value.value in
-    let map = c.in_ok-members.members.now in
-    let object_read = as_object_is value (members_view map.entries) (sym c.as_object.ensures ∙ ap (option_map (λ m. members_view m.now.entries)) c.in_ok-members.ensures.ok_part) in
-    decodes _ messages message_reader c.args.bytes.now value map object_read c.in_ok-value.ensures.value.1 c.read_message.result c.read_message.ensures.alone
+pub returns : goal.returns
+returns c = decodes _ messages message_reader c.args.bytes.now c.decode.result c.decode.ensures
