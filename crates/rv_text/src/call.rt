@@ -138,10 +138,20 @@ impl Call {
                     item,
                 })
             }
+            Call::Transfer { queue, item, wait } => {
+                let item = item.copy(alloc)?;
+                Ok(Call::Transfer {
+                    queue: *queue,
+                    item,
+                    wait: *wait,
+                })
+            }
             Call::Take { queue, wait } => Ok(Call::Take {
                 queue: *queue,
                 wait: *wait,
             }),
+            Call::Count { queue } => Ok(Call::Count { queue: *queue }),
+            Call::Peek { queue } => Ok(Call::Peek { queue: *queue }),
         }
     }
 
