@@ -1,6 +1,6 @@
 //! A plain, slow reading of accounts, each rule by its formula over places, and what it says of accounts that
 //! are broken by hand.
-use crate::line::{Line, count, hello, put, take, transfer};
+use crate::line::{Line, cancel, count, hello, put, take, transfer};
 use rv_book::{Account, Act, Entry, Place};
 use rv_text::{Call, Key, NoMemory, Side, Wait};
 use std::alloc::{AllocGlobal, Global};
@@ -15,9 +15,10 @@ pub(crate) enum Rule {
     M1,
     /// A hello's incarnation is above those of its client's earlier hellos.
     N1,
-    /// An arrival has the account's epoch and the incarnation of its client's last hello.
+    /// An arrival or a cancel has the account's epoch and the incarnation of its client's last hello.
     N2,
-    /// An arrival has its session's next number, and none of its session's waits.
+    /// An arrival has its session's next number, and none of its session's waits; a cancel too, or it names
+    /// the request that waits there.
     N3,
     /// Only a call that gives or takes names a partner: an earlier place that met nobody yet.
     P1,
@@ -46,6 +47,7 @@ fn first_broken(account: &Account, place: Place, entry: &Entry) -> Option<Rule> 
             incarnation,
         } => (broken_by_hello(account, place, *client, *incarnation), None),
         Act::Arrive { key, call } => (broken_by_key(account, place, key), opposite(call.side())),
+        Act::Cancel { key } => (broken_by_cancel(account, place, key), None),
     };
     broken_by_moment(account, place, entry.moment)
         .or(numbers)
@@ -56,6 +58,14 @@ fn first_broken(account: &Account, place: Place, entry: &Entry) -> Option<Rule> 
 fn arrival_at(account: &Account, place: Place) -> Option<(&Key, &Call)> {
     match &account.entry(place)?.act {
         Act::Arrive { key, call } => Some((key, call)),
+        Act::Hello { .. } | Act::Cancel { .. } => None,
+    }
+}
+
+// The key that the entry at a place names, if it is an arrival or a cancel.
+fn key_at(account: &Account, place: Place) -> Option<&Key> {
+    match &account.entry(place)?.act {
+        Act::Arrive { key, .. } | Act::Cancel { key } => Some(key),
         Act::Hello { .. } => None,
     }
 }
@@ -92,8 +102,8 @@ fn broken_by_hello(account: &Account, place: Place, client: u64, number: u64) ->
 
 // The last number before the place of the session that the key names, 0 if it has none yet.
 fn last_number(account: &Account, place: Place, of: &Key) -> u64 {
-    let number_at = |earlier: Place| match arrival_at(account, earlier) {
-        Some((key, _)) if (key.client, key.incarnation) == (of.client, of.incarnation) => {
+    let number_at = |earlier: Place| match key_at(account, earlier) {
+        Some(key) if (key.client, key.incarnation) == (of.client, of.incarnation) => {
             Some(key.number)
         }
         _ => None,
@@ -121,6 +131,24 @@ fn broken_by_key(account: &Account, place: Place, key: &Key) -> Option<Rule> {
         Some(Rule::N3)
     } else {
         None
+    }
+}
+
+// Whether the request with this key waits before the place.
+fn waits(account: &Account, place: Place, of: &Key) -> bool {
+    (0..place).any(|earlier| match arrival_at(account, earlier) {
+        Some((key, call)) if key == of => {
+            call.wait().is_some() && is_open(account, call.side(), earlier, place)
+        }
+        _ => false,
+    })
+}
+
+// A cancel names the request that waits, or is judged as an arrival of its key.
+fn broken_by_cancel(account: &Account, place: Place, key: &Key) -> Option<Rule> {
+    match broken_by_key(account, place, key) {
+        Some(Rule::N3) if waits(account, place, key) => None,
+        broken => broken,
     }
 }
 
@@ -153,15 +181,16 @@ fn met(account: &Account, arrival: Place, place: Place) -> bool {
     })
 }
 
-// Whether a hello of its client stops the arrival before the place. Nothing stops a put.
+// Whether a hello of its client or a cancel stops the arrival before the place. Nothing stops a put.
 fn stopped(account: &Account, arrival: Place, place: Place) -> bool {
-    let is_hello = |later: Place, of: u64| match account.entry(later).map(|entry| &entry.act) {
-        Some(Act::Hello { client, .. }) => *client == of,
+    let stops = |later: Place, of: &Key| match account.entry(later).map(|entry| &entry.act) {
+        Some(Act::Hello { client, .. }) => *client == of.client,
+        Some(Act::Cancel { key }) => key == of,
         _ => false,
     };
     match arrival_at(account, arrival) {
         Some((key, call)) if call.wait().is_some() => {
-            (arrival..place).any(|later| is_hello(later, key.client))
+            (arrival..place).any(|later| stops(later, key))
         }
         _ => false,
     }
@@ -302,5 +331,36 @@ fn each_rule_on_who_waits(rt: HostRuntime) -> Result<(), Fail> {
         &[one, two, three, take(1, 1).waits(), poll.waits()],
         &lasts,
     )?;
+    Ok(())
+}
+
+#[test]
+fn each_rule_on_cancels(rt: HostRuntime) -> Result<(), Fail> {
+    let [one, two] = [hello(1, 1), hello(2, 1)];
+    let [given, ended] = [transfer(1, 1, "a").waits(), cancel(1, 1)];
+    let lasts = [
+        (ended, None),
+        (cancel(1, 2), Some(Rule::N3)),
+        (cancel(2, 1), None),
+        (cancel(2, 2), Some(Rule::N3)),
+        (ended.in_epoch(2), Some(Rule::N2)),
+        (ended.by(2), Some(Rule::N2)),
+        (ended.meeting(2), Some(Rule::P1)),
+    ];
+    breaks(&rt, 0, &[one, two, given], &lasts)?;
+    let lasts = [
+        (take(2, 1).meeting(2), Some(Rule::P2)),
+        (take(2, 1), None),
+        (ended, Some(Rule::N3)),
+        (given, Some(Rule::N3)),
+        (put(1, 2, "b"), None),
+    ];
+    breaks(&rt, 0, &[one, two, given, ended], &lasts)?;
+    let lasts = [
+        (put(1, 1, "a"), Some(Rule::N3)),
+        (put(1, 2, "a"), None),
+        (ended, Some(Rule::N3)),
+    ];
+    breaks(&rt, 0, &[one, ended], &lasts)?;
     Ok(())
 }

@@ -7,6 +7,7 @@ use std::process::Abort;
 #[derive(Clone, Copy)]
 enum Does {
     Hello,
+    Cancel,
     Put(&'static str),
     Transfer(&'static str),
     Take,
@@ -48,6 +49,10 @@ pub(crate) fn count(client: u64, number: u64) -> Line {
 
 pub(crate) fn peek(client: u64, number: u64) -> Line {
     Line::of(client, number, Does::Peek)
+}
+
+pub(crate) fn cancel(client: u64, number: u64) -> Line {
+    Line::of(client, number, Does::Cancel)
 }
 
 fn item(alloc: Global, text: &str) -> Result<Item, NoMemory> {
@@ -122,6 +127,7 @@ impl Line {
                     incarnation: key.incarnation,
                 });
             }
+            Does::Cancel => return Ok(Message::Cancel { key }),
             Does::Put(text) => Call::Put {
                 queue,
                 item: item(alloc, text)?,
@@ -148,6 +154,7 @@ impl Line {
                 incarnation,
             },
             Message::Request { key, call } => Act::Arrive { key, call },
+            Message::Cancel { key } => Act::Cancel { key },
         };
         Ok(Entry {
             moment: self.moment,

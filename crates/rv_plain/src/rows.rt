@@ -1,7 +1,7 @@
 //! Worked rows, and the entries that a book has after each, also where a growth is refused. With ample memory
 //! none is; under `rt try --test --fail-alloc N` the Nth is, and what it stopped is asked again.
 use crate::audit::first_fault;
-use crate::line::{Line, count, hello, peek, put, take, transfer};
+use crate::line::{Line, cancel, count, hello, peek, put, take, transfer};
 use rv_book::Book;
 use rv_text::{Answer, NoMemory, Refusal};
 use std::alloc::AllocGlobal;
@@ -113,6 +113,30 @@ fn a_new_session_ends_what_waits_and_leaves_a_put(rt: HostRuntime) -> Result<(),
     ];
     let entries = [one, two, three, a, anew, empty, b, again, got.meeting(6)];
     records(&rt, 0, &sent, &entries)?;
+    Ok(())
+}
+
+#[test]
+fn a_cancel_is_recorded_where_it_ends_a_request(rt: HostRuntime) -> Result<(), Fail> {
+    let [one, two, early] = [hello(1, 1), hello(2, 1), cancel(1, 1)];
+    let [waits, ended] = [take(1, 2).waits().at(1), cancel(1, 2).at(2)];
+    let given = put(2, 1, "x").at(5);
+    let sent = [
+        one,
+        two,
+        early,
+        early,
+        transfer(1, 1, "a").waits(),
+        put(1, 1, "z"),
+        waits,
+        ended,
+        ended.at(3),
+        waits.at(4),
+        given,
+        cancel(2, 1).at(6),
+        cancel(2, 9).at(6),
+    ];
+    records(&rt, 0, &sent, &[one, two, early, waits, ended, given])?;
     Ok(())
 }
 
