@@ -26,7 +26,7 @@ TODAY = {
     "swap": False,
     "count": True,
     "peek": True,
-    "cancel": False,
+    "cancel": True,
     "waits in milliseconds": False,
     "kept replies": True,
     "client limit": True,
