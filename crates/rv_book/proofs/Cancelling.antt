@@ -22,7 +22,7 @@ use Rattle.rv_book.proofs.Following.{cancel_follows}
 use Rattle.rv_book.proofs.Marking.{Marks, legal_after, marked_ended, marked_idle}
 use Rattle.rv_book.proofs.OnePartner.{arrives_once}
 use Rattle.rv_book.proofs.Owing.{waiting_owed}
-use Rattle.rv_book.proofs.Settling.{buried_replies, ended_replies, sessions_buried, sessions_ended}
+use Rattle.rv_book.proofs.CancelledSessions.{buried_replies, ended_replies, sessions_buried, sessions_ended}
 use Rattle.rv_book.proofs.Sides.{IsRequestUnder, cancel_stops, stopped_by_cancel}
 use Rattle.rv_book.proofs.Standing.{is_next, waits}
 use Rattle.rv_book.proofs.Waits.{waiting_is_last}
@@ -61,7 +61,7 @@ module _ (old : State) (moment : ℕ) (key : Key) (comes : Comes old moment (Can
   -- ---- while the request waits
 
   module _ (place : ℕ) (has : HasLast old.sessions key (state.Waits place)) where
-    there : Rattle.rv_book.proofs.Standing.Waits before old.sessions comes.sound.sessions_are comes.sound.legal key place
+    pub there : Rattle.rv_book.proofs.Standing.Waits before old.sessions comes.sound.sessions_are comes.sound.legal key place
     there = waits before old.sessions comes.sound.sessions_are comes.sound.legal key place has
 
     ends_marks : Marks old moment (Cancel key) UnderKey
@@ -92,7 +92,7 @@ module _ (old : State) (moment : ℕ) (key : Key) (comes : Comes old moment (Can
         let legal = legal_after old moment (Cancel key) UnderKey ends_marks in
         record {
           adds = record { entry = own_entry; moment_is = refl; act_is = refl; follows = refl; legal = legal };
-          replies = ended_replies before own_entry key there.call place comes.sound.legal legal refl refl there.arrived there.waits;
+          replies = ended_replies before own_entry key there.call place refl refl there.arrived there.waits;
         }
 
   -- ---- before the request comes
@@ -118,5 +118,5 @@ module _ (old : State) (moment : ℕ) (key : Key) (comes : Comes old moment (Can
         let legal = legal_after old moment (Cancel key) UnderKey bury_marks in
         record {
           adds = record { entry = own_entry; moment_is = refl; act_is = refl; follows = refl; legal = legal };
-          replies = buried_replies before own_entry key comes.sound.legal legal next refl refl;
+          replies = buried_replies before own_entry key comes.sound.legal next refl;
         }

@@ -10,6 +10,7 @@ use Rattle.rv_book.specs.Account.{Account, call_in, key_in, with_entry}
 use Rattle.rv_book.specs.Arriving.{entry}
 use Rattle.rv_book.specs.Calls.{IsPut}
 use Rattle.rv_book.specs.Counting.{NumberOf}
+use Rattle.rv_book.specs.declared.account.Act.{Act}
 use Rattle.rv_book.specs.declared.account.Act.TheVariants.{Hello}
 use Rattle.rv_book.specs.declared.account.Entry.{Entry}
 use Rattle.rv_book.specs.declared.state.State.{State}
@@ -62,8 +63,8 @@ still_known old mid (Some place) kept client s ends there = elim (same_or_not cl
 
 -- ---- a state that was made ready
 
-pub comes_ready : (old ready : State) (moment client incarnation need : ℕ) (side : Option Side) → Comes old moment (Hello client incarnation) → IsReady old ready need side → Comes ready moment (Hello client incarnation)
-comes_ready old ready moment client incarnation need side comes prepared = record {
+pub comes_ready : (old ready : State) (moment : ℕ) (does : Act) (need : ℕ) (side : Option Side) → Comes old moment does → IsReady old ready need side → Comes ready moment does
+comes_ready old ready moment does need side comes prepared = record {
   sound = sound_same old ready comes.sound prepared.same;
   time = subst (λ a. KeepsTime a moment) (sym prepared.same.account) comes.time;
   moment_fits = comes.moment_fits;

@@ -1,8 +1,8 @@
 //! A plain, slow reading of accounts, each rule by its formula over places, and what it says of accounts that
 //! are broken by hand.
-use crate::line::{Line, hello, put, take};
+use crate::line::{Line, count, hello, put, take, transfer};
 use rv_book::{Account, Act, Entry, Place};
-use rv_text::{Key, NoMemory, Side, Wait};
+use rv_text::{Call, Key, NoMemory, Side, Wait};
 use std::alloc::{AllocGlobal, Global};
 use std::process::Abort;
 use std::test::Fail;
@@ -17,7 +17,7 @@ pub(crate) enum Rule {
     N1,
     /// An arrival has the account's epoch and the incarnation of its client's last hello.
     N2,
-    /// An arrival has its session's next number.
+    /// An arrival has its session's next number, and none of its session's waits.
     N3,
     /// Only a call that gives or takes names a partner: an earlier place that met nobody yet.
     P1,
@@ -52,6 +52,14 @@ fn first_broken(account: &Account, place: Place, entry: &Entry) -> Option<Rule> 
         .or(broken_by_partner(account, place, other, entry.partner))
 }
 
+// The key and the call of the arrival at a place, if one stands there.
+fn arrival_at(account: &Account, place: Place) -> Option<(&Key, &Call)> {
+    match &account.entry(place)?.act {
+        Act::Arrive { key, call } => Some((key, call)),
+        Act::Hello { .. } => None,
+    }
+}
+
 // ---- moments and numbers
 
 fn broken_by_moment(account: &Account, place: Place, moment: u64) -> Option<Rule> {
@@ -84,8 +92,8 @@ fn broken_by_hello(account: &Account, place: Place, client: u64, number: u64) ->
 
 // The last number before the place of the session that the key names, 0 if it has none yet.
 fn last_number(account: &Account, place: Place, of: &Key) -> u64 {
-    let number_at = |earlier: Place| match &account.entry(earlier)?.act {
-        Act::Arrive { key, .. } if (key.client, key.incarnation) == (of.client, of.incarnation) => {
+    let number_at = |earlier: Place| match arrival_at(account, earlier) {
+        Some((key, _)) if (key.client, key.incarnation) == (of.client, of.incarnation) => {
             Some(key.number)
         }
         _ => None,
@@ -93,11 +101,23 @@ fn last_number(account: &Account, place: Place, of: &Key) -> u64 {
     (0..place).filter_map(number_at).max().unwrap_or(0)
 }
 
+// Whether a request of the client waits before the place.
+fn has_waiting(account: &Account, place: Place, client: u64) -> bool {
+    (0..place).any(|earlier| match arrival_at(account, earlier) {
+        Some((key, call)) if key.client == client => {
+            call.wait().is_some() && is_open(account, call.side(), earlier, place)
+        }
+        _ => false,
+    })
+}
+
 fn broken_by_key(account: &Account, place: Place, key: &Key) -> Option<Rule> {
     let incarnation = last_incarnation(account, place, key.client);
     if key.epoch != account.epoch() || incarnation != Some(key.incarnation) {
         Some(Rule::N2)
-    } else if last_number(account, place, key).checked_add(1) != Some(key.number) {
+    } else if last_number(account, place, key).checked_add(1) != Some(key.number)
+        || has_waiting(account, place, key.client)
+    {
         Some(Rule::N3)
     } else {
         None
@@ -117,12 +137,11 @@ fn opposite(side: Side) -> Option<Side> {
 
 // The side of the arrival at a place, if it stays where no partner is there.
 fn staying_side(account: &Account, place: Place) -> Option<Side> {
-    match &account.entry(place)?.act {
-        Act::Arrive { call, .. } => match call.wait() {
-            None => Some(call.side()),
-            Some(Wait::Now) => None,
-        },
-        Act::Hello { .. } => None,
+    let (_, call) = arrival_at(account, place)?;
+    match call.wait() {
+        None => Some(call.side()),
+        Some(Wait::Forever) => Some(call.side()),
+        Some(Wait::Now) => None,
     }
 }
 
@@ -134,10 +153,26 @@ fn met(account: &Account, arrival: Place, place: Place) -> bool {
     })
 }
 
-// Whether an arrival of this side stands before the place, stays, and was not met. What stays is a
-// put, and nothing stops a put.
+// Whether a hello of its client stops the arrival before the place. Nothing stops a put.
+fn stopped(account: &Account, arrival: Place, place: Place) -> bool {
+    let is_hello = |later: Place, of: u64| match account.entry(later).map(|entry| &entry.act) {
+        Some(Act::Hello { client, .. }) => *client == of,
+        _ => false,
+    };
+    match arrival_at(account, arrival) {
+        Some((key, call)) if call.wait().is_some() => {
+            (arrival..place).any(|later| is_hello(later, key.client))
+        }
+        _ => false,
+    }
+}
+
+// Whether an arrival of this side stands before the place, stays, and was neither met nor stopped.
 fn is_open(account: &Account, side: Side, arrival: Place, place: Place) -> bool {
-    arrival < place && staying_side(account, arrival) == Some(side) && !met(account, arrival, place)
+    arrival < place
+        && staying_side(account, arrival) == Some(side)
+        && !met(account, arrival, place)
+        && !stopped(account, arrival, place)
 }
 
 // What an entry breaks that names this partner, or none, and may meet the arrivals of this side, or of none.
@@ -226,5 +261,46 @@ fn each_rule_is_named_where_it_is_broken(rt: HostRuntime) -> Result<(), Fail> {
         (poll.meeting(4), Some(Rule::P1)),
     ];
     breaks(&rt, 0, &[one, two, a, b, got, anew], &lasts)?;
+    Ok(())
+}
+
+#[test]
+fn each_rule_on_who_waits(rt: HostRuntime) -> Result<(), Fail> {
+    let [one, two, three] = [hello(1, 1), hello(2, 1), hello(3, 1)];
+    let [given, poll, anew] = [transfer(1, 1, "a").waits(), take(2, 1), hello(1, 2)];
+    let lasts = [
+        (poll.meeting(2), None),
+        (poll.waits().meeting(2), None),
+        (poll.waits(), Some(Rule::P4)),
+        (transfer(2, 1, "b").meeting(2), Some(Rule::P2)),
+        (transfer(2, 1, "b").waits(), None),
+        (count(2, 1), None),
+        (count(2, 1).meeting(2), Some(Rule::P1)),
+        (put(1, 2, "b"), Some(Rule::N3)),
+        (count(1, 2), Some(Rule::N3)),
+        (anew, None),
+    ];
+    breaks(&rt, 0, &[one, two, given], &lasts)?;
+    let lasts = [
+        (poll.meeting(2), Some(Rule::P2)),
+        (poll, None),
+        (given.by(2), None),
+    ];
+    breaks(&rt, 0, &[one, two, given, anew], &lasts)?;
+    let [x, y] = [put(3, 1, "x"), transfer(3, 1, "y")];
+    let lasts = [
+        (x.meeting(3), None),
+        (x.meeting(4), Some(Rule::P3)),
+        (x, Some(Rule::P4)),
+        (y, Some(Rule::P4)),
+        (y.meeting(3), None),
+        (y.on(4), None),
+    ];
+    breaks(
+        &rt,
+        0,
+        &[one, two, three, take(1, 1).waits(), poll.waits()],
+        &lasts,
+    )?;
     Ok(())
 }

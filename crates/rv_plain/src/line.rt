@@ -8,17 +8,21 @@ use std::process::Abort;
 enum Does {
     Hello,
     Put(&'static str),
+    Transfer(&'static str),
     Take,
+    Count,
+    Peek,
 }
 
 /// A message to a book, or an entry of an account. It is of epoch 1, incarnation 1 and queue 3, at
-/// moment 0 and without a partner, unless changed.
+/// moment 0, without a wait and without a partner, unless changed.
 #[derive(Clone, Copy)]
 pub(crate) struct Line {
     moment: u64,
     key: Key,
     queue: u64,
     does: Does,
+    wait: Wait,
     partner: Option<Place>,
 }
 
@@ -30,9 +34,24 @@ pub(crate) fn put(client: u64, number: u64, text: &'static str) -> Line {
     Line::of(client, number, Does::Put(text))
 }
 
-/// A take that does not wait.
+pub(crate) fn transfer(client: u64, number: u64, text: &'static str) -> Line {
+    Line::of(client, number, Does::Transfer(text))
+}
+
 pub(crate) fn take(client: u64, number: u64) -> Line {
     Line::of(client, number, Does::Take)
+}
+
+pub(crate) fn count(client: u64, number: u64) -> Line {
+    Line::of(client, number, Does::Count)
+}
+
+pub(crate) fn peek(client: u64, number: u64) -> Line {
+    Line::of(client, number, Does::Peek)
+}
+
+fn item(alloc: Global, text: &str) -> Result<Item, NoMemory> {
+    Ok(Item::from_text(String::from_str(alloc, text)?))
 }
 
 impl Line {
@@ -48,6 +67,7 @@ impl Line {
             key,
             queue: 3,
             does,
+            wait: Wait::Now,
             partner: None,
         }
     }
@@ -61,6 +81,12 @@ impl Line {
     /// The same line, which names this place as its partner.
     pub(crate) fn meeting(mut self, place: Place) -> Line {
         self.partner = Some(place);
+        self
+    }
+
+    /// The same line, which waits without end.
+    pub(crate) fn waits(mut self) -> Line {
+        self.wait = Wait::Forever;
         self
     }
 
@@ -83,7 +109,12 @@ impl Line {
     }
 
     fn message(&self, alloc: Global) -> Result<Message, NoMemory> {
-        let Line { key, queue, .. } = *self;
+        let Line {
+            key,
+            queue,
+            wait,
+            ..
+        } = *self;
         let call = match self.does {
             Does::Hello => {
                 return Ok(Message::Hello {
@@ -91,14 +122,18 @@ impl Line {
                     incarnation: key.incarnation,
                 });
             }
-            Does::Put(text) => {
-                let item = Item::from_text(String::from_str(alloc, text)?);
-                Call::Put { queue, item }
-            }
-            Does::Take => {
-                let wait = Wait::Now;
-                Call::Take { queue, wait }
-            }
+            Does::Put(text) => Call::Put {
+                queue,
+                item: item(alloc, text)?,
+            },
+            Does::Transfer(text) => Call::Transfer {
+                queue,
+                item: item(alloc, text)?,
+                wait,
+            },
+            Does::Take => Call::Take { queue, wait },
+            Does::Count => Call::Count { queue },
+            Does::Peek => Call::Peek { queue },
         };
         Ok(Message::Request { key, call })
     }

@@ -1,7 +1,7 @@
 //! Worked rows, and the entries that a book has after each, also where a growth is refused. With ample memory
 //! none is; under `rt try --test --fail-alloc N` the Nth is, and what it stopped is asked again.
 use crate::audit::first_fault;
-use crate::line::{Line, hello, put, take};
+use crate::line::{Line, count, hello, peek, put, take, transfer};
 use rv_book::Book;
 use rv_text::{Answer, NoMemory, Refusal};
 use std::alloc::AllocGlobal;
@@ -63,19 +63,47 @@ fn a_poll_names_the_put_that_it_takes(rt: HostRuntime) -> Result<(), Fail> {
 }
 
 #[test]
-fn a_put_outlives_its_session(rt: HostRuntime) -> Result<(), Fail> {
+fn who_waits_is_named_by_who_comes(rt: HostRuntime) -> Result<(), Fail> {
+    let [one, two, three] = [hello(1, 1), hello(2, 1), hello(3, 1)];
+    let [a, got] = [transfer(1, 1, "a").waits(), take(2, 1).waits().at(5)];
+    let sent = [one, two, a, got, a.at(6), got.at(7)];
+    records(&rt, 0, &sent, &[one, two, a, got.meeting(2)])?;
+    let row = [
+        one,
+        two,
+        three,
+        take(1, 1).waits(),
+        take(2, 1).waits(),
+        count(3, 1),
+        peek(3, 2),
+        put(3, 3, "x").meeting(3),
+        transfer(3, 4, "y").meeting(4),
+        transfer(3, 5, "z"),
+        put(3, 6, "u"),
+        transfer(1, 2, "v").waits(),
+        take(2, 2).meeting(10),
+        take(2, 3).waits().meeting(11),
+        take(2, 4).waits(),
+    ];
+    records(&rt, 0, &row, &row)?;
+    Ok(())
+}
+
+#[test]
+fn a_new_session_ends_what_waits_and_leaves_a_put(rt: HostRuntime) -> Result<(), Fail> {
     let [one, two, three] = [hello(1, 1), hello(2, 1), hello(3, 1)];
     let [anew, again] = [hello(1, 2).at(1), hello(1, 3).at(6)];
     let [empty, got] = [take(2, 1).at(2), take(2, 2).at(7)];
-    let [old, stranger] = [put(1, 1, "a").at(3), put(1, 1, "q").by(9).at(4)];
+    let [a, stranger] = [transfer(1, 1, "a").waits(), put(1, 1, "q").by(9).at(4)];
     let b = put(1, 1, "b").by(2).at(5);
     let sent = [
         one,
         two,
         three,
+        a,
         anew,
         empty,
-        old,
+        a.at(3),
         one.at(3),
         anew.at(4),
         stranger,
@@ -83,16 +111,31 @@ fn a_put_outlives_its_session(rt: HostRuntime) -> Result<(), Fail> {
         again,
         got,
     ];
-    let entries = [one, two, three, anew, empty, b, again, got.meeting(5)];
+    let entries = [one, two, three, a, anew, empty, b, again, got.meeting(6)];
     records(&rt, 0, &sent, &entries)?;
     Ok(())
 }
 
 #[test]
 fn what_is_refused_is_not_recorded(rt: HostRuntime) -> Result<(), Fail> {
-    let [one, a, t] = [hello(1, 1), put(1, 1, "a"), put(1, 2, "t").on(4)];
+    let [one, a, t] = [
+        hello(1, 1),
+        put(1, 1, "a"),
+        transfer(1, 2, "t").waits().on(4),
+    ];
     let [c, d] = [put(1, 3, "c"), put(1, 4, "c")];
-    let sent = [one, a, c, t, t.on(5), a, d, c.in_epoch(2), put(9, 1, "a")];
+    let sent = [
+        one,
+        a,
+        c,
+        t,
+        t.on(5),
+        a,
+        c,
+        d,
+        c.in_epoch(2),
+        put(9, 1, "a"),
+    ];
     records(&rt, 0, &sent, &[one, a, t])?;
     Ok(())
 }
