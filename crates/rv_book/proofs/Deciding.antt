@@ -14,7 +14,7 @@ use Rattle.rv_text.specs.declared.call.Wait.TheVariants.{Now, Forever}
 use Rattle.rv_text.specs.declared.call.Side.{Side}
 use Rattle.rv_text.specs.declared.call.Wait.{Wait}
 use Rattle.rv_book.specs.Account.{act_at, call_at, key_at, partner_at}
-use Rattle.rv_book.proofs.Growing.{act_read, call_read, read_there, reads_within}
+use Rattle.rv_book.proofs.Growing.{act_read, call_read, reads_within}
 use Rattle.std.proofs.lemmas.Bool.{cases_lt}
 use Rattle.rv_book.proofs.Places.{within}
 use Rattle.rv_book.proofs.Numbers.{first_below, last_below, same_or_not}

@@ -1,5 +1,5 @@
 -- What a cancel tells: its request is cancelled, whether it waited or had not come yet.
-use Rattle.std.proofs.Common.{◌≡◌, ◌⊎◌, inl, inr, ℕ, ◌<◌, List, [], ◌∷◌, ◌++◌, length, Some, None, IsSome, Option, option_and_then, refl, sym, ap, subst, ◌∙◌, arith}
+use Rattle.std.proofs.Common.{◌≡◌, inl, inr, ℕ, ◌<◌, List, [], ◌∷◌, ◌++◌, length, Some, None, option_and_then, refl, sym, ap, subst, ◌∙◌, arith}
 use Rattle.std.proofs.lemmas.Option.{none-some, same_Some}
 use Rattle.rv_text.specs.declared.message.Key.{Key}
 use Rattle.rv_text.specs.declared.call.Call as call
@@ -11,8 +11,8 @@ use Rattle.rv_text.specs.declared.answer.Reply.{Reply}
 use Rattle.rv_text.specs.declared.answer.Answer.TheVariants.{Replied}
 use Rattle.rv_book.specs.declared.account.Entry.{Entry}
 use Rattle.rv_book.specs.declared.account.Act.TheVariants.{Arrive, Cancel}
-use Rattle.rv_book.specs.Account.{Account, act_at, call_in, key_in, with_entry}
-use Rattle.rv_book.specs.Calls.{IsPut, Lasts, MayMeet, Stays}
+use Rattle.rv_book.specs.Account.{Account, call_in, key_in, with_entry}
+use Rattle.rv_book.specs.Calls.{IsPut, Lasts, Stays}
 use Rattle.rv_book.specs.Legal.{IsNextNumber, Legal, WaitsUnder}
 use Rattle.rv_book.specs.Replies.{CancelledFirst, RepliesAt, RepliesUnmet}
 use Rattle.rv_book.specs.Sessions.{HasIncarnation}
