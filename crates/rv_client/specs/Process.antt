@@ -34,9 +34,12 @@ pub data Process : Type 0 where
 abbrev pub hello_of : Starting → Message
 hello_of starting = messages.Hello starting.client starting.incarnation
 
--- what an outstanding one says
+-- what an outstanding one says: its request, or the cancel of it
 abbrev pub request_of : Asking → Message
 request_of asking = messages.Request asking.key asking.call
+
+abbrev pub cancel_of : Asking → Message
+cancel_of asking = messages.Cancel asking.key
 
 -- the key of a client's first request in an epoch
 abbrev pub first_key : Starting → ℕ → Key

@@ -25,7 +25,8 @@ impl Model for Idle {
 /// [`Idle::begin`] makes one, a final answer ends it, and [`abandon`](Outstanding::abandon) gives it up.
 /// Contracts see the request's key and call.
 ///
-/// It says its [`message`](Outstanding::message) as often as it likes, which is always the same request.
+/// It says its [`message`](Outstanding::message) as often as it likes, which is always the same request, or
+/// its [`cancel_message`](Outstanding::cancel_message).
 pub struct Outstanding {
     key: Key,
     call: Call,
@@ -126,6 +127,13 @@ impl Outstanding {
             key: self.key,
             call,
         })
+    }
+
+    /// The cancel of the request.
+    pub fn cancel_message(&self) -> Message
+        ensures { result ≡ process.cancel_of self.now }
+    {
+        Message::Cancel { key: self.key }
     }
 
     /// Hears an answer. A reply of its own key settles it. It ends by the refusal *other epoch* with an

@@ -13,10 +13,11 @@ use std::test::Fail;
 
 // The first request of client 2.
 const REQUEST: &[u8] = b"{\"call\":\"take\",\"client\":2,\"epoch\":1,\"incarnation\":1,\
-    \"kind\":\"request\",\"number\":1,\"queue\":3,\"wait\":\"now\"}";
+    \"kind\":\"request\",\"number\":1,\"queue\":3,\"wait\":\"forever\"}";
 
 // An answer to it that says nothing final.
-const NOTHING_FINAL: &[u8] = b"{\"code\":2,\"current\":1,\"kind\":\"refused\"}";
+const WAITING: &[u8] = b"{\"client\":2,\"epoch\":1,\"incarnation\":1,\"kind\":\"waiting\",\
+    \"number\":1}";
 
 // Its reply.
 const REPLY: &[u8] = b"{\"client\":2,\"epoch\":1,\"incarnation\":1,\"item\":\"a\",\
@@ -75,7 +76,7 @@ fn take() -> Call
 {
     Call::Take {
         queue: 3,
-        wait: Wait::Now,
+        wait: Wait::Forever,
     }
 }
 
@@ -140,7 +141,7 @@ fn calls(
 #[test]
 fn a_call_is_asked_until_it_settles(rt: HostRuntime) -> Result<(), Fail> {
     let alloc = rt.alloc();
-    let bytes = frames(alloc, [NOTHING_FINAL, REPLY].as_slice())?;
+    let bytes = frames(alloc, [WAITING, REPLY].as_slice())?;
     let item = Item::from_text(String::from_str(alloc, "a")?);
     let settled = Came::Settled(Some(key(2, 1, 2)), Reply::Item(item));
     calls(&rt, alloc, &bytes, 3, settled, 2, 0)?;
@@ -154,7 +155,7 @@ fn a_call_is_asked_until_it_settles(rt: HostRuntime) -> Result<(), Fail> {
 fn a_call_ends_by_a_later_epoch_or_incarnation(rt: HostRuntime) -> Result<(), Fail> {
     let alloc = rt.alloc();
     let ended = b"{\"code\":2,\"current\":2,\"kind\":\"refused\"}";
-    let bytes = frames(alloc, [NOTHING_FINAL, ended.as_slice(), REPLY].as_slice())?;
+    let bytes = frames(alloc, [WAITING, ended.as_slice(), REPLY].as_slice())?;
     let want = Came::EpochEnded(key(2, 1, 1), 2);
     calls(&rt, alloc, &bytes, 3, want, 2, 92)?;
     let replaced = b"{\"code\":4,\"current\":3,\"kind\":\"refused\"}";
@@ -184,7 +185,7 @@ fn a_call_tells_what_was_wrong_with_its_answer(rt: HostRuntime) -> Result<(), Fa
         let want = Came::Unsettled(key(2, 1, 1), Some(fault));
         calls(&rt, alloc, bytes, 3, want, 1, left)?;
     }
-    let mut bytes = frames(alloc, [NOTHING_FINAL].as_slice())?;
+    let mut bytes = frames(alloc, [WAITING].as_slice())?;
     bytes.extend_from_slice(b"\x00")?;
     let want = Came::Unsettled(key(2, 1, 1), Some(LinkFault::Closed));
     calls(&rt, alloc, &bytes, 3, want, 2, 0)
@@ -194,8 +195,8 @@ fn a_call_tells_what_was_wrong_with_its_answer(rt: HostRuntime) -> Result<(), Fa
 #[test]
 fn an_answer_is_read_to_its_last_byte_and_no_further(rt: HostRuntime) -> Result<(), Fail> {
     let alloc = rt.alloc();
-    let mut body = NOTHING_FINAL.to_vec(alloc)?;
-    for _ in 0..4_096 - NOTHING_FINAL.len() {
+    let mut body = WAITING.to_vec(alloc)?;
+    for _ in 0..4_096 - WAITING.len() {
         body.push(b' ')?;
     }
     let mut bytes = frames(alloc, [body.as_slice()].as_slice())?;
@@ -209,7 +210,7 @@ fn an_answer_is_read_to_its_last_byte_and_no_further(rt: HostRuntime) -> Result<
         &mut Sink::new(&mut device),
         &hello,
     );
-    assert!(rt; answer == Ok(Answer::Refused(Refusal::OtherEpoch(1))));
+    assert!(rt; answer == Ok(Answer::Waiting { key: key(2, 1, 1) }));
     assert_eq!(rt; reader.reads(), 4_098);
     assert_eq!(rt; unread(&mut Source::new(&mut reader)), 1);
     assert_eq!(rt;
@@ -296,6 +297,8 @@ fn what_each_answer_is_to_a_request(rt: HostRuntime) -> Result<(), Fail> {
     assert!(rt; hears(own)? == settled);
     let mut later_epoch = first;
     later_epoch.epoch = 2;
+    let waiting = Answer::Waiting { key: first };
+    assert!(rt; hears(waiting)? == Came::Unsettled(first, None));
     for key in [key(2, 1, 2), key(2, 2, 1), key(3, 1, 1), later_epoch] {
         let reply = Reply::Empty;
         let late = Answer::Replied { key, reply };
@@ -377,7 +380,7 @@ fn settles(rt: &impl Abort, alloc: Global) -> Result<bool, Fail> {
     match called {
         Came::Settled(_, _) => return Ok(true),
         Came::Unsettled(_, Some(LinkFault::NoMemory)) => {
-            assert!(rt; happened == (0, 0) || happened == (105, 14), "{happened:?}");
+            assert!(rt; happened == (0, 0) || happened == (109, 14), "{happened:?}");
         }
         Came::Unsettled(_, Some(LinkFault::WriteFault(sent))) => {
             assert_eq!(rt; happened, (sent, 0));
@@ -422,7 +425,7 @@ fn a_conversation(rt: HostRuntime) -> Result<(), Fail> {
         \"number\":2,\"reply\":\"empty\"}";
     let bodies = [
         welcome.as_slice(),
-        NOTHING_FINAL,
+        WAITING,
         done.as_slice(),
         done.as_slice(),
         empty.as_slice(),
@@ -465,6 +468,8 @@ fn a_request_is_the_same_each_time(rt: HostRuntime) -> Result<(), Fail> {
     let call = put(alloc)?;
     let outstanding = idle()?.begin(call);
     assert_eq!(rt; outstanding.key(), key(2, 1, 1));
+    let cancel = Message::Cancel { key: key(2, 1, 1) };
+    assert!(rt; outstanding.cancel_message() == cancel);
     let mut refused = false;
     for _ in 0..3 {
         match outstanding.message(alloc) {

@@ -1,4 +1,4 @@
--- A message is found exactly where the members of its row are.
+-- A call or a message is found exactly where the members of its row are.
 use Rattle.std.proofs.Common.{◌≡◌, ℕ, List, [], ◌++◌, codes}
 use Rattle.std.proofs.Common.{Option, Some, refl}
 use Rattle.serde_json.specs.Data.{unsigned, number, string, Members}
@@ -13,8 +13,8 @@ use Rattle.rv_text.specs.Members.{Member}
 use Rattle.rv_text.specs.Rows.{key_row, wait_row, item_row, call_row, message_row}
 use Rattle.rv_text.specs.Reading.{◌>>=◌, whole_among, queue_among, item_among, wait_lines, wait_among}
 use Rattle.rv_text.specs.Reading.{key_among, hello_among, request_among, cancel_among, call_lines, call_among, message_lines, message_among}
-use Rattle.rv_text.specs.Reading.{messages}
-use Rattle.rv_text.proofs.Sound.{message_sound}
+use Rattle.rv_text.specs.Reading.{messages, calls}
+use Rattle.rv_text.proofs.Sound.{call_sound, message_sound}
 use Rattle.rv_text.proofs.Steps.{step_found, last_found, Has, HasRow, whole_found, text_found, among_found, IsReader}
 
 module _ (ms : Members) where
@@ -120,3 +120,6 @@ module _ (ms : Members) where
 
 pub message_reader : IsReader Message messages
 message_reader = record { sound = message_sound; has = message_found; finds = find_message }
+
+pub call_reader : IsReader Call calls
+call_reader = record { sound = call_sound; has = call_found; finds = find_call }

@@ -1,4 +1,4 @@
--- What holds of the row of each message and answer: no name stands twice, all is plain, and there is room for it.
+-- What holds of the row of each message, call and answer: no name stands twice, all is plain, and there is room for it.
 use Rattle.std.proofs.Common.{◌≡◌, ℕ, ◌≤◌, List, [], ◌∷◌, ◌++◌, map, codes, true, Option, Some, None, IfSome, IsUtf8, refl, arith}
 use Rattle.rv_text.specs.declared.message.Key.{Key}
 use Rattle.rv_text.specs.declared.message.Message.{Message}
@@ -51,6 +51,20 @@ request_sound key name at (Some wait.Now) None plain = record { distinct = refl;
 request_sound key name at (Some wait.Now) (Some item) plain = record { distinct = refl; plain = rw plain refl; room = omega arith; in_order = refl }
 request_sound key name at (Some wait.Forever) None plain = record { distinct = refl; plain = rw plain refl; room = omega arith; in_order = refl }
 request_sound key name at (Some wait.Forever) (Some item) plain = record { distinct = refl; plain = rw plain refl; room = omega arith; in_order = refl }
+
+call_parts_sound : (name : List ℕ) (at : Side) (waits : Option Wait) (gives : Option (List ℕ)) → is_plain_word name ≡ true
+    → IsSound (nature_row (record { word = name; side = at; wait = waits; item = gives }))
+call_parts_sound name at None None plain = record { distinct = refl; plain = rw plain refl; room = omega arith; in_order = refl }
+call_parts_sound name at None (Some item) plain = record { distinct = refl; plain = rw plain refl; room = omega arith; in_order = refl }
+call_parts_sound name at (Some wait.Now) None plain = record { distinct = refl; plain = rw plain refl; room = omega arith; in_order = refl }
+call_parts_sound name at (Some wait.Now) (Some item) plain = record { distinct = refl; plain = rw plain refl; room = omega arith; in_order = refl }
+call_parts_sound name at (Some wait.Forever) None plain = record { distinct = refl; plain = rw plain refl; room = omega arith; in_order = refl }
+call_parts_sound name at (Some wait.Forever) (Some item) plain = record { distinct = refl; plain = rw plain refl; room = omega arith; in_order = refl }
+
+pub call_sound : (call : Call) → IsSound (call_row call)
+call_sound call =
+    let nature = nature_of call in
+    call_parts_sound nature.word nature.side nature.wait nature.item (call_word call)
 
 pub message_sound : (message : Message) → IsSound (message_row message)
 message_sound (message.Hello client incarnation) = record { distinct = refl; plain = refl; room = omega arith; in_order = refl }

@@ -8,14 +8,15 @@ use Rattle.rv_text.specs.declared.fault.TextFault.{TextFault}
 use Rattle.rv_text.specs.declared.fault.TextFault.TheVariants as fault
 use Rattle.rv_text.specs.declared.message.Message.{Message}
 use Rattle.rv_text.specs.declared.message.Message.TheVariants as message
+use Rattle.rv_text.specs.declared.call.Call.{Call}
 use Rattle.rv_text.specs.declared.answer.Reply.{Reply}
 use Rattle.rv_text.specs.declared.answer.Reply.TheVariants as reply
 use Rattle.rv_text.specs.declared.answer.Answer.{Answer}
 use Rattle.rv_text.specs.declared.answer.Answer.TheVariants as answer
 use Rattle.rv_text.specs.Calls.{item_of}
 use Rattle.rv_text.specs.Members.{Member, object_of}
-use Rattle.rv_text.specs.Rows.{message_row, answer_row}
-use Rattle.rv_text.specs.Limits.{FitsMessage, FitsAnswer}
+use Rattle.rv_text.specs.Rows.{message_row, answer_row, call_row}
+use Rattle.rv_text.specs.Limits.{FitsMessage, FitsAnswer, FitsCall}
 
 -- 1 to 4,096 bytes
 abbrev pub HasBodyLength : List ℕ → Type 0
@@ -40,8 +41,13 @@ IsMessageBody bytes message = IsBody message_row FitsMessage bytes message
 abbrev pub IsAnswerBody : List ℕ → Answer → Type 0
 IsAnswerBody bytes answer = IsBody answer_row FitsAnswer bytes answer
 
+-- a call text: the members of the call alone, and none of a request's own
+abbrev pub IsCallBody : List ℕ → Call → Type 0
+IsCallBody bytes call = IsBody call_row FitsCall bytes call
+
 -- what a decoder answers for bytes
-pub record Decodes (A : Type 0) (IsBodyOf : List ℕ → A → Type 0) (bytes : List ℕ) (result : Result A TextFault) : Type 0 where
+pub record Decodes (A : Type 0) (IsBodyOf : List ℕ → A → Type 0)
+    (bytes : List ℕ) (result : Result A TextFault) : Type 0 where
   -- with both: a value comes exactly where the bytes are its body, unless memory ran out
   pub found : IfOk result (IsBodyOf bytes)
   pub only : (x : A) → IsBodyOf bytes x → (result ≡ Ok x) ⊎ (result ≡ Err fault.NoMemory)

@@ -1,9 +1,10 @@
--- What holds of messages, answers and their bodies as such.
+-- What holds of messages, answers, calls and their bodies as such.
 use Rattle.std.specs.Prelude.{◌≡◌, ℕ, List}
 use Rattle.rv_text.specs.declared.message.Message.{Message}
 use Rattle.rv_text.specs.declared.answer.Answer.{Answer}
 use Rattle.rv_text.specs.Bodies.{IsMessageBody, HasUtf8, message_text}
 use Rattle.rv_text.specs.Bodies.{IsAnswerBody, AnswerHasUtf8, answer_text}
+use Rattle.rv_text.specs.Bodies.{IsCallBody}
 use Rattle.rv_text.specs.Limits.{FitsMessage, FitsAnswer}
 
 -- bytes are the body of at most one
@@ -15,6 +16,9 @@ OneMessage = AtMostOne IsMessageBody
 
 abbrev pub OneAnswer : Type 0
 OneAnswer = AtMostOne IsAnswerBody
+
+abbrev pub OneCall : Type 0
+OneCall = AtMostOne IsCallBody
 
 -- what is written for a message that fits is a body of it
 abbrev pub WrittenBody : Type 0

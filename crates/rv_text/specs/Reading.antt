@@ -1,7 +1,8 @@
 -- For private clauses: what the decoder looks for among the members of an object, each by its name, and what
 -- the encoder puts there.
 use Rattle.std.specs.Prelude.{◌≡◌, ℕ, Bool, List, [], ◌∷◌, length, map, codes, if◌then◌else◌}
-use Rattle.std.specs.Prelude.{Option, Some, None, option_and_then, nat_eq, Result, Ok, Err, String, string_cmp}
+use Rattle.std.specs.Prelude.{Option, Some, None, option_and_then, nat_eq, Result, Ok, Err}
+use Rattle.std.specs.Prelude.{String, string_cmp}
 use Rattle.std.specs.declared.alloc.Global.{Global}
 use Rattle.std.specs.BTreeMap.{BTreeMap, IsOrdered}
 use Rattle.std.specs.Str.{bytes_eq}
@@ -28,8 +29,8 @@ use Rattle.rv_text.specs.declared.answer.Answer.{Answer}
 use Rattle.rv_text.specs.declared.answer.Answer.TheVariants as answer
 use Rattle.rv_text.specs.Members.{Member, Field, field_of, with_fields}
 use Rattle.rv_text.specs.Bodies.{HasBodyLength, Reads, IsNotJson}
-use Rattle.rv_text.specs.Rows.{message_row, answer_row}
-use Rattle.rv_text.specs.Limits.{FitsMessage, FitsAnswer}
+use Rattle.rv_text.specs.Rows.{message_row, answer_row, call_row}
+use Rattle.rv_text.specs.Limits.{FitsMessage, FitsAnswer, FitsCall}
 
 -- a JSON object in memory
 abbrev pub Map : Type 0
@@ -255,6 +256,9 @@ messages = record { found = message_among; row = message_row; Fits = FitsMessage
 
 abbrev pub answers : Shape Answer
 answers = record { found = answer_among; row = answer_row; Fits = FitsAnswer }
+
+abbrev pub calls : Shape Call
+calls = record { found = call_among; row = call_row; Fits = FitsCall }
 
 -- it is found, with no other members and within the limits
 pub record IsAlone (A : Type 0) (shape : Shape A) (members : Members) (x : A) : Type 0 where

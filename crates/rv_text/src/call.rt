@@ -1,5 +1,5 @@
 //! What a request asks for: its call, and what a call is.
-ghost use Rattle.std.specs.Prelude.{◌≡◌, ◌↔◌, IfOk, IsTrue, length, option_map};
+ghost use Rattle.std.specs.Prelude.{◌≡◌, ◌↔◌, IfOk, IsTrue, option_map};
 
 use crate::fault::NoMemory;
 use crate::item::Item;
@@ -59,7 +59,6 @@ impl Side {
 
 impl Call {
     ghost use Rattle.rv_text.specs.Calls.{side_of, wait_of, item_of};
-    ghost use Rattle.rv_text.specs.Rows.{call_row};
     ghost use Rattle.rv_text.specs.Limits.{FitsCall};
 
     /// The call's side.
@@ -125,13 +124,6 @@ impl Call {
             Call::Count { queue } => Ok(Call::Count { queue: *queue }),
             Call::Peek { queue } => Ok(Call::Peek { queue: *queue }),
         }
-    }
-
-    // How many members the call has in a body: its word and its place, its wait and its item.
-    pub(crate) fn member_count(&self) -> usize
-        ensures { result ≡ length (call_row self.now) }
-    {
-        2 + usize::from(self.wait().is_some()) + usize::from(self.item().is_some())
     }
 
     /// Whether the queue is 0 to 63 and the item has at most 512 bytes.

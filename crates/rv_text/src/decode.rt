@@ -1,12 +1,14 @@
 //! The message, answer or call whose body given bytes are.
 ghost use Rattle.std.specs.Prelude.{◌≡◌};
-ghost use Rattle.rv_text.specs.Bodies.{IsMessageBody, IsAnswerBody, Decodes};
-ghost use Rattle.rv_text.specs.Reading.{messages, answers};
+ghost use Rattle.rv_text.specs.Bodies.{IsMessageBody, IsAnswerBody, IsCallBody, Decodes};
+ghost use Rattle.rv_text.specs.Reading.{messages, answers, calls};
 ghost use Rattle.rv_text.specs.declared.message.Message.{Message};
 ghost use Rattle.rv_text.specs.declared.answer.Answer.{Answer};
+ghost use Rattle.rv_text.specs.declared.call.Call.{Call};
 
 use crate::answer::Answer;
 use crate::body::{Body, decode};
+use crate::call::Call;
 use crate::fault::TextFault;
 use crate::members::{read_call, read_key, read_refusal, read_reply, read_text, read_whole};
 use crate::message::Message;
@@ -30,6 +32,14 @@ pub fn decode_answer(alloc: Global, bytes: &[u8]) -> Result<Answer, TextFault>
     ensures { Decodes Answer IsAnswerBody bytes.now result }
 {
     decode::<Answer>(alloc, bytes)
+}
+
+/// The call whose text the bytes are, as [`decode_message`] reads a message: the members are the call's
+/// alone, without a key.
+pub fn decode_call(alloc: Global, bytes: &[u8]) -> Result<Call, TextFault>
+    ensures { Decodes Call IsCallBody bytes.now result }
+{
+    decode::<Call>(alloc, bytes)
 }
 
 impl Body for Message {
@@ -94,6 +104,23 @@ impl Body for Answer {
             Answer::Waiting { .. } => 5,
             Answer::Refused(refusal) => 2 + refusal.detail_count(),
         }
+    }
+
+    fn is_within(&self) -> bool {
+        self.fits()
+    }
+}
+
+impl Body for Call {
+    ghost shape = { calls };
+
+    fn read(alloc: Global, members: &Map<String, Value>) -> Result<Call, TextFault> {
+        read_call(alloc, members)
+    }
+
+    // Its word and its place, its wait and its item.
+    fn member_count(&self) -> usize {
+        2 + usize::from(self.wait().is_some()) + usize::from(self.item().is_some())
     }
 
     fn is_within(&self) -> bool {

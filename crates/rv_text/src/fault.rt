@@ -5,14 +5,14 @@ use thiserror::Error;
 /// A growth of memory was refused.
 pub type NoMemory = AllocError;
 
-/// Why bytes are not read as a message, or not as an answer where an answer is wanted.
+/// Why bytes are not read as a message; or not as an answer or a call where that is wanted.
 #[derive(Clone, Copy, Debug, PartialEq, Eq, Error)]
 pub enum TextFault {
     /// Fault 1: the bytes have the length of a body, and they are no JSON text (RFC 8259).
     #[error("the body is not JSON")]
     NotJson,
     /// Fault 2: the length is outside 1 to 4,096 bytes, or the JSON has other members, kinds or
-    /// values than a message has; where an answer is wanted, than an answer has.
+    /// values than a message has; where an answer or a call is wanted, than that has.
     #[error("the body is not a message")]
     NotMessage,
     /// Fault 3: a growth of memory was refused.

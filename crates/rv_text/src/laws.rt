@@ -1,7 +1,7 @@
-//! What holds of messages, answers and their bodies: each contract is a law, and no body does anything.
+//! What holds of messages, answers, calls and their bodies: each contract is a law, no body does anything.
 ghost use Rattle.std.specs.Prelude.{◌≡◌};
 ghost use Rattle.rv_text.specs.Bodies.{answer_text};
-ghost use Rattle.rv_text.specs.Laws.{OneMessage, WrittenBody, OneAnswer, WrittenAnswer};
+ghost use Rattle.rv_text.specs.Laws.{OneMessage, WrittenBody, OneAnswer, WrittenAnswer, OneCall};
 
 use crate::answer::{Answer, Refusal};
 use crate::encode::{BAD_TEXT_BODY, NO_MEMORY_BODY};
@@ -19,6 +19,11 @@ pub fn written_body()
 /// Bytes are the body of at most one answer.
 pub fn one_answer()
     ensures { OneAnswer }
+{}
+
+/// Bytes are the text of at most one call.
+pub fn one_call()
+    ensures { OneCall }
 {}
 
 /// The text that is written for an answer within the limits is a body of it.

@@ -1,4 +1,4 @@
-//! The messages and answers of the rendezvous server, and the JSON bodies that carry them.
+//! The messages and answers of the rendezvous server, its calls, and the JSON bodies that carry them.
 #![tactic(auto)]
 
 mod answer;
@@ -15,7 +15,7 @@ mod message;
 pub use answer::{Answer, MAX_COUNTED, Refusal, Reply};
 pub use body::MAX_BODY_BYTES;
 pub use call::{Call, MAX_QUEUE, Side, Wait};
-pub use decode::{decode_answer, decode_message};
+pub use decode::{decode_answer, decode_call, decode_message};
 pub use encode::{BAD_TEXT_BODY, NO_MEMORY_BODY, encode_answer, encode_message};
 pub use fault::{NoMemory, TextFault};
 pub use item::Item;

@@ -1,7 +1,7 @@
 //! The texts of the format byte for byte, and what each answer's body gives.
 use crate::{
     Answer, BAD_TEXT_BODY, Call, Item, Key, Message, NO_MEMORY_BODY, Refusal, Reply, Side,
-    TextFault, Wait, decode_answer, decode_message, encode_answer, encode_message,
+    TextFault, Wait, decode_answer, decode_call, decode_message, encode_answer, encode_message,
 };
 use std::alloc::{AllocError, AllocGlobal, Global};
 use std::process::Abort;
@@ -59,6 +59,47 @@ fn messages_are_read_and_written(rt: HostRuntime) -> Result<(), Fail> {
             other => format!(in alloc; "{other:?}")?,
         };
         assert_eq!(rt; found.as_str(), *want);
+    }
+    Ok(())
+}
+
+// Texts of calls, and behind each what it is.
+const CALLS: &[&str] = &[
+    r#"{"call":"put","item":"a","queue":63}"#,
+    r#"Put { queue: 63, item: Item { text: "a" } }"#,
+    r#" {"wait":"forever","queue":3,"item":"","call":"transfer"}"#,
+    r#"Transfer { queue: 3, item: Item { text: "" }, wait: Forever }"#,
+    r#"{"call":"take","queue":0,"wait":"now"}"#,
+    "Take { queue: 0, wait: Now }",
+    r#"{"call":"count","queue":3}"#,
+    "Count { queue: 3 }",
+    r#"{"call":"peek","queue":3}"#,
+    "Peek { queue: 3 }",
+];
+
+// JSON that is no text of a call.
+const NO_CALLS: &[&str] = &[
+    r#"{"call":"take","queue":3}"#,
+    r#"{"call":"take","queue":3,"wait":0}"#,
+    r#"{"call":"count","queue":64}"#,
+    r#"{"call":"peek","kind":"request","queue":3}"#,
+    r#"{"call":"peek","client":1,"epoch":1,"incarnation":1,"kind":"request","number":1,"queue":3}"#,
+    r#"{"client":1,"incarnation":1,"kind":"hello"}"#,
+];
+
+#[test]
+fn calls_are_read(rt: HostRuntime) -> Result<(), Fail> {
+    let alloc = rt.alloc();
+    for row in CALLS.chunks_exact(2) {
+        let [text, want] = row else {
+            return Err(Fail::new("a row of other than two"));
+        };
+        let call = decode_call(alloc, text.as_bytes())?;
+        assert_eq!(rt; format!(in alloc; "{call:?}")?.as_str(), *want);
+    }
+    for text in NO_CALLS {
+        let found = decode_call(alloc, text.as_bytes()).err();
+        assert_eq!(rt; found, Some(TextFault::NotMessage), "{text}");
     }
     Ok(())
 }
@@ -304,5 +345,6 @@ fn all_calls(alloc: Global) -> Result<(), TextFault> {
     let taken = b"{\"client\":1,\"epoch\":1,\"incarnation\":1,\"item\":\"a\\u0041\",\
         \"kind\":\"reply\",\"number\":1,\"reply\":\"item\"}";
     encode_answer(alloc, &decode_answer(alloc, taken)?)?;
+    decode_call(alloc, br#"{"call":"put","item":"a\u0041","queue":3}"#)?;
     Ok(())
 }
