@@ -22,9 +22,10 @@ use Rattle.rv_book.proofs.Following.{cancel_follows}
 use Rattle.rv_book.proofs.Marking.{Marks, legal_after, marked_ended, marked_idle}
 use Rattle.rv_book.proofs.OnePartner.{arrives_once}
 use Rattle.rv_book.proofs.Owing.{waiting_owed}
-use Rattle.rv_book.proofs.CancelledSessions.{buried_replies, ended_replies, sessions_buried, sessions_ended}
+use Rattle.rv_book.proofs.CancelledSessions.{sessions_buried, sessions_ended}
 use Rattle.rv_book.proofs.Sides.{IsRequestUnder, cancel_stops, stopped_by_cancel}
 use Rattle.rv_book.proofs.Standing.{is_next, waits}
+use Rattle.rv_book.proofs.ToldCancelled.{next_replies, waiting_replies}
 use Rattle.rv_book.proofs.Waits.{waiting_is_last}
 
 module _ (old : State) (moment : ℕ) (key : Key) (comes : Comes old moment (Cancel key)) where
@@ -92,7 +93,7 @@ module _ (old : State) (moment : ℕ) (key : Key) (comes : Comes old moment (Can
         let legal = legal_after old moment (Cancel key) UnderKey ends_marks in
         record {
           adds = record { entry = own_entry; moment_is = refl; act_is = refl; follows = refl; legal = legal };
-          replies = ended_replies before own_entry key there.call place refl refl there.arrived there.waits;
+          replies = waiting_replies before own_entry key refl refl (record { place = place; call = there.call; arrived = there.arrived; waits = there.waits });
         }
 
   -- ---- before the request comes
@@ -118,5 +119,5 @@ module _ (old : State) (moment : ℕ) (key : Key) (comes : Comes old moment (Can
         let legal = legal_after old moment (Cancel key) UnderKey bury_marks in
         record {
           adds = record { entry = own_entry; moment_is = refl; act_is = refl; follows = refl; legal = legal };
-          replies = buried_replies before own_entry key comes.sound.legal next refl;
+          replies = next_replies before own_entry key comes.sound.legal next.incarnation (record { last = next.last; is_last = next.is_last; next = next.next; idle = next.idle }) refl;
         }

@@ -25,7 +25,6 @@ use Rattle.rv_book.proofs.Keys.{act_called, client_of}
 use Rattle.rv_book.proofs.Numbers.{same_or_not}
 use Rattle.rv_book.proofs.Places.{get-append_end}
 use Rattle.rv_book.proofs.Replying.{reply_laws}
-pub use Rattle.rv_book.proofs.CancelledSessions.{buried_replies, ended_replies, sessions_buried, sessions_ended}
 use Rattle.rv_book.proofs.SessionTable.{IsAt, IsAt-on, StillWaits, named_at, session_on}
 use Rattle.rv_book.proofs.Sides.{Waiting-last, Waiting-on, arrival_stops_nobody}
 use Rattle.rv_book.proofs.WaitingTable.{waiting_there, waits_in_table}
