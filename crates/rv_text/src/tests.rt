@@ -194,6 +194,8 @@ const TAKEN: &[u8] =
 const PEEKED: &[u8] =
     br#"{"client":1,"epoch":1,"incarnation":1,"kind":"reply","number":1,"reply":"peeked","item":""#;
 
+const COUNTED: &[u8] = br#"{"client":1,"epoch":1,"incarnation":1,"kind":"reply","number":1,"reply":"counted","#;
+
 const REFUSED: &[u8] = br#"{"kind":"refused","code":"#;
 
 // A text: what it begins with, what then stands so many times, and its end.
@@ -207,12 +209,7 @@ const GOOD: &[Input] = &[
     (REFUSED, b"", 0, b"5,\"last\":9007199254740991}"),
     (TAKEN, b"x", 512, b"\"}"),
     (PEEKED, b"x", 512, b"\"}"),
-    (
-        REPLY,
-        b"",
-        0,
-        b"\"counted\",\"items\":100000,\"consumers\":100000}",
-    ),
+    (COUNTED, b"", 0, b"\"items\":100000,\"consumers\":100000}"),
 ];
 
 // Not JSON.
@@ -226,12 +223,7 @@ const NO_ANSWERS: &[Input] = &[
     (b"", b"", 0, b""),
     (REPLY, b" ", 4018, b"\"done\"}"),
     (b"", b"?", 4097, b""),
-    (
-        b"{\"client\":1,\"incarnation\":1,",
-        b"",
-        0,
-        b"\"kind\":\"hello\"}",
-    ),
+    (b"{\"kind\":\"hello\",", b"", 0, b"\"client\":1,\"incarnation\":1}"),
     (b"{\"kind\":\"refused\"}", b"", 0, b""),
     (REFUSED, b"", 0, b"0}"),
     (REFUSED, b"", 0, b"1.0}"),
@@ -248,19 +240,9 @@ const NO_ANSWERS: &[Input] = &[
     (REPLY, b"", 0, b"\"item\"}"),
     (REPLY, b"", 0, b"\"peeked\"}"),
     (REPLY, b"", 0, b"\"done\",\"item\":\"\"}"),
-    (REPLY, b"", 0, b"\"counted\",\"items\":3}"),
-    (
-        REPLY,
-        b"",
-        0,
-        b"\"counted\",\"consumers\":0,\"items\":100001}",
-    ),
-    (
-        REPLY,
-        b"",
-        0,
-        b"\"counted\",\"consumers\":100001,\"items\":0}",
-    ),
+    (COUNTED, b"", 0, b"\"items\":3}"),
+    (COUNTED, b"", 0, b"\"consumers\":0,\"items\":100001}"),
+    (COUNTED, b"", 0, b"\"consumers\":100001,\"items\":0}"),
     (TAKEN, b"x", 513, b"\"}"),
     (PEEKED, b"\\u00e9", 257, b"\"}"),
 ];
