@@ -2,6 +2,7 @@
 pub mod Body
 pub mod Command
 pub mod Faults
+pub mod Laws
 pub mod Lines
 pub mod Number
 pub mod Outcomes

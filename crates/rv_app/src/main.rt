@@ -6,19 +6,15 @@ ghost use Rattle.rv_text.specs.Limits.{FitsIdentifier};
 ghost use Rattle.rv_app.specs.Command.{FitsCommand};
 
 mod command;
-#[cfg(test)]
-mod command_tests;
 mod input;
+pub mod laws;
 mod line;
 mod number;
 mod output;
 mod run;
-#[cfg(test)]
-mod run_tests;
 mod turn;
 
 pub use command::{Command, CommandFault, read_command};
-pub use number::read_number;
 pub use output::OutputFault;
 pub use run::{RunFault, book_run};
 use rv_frame::{Sink, Source};

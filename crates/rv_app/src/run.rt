@@ -20,18 +20,15 @@ use thiserror::Error;
 
 /// Why a run ended before its output was whole.
 #[derive(Clone, Copy, Debug, PartialEq, Eq, Error)]
+#[error("run fault {}", self.number())]
 pub enum RunFault {
     /// 1: a read of the input failed. Nothing was printed.
-    #[error("run fault 1")]
     ReadFault,
     /// 2: a write of the output failed, after the bytes that the fault counts.
-    #[error("run fault 2")]
     WriteFault(OutputFault),
     /// 3: memory was refused before the first line was looked at. Nothing was printed.
-    #[error("run fault 3")]
     NoMemory,
     /// 4: the input has more than 536,870,912 bytes. Nothing was printed.
-    #[error("run fault 4")]
     TooLong,
 }
 
