@@ -36,7 +36,8 @@ class Script:
         self.have = have
         self.account = Account(epoch, 0)
         self.now = 0
-        self.clients = chance.sample([*range(1, 15), 1000, MAX_IDENTIFIER], chance.choice([1, 2, 3, 4, 5, 6, 9, 12, 16]))
+        count = chance.choice([1, 2, 3, 4, 5, 6, 9, 12, 16])
+        self.clients = chance.sample([*range(1, 15), 1000, MAX_IDENTIFIER], count)
         self.queues = chance.sample(range(64), chance.randint(1, 3))
         self.steps = chance.choice(STEPS)
         self.restarts = chance.choice([0.05, 0.1, 0.3])
