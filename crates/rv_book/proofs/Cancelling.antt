@@ -1,21 +1,19 @@
 -- What a cancel that is recorded leaves: a sound state.
-use Rattle.std.proofs.Common.{◌≡◌, inl, inr, ℕ, ◌+◌, ◌≤◌, List, ◌∷◌, [], ◌++◌, length, Option, Some, None, refl, sym, ap, subst, ◌∙◌, arith, option_and_then}
+use Rattle.std.proofs.Common.{◌≡◌, inl, inr, ℕ, ◌+◌, ◌≤◌, None, refl, sym, ap, subst, ◌∙◌, arith, option_and_then}
 use Rattle.std.proofs.lemmas.Option.{same_Some}
 use Rattle.rv_text.specs.declared.message.Key.{Key}
-use Rattle.rv_text.specs.declared.answer.Answer.TheVariants.{Replied}
-use Rattle.rv_text.specs.declared.answer.Reply.TheVariants as reply
 use Rattle.rv_session.specs.Meanings.{HasLast, HasNext}
 use Rattle.rv_session.specs.declared.session.State.TheVariants as state
 use Rattle.rv_session.specs.Owed.{Owed}
 use Rattle.rv_session.specs.Table.{OnlySets, OnlySettles, settled_session}
 use Rattle.rv_session.specs.declared.kept.Kept.TheVariants as kept
-use Rattle.rv_book.specs.Account.{Account, act_at, call_in, key_in, with_entry}
+use Rattle.rv_book.specs.Account.{Account, call_in, key_in, with_entry}
 use Rattle.rv_book.specs.Arriving.{IsCancelled, IsNext, entry}
 use Rattle.rv_book.specs.Calls.{IsPut}
-use Rattle.rv_book.specs.declared.account.Act.TheVariants.{Arrive, Cancel}
+use Rattle.rv_book.specs.declared.account.Act.TheVariants.{Cancel}
 use Rattle.rv_book.specs.declared.account.Entry.{Entry}
 use Rattle.rv_book.specs.declared.state.State.{State}
-use Rattle.rv_book.specs.Legal.{IsNextNumber, MayFollow, WaitsUnder}
+use Rattle.rv_book.specs.Legal.{MayFollow}
 use Rattle.rv_book.specs.Tables.{Comes, EndsAt, HasSpace, IsSound, account_of}
 use Rattle.rv_book.specs.Waiting.{Open, Waiting}
 use Rattle.rv_book.proofs.Following.{cancel_follows}

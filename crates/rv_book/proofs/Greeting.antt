@@ -1,27 +1,23 @@
 -- What a hello that is recorded leaves: a sound state.
-use Rattle.std.proofs.Common.{◌≡◌, inl, inr, ℕ, ◌+◌, ◌≤◌, List, ◌∷◌, [], ◌++◌, length, Option, Some, None, IfSome, IsSome, is_some, refl, sym, ap, subst, ◌∙◌, arith, option_and_then}
+use Rattle.std.proofs.Common.{◌≡◌, inl, inr, ℕ, ◌≤◌, List, length, Option, Some, None, IfSome, IsSome, is_some, refl, sym, ap, subst, ◌∙◌, arith, option_and_then}
 use Rattle.std.proofs.lemmas.Option.{same_Some}
 use Rattle.rv_text.specs.declared.call.Side.{Side}
-use Rattle.rv_text.specs.Calls.{side_of}
 use Rattle.rv_session.specs.Owed.{Owed}
 use Rattle.rv_session.specs.Table.{OnlySets, OnlySettles, fresh, session_of, waiting_of}
 use Rattle.rv_session.specs.declared.kept.Kept.{Kept}
 use Rattle.rv_book.specs.Account.{Account, call_in, key_in, with_entry}
 use Rattle.rv_book.specs.Arriving.{entry}
 use Rattle.rv_book.specs.Calls.{IsPut}
-use Rattle.rv_book.specs.Counting.{NumberOf}
 use Rattle.rv_book.specs.declared.account.Act.{Act}
 use Rattle.rv_book.specs.declared.account.Act.TheVariants.{Hello}
 use Rattle.rv_book.specs.declared.account.Entry.{Entry}
 use Rattle.rv_book.specs.declared.state.State.{State}
-use Rattle.rv_book.specs.Legal.{HasWaiting, KeepsTime, Legal, MayFollow}
-use Rattle.rv_book.specs.Parked.{AreQueues}
+use Rattle.rv_book.specs.Legal.{HasWaiting, KeepsTime}
 use Rattle.rv_book.specs.Sessions.{HasOnlyLower}
-use Rattle.rv_book.specs.Tables.{AreSessions, Comes, EndsAt, EndsIf, HasSpace, IsReady, IsSound, account_of}
-use Rattle.rv_book.specs.Waiting.{Open, OpenAt, Waiting}
+use Rattle.rv_book.specs.Tables.{AreSessions, Comes, EndsIf, HasSpace, IsReady, IsSound, account_of}
+use Rattle.rv_book.specs.Waiting.{Open, Waiting}
 use Rattle.rv_book.proofs.Following.{hello_follows}
-use Rattle.rv_book.proofs.Keeping.{sound_same, sound_with}
-use Rattle.rv_book.proofs.Legality.{Legal-with_entry}
+use Rattle.rv_book.proofs.Keeping.{sound_same}
 use Rattle.rv_session.specs.declared.session.Session.{Session}
 use Rattle.rv_book.proofs.Numbers.{same_or_not}
 use Rattle.rv_book.proofs.Owing.{waiting_owed}

@@ -1,5 +1,5 @@
 -- What an entry leaves that is no arrival and stops a request of one session at most: a sound state.
-use Rattle.std.proofs.Common.{◌≡◌, ℕ, ◌+◌, ◌≤◌, List, ◌∷◌, [], ◌++◌, length, Option, Some, None, refl, sym, ap, subst, ◌∙◌, arith}
+use Rattle.std.proofs.Common.{◌≡◌, ℕ, ◌+◌, ◌≤◌, ◌∷◌, [], ◌++◌, length, Some, None, sym, subst, ◌∙◌, arith}
 use Rattle.std.proofs.lemmas.Option.{same_Some}
 use Rattle.rv_text.specs.Calls.{side_of}
 use Rattle.rv_session.specs.declared.kept.Kept.{Kept}
@@ -15,7 +15,7 @@ use Rattle.rv_book.specs.Parked.{AreQueues}
 use Rattle.rv_book.specs.Steps.{max_moment}
 use Rattle.rv_book.specs.Tables.{AreSessions, EndsAt, HasSpace, IsSound, account_of}
 use Rattle.rv_book.specs.Waiting.{Open, OpenAt, Waiting}
-use Rattle.rv_book.proofs.Keeping.{Answers, sound_with}
+use Rattle.rv_book.proofs.Keeping.{sound_with}
 use Rattle.rv_book.proofs.Legality.{Legal-with_entry}
 use Rattle.rv_book.proofs.Owing.{number_less, number_same}
 use Rattle.rv_book.proofs.Sides.{waiting_is_open}

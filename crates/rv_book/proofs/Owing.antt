@@ -165,5 +165,5 @@ module _ (es : List Entry) (e : Entry) (P : ℕ → Type 0) (free : NamesFreePar
       → (k : ℕ) × (n ≡ k + 1) × NumberOf (Waiting (es ++ e ∷ [])) k
   number_less n p count waits own only = number_drop (Waiting es) (Waiting (es ++ e ∷ [])) n p count waits (λ r. (
     (λ there. let was = was_there r there in (was.0, λ same. was.1 (subst P (sym same) own))),
-    (λ both. still_there r both.0 (λ here. both.1 (only r both.0 here)))
+    (λ both. still_there r both.0 (λ here. both.1 (only r both.0 here))),
   ))

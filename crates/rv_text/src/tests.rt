@@ -194,7 +194,8 @@ const TAKEN: &[u8] =
 const PEEKED: &[u8] =
     br#"{"client":1,"epoch":1,"incarnation":1,"kind":"reply","number":1,"reply":"peeked","item":""#;
 
-const COUNTED: &[u8] = br#"{"client":1,"epoch":1,"incarnation":1,"kind":"reply","number":1,"reply":"counted","#;
+const COUNTED: &[u8] =
+    br#"{"client":1,"epoch":1,"incarnation":1,"kind":"reply","number":1,"reply":"counted","#;
 
 const REFUSED: &[u8] = br#"{"kind":"refused","code":"#;
 
@@ -223,7 +224,12 @@ const NO_ANSWERS: &[Input] = &[
     (b"", b"", 0, b""),
     (REPLY, b" ", 4018, b"\"done\"}"),
     (b"", b"?", 4097, b""),
-    (b"{\"kind\":\"hello\",", b"", 0, b"\"client\":1,\"incarnation\":1}"),
+    (
+        b"{\"kind\":\"hello\",",
+        b"",
+        0,
+        b"\"client\":1,\"incarnation\":1}",
+    ),
     (b"{\"kind\":\"refused\"}", b"", 0, b""),
     (REFUSED, b"", 0, b"0}"),
     (REFUSED, b"", 0, b"1.0}"),

@@ -1,9 +1,8 @@
 -- A cancel before its request comes leaves a sound state, in which the request is cancelled.
-use Rattle.std.proofs.Common.{◌≡◌, ◌∙◌, ◌≤◌, ◌+◌, None, sym, ap, subst, arith}
+use Rattle.std.proofs.Common.{None, sym, subst, arith}
 use Rattle.rv_session.specs.Meanings.{HasNext}
 use Rattle.rv_session.specs.Table.{OnlySets, settled_session}
 use Rattle.rv_session.specs.declared.kept.Kept.TheVariants as kept
-use Rattle.rv_book.specs.Account.{with_entry}
 use Rattle.rv_book.specs.Arriving.{IsCancelled, entry}
 use Rattle.rv_book.specs.declared.account.Act.TheVariants.{Cancel}
 use Rattle.rv_book.specs.Tables.{account_of}

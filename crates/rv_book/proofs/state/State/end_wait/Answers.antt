@@ -1,5 +1,5 @@
 -- A cancel of a request that waits leaves a sound state, in which it is cancelled.
-use Rattle.std.proofs.Common.{◌≡◌, ◌∙◌, None, sym, ap, subst}
+use Rattle.std.proofs.Common.{◌∙◌, None, sym, ap, subst}
 use Rattle.rv_book.specs.Account.{with_entry}
 use Rattle.rv_book.specs.Arriving.{IsCancelled, entry}
 use Rattle.rv_book.specs.declared.account.Act.TheVariants.{Cancel}
