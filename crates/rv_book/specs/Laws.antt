@@ -13,7 +13,8 @@ use Rattle.rv_book.specs.declared.verdict.Verdict.{Verdict}
 use Rattle.rv_book.specs.Account.{Account, Extends}
 use Rattle.rv_book.specs.Legal.{Legal}
 use Rattle.rv_book.specs.Replies.{HasReply}
-use Rattle.rv_book.specs.Steps.{CancelLines, HelloLines, RequestLines, Adds, Answers, Replies, Next, step_moment}
+use Rattle.rv_book.specs.Steps.{CancelLines, HelloLines, RequestLines, Adds, Answers, Replies, Next}
+use Rattle.rv_book.specs.Steps.{step_moment}
 use Rattle.rv_book.specs.Order.{InOrder}
 use Rattle.rv_book.specs.Verdicts.{says}
 

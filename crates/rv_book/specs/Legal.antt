@@ -71,9 +71,11 @@ pub record WaitsUnder (entries : List Entry) (key : Key) : Type 0 where
   pub arrived : act_at entries place ≡ Some (Arrive key call)
   pub waits : Waiting entries place
 
--- a cancel names the request that waits in its session, or, with nothing waiting there, the session's next number
+-- a cancel names the request that waits in its session, or, with nothing waiting there, the session's next
+-- number
 abbrev pub CancelsInTurn : List Entry → Act → Type 0
-CancelsInTurn entries does = (key : Key) → does ≡ Cancel key → WaitsUnder entries key ⊎ IsNextNumber entries key
+CancelsInTurn entries does = (key : Key) → does ≡ Cancel key
+    → WaitsUnder entries key ⊎ IsNextNumber entries key
 
 -- what an entry of this act keeps of the numbers
 pub record KeepsNumbers (a : Account) (does : Act) : Type 0 where

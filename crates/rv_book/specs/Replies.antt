@@ -77,7 +77,8 @@ pub record CancelledFirst (entries : List Entry) (key : Key) : Type 0 where
   pub cancelled : act_at entries place ≡ Some (Cancel key)
   pub not_arrived : (r : ℕ) (call : Call) → act_at entries r ≡ Some (Arrive key call) → ⊥
 
--- the reply of the request with this key: what its arrival has; or, where it was cancelled before it came, that
+-- the reply of the request with this key: what its arrival has; or, where it was cancelled before it came,
+-- that
 abbrev pub HasReply : List Entry → Key → Reply → Type 0
 HasReply entries key told =
     RepliesToArrival entries key told ⊎ (CancelledFirst entries key × (told ≡ reply.Cancelled))

@@ -316,8 +316,8 @@ impl State {
         self.push_cancel(moment, key);
     }
 
-    // Answers a cancel: ends the request that waits, tells the reply of a settled one, and settles one that did
-    // not come yet, where no refusal is due.
+    // Answers a cancel: ends the request that waits, tells the reply of a settled one, and settles one that
+    // did not come yet, where no refusal is due.
     fn cancel(&mut self, moment: u64, key: Key) -> Result<Kept, Refusal>
         requires { Comes self.old moment (Cancel key) }
         ensures sound { IsSound self.new }

@@ -185,7 +185,7 @@ fn answers_are_read_and_written(rt: HostRuntime) -> Result<(), Fail> {
     Ok(())
 }
 
-// What stands before the word of a reply and before its item's text, and before a refusal's code.
+// What stands before a reply's word and its item's text, a refusal's code, and the end of a hello.
 const REPLY: &[u8] = br#"{"client":1,"epoch":1,"incarnation":1,"kind":"reply","number":1,"reply":"#;
 
 const TAKEN: &[u8] =
@@ -198,6 +198,8 @@ const COUNTED: &[u8] =
     br#"{"client":1,"epoch":1,"incarnation":1,"kind":"reply","number":1,"reply":"counted","#;
 
 const REFUSED: &[u8] = br#"{"kind":"refused","code":"#;
+
+const HELLO: &[u8] = br#"{"client":1,"incarnation":1,"kind":"hello"#;
 
 // A text: what it begins with, what then stands so many times, and its end.
 type Input = (&'static [u8], &'static [u8], usize, &'static [u8]);
@@ -224,12 +226,7 @@ const NO_ANSWERS: &[Input] = &[
     (b"", b"", 0, b""),
     (REPLY, b" ", 4018, b"\"done\"}"),
     (b"", b"?", 4097, b""),
-    (
-        b"{\"kind\":\"hello\",",
-        b"",
-        0,
-        b"\"client\":1,\"incarnation\":1}",
-    ),
+    (HELLO, b"", 0, b"\"}"),
     (b"{\"kind\":\"refused\"}", b"", 0, b""),
     (REFUSED, b"", 0, b"0}"),
     (REFUSED, b"", 0, b"1.0}"),
