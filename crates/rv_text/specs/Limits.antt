@@ -9,7 +9,7 @@ use Rattle.rv_text.specs.declared.answer.Refusal.{Refusal}
 use Rattle.rv_text.specs.declared.answer.Answer.{Answer}
 use Rattle.rv_text.specs.declared.answer.Answer.TheVariants as answer
 use Rattle.rv_text.specs.Members as members
-pub use Rattle.rv_text.specs.Members.{FitsItem}
+pub use Rattle.rv_text.specs.Members.{FitsItem, FitsWait}
 use Rattle.rv_text.specs.Rows.{call_row, reply_row, detail_row}
 
 abbrev pub FitsIdentifier : ℕ → Type 0

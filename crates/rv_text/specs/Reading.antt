@@ -109,8 +109,17 @@ item_among = text_among (codes "item")
 abbrev pub wait_lines : List (Line (List ℕ) Wait)
 wait_lines = (codes "now", λ ms. Some wait.Now) ∷ (codes "forever", λ ms. Some wait.Forever) ∷ []
 
+abbrev pub wait_word_among : Members → Option Wait
+wait_word_among members = among (codes "wait") wait_lines members
+
+-- what is found by its number, or else by its word
+abbrev pub by_number : {A : Type 0} → (ℕ → A) → Option ℕ → Option A → Option A
+by_number is (Some n) by_word = Some (is n)
+by_number is None by_word = by_word
+
 abbrev pub wait_among : Members → Option Wait
-wait_among members = among (codes "wait") wait_lines members
+wait_among members =
+    by_number (λ millis. wait.Millis millis) (whole_among (codes "wait") members) (wait_word_among members)
 
 abbrev pub key_among : Members → Option Key
 key_among members = do
@@ -176,6 +185,7 @@ reply_lines =
     (codes "nobody", λ ms. Some reply.Nobody) ∷
     (codes "item", λ ms. item_among ms >>= λ item. Some (reply.Item item)) ∷
     (codes "empty", λ ms. Some reply.Empty) ∷
+    (codes "timedout", λ ms. Some reply.TimedOut) ∷
     (codes "cancelled", λ ms. Some reply.Cancelled) ∷
     (codes "counted", counted_among) ∷
     (codes "peeked", λ ms. item_among ms >>= λ item. Some (reply.Peeked item)) ∷

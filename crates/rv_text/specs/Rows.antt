@@ -4,7 +4,6 @@ use Rattle.rv_text.specs.declared.message.Key.{Key}
 use Rattle.rv_text.specs.declared.message.Message.{Message}
 use Rattle.rv_text.specs.declared.message.Message.TheVariants as message
 use Rattle.rv_text.specs.declared.call.Wait.{Wait}
-use Rattle.rv_text.specs.declared.call.Wait.TheVariants as wait
 use Rattle.rv_text.specs.declared.call.Side.{Side}
 use Rattle.rv_text.specs.declared.call.Call.{Call}
 use Rattle.rv_text.specs.declared.answer.Reply.{Reply}
@@ -14,7 +13,7 @@ use Rattle.rv_text.specs.declared.answer.Refusal.TheVariants as refusal
 use Rattle.rv_text.specs.declared.answer.Answer.{Answer}
 use Rattle.rv_text.specs.declared.answer.Answer.TheVariants as answer
 use Rattle.rv_text.specs.Calls.{Nature, nature_of, queue_of}
-use Rattle.rv_text.specs.Members.{Member, word, whole, item_text}
+use Rattle.rv_text.specs.Members.{Member, word, whole, item_text, wait_time}
 use Rattle.rv_text.specs.Members as members
 
 -- ---- members by name
@@ -46,8 +45,7 @@ side_row side = whole (codes "queue") members.queue_numbers (queue_of side) ∷ 
 
 abbrev pub wait_row : Option Wait → List Member
 wait_row None = []
-wait_row (Some wait.Now) = word (codes "wait") (codes "now") ∷ []
-wait_row (Some wait.Forever) = word (codes "wait") (codes "forever") ∷ []
+wait_row (Some waits) = wait_time (codes "wait") waits ∷ []
 
 abbrev pub item_row : Option (List ℕ) → List Member
 item_row None = []
@@ -79,6 +77,7 @@ reply_row reply.Received = word (codes "reply") (codes "received") ∷ []
 reply_row reply.Nobody = word (codes "reply") (codes "nobody") ∷ []
 reply_row (reply.Item bytes) = word (codes "reply") (codes "item") ∷ item bytes ∷ []
 reply_row reply.Empty = word (codes "reply") (codes "empty") ∷ []
+reply_row reply.TimedOut = word (codes "reply") (codes "timedout") ∷ []
 reply_row reply.Cancelled = word (codes "reply") (codes "cancelled") ∷ []
 reply_row (reply.Counted items consumers) =
     word (codes "reply") (codes "counted") ∷

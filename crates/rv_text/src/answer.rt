@@ -22,6 +22,8 @@ pub enum Reply {
     Item(Item),
     /// A take that does not wait, or a peek, found no item.
     Empty,
+    /// The request's wait ended, and it had met nobody.
+    TimedOut,
     /// The request waited and was ended, by a cancel or by its client's hello of a greater incarnation.
     Cancelled,
     /// How many items wait in the queue, those of puts and of transfers, and how many consumers: 0 to

@@ -8,11 +8,16 @@ use std::alloc::Global;
 /// The greatest number of a queue; the least is 0.
 pub const MAX_QUEUE: u64 = 63;
 
+/// The most milliseconds that a wait may have: a day.
+pub const MAX_WAIT: u64 = 86_400_000;
+
 /// How long a request may wait for its partner.
 #[derive(Clone, Copy, Debug, PartialEq, Eq)]
 pub enum Wait {
     /// Not at all, as Java's untimed `poll`.
     Now,
+    /// At most so many milliseconds, 0 to 86,400,000, as Java's timed `poll`.
+    Millis(u64),
     /// Until it is met, cancelled, or its client says hello anew, as Java's `take`.
     Forever,
 }
@@ -41,6 +46,20 @@ pub enum Side {
     Takes(u64),
     /// It looks at this queue, and meets nobody.
     Looks(u64),
+}
+
+impl Wait {
+    ghost use Rattle.rv_text.specs.Limits.{FitsWait};
+
+    // Whether its milliseconds, if it has some, are at most 86,400,000.
+    fn fits(self) -> bool
+        ensures { IsTrue result ↔ FitsWait self }
+    {
+        match self {
+            Wait::Millis(millis) => millis <= MAX_WAIT,
+            Wait::Now | Wait::Forever => true,
+        }
+    }
 }
 
 impl Side {
@@ -126,10 +145,13 @@ impl Call {
         }
     }
 
-    /// Whether the queue is 0 to 63 and the item has at most 512 bytes.
+    /// Whether the queue is 0 to 63, the wait at most 86,400,000 milliseconds, and the item has at most
+    /// 512 bytes.
     pub fn fits(&self) -> bool
         ensures { IsTrue result ↔ FitsCall self.now }
     {
-        self.side().fits() && self.item().is_none_or(Item::fits)
+        self.side().fits()
+            && self.wait().is_none_or(Wait::fits)
+            && self.item().is_none_or(Item::fits)
     }
 }

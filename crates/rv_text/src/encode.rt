@@ -109,6 +109,7 @@ fn put_wait(members: &mut Map<String, Value>, alloc: Global, wait: Wait) -> Resu
 {
     match wait {
         Wait::Now => put_text(members, alloc, "wait", "now"),
+        Wait::Millis(millis) => put_whole(members, alloc, "wait", millis),
         Wait::Forever => put_text(members, alloc, "wait", "forever"),
     }
 }
@@ -175,6 +176,7 @@ fn put_reply(members: &mut Map<String, Value>, alloc: Global, reply: &Reply) -> 
             put_item(members, alloc, item)
         }
         Reply::Empty => put_text(members, alloc, "reply", "empty"),
+        Reply::TimedOut => put_text(members, alloc, "reply", "timedout"),
         Reply::Cancelled => put_text(members, alloc, "reply", "cancelled"),
         Reply::Counted { items, consumers } => {
             put_text(members, alloc, "reply", "counted")?;

@@ -3,7 +3,7 @@ ghost use Rattle.std.specs.Prelude.{◌≡◌, option_map};
 ghost use Rattle.serde_json.specs.Find.{get_member};
 ghost use Rattle.serde_json.specs.View.{view, members_view};
 ghost use Rattle.rv_text.specs.Reading.{FindsAmong, FindsSeenAmong, whole_among, text_among};
-ghost use Rattle.rv_text.specs.Reading.{queue_among, item_among, wait_among, key_among, call_among};
+ghost use Rattle.rv_text.specs.Reading.{queue_among, item_among, wait_among, wait_word_among, key_among, call_among};
 ghost use Rattle.rv_text.specs.Reading.{reply_among, refusal_among};
 
 use crate::answer::{Refusal, Reply};
@@ -21,12 +21,17 @@ fn member<'v>(members: &'v Map<String, Value>, name: &str) -> Option<&'v Value>
     members.get(name)
 }
 
+// The whole number that stands at the name.
+fn whole(members: &Map<String, Value>, name: &str) -> Option<u64>
+    ensures { result ≡ whole_among name.now (members_view members.now.entries) }
+{
+    member(members, name).and_then(Value::as_u64)
+}
+
 pub(crate) fn read_whole(members: &Map<String, Value>, name: &str) -> Result<u64, TextFault>
     ensures { FindsAmong members.now result (whole_among name.now) }
 {
-    member(members, name)
-        .and_then(Value::as_u64)
-        .ok_or(TextFault::NotMessage)
+    whole(members, name).ok_or(TextFault::NotMessage)
 }
 
 pub(crate) fn read_text<'v>(
@@ -55,6 +60,15 @@ fn read_item(alloc: Global, members: &Map<String, Value>) -> Result<Item, TextFa
 
 fn read_wait(members: &Map<String, Value>) -> Result<Wait, TextFault>
     ensures { FindsAmong members.now result wait_among }
+{
+    match whole(members, "wait") {
+        Some(millis) => Ok(Wait::Millis(millis)),
+        None => read_wait_word(members),
+    }
+}
+
+fn read_wait_word(members: &Map<String, Value>) -> Result<Wait, TextFault>
+    ensures { FindsAmong members.now result wait_word_among }
 {
     match read_text(members, "wait")? {
         "now" => Ok(Wait::Now),
@@ -110,6 +124,7 @@ pub(crate) fn read_reply(alloc: Global, members: &Map<String, Value>) -> Result<
         "nobody" => Ok(Reply::Nobody),
         "item" => Ok(Reply::Item(read_item(alloc, members)?)),
         "empty" => Ok(Reply::Empty),
+        "timedout" => Ok(Reply::TimedOut),
         "cancelled" => Ok(Reply::Cancelled),
         "counted" => Ok(Reply::Counted {
             items: read_whole(members, "items")?,
