@@ -42,12 +42,15 @@ module _ (ms : Members) where
           (
             (λ word. last_found HasReply reply.Empty (word, tt)),
             (
-              (λ word. last_found HasReply reply.Cancelled (word, tt)),
+              (λ word. last_found HasReply reply.TimedOut (word, tt)),
               (
-                counted_found,
+                (λ word. last_found HasReply reply.Cancelled (word, tt)),
                 (
-                  (λ word. step_found HasReply (item_among ms) _ (λ item i. last_found HasReply (reply.Peeked item) (word, (text_found ms (codes "item") item i, tt)))),
-                  tt,
+                  counted_found,
+                  (
+                    (λ word. step_found HasReply (item_among ms) _ (λ item i. last_found HasReply (reply.Peeked item) (word, (text_found ms (codes "item") item i, tt)))),
+                    tt,
+                  ),
                 ),
               ),
             ),

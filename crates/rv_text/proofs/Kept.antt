@@ -46,6 +46,9 @@ received_fits = tt
 pub nobody_fits : FitsReply reply.Nobody
 nobody_fits = tt
 
+pub timed_out_fits : FitsReply reply.TimedOut
+timed_out_fits = tt
+
 pub cancelled_fits : FitsReply reply.Cancelled
 cancelled_fits = tt
 
@@ -68,11 +71,6 @@ same_number m n = elim (cases_order m n) [
   | inr differ ↦ inr (λ same. elim differ [ inl less ↦ omega arith | inr more ↦ omega arith ])
 ]
 
-same_wait : (v w : Wait) → (v ≡ w) ⊎ (v ≡ w → ⊥)
-same_wait wait.Now wait.Now = inl refl
-same_wait wait.Forever wait.Forever = inl refl
-same_wait _ _ = inr (λ e. absurd (let no : ⊥ = cc in no))
-
 -- two facts that make a third, and follow from it
 both : {A B C : Type 0} → A ⊎ (A → ⊥) → B ⊎ (B → ⊥) → (A → B → C) → (C → A × B) → C ⊎ (C → ⊥)
 both (inl a) (inl b) make parts = inl (make a b)
@@ -83,6 +81,15 @@ both (inr apart) b make parts = inr (λ c. apart (parts c).0)
 alone : {A C : Type 0} → A ⊎ (A → ⊥) → (A → C) → (C → A) → C ⊎ (C → ⊥)
 alone (inl a) make part = inl (make a)
 alone (inr apart) make part = inr (λ c. apart (part c))
+
+millis_part : (m n : ℕ) → wait.Millis m ≡ wait.Millis n → m ≡ n
+millis_part m n e = cc
+
+same_wait : (v w : Wait) → (v ≡ w) ⊎ (v ≡ w → ⊥)
+same_wait wait.Now wait.Now = inl refl
+same_wait (wait.Millis m) (wait.Millis n) = alone (same_number m n) (λ millis. cc) (millis_part m n)
+same_wait wait.Forever wait.Forever = inl refl
+same_wait _ _ = inr (λ e. absurd (let no : ⊥ = cc in no))
 
 put_parts : (q r : ℕ) (i j : List ℕ) → call.Put q i ≡ call.Put r j → (q ≡ r) × (i ≡ j)
 put_parts q r i j e = (cc, cc)

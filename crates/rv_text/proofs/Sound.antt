@@ -4,7 +4,6 @@ use Rattle.rv_text.specs.declared.message.Key.{Key}
 use Rattle.rv_text.specs.declared.message.Message.{Message}
 use Rattle.rv_text.specs.declared.message.Message.TheVariants as message
 use Rattle.rv_text.specs.declared.call.Wait.{Wait}
-use Rattle.rv_text.specs.declared.call.Wait.TheVariants as wait
 use Rattle.rv_text.specs.declared.call.Side.{Side}
 use Rattle.rv_text.specs.declared.call.Call.{Call}
 use Rattle.rv_text.specs.declared.call.Call.TheVariants as call
@@ -47,19 +46,15 @@ request_sound : (key : Key) (name : List ℕ) (at : Side) (waits : Option Wait) 
     → IsSound (request_row key (record { word = name; side = at; wait = waits; item = gives }))
 request_sound key name at None None plain = record { distinct = refl; plain = rw plain refl; room = omega arith; in_order = refl }
 request_sound key name at None (Some item) plain = record { distinct = refl; plain = rw plain refl; room = omega arith; in_order = refl }
-request_sound key name at (Some wait.Now) None plain = record { distinct = refl; plain = rw plain refl; room = omega arith; in_order = refl }
-request_sound key name at (Some wait.Now) (Some item) plain = record { distinct = refl; plain = rw plain refl; room = omega arith; in_order = refl }
-request_sound key name at (Some wait.Forever) None plain = record { distinct = refl; plain = rw plain refl; room = omega arith; in_order = refl }
-request_sound key name at (Some wait.Forever) (Some item) plain = record { distinct = refl; plain = rw plain refl; room = omega arith; in_order = refl }
+request_sound key name at (Some waits) None plain = record { distinct = refl; plain = rw plain refl; room = omega arith; in_order = refl }
+request_sound key name at (Some waits) (Some item) plain = record { distinct = refl; plain = rw plain refl; room = omega arith; in_order = refl }
 
 call_parts_sound : (name : List ℕ) (at : Side) (waits : Option Wait) (gives : Option (List ℕ)) → is_plain_word name ≡ true
     → IsSound (nature_row (record { word = name; side = at; wait = waits; item = gives }))
 call_parts_sound name at None None plain = record { distinct = refl; plain = rw plain refl; room = omega arith; in_order = refl }
 call_parts_sound name at None (Some item) plain = record { distinct = refl; plain = rw plain refl; room = omega arith; in_order = refl }
-call_parts_sound name at (Some wait.Now) None plain = record { distinct = refl; plain = rw plain refl; room = omega arith; in_order = refl }
-call_parts_sound name at (Some wait.Now) (Some item) plain = record { distinct = refl; plain = rw plain refl; room = omega arith; in_order = refl }
-call_parts_sound name at (Some wait.Forever) None plain = record { distinct = refl; plain = rw plain refl; room = omega arith; in_order = refl }
-call_parts_sound name at (Some wait.Forever) (Some item) plain = record { distinct = refl; plain = rw plain refl; room = omega arith; in_order = refl }
+call_parts_sound name at (Some waits) None plain = record { distinct = refl; plain = rw plain refl; room = omega arith; in_order = refl }
+call_parts_sound name at (Some waits) (Some item) plain = record { distinct = refl; plain = rw plain refl; room = omega arith; in_order = refl }
 
 pub call_sound : (call : Call) → IsSound (call_row call)
 call_sound call =
@@ -83,8 +78,7 @@ message_within (message.Cancel key) fits = (tt, key_within key [] fits tt)
 
 wait_text : (waits : Option Wait) → Each IsText (wait_row waits)
 wait_text None = tt
-wait_text (Some wait.Now) = (tt, tt)
-wait_text (Some wait.Forever) = (tt, tt)
+wait_text (Some waits) = (tt, tt)
 
 item_is_text : (gives : Option (List ℕ)) → IfSome gives IsUtf8 → Each IsText (item_row gives)
 item_is_text None utf8 = tt
