@@ -6,7 +6,7 @@ use Rattle.rv_text.specs.declared.call.Side.{Side}
 use Rattle.rv_text.specs.Calls.{side_of}
 use Rattle.rv_book.specs.declared.account.Entry.{Entry}
 use Rattle.rv_book.specs.declared.account.Act.{Act}
-use Rattle.rv_book.specs.declared.account.Act.TheVariants.{Hello, Arrive, Cancel}
+use Rattle.rv_book.specs.declared.account.Act.TheVariants.{Hello, Arrive, Cancel, Tick}
 use Rattle.rv_book.specs.Account.{Account, act_at, moment_at, call_in, key_in}
 use Rattle.rv_book.specs.Calls.{MayMeet, opposite}
 use Rattle.rv_book.specs.Sessions.{HasIncarnation, HasOnlyLower, LastNumber, NamesKey}
@@ -19,16 +19,27 @@ pub record KeepsTime (a : Account) (moment : ℕ) : Type 0 where
   pub opened : a.opened ≤ moment
   pub since : (r earlier : ℕ) → moment_at a.entries r ≡ Some earlier → earlier ≤ moment
 
+-- the request that arrived at r waits, and has a limit at or below the moment
+pub record IsDueAt (entries : List Entry) (moment r : ℕ) : Type 0 where
+  pub waits : Waiting entries r
+  pub limit : ℕ
+  pub has : limit_at entries r ≡ Some limit
+  pub elapsed : limit ≤ moment
+
 -- no waiting request has a limit at or below the moment
 abbrev pub NothingDue : List Entry → ℕ → Type 0
-NothingDue entries moment = (r limit : ℕ) → Waiting entries r → limit_at entries r ≡ Some limit
-    → moment < limit
+NothingDue entries moment = (r : ℕ) → ¬ IsDueAt entries moment r
 
--- at an act other than a time-out, no waiting request has a limit at or below its moment
+-- some waiting request has
+abbrev pub SomethingDue : List Entry → ℕ → Type 0
+SomethingDue entries moment = (r : ℕ) × IsDueAt entries moment r
+
+-- at a tick some waiting request has a limit at or below its moment, and at any other act none has
 abbrev pub KeepsLimits : List Entry → ℕ → Act → Type 0
 KeepsLimits entries moment (Hello client incarnation) = NothingDue entries moment
 KeepsLimits entries moment (Arrive key call) = NothingDue entries moment
 KeepsLimits entries moment (Cancel key) = NothingDue entries moment
+KeepsLimits entries moment Tick = SomethingDue entries moment
 
 -- what an entry of this moment and act keeps of the moments
 pub record KeepsMoments (a : Account) (moment : ℕ) (does : Act) : Type 0 where

@@ -1,6 +1,6 @@
 -- What an arrival does in the table of queues, by its side and its wait.
 use Rattle.std.specs.Prelude.{◌≡◌, ◌≢◌, ◌⊎◌, ◌<◌, ◌==◌, ℕ, List, [], ◌∷◌, ◌++◌, not, Option, Some, None}
-use Rattle.std.specs.Prelude.{IsSome}
+use Rattle.std.specs.Prelude.{IsSome, slice_get}
 use Rattle.std.specs.Prelude.{option_and_then}
 use Rattle.std.specs.List.{filter}
 use Rattle.rv_text.specs.declared.call.Wait.{Wait}
@@ -13,8 +13,7 @@ use Rattle.rv_dual.specs.declared.giver.Offer.{Offer}
 use Rattle.rv_dual.specs.declared.giver.Offer.TheVariants.{Put, Waits}
 use Rattle.rv_book.specs.declared.account.Entry.{Entry}
 use Rattle.rv_book.specs.declared.queues.Arrived.{Arrived}
-use Rattle.rv_book.specs.Parked.{AreParked, AreQueues, owed_at}
-use Rattle.rv_book.specs.Waiting.{OpenAt}
+use Rattle.rv_book.specs.Parked.{AreParked, owed_at}
 use Rattle.rv_book.specs.Calls.{Lasts, opposite}
 use Rattle.rv_book.specs.Views.{SameQueues, queue_at, waiting_on}
 
@@ -155,10 +154,16 @@ pub record Leaves (old new : List Queue) (side : Side) (duty : Owed) (result : O
   pub others : (third : Side) → third ≢ side → waiting_on new third ≡ waiting_on old third
   pub parked : (entries : List Entry) → AreParked entries old → AreParked entries new
 
--- whose duty is parked at the place, by whatever entries the table is true of, left its side
+-- the place waits on the side, and on no other
+pub record StandsOn (queues : List Queue) (side : Side) (place : ℕ) : Type 0 where
+  pub i : ℕ
+  pub there : slice_get (waiting_on queues side) i ≡ Some place
+  pub only : (other : Side) (j : ℕ) → slice_get (waiting_on queues other) j ≡ Some place → other ≡ side
+
+-- whose duty is parked at the place, by whatever entries the duties are those of, left its side
 abbrev pub Withdrew : List Queue → List Queue → Side → ℕ → Option Owed → Type 0
-Withdrew old new side place result = (entries : List Entry) (duty : Owed) → AreQueues entries old
-    → OpenAt entries side place → owed_at entries place ≡ Some duty → Leaves old new side duty result
+Withdrew old new side place result = (entries : List Entry) (duty : Owed) → AreParked entries old
+    → StandsOn old side place → owed_at entries place ≡ Some duty → Leaves old new side duty result
 
 -- ---- room
 

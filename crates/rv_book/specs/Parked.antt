@@ -10,7 +10,7 @@ use Rattle.rv_dual.specs.Offers.{duty_of, place_of}
 use Rattle.rv_dual.specs.Queue.{Queue}
 use Rattle.rv_dual.specs.declared.giver.Offer.{Offer}
 use Rattle.rv_book.specs.declared.account.Act.{Act}
-use Rattle.rv_book.specs.declared.account.Act.TheVariants.{Hello, Arrive, Cancel}
+use Rattle.rv_book.specs.declared.account.Act.TheVariants.{Hello, Arrive, Cancel, Tick}
 use Rattle.rv_book.specs.declared.account.Entry.{Entry}
 use Rattle.rv_book.specs.Account.{act_at}
 use Rattle.rv_book.specs.Views.{queue_at, waiting_on}
@@ -26,6 +26,7 @@ owed_by place key (Some wait) = Some (record { place = place; client = key.clien
 abbrev pub owed_in : ℕ → Act → Option Owed
 owed_in place (Hello client incarnation) = None
 owed_in place (Cancel key) = None
+owed_in place Tick = None
 owed_in place (Arrive key call) = owed_by place key (wait_of call)
 
 abbrev pub owed_at : List Entry → ℕ → Option Owed
@@ -44,11 +45,15 @@ AreParked entries queues = (queue : ℕ) → IsParked entries (queue_at queues q
 
 -- ---- queues
 
--- the places are those of a side's open arrivals, the oldest first
-pub record IsLine (entries : List Entry) (side : Side) (places : List ℕ) : Type 0 where
-  pub are : (i r : ℕ) → slice_get places i ≡ Some r → OpenAt entries side r
-  pub each : (r : ℕ) → OpenAt entries side r → (i : ℕ) × (slice_get places i ≡ Some r)
+-- the places are those with a property, the lowest first
+pub record IsLineOf (P : ℕ → Type 0) (places : List ℕ) : Type 0 where
+  pub are : (i r : ℕ) → slice_get places i ≡ Some r → P r
+  pub each : (r : ℕ) → P r → (i : ℕ) × (slice_get places i ≡ Some r)
   pub rising : (i j p q : ℕ) → i < j → slice_get places i ≡ Some p → slice_get places j ≡ Some q → p < q
+
+-- the places are those of a side's open arrivals, the oldest first
+abbrev pub IsLine : List Entry → Side → List ℕ → Type 0
+IsLine entries side places = IsLineOf (OpenAt entries side) places
 
 -- the table has each side's open arrivals, and parked with them the duties to settle them
 pub record AreQueues (entries : List Entry) (queues : List Queue) : Type 0 where

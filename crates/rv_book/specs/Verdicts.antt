@@ -27,6 +27,7 @@ reply_of entries kept.TheVariants.Empty = Some reply.TheVariants.Empty
 reply_of entries kept.TheVariants.Received = Some reply.TheVariants.Received
 reply_of entries kept.TheVariants.Nobody = Some reply.TheVariants.Nobody
 reply_of entries kept.TheVariants.Cancelled = Some reply.TheVariants.Cancelled
+reply_of entries kept.TheVariants.TimedOut = Some reply.TheVariants.TimedOut
 reply_of entries (kept.TheVariants.Counted items consumers) =
     Some (reply.TheVariants.Counted items consumers)
 reply_of entries (kept.TheVariants.Peeked place) = option_map reply.TheVariants.Peeked (item_at entries place)

@@ -1,10 +1,11 @@
 //! The queues: who waits in each, the oldest first.
-ghost use Rattle.std.specs.Prelude.{◌≡◌, ◌<◌, List, None, Some, OnOk, IfOk, length, slice_get};
+ghost use Rattle.std.specs.Prelude.{◌≡◌, ◌↔◌, ◌<◌, List, None, Some, IsTrue, OnOk, IfOk, length, slice_get};
 ghost use Rattle.rv_session.specs.Owed.{Owed};
 ghost use Rattle.rv_text.specs.Calls.{queue_of, side_of, wait_of};
 ghost use Rattle.rv_text.specs.Limits.{FitsQueue};
 ghost use Rattle.rv_text.specs.declared.call.Side.TheVariants.{Gives, Takes};
-ghost use Rattle.rv_text.specs.declared.call.Wait.TheVariants.{Now, Forever};
+ghost use Rattle.rv_text.specs.declared.call.Wait.{Wait};
+ghost use Rattle.rv_book.specs.Calls.{Lasts};
 ghost use Rattle.rv_dual.specs.Offers.{duty_of, place_of};
 ghost use Rattle.rv_dual.specs.Queue.{IsAbove};
 ghost use Rattle.rv_book.specs.Meeting.{ArrivedOn, Gave, HasRoomOn, Took, Withdrew};
@@ -54,6 +55,17 @@ impl Arrived {
             Some(_) => started - 1,
             None => started,
         }
+    }
+}
+
+/// Whether a wait goes on past the moment of arrival.
+pub(crate) fn lasts(wait: Wait) -> bool
+    ensures { IsTrue result ↔ Lasts (Some wait) }
+{
+    match wait {
+        Wait::Now => false,
+        Wait::Millis(millis) => millis > 0,
+        Wait::Forever => true,
     }
 }
 
@@ -120,7 +132,7 @@ fn took(pair: Pair) -> Arrived
 fn transfer(queue: &mut Dual, duty: Duty) -> Arrived
     requires room { 0 < queue.old.room }
     requires above { IsAbove queue.old duty.place }
-    ensures { Gave queue.old queue.new (Some Forever) duty result }
+    ensures { (wait : Wait) → Lasts (Some wait) → Gave queue.old queue.new (Some wait) duty result }
 {
     match queue.give(Giver::Waits(duty)) {
         Given::Met(pair) => gave(pair),
@@ -134,7 +146,7 @@ fn transfer(queue: &mut Dual, duty: Duty) -> Arrived
 
 // A request that gives arrives, and goes where no consumer is there.
 fn try_transfer(queue: &mut Dual, duty: Duty) -> Arrived
-    ensures { Gave queue.old queue.new (Some Now) duty result }
+    ensures { (wait : Wait) → ¬ Lasts (Some wait) → Gave queue.old queue.new (Some wait) duty result }
 {
     match queue.try_give(duty) {
         Tried::Met(pair) => gave(pair),
@@ -150,7 +162,7 @@ fn try_transfer(queue: &mut Dual, duty: Duty) -> Arrived
 fn take(queue: &mut Dual, duty: Duty) -> Arrived
     requires room { 0 < queue.old.room }
     requires above { IsAbove queue.old duty.place }
-    ensures { Took queue.old queue.new (Some Forever) duty result }
+    ensures { (wait : Wait) → Lasts (Some wait) → Took queue.old queue.new (Some wait) duty result }
 {
     match queue.take(duty) {
         Taken::Met(pair) => took(pair),
@@ -164,7 +176,7 @@ fn take(queue: &mut Dual, duty: Duty) -> Arrived
 
 // Who takes arrives, and goes where no item is there.
 fn poll(queue: &mut Dual, duty: Duty) -> Arrived
-    ensures { Took queue.old queue.new (Some Now) duty result }
+    ensures { (wait : Wait) → ¬ Lasts (Some wait) → Took queue.old queue.new (Some wait) duty result }
 {
     match queue.try_take(duty) {
         Tried::Met(pair) => took(pair),
@@ -184,8 +196,13 @@ fn give(queue: &mut Dual, wait: Option<Wait>, duty: Duty) -> Arrived
 {
     match wait {
         None => put(queue, duty),
-        Some(Wait::Now) => try_transfer(queue, duty),
-        Some(Wait::Forever) => transfer(queue, duty),
+        Some(wait) => {
+            if lasts(wait) {
+                transfer(queue, duty)
+            } else {
+                try_transfer(queue, duty)
+            }
+        }
     }
 }
 
@@ -195,9 +212,10 @@ fn receive(queue: &mut Dual, wait: Wait, duty: Duty) -> Arrived
     requires above { IsAbove queue.old duty.place }
     ensures { Took queue.old queue.new (Some wait) duty result }
 {
-    match wait {
-        Wait::Now => poll(queue, duty),
-        Wait::Forever => take(queue, duty),
+    if lasts(wait) {
+        take(queue, duty)
+    } else {
+        poll(queue, duty)
     }
 }
 
