@@ -3,8 +3,7 @@ use crate::{
     Answer, BAD_TEXT_BODY, Call, Item, Key, Message, NO_MEMORY_BODY, Refusal, Reply, Side,
     TextFault, Wait, decode_answer, decode_call, decode_message, encode_answer, encode_message,
 };
-use std::alloc::{AllocError, AllocGlobal, Global};
-use std::process::Abort;
+use std::alloc::Global;
 use std::test::Fail;
 
 const KEY: Key = Key {
@@ -31,6 +30,9 @@ const MESSAGES: &[&str] = &[
     "{\"call\":\"take\",\"client\":1,\"epoch\":1,\"incarnation\":1,\
         \"kind\":\"request\",\"number\":1,\"queue\":63,\"wait\":\"forever\"}",
     "Take { queue: 63, wait: Forever }",
+    "{\"call\":\"take\",\"client\":1,\"epoch\":1,\"incarnation\":1,\
+        \"kind\":\"request\",\"number\":1,\"queue\":3,\"wait\":86400000}",
+    "Take { queue: 3, wait: Millis(86400000) }",
     r#"{"call":"count","client":1,"epoch":1,"incarnation":1,"kind":"request","number":1,"queue":3}"#,
     "Count { queue: 3 }",
     r#"{"call":"peek","client":1,"epoch":1,"incarnation":1,"kind":"request","number":1,"queue":3}"#,
@@ -71,6 +73,8 @@ const CALLS: &[&str] = &[
     r#"Transfer { queue: 3, item: Item { text: "" }, wait: Forever }"#,
     r#"{"call":"take","queue":0,"wait":"now"}"#,
     "Take { queue: 0, wait: Now }",
+    r#"{"call":"take","queue":0,"wait":0}"#,
+    "Take { queue: 0, wait: Millis(0) }",
     r#"{"call":"count","queue":3}"#,
     "Count { queue: 3 }",
     r#"{"call":"peek","queue":3}"#,
@@ -80,7 +84,7 @@ const CALLS: &[&str] = &[
 // JSON that is no text of a call.
 const NO_CALLS: &[&str] = &[
     r#"{"call":"take","queue":3}"#,
-    r#"{"call":"take","queue":3,"wait":0}"#,
+    r#"{"call":"take","queue":3,"wait":86400001}"#,
     r#"{"call":"count","queue":64}"#,
     r#"{"call":"peek","kind":"request","queue":3}"#,
     r#"{"call":"peek","client":1,"epoch":1,"incarnation":1,"kind":"request","number":1,"queue":3}"#,
@@ -123,6 +127,8 @@ const ANSWERS: &[&str] = &[
     "Item(Item { text: \"\\u{1}\\\"\\\\é\" })",
     r#"{"client":1,"epoch":1,"incarnation":1,"kind":"reply","number":1,"reply":"empty"}"#,
     "Empty",
+    r#"{"client":1,"epoch":1,"incarnation":1,"kind":"reply","number":1,"reply":"timedout"}"#,
+    "TimedOut",
     r#"{"client":1,"epoch":1,"incarnation":1,"kind":"reply","number":1,"reply":"cancelled"}"#,
     "Cancelled",
     "{\"client\":1,\"consumers\":0,\"epoch\":1,\"incarnation\":1,\"items\":3,\"kind\":\"reply\",\
@@ -185,99 +191,34 @@ fn answers_are_read_and_written(rt: HostRuntime) -> Result<(), Fail> {
     Ok(())
 }
 
-// What stands before a reply's word and its item's text, a refusal's code, and the end of a hello.
-const REPLY: &[u8] = br#"{"client":1,"epoch":1,"incarnation":1,"kind":"reply","number":1,"reply":"#;
-
-const TAKEN: &[u8] =
-    br#"{"client":1,"epoch":1,"incarnation":1,"kind":"reply","number":1,"reply":"item","item":""#;
-
-const PEEKED: &[u8] =
-    br#"{"client":1,"epoch":1,"incarnation":1,"kind":"reply","number":1,"reply":"peeked","item":""#;
-
-const COUNTED: &[u8] =
-    br#"{"client":1,"epoch":1,"incarnation":1,"kind":"reply","number":1,"reply":"counted","#;
-
-const REFUSED: &[u8] = br#"{"kind":"refused","code":"#;
-
-const HELLO: &[u8] = br#"{"client":1,"incarnation":1,"kind":"hello"#;
-
-// A text: what it begins with, what then stands so many times, and its end.
-type Input = (&'static [u8], &'static [u8], usize, &'static [u8]);
-
-// Bodies of answers.
-const GOOD: &[Input] = &[
-    (b" \t\r\n", REPLY, 1, b" \"done\" } "),
-    (REPLY, b" ", 4017, b"\"done\"}"),
-    (REFUSED, b"", 0, b"8,\"last\":0}"),
-    (REFUSED, b"", 0, b"5,\"last\":9007199254740991}"),
-    (TAKEN, b"x", 512, b"\"}"),
-    (PEEKED, b"x", 512, b"\"}"),
-    (COUNTED, b"", 0, b"\"items\":100000,\"consumers\":100000}"),
-];
-
-// Not JSON.
-const NO_JSON: &[Input] = &[
-    (b"{\"\xff\":1}", b"", 0, b""),
-    (REPLY, b"\"done\"}", 2, b""),
-];
-
-// JSON, or of another length than a body's, and no answer.
-const NO_ANSWERS: &[Input] = &[
-    (b"", b"", 0, b""),
-    (REPLY, b" ", 4018, b"\"done\"}"),
-    (b"", b"?", 4097, b""),
-    (HELLO, b"", 0, b"\"}"),
-    (b"{\"kind\":\"refused\"}", b"", 0, b""),
-    (REFUSED, b"", 0, b"0}"),
-    (REFUSED, b"", 0, b"1.0}"),
-    (REFUSED, b"", 0, b"\"1\"}"),
-    (REFUSED, b"", 0, b"12}"),
-    (REFUSED, b"", 0, b"2}"),
-    (REFUSED, b"", 0, b"2,\"last\":2}"),
-    (REFUSED, b"", 0, b"2,\"current\":2,\"last\":2}"),
-    (REFUSED, b"", 0, b"3,\"current\":2}"),
-    (REFUSED, b"", 0, b"4,\"current\":0}"),
-    (REFUSED, b"", 0, b"7,\"open\":0}"),
-    (REFUSED, b"", 0, b"5,\"last\":9007199254740992}"),
-    (REPLY, b"", 0, b"\"put\"}"),
-    (REPLY, b"", 0, b"\"item\"}"),
-    (REPLY, b"", 0, b"\"peeked\"}"),
-    (REPLY, b"", 0, b"\"done\",\"item\":\"\"}"),
-    (COUNTED, b"", 0, b"\"items\":3}"),
-    (COUNTED, b"", 0, b"\"consumers\":0,\"items\":100001}"),
-    (COUNTED, b"", 0, b"\"consumers\":100001,\"items\":0}"),
-    (TAKEN, b"x", 513, b"\"}"),
-    (PEEKED, b"\\u00e9", 257, b"\"}"),
+// Bytes that are no body of an answer, and why.
+const NO_ANSWERS: &[(&[u8], TextFault)] = &[
+    (b"", TextFault::NotMessage),
+    (&[b'?'; 4096], TextFault::NotJson),
+    (&[b'?'; 4097], TextFault::NotMessage),
+    (b"{\"code\":1,\"kind\":\"refused\xff\"}", TextFault::NotJson),
+    (br#"{"code":1,"kind":"refused"}{}"#, TextFault::NotJson),
+    (br#"{"code":12,"kind":"refused"}"#, TextFault::NotMessage),
+    (
+        br#"{"code":3,"current":2,"kind":"refused"}"#,
+        TextFault::NotMessage,
+    ),
+    (
+        br#"{"client":1,"incarnation":1,"kind":"hello"}"#,
+        TextFault::NotMessage,
+    ),
 ];
 
 #[test]
-fn each_input_has_its_result(rt: HostRuntime) -> Result<(), Fail> {
-    answers_give(&rt, GOOD, None)?;
-    answers_give(&rt, NO_JSON, Some(TextFault::NotJson))?;
-    answers_give(&rt, NO_ANSWERS, Some(TextFault::NotMessage))?;
+fn what_is_no_answer_is_told(rt: HostRuntime) -> Result<(), Fail> {
+    for (bytes, want) in NO_ANSWERS {
+        assert_eq!(rt; decode_answer(rt.alloc(), bytes).err(), Some(*want));
+    }
     for (depth, want) in [(127, TextFault::NotMessage), (128, TextFault::NotJson)] {
         let mut body = "[".repeat(rt.alloc(), depth)?;
         body.push_str("]".repeat(rt.alloc(), depth)?.as_str())?;
         let found = decode_answer(rt.alloc(), body.as_bytes()).err();
         assert_eq!(rt; found, Some(want));
-    }
-    Ok(())
-}
-
-// Asserts what the decoder gives for each of these.
-fn answers_give(
-    rt: &(impl Abort + AllocGlobal),
-    inputs: &[Input],
-    want: Option<TextFault>,
-) -> Result<(), AllocError> {
-    for (front, piece, times, end) in inputs {
-        let mut body = Vec::from_slice(rt.alloc(), front)?;
-        for _ in 0..*times {
-            body.extend_from_slice(piece)?;
-        }
-        body.extend_from_slice(end)?;
-        let found = decode_answer(rt.alloc(), body.as_slice()).err();
-        assert_eq!(rt; found, want, "{front:?} {end:?}");
     }
     Ok(())
 }
