@@ -1,14 +1,14 @@
 //! The one text that is written for a message or an answer.
 ghost use Rattle.std.specs.Prelude.{◌≡◌, [], ◌∷◌, Some, OnOk, IfOk, string_bytes};
 ghost use Rattle.serde_json.specs.Data.{string, number, unsigned};
-ghost use Rattle.rv_text.specs.Rows.{key_row, wait_row, item_row, call_row, message_row};
+ghost use Rattle.rv_text.specs.Rows.{key_row, side_row, wait_row, item_row, call_row, message_row};
 ghost use Rattle.rv_text.specs.Rows.{reply_row, detail_row, answer_row};
 ghost use Rattle.rv_text.specs.Reading.{Puts, PutsRow};
 ghost use Rattle.rv_text.specs.Bodies.{HasBodyLength, message_text, answer_text};
 ghost use Rattle.rv_text.specs.Limits.{FitsMessage, FitsAnswer};
 
 use crate::answer::{Answer, Refusal, Reply};
-use crate::call::{Call, Wait};
+use crate::call::{Call, Side, Wait};
 use crate::fault::NoMemory;
 use crate::item::Item;
 use crate::message::{Key, Message};
@@ -76,41 +76,38 @@ fn put_message(
 fn put_call(members: &mut Map<String, Value>, alloc: Global, call: &Call) -> Result<(), NoMemory>
     ensures { OnOk result (PutsRow (call_row call.now) members.old members.new) }
 {
-    match call {
-        Call::Put { queue, item } => {
-            put_text(members, alloc, "call", "put")?;
-            put_whole(members, alloc, "queue", *queue)?;
-            put_item(members, alloc, item)
-        }
-        Call::Transfer { queue, item, wait } => {
-            put_text(members, alloc, "call", "transfer")?;
-            put_whole(members, alloc, "queue", *queue)?;
-            put_wait(members, alloc, *wait)?;
-            put_item(members, alloc, item)
-        }
-        Call::Take { queue, wait } => {
-            put_text(members, alloc, "call", "take")?;
-            put_whole(members, alloc, "queue", *queue)?;
-            put_wait(members, alloc, *wait)
-        }
-        Call::Count { queue } => {
-            put_text(members, alloc, "call", "count")?;
-            put_whole(members, alloc, "queue", *queue)
-        }
-        Call::Peek { queue } => {
-            put_text(members, alloc, "call", "peek")?;
-            put_whole(members, alloc, "queue", *queue)
-        }
+    put_text(members, alloc, "call", call.word())?;
+    put_side(members, alloc, call.side())?;
+    put_wait(members, alloc, call.wait())?;
+    match call.item() {
+        Some(item) => put_item(members, alloc, item),
+        None => Ok(()),
     }
 }
 
-fn put_wait(members: &mut Map<String, Value>, alloc: Global, wait: Wait) -> Result<(), NoMemory>
-    ensures { OnOk result (PutsRow (wait_row (Some wait)) members.old members.new) }
+fn put_side(members: &mut Map<String, Value>, alloc: Global, side: Side) -> Result<(), NoMemory>
+    ensures { OnOk result (PutsRow (side_row side) members.old members.new) }
+{
+    match side {
+        Side::Gives(queue) | Side::Takes(queue) | Side::Looks(queue) => {
+            put_whole(members, alloc, "queue", queue)
+        }
+        Side::Exchanges(exchanger) => put_whole(members, alloc, "exchanger", exchanger),
+    }
+}
+
+fn put_wait(
+    members: &mut Map<String, Value>,
+    alloc: Global,
+    wait: Option<Wait>,
+) -> Result<(), NoMemory>
+    ensures { OnOk result (PutsRow (wait_row wait) members.old members.new) }
 {
     match wait {
-        Wait::Now => put_text(members, alloc, "wait", "now"),
-        Wait::Millis(millis) => put_whole(members, alloc, "wait", millis),
-        Wait::Forever => put_text(members, alloc, "wait", "forever"),
+        None => Ok(()),
+        Some(Wait::Now) => put_text(members, alloc, "wait", "now"),
+        Some(Wait::Millis(millis)) => put_whole(members, alloc, "wait", millis),
+        Some(Wait::Forever) => put_text(members, alloc, "wait", "forever"),
     }
 }
 
@@ -176,6 +173,10 @@ fn put_reply(members: &mut Map<String, Value>, alloc: Global, reply: &Reply) -> 
             put_item(members, alloc, item)
         }
         Reply::Empty => put_text(members, alloc, "reply", "empty"),
+        Reply::Swapped(item) => {
+            put_text(members, alloc, "reply", "swapped")?;
+            put_item(members, alloc, item)
+        }
         Reply::TimedOut => put_text(members, alloc, "reply", "timedout"),
         Reply::Cancelled => put_text(members, alloc, "reply", "cancelled"),
         Reply::Counted { items, consumers } => {

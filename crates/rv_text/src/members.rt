@@ -105,6 +105,11 @@ pub(crate) fn read_call(alloc: Global, members: &Map<String, Value>) -> Result<C
             queue: read_queue(members)?,
             wait: read_wait(members)?,
         }),
+        "swap" => Ok(Call::Swap {
+            exchanger: read_whole(members, "exchanger")?,
+            item: read_item(alloc, members)?,
+            wait: read_wait(members)?,
+        }),
         "count" => Ok(Call::Count {
             queue: read_queue(members)?,
         }),
@@ -124,6 +129,7 @@ pub(crate) fn read_reply(alloc: Global, members: &Map<String, Value>) -> Result<
         "nobody" => Ok(Reply::Nobody),
         "item" => Ok(Reply::Item(read_item(alloc, members)?)),
         "empty" => Ok(Reply::Empty),
+        "swapped" => Ok(Reply::Swapped(read_item(alloc, members)?)),
         "timedout" => Ok(Reply::TimedOut),
         "cancelled" => Ok(Reply::Cancelled),
         "counted" => Ok(Reply::Counted {
