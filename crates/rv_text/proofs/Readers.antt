@@ -81,7 +81,7 @@ module _ (ms : Members) where
         (λ word. queue_step _ (λ queue q. wait_step _ (λ w is. last_found HasCall (call.Take queue w) (word, (q, (is, tt)))))),
         (
           (λ word. step_found HasCall (whole_among (codes "exchanger") ms) _ (λ exchanger e. item_step _ (λ item i. wait_step _ (λ w is.
-          last_found HasCall (call.Swap exchanger item w) (word, (whole_found ms (codes "exchanger") exchanger e, (is, (i, tt)))))))),
+              last_found HasCall (call.Swap exchanger item w) (word, (whole_found ms (codes "exchanger") exchanger e, (is, (i, tt)))))))),
           (
             (λ word. queue_step _ (λ queue q. last_found HasCall (call.Count queue) (word, (q, tt)))),
             ((λ word. queue_step _ (λ queue q. last_found HasCall (call.Peek queue) (word, (q, tt)))), tt),

@@ -11,6 +11,7 @@ use crate::answer::{Answer, Refusal, Reply};
 use crate::call::{Call, Side, Wait};
 use crate::fault::NoMemory;
 use crate::item::Item;
+use crate::members::Members;
 use crate::message::{Key, Message};
 use serde_json::{Map, Value};
 use std::alloc::Global;
@@ -45,11 +46,7 @@ pub fn encode_message(alloc: Global, message: &Message) -> Result<String, NoMemo
     Value::Object(members).to_string(alloc)
 }
 
-fn put_message(
-    members: &mut Map<String, Value>,
-    alloc: Global,
-    message: &Message,
-) -> Result<(), NoMemory>
+fn put_message(members: &mut Members, alloc: Global, message: &Message) -> Result<(), NoMemory>
     ensures { OnOk result (PutsRow (message_row message.now) members.old members.new) }
 {
     match message {
@@ -73,7 +70,7 @@ fn put_message(
     }
 }
 
-fn put_call(members: &mut Map<String, Value>, alloc: Global, call: &Call) -> Result<(), NoMemory>
+fn put_call(members: &mut Members, alloc: Global, call: &Call) -> Result<(), NoMemory>
     ensures { OnOk result (PutsRow (call_row call.now) members.old members.new) }
 {
     put_text(members, alloc, "call", call.word())?;
@@ -85,7 +82,7 @@ fn put_call(members: &mut Map<String, Value>, alloc: Global, call: &Call) -> Res
     }
 }
 
-fn put_side(members: &mut Map<String, Value>, alloc: Global, side: Side) -> Result<(), NoMemory>
+fn put_side(members: &mut Members, alloc: Global, side: Side) -> Result<(), NoMemory>
     ensures { OnOk result (PutsRow (side_row side) members.old members.new) }
 {
     match side {
@@ -96,11 +93,7 @@ fn put_side(members: &mut Map<String, Value>, alloc: Global, side: Side) -> Resu
     }
 }
 
-fn put_wait(
-    members: &mut Map<String, Value>,
-    alloc: Global,
-    wait: Option<Wait>,
-) -> Result<(), NoMemory>
+fn put_wait(members: &mut Members, alloc: Global, wait: Option<Wait>) -> Result<(), NoMemory>
     ensures { OnOk result (PutsRow (wait_row wait) members.old members.new) }
 {
     match wait {
@@ -111,17 +104,13 @@ fn put_wait(
     }
 }
 
-fn put_item(members: &mut Map<String, Value>, alloc: Global, item: &Item) -> Result<(), NoMemory>
+fn put_item(members: &mut Members, alloc: Global, item: &Item) -> Result<(), NoMemory>
     ensures { OnOk result (PutsRow (item_row (Some item.now)) members.old members.new) }
 {
     put_text(members, alloc, "item", item.as_str())
 }
 
-fn put_answer(
-    members: &mut Map<String, Value>,
-    alloc: Global,
-    answer: &Answer,
-) -> Result<(), NoMemory>
+fn put_answer(members: &mut Members, alloc: Global, answer: &Answer) -> Result<(), NoMemory>
     ensures { OnOk result (PutsRow (answer_row answer.now) members.old members.new) }
 {
     match answer {
@@ -152,7 +141,7 @@ fn put_answer(
     }
 }
 
-fn put_key(members: &mut Map<String, Value>, alloc: Global, key: &Key) -> Result<(), NoMemory>
+fn put_key(members: &mut Members, alloc: Global, key: &Key) -> Result<(), NoMemory>
     ensures { OnOk result (PutsRow (key_row key.now) members.old members.new) }
 {
     put_whole(members, alloc, "epoch", key.epoch)?;
@@ -161,7 +150,7 @@ fn put_key(members: &mut Map<String, Value>, alloc: Global, key: &Key) -> Result
     put_whole(members, alloc, "number", key.number)
 }
 
-fn put_reply(members: &mut Map<String, Value>, alloc: Global, reply: &Reply) -> Result<(), NoMemory>
+fn put_reply(members: &mut Members, alloc: Global, reply: &Reply) -> Result<(), NoMemory>
     ensures { OnOk result (PutsRow (reply_row reply.now) members.old members.new) }
 {
     match reply {
@@ -192,11 +181,7 @@ fn put_reply(members: &mut Map<String, Value>, alloc: Global, reply: &Reply) -> 
 }
 
 // What a refusal says beside its code.
-fn put_detail(
-    members: &mut Map<String, Value>,
-    alloc: Global,
-    refusal: Refusal,
-) -> Result<(), NoMemory>
+fn put_detail(members: &mut Members, alloc: Global, refusal: Refusal) -> Result<(), NoMemory>
     ensures { OnOk result (PutsRow (detail_row refusal) members.old members.new) }
 {
     match refusal {
@@ -209,23 +194,13 @@ fn put_detail(
     }
 }
 
-fn put_text(
-    members: &mut Map<String, Value>,
-    alloc: Global,
-    name: &str,
-    value: &str,
-) -> Result<(), NoMemory>
+fn put_text(members: &mut Members, alloc: Global, name: &str, value: &str) -> Result<(), NoMemory>
     ensures { OnOk result (Puts ((name.now, string value.now) ∷ []) members.old members.new) }
 {
     serde_json::put(members, alloc, name, Value::try_from_str(alloc, value)?)
 }
 
-fn put_whole(
-    members: &mut Map<String, Value>,
-    alloc: Global,
-    name: &str,
-    value: u64,
-) -> Result<(), NoMemory>
+fn put_whole(members: &mut Members, alloc: Global, name: &str, value: u64) -> Result<(), NoMemory>
     ensures { OnOk result (Puts ((name.now, number (unsigned value)) ∷ []) members.old members.new) }
 {
     serde_json::put(members, alloc, name, Value::from(value))
