@@ -68,16 +68,24 @@ module _ (ms : Members) where
       → (call : Call) → (item_among ms >>= next) ≡ Some call → HasCall call
   item_step next each = step_found HasCall (item_among ms) next (λ item i. each item (text_found ms (codes "item") item i))
 
+  wait_step : (next : Wait → Option Call) → ((w : Wait) → HasWait w → (call : Call) → next w ≡ Some call → HasCall call)
+      → (call : Call) → (wait_among ms >>= next) ≡ Some call → HasCall call
+  wait_step next each = step_found HasCall (wait_among ms) next (λ w is. each w (wait_found w is))
+
   call_found : (call : Call) → call_among ms ≡ Some call → HasCall call
   call_found = among_found ms HasCall (codes "call") call_lines (
     (λ word. queue_step _ (λ queue q. item_step _ (λ item i. last_found HasCall (call.Put queue item) (word, (q, (i, tt)))))),
     (
-      (λ word. queue_step _ (λ queue q. item_step _ (λ item i. step_found HasCall (wait_among ms) _ (λ w is. last_found HasCall (call.Transfer queue item w) (word, (q, (wait_found w is, (i, tt)))))))),
+      (λ word. queue_step _ (λ queue q. item_step _ (λ item i. wait_step _ (λ w is. last_found HasCall (call.Transfer queue item w) (word, (q, (is, (i, tt)))))))),
       (
-        (λ word. queue_step _ (λ queue q. step_found HasCall (wait_among ms) _ (λ w is. last_found HasCall (call.Take queue w) (word, (q, (wait_found w is, tt)))))),
+        (λ word. queue_step _ (λ queue q. wait_step _ (λ w is. last_found HasCall (call.Take queue w) (word, (q, (is, tt)))))),
         (
-          (λ word. queue_step _ (λ queue q. last_found HasCall (call.Count queue) (word, (q, tt)))),
-          ((λ word. queue_step _ (λ queue q. last_found HasCall (call.Peek queue) (word, (q, tt)))), tt),
+          (λ word. step_found HasCall (whole_among (codes "exchanger") ms) _ (λ exchanger e. item_step _ (λ item i. wait_step _ (λ w is.
+              last_found HasCall (call.Swap exchanger item w) (word, (whole_found ms (codes "exchanger") exchanger e, (is, (i, tt)))))))),
+          (
+            (λ word. queue_step _ (λ queue q. last_found HasCall (call.Count queue) (word, (q, tt)))),
+            ((λ word. queue_step _ (λ queue q. last_found HasCall (call.Peek queue) (word, (q, tt)))), tt),
+          ),
         ),
       ),
     ),
@@ -88,6 +96,8 @@ module _ (ms : Members) where
   find_call (call.Transfer queue item w) has =
       rw (has.0, has.1.0, find_wait w has.1.1.0, has.1.1.1.0) refl
   find_call (call.Take queue w) has = rw (has.0, has.1.0, find_wait w has.1.1.0) refl
+  find_call (call.Swap exchanger item w) has =
+      rw (has.0, has.1.0, find_wait w has.1.1.0, has.1.1.1.0) refl
   find_call (call.Count queue) has = rw (has.0, has.1.0) refl
   find_call (call.Peek queue) has = rw (has.0, has.1.0) refl
 

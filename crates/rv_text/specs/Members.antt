@@ -32,6 +32,9 @@ last_numbers = up_to max_identifier
 abbrev pub queue_numbers : Limit
 queue_numbers = up_to 63
 
+abbrev pub exchanger_numbers : Limit
+exchanger_numbers = up_to 63
+
 -- the milliseconds of a wait
 abbrev pub wait_numbers : Limit
 wait_numbers = up_to 86400000

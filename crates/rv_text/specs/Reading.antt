@@ -136,11 +136,19 @@ transfer_among members = do
   wait ← wait_among members
   Some (call.Transfer queue item wait)
 
+abbrev pub swap_among : Members → Option Call
+swap_among members = do
+  exchanger ← whole_among (codes "exchanger") members
+  item ← item_among members
+  wait ← wait_among members
+  Some (call.Swap exchanger item wait)
+
 abbrev pub call_lines : List (Line (List ℕ) Call)
 call_lines =
     (codes "put", λ ms. queue_among ms >>= λ queue. item_among ms >>= λ item. Some (call.Put queue item)) ∷
     (codes "transfer", transfer_among) ∷
     (codes "take", λ ms. queue_among ms >>= λ queue. wait_among ms >>= λ wait. Some (call.Take queue wait)) ∷
+    (codes "swap", swap_among) ∷
     (codes "count", λ ms. queue_among ms >>= λ queue. Some (call.Count queue)) ∷
     (codes "peek", λ ms. queue_among ms >>= λ queue. Some (call.Peek queue)) ∷
     []
@@ -185,6 +193,7 @@ reply_lines =
     (codes "nobody", λ ms. Some reply.Nobody) ∷
     (codes "item", λ ms. item_among ms >>= λ item. Some (reply.Item item)) ∷
     (codes "empty", λ ms. Some reply.Empty) ∷
+    (codes "swapped", λ ms. item_among ms >>= λ item. Some (reply.Swapped item)) ∷
     (codes "timedout", λ ms. Some reply.TimedOut) ∷
     (codes "cancelled", λ ms. Some reply.Cancelled) ∷
     (codes "counted", counted_among) ∷
