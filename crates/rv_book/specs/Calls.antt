@@ -1,20 +1,21 @@
 -- What is said of a call by its side and its wait: whom it meets and how long it stays
--- (Java SE 21, `TransferQueue`).
+-- (Java SE 21, `TransferQueue` and `Exchanger`).
 use Rattle.std.specs.Prelude.{◌≡◌, ◌<◌, ◌+◌, ℕ, zero, suc, Option, Some, None, IsSome, option_and_then}
 use Rattle.rv_text.specs.declared.call.Wait.{Wait}
 use Rattle.rv_text.specs.declared.call.Wait.TheVariants.{Now, Millis, Forever}
 use Rattle.rv_text.specs.declared.call.Side.{Side}
-use Rattle.rv_text.specs.declared.call.Side.TheVariants.{Gives, Takes, Looks}
+use Rattle.rv_text.specs.declared.call.Side.TheVariants.{Gives, Takes, Looks, Exchanges}
 use Rattle.rv_text.specs.declared.call.Call.{Call}
 use Rattle.rv_text.specs.Calls.{side_of, wait_of}
 
--- the side whose arrivals an arrival of this side meets
+-- the side whose arrivals an arrival of this side meets: who exchanges meets who exchanges there too
 abbrev pub opposite : Side → Option Side
 opposite (Gives queue) = Some (Takes queue)
 opposite (Takes queue) = Some (Gives queue)
 opposite (Looks queue) = None
+opposite (Exchanges exchanger) = Some (Exchanges exchanger)
 
--- the call may name a partner: it gives or takes
+-- the call may name a partner: it gives, takes or exchanges
 abbrev pub MayMeet : Call → Type 0
 MayMeet call = IsSome (opposite (side_of call))
 

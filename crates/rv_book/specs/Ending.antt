@@ -10,7 +10,6 @@ use Rattle.rv_session.specs.declared.session.Session.{Session}
 use Rattle.rv_session.specs.declared.session.State.TheVariants as state
 use Rattle.rv_session.specs.declared.session.State.{State as StateOf}
 use Rattle.rv_session.specs.Table.{Table, session_of}
-use Rattle.rv_dual.specs.Queue.{Queue}
 use Rattle.rv_book.specs.declared.account.Entry.{Entry}
 use Rattle.rv_book.specs.declared.state.State.{State}
 use Rattle.rv_book.specs.Account.{Account}
@@ -21,7 +20,7 @@ use Rattle.rv_book.specs.Limits.{FitsAccount}
 use Rattle.rv_book.specs.Parked.{AreParked, IsLineOf}
 use Rattle.rv_book.specs.Sessions.{HasIncarnation, LastNumber, SaidHello}
 use Rattle.rv_book.specs.Tables.{IsSettledAt, IsWaitingAt, Stands, account_of}
-use Rattle.rv_book.specs.Views.{waiting_on}
+use Rattle.rv_book.specs.Views.{Stations, waiting_on}
 use Rattle.rv_book.specs.Waiting.{OpenAt, Waiting}
 
 -- the request that arrived at r is due at the moment, and no longer among the deadlines
@@ -34,9 +33,9 @@ abbrev pub Left : List Entry → ℕ → Deadlines → (ℕ → Type 0) → ℕ 
 Left entries moment due P r = P r × ¬ TakenOut entries moment due r
 
 -- each side's line is that of its open arrivals that are left, and parked with them are the duties to settle them
-pub record AreQueuesLeft (entries : List Entry) (moment : ℕ) (due : Deadlines) (queues : List Queue) : Type 0 where
-  pub lines : (side : Side) → IsLineOf (Left entries moment due (OpenAt entries side)) (waiting_on queues side)
-  pub parked : AreParked entries queues
+pub record AreStationsLeft (entries : List Entry) (moment : ℕ) (due : Deadlines) (stations : Stations) : Type 0 where
+  pub lines : (side : Side) → IsLineOf (Left entries moment due (OpenAt entries side)) (waiting_on stations side)
+  pub parked : AreParked entries stations
 
 -- the request of the session's last number arrived at the place, was taken out there, and timed out
 pub record IsTimedOutAt (a : Account) (moment : ℕ) (due : Deadlines) (client : ℕ) (s : Session) (place : ℕ)
@@ -73,7 +72,7 @@ pub record IsEnding (state : State) (moment : ℕ) : Type 0 where
   pub legal : Legal (account_of state)
   pub fits : FitsAccount (account_of state)
   pub sessions_are : AreSessionsLeft (account_of state) moment state.due state.sessions
-  pub queues_are : AreQueuesLeft (account_of state).entries moment state.due state.queues
+  pub stations_are : AreStationsLeft (account_of state).entries moment state.due state.stations
   pub waiting_is : NumberOf (Left (account_of state).entries moment state.due (Waiting (account_of state).entries))
       state.waiting
   pub due_are : AreDeadlinesOf (account_of state).entries

@@ -95,7 +95,11 @@ pub record KeepsNumbers (a : Account) (does : Act) : Type 0 where
   pub counts_up : CountsUp a.entries does
   pub cancels : CancelsInTurn a.entries does
 
--- ---- pairs (Java SE 21, `TransferQueue`; the fair dual queue of Scherer, Lea and Scott, PPoPP 2006)
+-- ---- pairs and swaps
+--
+-- A pair joins one that gives and one that takes (Java SE 21, `TransferQueue`; the fair dual queue of Scherer, Lea
+-- and Scott, PPoPP 2006). A swap joins two that exchange at one exchanger (Java SE 21, `Exchanger`): there each is
+-- of the other side, so that the earlier one waits when the later comes, and nobody waits where one is there.
 
 -- only a call that may meet names a partner: an earlier place that is in no pair or swap yet
 pub record IsFreePartner (entries : List Entry) (e : Entry) (p : ℕ) : Type 0 where
@@ -108,28 +112,28 @@ pub record IsFreePartner (entries : List Entry) (e : Entry) (p : ℕ) : Type 0 w
 abbrev pub NamesFreePartner : List Entry → Entry → Type 0
 NamesFreePartner entries e = (p : ℕ) → e.partner ≡ Some p → IsFreePartner entries e p
 
--- at p stands an open arrival of the other side of the call's queue
+-- at p stands an open arrival of the other side of the call's queue, or one at its exchanger
 pub record IsOpenOpposite (entries : List Entry) (call : Call) (p : ℕ) : Type 0 where
   pub side : Side
   pub opposes : opposite (side_of call) ≡ Some side
   pub there : OpenAt entries side p
 
--- the partner of a call that gives or takes is an open arrival of the other side of the same queue
+-- the partner of a call is an open arrival of the other side of the same queue, or one at the same exchanger
 abbrev pub PairsOpposites : List Entry → Entry → Type 0
 PairsOpposites entries e = (p : ℕ) (call : Call) → e.partner ≡ Some p → call_in e.act ≡ Some call
     → MayMeet call → IsOpenOpposite entries call p
 
--- no open arrival of the partner's side and queue stands before the partner
+-- no open arrival of the partner's side stands before the partner
 abbrev pub PairsOldest : List Entry → Entry → Type 0
 PairsOldest entries e = (p r : ℕ) (side : Side) → e.partner ≡ Some p → SideAt entries side p → r < p
     → ¬ OpenAt entries side r
 
--- an arrival without a partner finds no open arrival of the other side of its queue
+-- an arrival without a partner finds no open arrival of the other side of its queue, nor one at its exchanger
 abbrev pub PairsWherePossible : List Entry → Entry → Type 0
 PairsWherePossible entries e = (r : ℕ) (call : Call) → e.partner ≡ None → call_in e.act ≡ Some call
     → ¬ IsOpenOpposite entries call r
 
--- what an entry keeps of the pairs
+-- what an entry keeps of the pairs and swaps
 pub record KeepsPairs (entries : List Entry) (e : Entry) : Type 0 where
   pub names_free_partner : NamesFreePartner entries e
   pub pairs_opposites : PairsOpposites entries e

@@ -1,5 +1,6 @@
 -- The reply of a request, as an account tells it: the first case that applies (Java SE 21, `TransferQueue`:
--- `put`, `transfer`, `tryTransfer`, `take` and `poll`). Counts and peeks are of the account before them.
+-- `put`, `transfer`, `tryTransfer`, `take` and `poll`; `Exchanger`: `exchange`). Counts and peeks are of the
+-- account before them.
 use Rattle.std.specs.Prelude.{◌≡◌, ◌⊎◌, ◌<◌, ℕ, zero, suc, List, Some, take}
 use Rattle.rv_text.specs.declared.message.Key.{Key}
 use Rattle.rv_text.specs.declared.call.Wait.{Wait}
@@ -79,6 +80,9 @@ RepliesAt entries r (call.Transfer queue item wait) told =
 RepliesAt entries r (call.Take queue wait) told =
     ((item : List ℕ) × Gets entries r item × (told ≡ reply.Item item))
     ⊎ ((¬ Met entries r) × RepliesUnmet entries r wait reply.Empty told)
+RepliesAt entries r (call.Swap exchanger item wait) told =
+    ((other : List ℕ) × Gets entries r other × (told ≡ reply.Swapped other))
+    ⊎ ((¬ Met entries r) × RepliesUnmet entries r wait reply.TimedOut told)
 RepliesAt entries r (call.Count queue) told = (items consumers : ℕ)
     × Counts (take r entries) queue items consumers × (told ≡ reply.Counted items consumers)
 RepliesAt entries r (call.Peek queue) told =

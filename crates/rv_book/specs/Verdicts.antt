@@ -24,6 +24,7 @@ abbrev pub reply_of : List Entry → Kept → Option Reply
 reply_of entries kept.TheVariants.Done = Some reply.TheVariants.Done
 reply_of entries (kept.TheVariants.Item place) = option_map reply.TheVariants.Item (item_at entries place)
 reply_of entries kept.TheVariants.Empty = Some reply.TheVariants.Empty
+reply_of entries (kept.TheVariants.Swapped place) = option_map reply.TheVariants.Swapped (item_at entries place)
 reply_of entries kept.TheVariants.Received = Some reply.TheVariants.Received
 reply_of entries kept.TheVariants.Nobody = Some reply.TheVariants.Nobody
 reply_of entries kept.TheVariants.Cancelled = Some reply.TheVariants.Cancelled

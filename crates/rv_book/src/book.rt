@@ -15,7 +15,7 @@ use std::marker::Model;
 /// The book of an epoch, which contracts see as its [`Account`].
 ///
 /// The account is always legal and within the limits; what the book keeps beside it, one session for
-/// each client and 64 queues of who waits, is what the account says.
+/// each client, 64 queues and 64 exchangers of who waits, is what the account says.
 #[derive(Drop)]
 pub struct Book {
     state: State,
@@ -111,6 +111,7 @@ fn reply_of(alloc: Global, account: &Account, kept: Kept) -> Result<Reply, NoMem
         Kept::Done => Ok(Reply::Done),
         Kept::Item(place) => Ok(Reply::Item(account.item(place).copy(alloc)?)),
         Kept::Empty => Ok(Reply::Empty),
+        Kept::Swapped(place) => Ok(Reply::Swapped(account.item(place).copy(alloc)?)),
         Kept::Received => Ok(Reply::Received),
         Kept::Nobody => Ok(Reply::Nobody),
         Kept::Cancelled => Ok(Reply::Cancelled),
@@ -119,6 +120,6 @@ fn reply_of(alloc: Global, account: &Account, kept: Kept) -> Result<Reply, NoMem
             consumers: consumers as u64,
         }),
         Kept::Peeked(place) => Ok(Reply::Peeked(account.item(place).copy(alloc)?)),
-        _ => unreachable!(),
+        Kept::TimedOut => Ok(Reply::TimedOut),
     }
 }

@@ -1,73 +1,20 @@
 //! The queues: who waits in each, the oldest first.
-ghost use Rattle.std.specs.Prelude.{◌≡◌, ◌↔◌, ◌<◌, List, None, Some, IsTrue, OnOk, IfOk, length, slice_get};
-ghost use Rattle.rv_session.specs.Owed.{Owed};
-ghost use Rattle.rv_text.specs.Calls.{queue_of, side_of, wait_of};
+ghost use Rattle.std.specs.Prelude.{◌≡◌, ◌<◌, None, Some, OnOk, IfOk, length, slice_get};
 ghost use Rattle.rv_text.specs.Limits.{FitsQueue};
-ghost use Rattle.rv_text.specs.declared.call.Side.TheVariants.{Gives, Takes};
 ghost use Rattle.rv_text.specs.declared.call.Wait.{Wait};
 ghost use Rattle.rv_book.specs.Calls.{Lasts};
-ghost use Rattle.rv_dual.specs.Offers.{duty_of, place_of};
+ghost use Rattle.rv_dual.specs.Offers.{duty_of, place_of, places_of};
 ghost use Rattle.rv_dual.specs.Queue.{IsAbove};
-ghost use Rattle.rv_book.specs.Meeting.{ArrivedOn, Gave, HasRoomOn, Took, Withdrew};
-ghost use Rattle.rv_book.specs.Views.{AllEmpty, AreBelow, SameQueues, queue_at, waiting_on};
+ghost use Rattle.rv_dual.specs.Withdrawing.{Withdraws};
+ghost use Rattle.rv_book.specs.Meeting.{Gave, Took};
+ghost use Rattle.rv_book.specs.Views.{AllEmpty, OnlyQueue, SameQueues, queue_at};
 
+use crate::arrived::{Arrived, lasts};
 use rv_dual::{Dual, Given, Giver, Pair, Taken, Tried};
-use rv_session::{Duty, Kept, Place};
-use rv_text::{Call, MAX_QUEUE, NoMemory, Side, Wait};
+use rv_session::{Duty, Place};
+use rv_text::{MAX_QUEUE, NoMemory, Wait};
 use std::alloc::Global;
 use std::marker::Model;
-
-/// What became of an arrival in its queue. The duties in it are to be settled.
-pub(crate) struct Arrived {
-    /// The place of the earlier arrival that it met.
-    pub(crate) partner: Option<Place>,
-    /// Its own duty, where it doesn't wait.
-    pub(crate) own: Option<Duty>,
-    /// The duty of the request that it met; a put has none.
-    pub(crate) other: Option<Duty>,
-}
-
-impl Arrived {
-    ghost use Rattle.std.specs.Prelude.{◌≤◌, ◌+◌, ◌^◌, option_map};
-    ghost use Rattle.rv_book.specs.Meeting.{ends_waiting, starts_waiting};
-
-    /// What is told to it now: what is kept as its reply, or nothing where it waits.
-    pub(crate) fn told(&self, kept: Kept) -> Option<Kept>
-        ensures { result ≡ option_map (λ own. kept) self.now.own }
-    {
-        match self.own {
-            Some(_) => Some(kept),
-            None => None,
-        }
-    }
-
-    /// How many requests wait after it, where so many did before.
-    pub(crate) fn count(&self, waiting: usize) -> usize
-        requires most { waiting + starts_waiting self.now.own ≤ 2 ^ 32 }
-        requires least { ends_waiting self.now.other ≤ waiting + starts_waiting self.now.own }
-        ensures { result + ends_waiting self.now.other ≡ waiting + starts_waiting self.now.own }
-    {
-        let started = match self.own {
-            Some(_) => waiting,
-            None => waiting + 1,
-        };
-        match self.other {
-            Some(_) => started - 1,
-            None => started,
-        }
-    }
-}
-
-/// Whether a wait goes on past the moment of arrival.
-pub(crate) fn lasts(wait: Wait) -> bool
-    ensures { IsTrue result ↔ Lasts (Some wait) }
-{
-    match wait {
-        Wait::Now => false,
-        Wait::Millis(millis) => millis > 0,
-        Wait::Forever => true,
-    }
-}
 
 // A put arrives: its duty comes back, whether a consumer waits or not.
 fn put(queue: &mut Dual, duty: Duty) -> Arrived
@@ -260,7 +207,7 @@ impl Queues {
     /// The place of the oldest item of a queue.
     pub(crate) fn front(&self, queue: u64) -> Option<Place>
         requires { FitsQueue queue }
-        ensures { result ≡ slice_get (waiting_on self.now (Gives queue)) 0 }
+        ensures { result ≡ slice_get (places_of (queue_at self.now queue).givers) 0 }
     {
         self.queue(queue).front()
     }
@@ -268,56 +215,52 @@ impl Queues {
     /// How many items and how many consumers wait in a queue.
     pub(crate) fn count(&self, queue: u64) -> (usize, usize)
         requires { FitsQueue queue }
-        ensures items { result.0 ≡ length (waiting_on self.now (Gives queue)) }
-        ensures consumers { result.1 ≡ length (waiting_on self.now (Takes queue)) }
+        ensures items { result.0 ≡ length (queue_at self.now queue).givers }
+        ensures consumers { result.1 ≡ length (queue_at self.now queue).takers }
     {
         let dual = self.queue(queue);
         (dual.items(), dual.consumers())
     }
 
-    /// Makes room for an arrival of this side. Where a growth is refused nothing changes.
-    pub(crate) fn reserve(&mut self, side: Side) -> Result<(), NoMemory>
-        requires { FitsQueue (queue_of side) }
+    /// Makes room for an arrival in a queue. Where a growth is refused nothing changes.
+    pub(crate) fn reserve(&mut self, queue: u64) -> Result<(), NoMemory>
+        requires { FitsQueue queue }
         ensures same { SameQueues self.old self.new }
-        ensures room { OnOk result (HasRoomOn self.new side) }
+        ensures room { OnOk result (0 < (queue_at self.new queue).room) }
     {
-        match side {
-            Side::Gives(queue) | Side::Takes(queue) => self.queues[queue as usize].reserve(),
-            Side::Looks(_) => Ok(()),
-        }
+        self.queues[queue as usize].reserve()
     }
 
-    /// The request of a call arrives with its duty: it meets the oldest of the other side, which leaves its
-    /// queue; or, where nobody is there, waits behind the others of its side, if its wait lasts.
-    pub(crate) fn arrive(&mut self, call: &Call, duty: Duty) -> Arrived
-        requires fits { FitsQueue (queue_of (side_of call.now)) }
-        requires room { HasRoomOn self.old (side_of call.now) }
-        requires above { AreBelow self.old duty.place }
-        ensures { ArrivedOn self.old self.new (side_of call.now) (wait_of call.now) duty result }
+    /// Who gives arrives in a queue: it meets the oldest consumer, which leaves; or, where none is there, waits
+    /// behind the other items, if its wait lasts.
+    pub(crate) fn give(&mut self, queue: u64, wait: Option<Wait>, duty: Duty) -> Arrived
+        requires fits { FitsQueue queue }
+        requires room { 0 < (queue_at self.old queue).room }
+        requires above { IsAbove (queue_at self.old queue) duty.place }
+        ensures gave { Gave (queue_at self.old queue) (queue_at self.new queue) wait duty result }
+        ensures others { OnlyQueue queue self.old self.new }
     {
-        match call.side() {
-            Side::Gives(queue) => give(&mut self.queues[queue as usize], call.wait(), duty),
-            Side::Takes(queue) => match call.wait() {
-                Some(wait) => receive(&mut self.queues[queue as usize], wait, duty),
-                None => unreachable!(),
-            },
-            Side::Looks(_) => Arrived {
-                partner: None,
-                own: Some(duty),
-                other: None,
-            },
-        }
+        give(&mut self.queues[queue as usize], wait, duty)
     }
 
-    /// The request that waits at a place on this side leaves it, and gives its duty back.
-    pub(crate) fn withdraw(&mut self, side: Side, place: Place) -> Option<Duty>
-        requires { FitsQueue (queue_of side) }
-        ensures { Withdrew self.old self.new side place result }
+    /// Who takes arrives in a queue: it meets the oldest item, which leaves; or, where none is there, waits
+    /// behind the other consumers, if its wait lasts.
+    pub(crate) fn receive(&mut self, queue: u64, wait: Wait, duty: Duty) -> Arrived
+        requires fits { FitsQueue queue }
+        requires room { 0 < (queue_at self.old queue).room }
+        requires above { IsAbove (queue_at self.old queue) duty.place }
+        ensures took { Took (queue_at self.old queue) (queue_at self.new queue) (Some wait) duty result }
+        ensures others { OnlyQueue queue self.old self.new }
     {
-        match side {
-            Side::Gives(queue) => self.queues[queue as usize].withdraw(place),
-            Side::Takes(queue) => self.queues[queue as usize].withdraw(place),
-            Side::Looks(_) => None,
-        }
+        receive(&mut self.queues[queue as usize], wait, duty)
+    }
+
+    /// The request that waits at a place in a queue leaves it, and gives its duty back.
+    pub(crate) fn withdraw(&mut self, queue: u64, place: Place) -> Option<Duty>
+        requires { FitsQueue queue }
+        ensures withdrew { Withdraws (queue_at self.old queue) (queue_at self.new queue) place result }
+        ensures others { OnlyQueue queue self.old self.new }
+    {
+        self.queues[queue as usize].withdraw(place)
     }
 }

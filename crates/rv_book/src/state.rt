@@ -1,7 +1,6 @@
 //! The account with the tables that answer for it, and the steps that change them together.
 ghost use Rattle.std.specs.Prelude.{◌≡◌, ◌<◌, ◌≤◌, ◌+◌, [], None, Some, OnOk, OnErr, IfOk, IfErr, IfSome};
-ghost use Rattle.rv_text.specs.Calls.{queue_of};
-ghost use Rattle.rv_text.specs.Limits.{FitsCall, FitsIdentifier, FitsQueue};
+ghost use Rattle.rv_text.specs.Limits.{FitsCall, FitsIdentifier, FitsSide};
 ghost use Rattle.rv_book.specs.Arriving.{GoesOn, IsCancelled, IsRecorded, WillReply, said_of};
 ghost use Rattle.rv_text.specs.Members.{FitsWait};
 ghost use Rattle.rv_book.specs.Calls.{need_of};
@@ -10,7 +9,8 @@ ghost use Rattle.rv_book.specs.Steps.{max_moment};
 ghost use Rattle.rv_book.specs.Tables.{kept_at_once, partners_reply};
 
 use crate::account::{Account, Act};
-use crate::queues::{Arrived, Queues, lasts};
+use crate::arrived::{Arrived, lasts};
+use crate::stations::Stations;
 use crate::verdict::Said;
 use rv_due::Due;
 use rv_session::{Duty, Greeting, Kept, Place, Sessions, Standing};
@@ -27,7 +27,7 @@ pub const MAX_MOMENT: u64 = 4_611_686_018_427_387_904;
 pub(crate) struct State {
     account: Account,
     sessions: Sessions,
-    queues: Queues,
+    stations: Stations,
     // How many requests wait.
     waiting: usize,
     // The limits of those that have one, with their places.
@@ -89,6 +89,7 @@ fn reply_to_partner(side: Side, place: Place) -> Kept
         Side::Gives(_) => Kept::Item(place),
         Side::Takes(_) => Kept::Received,
         Side::Looks(_) => Kept::Received,
+        Side::Exchanges(_) => Kept::Swapped(place),
     }
 }
 
@@ -130,7 +131,7 @@ impl State {
         Ok(State {
             account: Account::empty(alloc, epoch, opened),
             sessions: Sessions::open(alloc, epoch),
-            queues: Queues::empty(alloc)?,
+            stations: Stations::empty(alloc)?,
             waiting: 0,
             due: Due::new(alloc),
         })
@@ -159,37 +160,41 @@ impl State {
                 Some(place) => Kept::Item(place),
                 None => reply_at_once(*wait, Kept::Empty),
             },
+            Call::Swap { wait, .. } => match partner {
+                Some(place) => Kept::Swapped(place),
+                None => reply_at_once(*wait, Kept::TimedOut),
+            },
             Call::Count { queue } => {
-                let (items, consumers) = self.queues.count(*queue);
+                let (items, consumers) = self.stations.count(*queue);
                 Kept::Counted { items, consumers }
             }
-            Call::Peek { queue } => match self.queues.front(*queue) {
+            Call::Peek { queue } => match self.stations.front(*queue) {
                 Some(place) => Kept::Peeked(place),
                 None => Kept::Empty,
             },
         }
     }
 
-    // Makes room in the queues for what an arrival adds to them. Where a growth is refused nothing changes.
+    // Makes room where an arrival of this side would wait. Where a growth is refused nothing changes.
     fn reserve(&mut self, side: Option<Side>) -> Result<(), NoMemory>
-        requires { IfSome side (λ s. FitsQueue (queue_of s)) }
+        requires { IfSome side FitsSide }
         ensures account { self.new.account ≡ self.old.account }
         ensures same { IsSame self.old self.new }
         ensures room { OnOk result (HasRoomFor self.new side) }
     {
         match side {
-            Some(side) => self.queues.reserve(side),
+            Some(side) => self.stations.reserve(side),
             None => Ok(()),
         }
     }
 
     // Tests the epoch's room for an entry that may need one more later, and makes all growths that the entry
-    // and the queues need. It changes nothing but room; what follows it can't fail, but for a new client's
+    // and its side need. It changes nothing but room; what follows it can't fail, but for a new client's
     // session.
     fn make_room(&mut self, need: usize, side: Option<Side>) -> Result<(), Refusal>
         requires sound { IsSound self.old }
         requires small { need ≤ 2 }
-        requires fits { IfSome side (λ s. FitsQueue (queue_of s)) }
+        requires fits { IfSome side FitsSide }
         ensures same { IsSame self.old self.new }
         ensures ok { OnOk result (IsReady self.old self.new need side) }
         ensures err { IfErr result (NoEntryDue (account_of self.old) need) }
@@ -222,7 +227,7 @@ impl State {
         ensures sessions { SettlesIf self.old.sessions self.new.sessions duty kept }
         ensures due { self.new.due ≡ without_duty (account_of self.old).entries duty self.old.due }
         ensures account { self.new.account ≡ self.old.account }
-        ensures queues { self.new.queues ≡ self.old.queues }
+        ensures stations { self.new.stations ≡ self.old.stations }
         ensures waiting { self.new.waiting ≡ self.old.waiting }
     {
         if let Some(duty) = duty {
@@ -258,7 +263,7 @@ impl State {
         let place = self.account.len();
         let others = reply_to_partner(call.side(), place);
         let duty = self.sessions.begin(&key, place);
-        let arrived = self.queues.arrive(&call, duty);
+        let arrived = self.stations.arrive(&call, duty);
         let kept = self.reply_to(&call, arrived.partner);
         let told = arrived.told(kept);
         self.waiting = arrived.count(self.waiting);
@@ -336,7 +341,7 @@ impl State {
         ensures ended { EndsAt self.old self.new place kept }
     {
         let side = self.account.call_of(place).side();
-        let duty = self.queues.withdraw(side, place);
+        let duty = self.stations.withdraw(side, place);
         self.settle(duty, kept);
         self.waiting -= 1;
     }
@@ -377,7 +382,7 @@ impl State {
             ≡ with_entry (account_of self.old) (entry moment (Cancel key) None) }
         ensures room { self.old.account.room ≤ self.new.account.room + 1 }
         ensures sessions { self.new.sessions ≡ self.old.sessions }
-        ensures queues { self.new.queues ≡ self.old.queues }
+        ensures stations { self.new.stations ≡ self.old.stations }
         ensures waiting { self.new.waiting ≡ self.old.waiting }
     {
         self.account.push(moment, Act::Cancel { key }, None);
@@ -443,7 +448,7 @@ impl State {
             ≡ with_entry (account_of self.old) (entry moment (Hello client incarnation) None) }
         ensures room { self.old.account.room ≤ self.new.account.room + 1 }
         ensures sessions { self.new.sessions ≡ self.old.sessions }
-        ensures queues { self.new.queues ≡ self.old.queues }
+        ensures stations { self.new.stations ≡ self.old.stations }
         ensures waiting { self.new.waiting ≡ self.old.waiting }
     {
         let hello = Act::Hello {
@@ -540,7 +545,7 @@ impl State {
         ensures entry { account_of self.new ≡ with_entry (account_of self.old) (entry moment Tick None) }
         ensures room { self.old.account.room ≤ self.new.account.room + 1 }
         ensures sessions { self.new.sessions ≡ self.old.sessions }
-        ensures queues { self.new.queues ≡ self.old.queues }
+        ensures stations { self.new.stations ≡ self.old.stations }
         ensures waiting { self.new.waiting ≡ self.old.waiting }
         ensures due { self.new.due ≡ self.old.due }
     {
