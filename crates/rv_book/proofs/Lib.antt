@@ -47,3 +47,7 @@ pub mod Greeting
 pub mod Cancelling
 pub mod Standing
 pub mod Repeating
+mod DeadlineTable
+mod FirstStops
+mod Lasting
+mod Ticking
