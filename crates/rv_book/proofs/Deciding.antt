@@ -1,6 +1,6 @@
 -- What any list of entries decides: a client's last hello and last number, who is met, stopped, open or waiting, and whom an arrival meets.
 use Rattle.rv_book.specs.declared.account.Act.{Act}
-use Rattle.rv_book.specs.declared.account.Act.TheVariants.{Arrive, Cancel, Hello}
+use Rattle.rv_book.specs.declared.account.Act.TheVariants.{Arrive, Cancel, Hello, Tick}
 use Rattle.std.proofs.Common.{Bool, List, None, Option, Some, ap, arith, false, inl, inr, length, refl, subst, suc, sym, true, zero, ℕ, ◌<◌, ◌∙◌, ◌≡◌, ◌≤◌, ◌⊎◌, [], ◌+◌, ◌∷◌}
 use Rattle.rv_text.specs.declared.call.Call.{Call}
 use Rattle.rv_book.specs.declared.account.Entry.{Entry}
@@ -9,8 +9,8 @@ use Rattle.rv_book.specs.Sessions.{HasIncarnation, LastHello, LastNumber, NamesK
 use Rattle.rv_book.specs.Arriving.{MeetsOldest}
 use Rattle.rv_text.specs.declared.message.Key.{Key}
 use Rattle.rv_book.specs.Calls.{IsPut, Lasts, MayMeet, Stays, opposite}
-use Rattle.rv_book.specs.Waiting.{EndsWait, IsOldest, Met, NamesPartner, Open, OpenAt, Stopped, Waiting, limit_at}
-use Rattle.rv_text.specs.declared.call.Wait.TheVariants.{Now, Forever}
+use Rattle.rv_book.specs.Waiting.{EndsWait, HasElapsed, IsOldest, Met, NamesPartner, Open, OpenAt, Stopped, StoppedAt, Waiting, limit_at}
+use Rattle.rv_text.specs.declared.call.Wait.TheVariants.{Now, Millis, Forever}
 use Rattle.rv_text.specs.declared.call.Side.{Side}
 use Rattle.rv_text.specs.declared.call.Wait.{Wait}
 use Rattle.rv_book.specs.Account.{act_at, call_at, key_at, partner_at}
@@ -19,7 +19,7 @@ use Rattle.std.proofs.lemmas.Bool.{cases_lt}
 use Rattle.rv_book.proofs.Places.{within}
 use Rattle.rv_book.proofs.Numbers.{first_below, last_below, same_or_not}
 use Rattle.std.specs.Prelude.{is_some}
-use Rattle.rv_book.proofs.Keys.{key_read, client_of, hello_is_own, cancel_no_hello}
+use Rattle.rv_book.proofs.Keys.{key_read, client_of, hello_is_own, cancel_no_hello, tick_no_hello}
 use Rattle.std.proofs.lemmas.Option.{none-some, same_Some}
 use Rattle.rv_text.specs.Calls.{side_of, wait_of}
 use Rattle.rv_book.specs.Legal.{HasWaiting}
@@ -47,6 +47,7 @@ hello_of c (Some (Hello d j)) = elim (same_or_not d c) [
 ]
 hello_of c (Some (Arrive key call)) = inr (λ h. arrives_no_hello key call c h.0 h.1)
 hello_of c (Some (Cancel key)) = inr (λ h. cancel_no_hello key c h.0 h.1)
+hello_of c (Some Tick) = inr (λ h. tick_no_hello c h.0 h.1)
 
 pub find_hello : (es : List Entry) (c : ℕ) → ((i : ℕ) × HasIncarnation es c i) ⊎ ((r i : ℕ) → act_at es r ≡ Some (Hello c i) → ⊥)
 find_hello es c = elim (last_below (HelloAt es c) (λ r. hello_of c (act_at es r)) (length es)) [
@@ -215,10 +216,15 @@ key_or_other k key = elim (same_or_not k.epoch key.epoch) [
   ]
 ]
 
+elapsed_or_not : (limit : Option ℕ) (moment : ℕ) → HasElapsed limit moment ⊎ (HasElapsed limit moment → ⊥)
+elapsed_or_not None moment = inr (λ over. over)
+elapsed_or_not (Some limit) moment = elim (cases_lt moment limit) [ inl early ↦ inr (λ over. omega arith) | inr over ↦ inl over ]
+
 ends_or_not : (act : Act) (moment : ℕ) (key : Key) (limit : Option ℕ) → EndsWait act moment key limit ⊎ (EndsWait act moment key limit → ⊥)
 ends_or_not (Hello client i) moment key limit = same_or_not client key.client
 ends_or_not (Arrive other call) moment key limit = inr (λ ends. ends)
 ends_or_not (Cancel other) moment key limit = key_or_other other key
+ends_or_not Tick moment key limit = elapsed_or_not limit moment
 
 none_or_some : (wait : Option Wait) → (wait ≡ None) ⊎ (wait ≡ None → ⊥)
 none_or_some None = inl refl
@@ -268,10 +274,14 @@ stopped_by es r key call arrived no_put = elim (first_below (EndBehind es key (l
 pub arrives_no_cancel : (key : Key) (call : Call) (other : Key) → Some (Arrive key call) ≡ Some (Cancel other) → ⊥
 arrives_no_cancel key call other e = cc
 
+pub arrives_no_tick : (key : Key) (call : Call) → Some (Arrive key call) ≡ Some Tick → ⊥
+arrives_no_tick key call e = cc
+
 stopped_of : (es : List Entry) (r : ℕ) (o : Option Act) → act_at es r ≡ o → Stopped es r ⊎ (Stopped es r → ⊥)
 stopped_of es r None there = inr (λ stopped. none-some _ (sym there ∙ stopped.1.arrived))
 stopped_of es r (Some (Hello client i)) there = inr (λ stopped. arrives_no_hello stopped.1.key stopped.1.call client i (sym stopped.1.arrived ∙ there))
 stopped_of es r (Some (Cancel key)) there = inr (λ stopped. arrives_no_cancel stopped.1.key stopped.1.call key (sym stopped.1.arrived ∙ there))
+stopped_of es r (Some Tick) there = inr (λ stopped. arrives_no_tick stopped.1.key stopped.1.call (sym stopped.1.arrived ∙ there))
 stopped_of es r (Some (Arrive key call)) there = elim (put_or_not call) [
   | inr no_put ↦ stopped_by es r key call there no_put
   | inl put ↦ inr (λ stopped. stopped.1.no_put (subst IsPut (sym (same_parts stopped.1.key key stopped.1.call call (sym stopped.1.arrived ∙ there)).1) put))
@@ -305,6 +315,7 @@ same_side (Looks p) (Looks q) = elim (same_or_not p q) [ inl same ↦ inl (ap Lo
 lasts_or_not : (wait : Option Wait) → Lasts wait ⊎ (Lasts wait → ⊥)
 lasts_or_not None = inl tt
 lasts_or_not (Some Now) = inr (λ lasts. lasts)
+lasts_or_not (Some (Millis n)) = elim (cases_lt 0 n) [ inl lasts ↦ inl lasts | inr over ↦ inr (λ lasts. omega arith) ]
 lasts_or_not (Some Forever) = inl tt
 
 stays_or_not : (call : Call) → Stays call ⊎ (Stays call → ⊥)
