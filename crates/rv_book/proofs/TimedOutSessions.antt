@@ -12,24 +12,30 @@ use Rattle.rv_due.proofs.Order.{by_moment-IsAntisymmetric, by_moment_total}
 use Rattle.rv_due.specs.Deadlines.{AllAbove, Deadline, Deadlines, by_moment}
 use Rattle.rv_text.specs.declared.call.Call.{Call}
 use Rattle.rv_text.specs.declared.message.Key.{Key}
+use Rattle.rv_text.specs.declared.answer.Reply.TheVariants.{TimedOut}
 use Rattle.rv_session.specs.declared.kept.Kept.{Kept}
 use Rattle.rv_session.specs.declared.kept.Kept.TheVariants as kept
 use Rattle.rv_session.specs.declared.session.Session.{Session}
 use Rattle.rv_session.specs.declared.session.State.TheVariants as state
 use Rattle.rv_session.specs.declared.session.State.{State as StateOf}
 use Rattle.rv_session.specs.Table.{OnlySettles, Table, session_of, waiting_of, waiting_place}
-use Rattle.rv_book.specs.Account.{Account, act_at, with_entry}
+use Rattle.rv_book.specs.Account.{Account, act_at, call_in, with_entry}
 use Rattle.rv_book.specs.Elapsing.{AreDeadlines}
 use Rattle.rv_book.specs.Ending.{AreSessionsLeft, IsSessionLeft, IsSessionLeftOf, IsTimedOutAt, StandsLeft, TakenOut}
 use Rattle.rv_book.specs.Legal.{IsDueAt, Legal}
-use Rattle.rv_book.specs.Tables.{AreSessions, IsSession, IsSessionOf, IsSettledAt, IsWaitingAt, Stands, last_key}
+use Rattle.rv_book.specs.Replies.{RepliesAt, told_by}
+use Rattle.rv_book.specs.Tables.{AreSessions, IsSessionOf, IsSettledAt, IsWaitingAt, Stands, last_key}
 use Rattle.rv_book.specs.Waiting.{Waiting, limit_at}
 use Rattle.rv_book.specs.declared.account.Act.TheVariants.{Arrive, Tick}
 use Rattle.rv_book.specs.declared.account.Entry.{Entry}
+use Rattle.rv_book.proofs.Growing.{act_read, reads_on}
 use Rattle.rv_book.proofs.Histories.{one_incarnation, one_last_number}
-use Rattle.rv_book.proofs.Keys.{client_of}
+use Rattle.rv_book.proofs.Keys.{client_of, tick_no_hello}
 use Rattle.rv_book.proofs.Numbers.{same_or_not}
 use Rattle.rv_book.proofs.OnePartner.{arrives_once}
+use Rattle.rv_book.proofs.SessionTable.{CancelledFirst-on, IsApart, IsAt-on, SaidHello-back, settled_on}
+use Rattle.rv_book.proofs.Sides.{Waiting-on, due_until, stopped_by_tick, tick_stops, until_due}
+use Rattle.rv_book.proofs.ToldCancelled.{told_stopped}
 use Rattle.rv_book.proofs.WaitingTable.{same_parts, settled_not}
 use Rattle.rv_book.proofs.Waits.{arrival, waiting_is_last}
 
@@ -199,3 +205,54 @@ sessions_turned a moment due t new limit r key call legal are w has elapsed arri
             (session_left_on a moment due (limit, r) key call c (session_of t c) arrived apart (are.each c))
       ];
     }
+
+-- ---- after the last turn, with the tick
+
+module _ (a : Account) (e : Entry) (due : Deadlines) (before : Legal a) (after : Legal (with_entry a e)) (says : e.act ≡ Tick) (none : e.partner ≡ None) (above : AllAbove due e.moment) where
+  -- a tick is apart from each client
+  tick_apart : (client : ℕ) → IsApart e.act client
+  tick_apart client = subst (λ does. IsApart does client) (sym says) (record {
+    no_hello = λ incarnation own. tick_no_hello client incarnation own;
+    no_key = λ key names of_client. none-some key names;
+  })
+
+  -- who waits and was not taken out is not stopped by it
+  left_waits : (r : ℕ) → Waiting a.entries r → (TakenOut a.entries e.moment due r → ⊥) → Waiting (with_entry a e).entries r
+  left_waits r w left = Waiting-on a.entries e r w (λ named. none-some r (sym none ∙ named)) (λ stopped.
+      left (due_is_taken a.entries e.moment due r above (until_due a.entries e.moment r w.is_open (stopped_by_tick a.entries e r says stopped))))
+
+  -- and who was taken out is told that its time is over
+  taken_settled : (client : ℕ) (s : Session) (r : ℕ) (k : Kept) → IsTimedOutAt a e.moment due client s r k → IsSettledAt (with_entry a e) client s r k
+  taken_settled client s r k is = subst (IsSettledAt (with_entry a e) client s r) (sym is.is) (record {
+    call = is.waited.call;
+    arrived = reads_on act_read refl a.entries (e ∷ []) r _ is.waited.arrived;
+    kept_is = record {
+      reply = TimedOut;
+      is = refl;
+      replies = subst (λ does. RepliesAt (with_entry a e).entries r is.waited.call (told_by does)) says
+          (told_stopped a e r is.waited.call is.waited.waits (ap (option_and_then call_in) is.waited.arrived) none (tick_stops a.entries e r says (due_until a.entries e.moment r is.taken.is_due)));
+    };
+  })
+
+  stands_at_last : (client : ℕ) (s : Session) (stands : StateOf) → StandsLeft a e.moment due client s stands → Stands (with_entry a e) client s stands
+  stands_at_last client s state.Fresh is = is
+  stands_at_last client s (state.Waits r) is = record {
+    call = is.0.call;
+    arrived = reads_on act_read refl a.entries (e ∷ []) r _ is.0.arrived;
+    waits = left_waits r is.0.waits is.1;
+  }
+  stands_at_last client s (state.Settled (Some r) k) (inl is) = settled_on a e client s r k after is
+  stands_at_last client s (state.Settled (Some r) k) (inr is) = taken_settled client s r k is
+  stands_at_last client s (state.Settled None k) is = (CancelledFirst-on a.entries e (last_key a client s) (tick_apart client) is.0, is.1)
+
+  session_at_last : (client : ℕ) (o : Option Session) → IsSessionLeftOf a e.moment due client o → IsSessionOf (with_entry a e) client o
+  session_at_last client None is = SaidHello-back a e client (tick_apart client) is
+  session_at_last client (Some s) is =
+      let at = IsAt-on a.entries e client s.incarnation s.last (tick_apart client) (record { incarnation = is.incarnation; number = is.number }) in
+      record { incarnation = at.incarnation; number = at.number; stands = stands_at_last client s s.state is.stands }
+
+-- where no deadline is due any more the table is what the account says with the tick
+pub sessions_at_last : (a : Account) (e : Entry) (due : Deadlines) (t : Table) → Legal a → Legal (with_entry a e) → e.act ≡ Tick → e.partner ≡ None → AllAbove due e.moment → AreSessionsLeft a e.moment due t
+    → AreSessions (with_entry a e) t
+sessions_at_last a e due t before after says none above are =
+    record { epoch = are.epoch; each = λ client. session_at_last a e due before after says none above client (session_of t client) (are.each client) }
