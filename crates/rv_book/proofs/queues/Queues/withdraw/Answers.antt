@@ -22,7 +22,7 @@ returns-in-Gives c =
     let changed = set_at queues queue q inside in
     subst (λ s. Withdrew c.args.self.now (slice_set queues queue q) s c.args.place c.withdraw.result) (sym c.in-Gives.is)
     (subst (λ (l : List Queue). Withdrew l (slice_set queues queue q) (Gives queue) c.args.place c.withdraw.result) c.self.view_is
-    (λ es duty are opened owed. left_givers queues (slice_set queues queue q) queue q changed c.args.place c.withdraw.result w es duty are owed opened))
+    (λ es duty parked stands owed. left_givers queues (slice_set queues queue q) queue q changed c.args.place c.withdraw.result w es duty parked owed stands))
 
 pub returns-in-Takes : goal.returns-in-Takes
 returns-in-Takes c =
@@ -35,4 +35,4 @@ returns-in-Takes c =
     let changed = set_at queues queue q inside in
     subst (λ s. Withdrew c.args.self.now (slice_set queues queue q) s c.args.place c.withdraw-in-Takes.result) (sym c.in-Takes.is)
     (subst (λ (l : List Queue). Withdrew l (slice_set queues queue q) (Takes queue) c.args.place c.withdraw-in-Takes.result) c.self.view_is
-    (λ es duty are opened owed. left_takers queues (slice_set queues queue q) queue q changed c.args.place c.withdraw-in-Takes.result w es duty are owed opened))
+    (λ es duty parked stands owed. left_takers queues (slice_set queues queue q) queue q changed c.args.place c.withdraw-in-Takes.result w es duty parked owed stands))
