@@ -32,6 +32,7 @@ pub mod Peeks
 pub mod Replying
 pub mod WaitingTable
 pub mod SessionTable
+pub mod TimedOutSessions
 pub mod CancelledSessions
 pub mod Settling
 pub mod Deciding
