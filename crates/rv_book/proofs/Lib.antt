@@ -55,3 +55,6 @@ mod DeadlineTable
 mod FirstStops
 mod Lasting
 mod Ticking
+mod EndingTables
+mod TimedOutSessions
+mod TimingOut
