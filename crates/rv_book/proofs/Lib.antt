@@ -18,6 +18,9 @@ pub mod Lines
 pub mod OnePartner
 pub mod Leaving
 pub mod Limits
+pub mod Lasting
+pub mod FirstStops
+pub mod Ticking
 pub mod ReplyLaws
 pub mod Unmet
 pub mod Puts
@@ -29,10 +32,12 @@ pub mod Peeks
 pub mod Replying
 pub mod WaitingTable
 pub mod SessionTable
+pub mod TimedOutSessions
 pub mod CancelledSessions
 pub mod Settling
 pub mod Deciding
 pub mod Staying
+pub mod StoppedReplies
 pub mod ToldCancelled
 pub mod Entering
 pub mod OneStep
@@ -47,3 +52,10 @@ pub mod Greeting
 pub mod Cancelling
 pub mod Standing
 pub mod Repeating
+mod DeadlineTable
+mod FirstStops
+mod Lasting
+mod Ticking
+mod EndingTables
+mod TimedOutSessions
+mod TimingOut
