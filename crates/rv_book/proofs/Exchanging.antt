@@ -1,5 +1,5 @@
 -- What a change of one exchanger is to all who wait, side by side.
-use Rattle.std.proofs.Common.{◌≡◌, inl, inr, ℕ, zero, suc, List, [], ◌∷◌, ◌++◌, not, ◌==◌, Option, Some, None, refl, sym, ap, subst, ◌∙◌, option_and_then}
+use Rattle.std.proofs.Common.{◌≡◌, arith, inl, inr, ℕ, zero, suc, List, [], ◌∷◌, ◌++◌, cond, not, ◌==◌, false, Option, Some, None, refl, sym, ap, subst, ◌∙◌}
 use Rattle.std.specs.List.{filter, slice_get}
 use Rattle.std.proofs.lemmas.Option.{none-some, same_Some}
 use Rattle.rv_text.specs.declared.call.Side.{Side}
@@ -8,14 +8,15 @@ use Rattle.rv_text.specs.declared.call.Wait.{Wait}
 use Rattle.rv_session.specs.Owed.{Owed}
 use Rattle.rv_dual.specs.Offers.{places_of}
 use Rattle.rv_dual.specs.Queue.{SameLists}
-use Rattle.rv_swap.specs.Exchange.{NotWaiting, Withdraws}
 use Rattle.rv_book.specs.declared.account.Entry.{Entry}
 use Rattle.rv_book.specs.declared.arrived.Arrived.{Arrived}
-use Rattle.rv_book.specs.Calls.{Lasts, opposite}
-use Rattle.rv_book.specs.Meeting.{ArrivedOn, Exchanged, FindsNobody, Leaves, LeftExchanger, MayWait, SwappedNothing, SwappedWith, WaitsAlone}
+use Rattle.rv_book.specs.Calls.{Lasts}
+use Rattle.rv_book.specs.Meeting.{ArrivedOn, Exchanged, FindsNobody, Leaves, LeftExchanger, StandsOn, SwappedNothing, SwappedWith, WaitsAlone}
 use Rattle.rv_book.specs.Parked.{AreParked, IsParked, owed_at}
 use Rattle.rv_book.specs.Views.{AllFree, OnlyExchanger, SameStations, Stations, exchanger_at, place_of_duty, queue_at, takers_places, waiting_on}
 use Rattle.rv_book.proofs.Numbers.{same_or_not}
+use Rattle.rv_book.proofs.Withdrawn.{owed_place}
+use Rattle.std.proofs.lemmas.Bool.Decides.{nat_tests}
 
 -- ---- one exchanger
 
@@ -107,6 +108,39 @@ module _ (old new : Stations) (exchanger : ℕ) (changed : ExchangerChanged old 
   arrived_exchanges wait duty result (inl swap) = swapped wait duty result swap
   arrived_exchanges wait duty result (inr (inl waits)) = waits_alone wait duty result waits.0 waits.1
   arrived_exchanges wait duty result (inr (inr goes)) = swapped_nothing wait duty result goes.0 goes.1
+
+  -- ---- a request that leaves
+
+  left_free : (place : ℕ) (es : List Entry) (duty : Owed) (result : Option Owed) → LeftExchanger before after place result → (earlier : Owed) → before ≡ Some earlier → earlier.place ≡ place
+      → AreParked es old → owed_at es place ≡ Some duty → (result ≡ Some duty) × (after ≡ None)
+  left_free place es duty None left earlier waited there parked owed = absurd (left.0 earlier waited there)
+  left_free place es duty (Some back) left earlier waited there parked owed =
+      let own : owed_at es back.place ≡ Some back = parked.exchangers exchanger back left.waited in
+      (sym (sym (ap (owed_at es) left.own) ∙ own) ∙ owed, left.left)
+
+  pub left_exchanger : (place : ℕ) (es : List Entry) (duty : Owed) (result : Option Owed) → LeftExchanger before after place result → AreParked es old → StandsOn old (Exchanges exchanger) place
+      → owed_at es place ≡ Some duty → Leaves old new (Exchanges exchanger) duty result
+  left_exchanger place es duty result left parked stands owed =
+      let earlier = who_waits before stands.i place stands.there in
+      let gone = left_free place es duty result left earlier.0 earlier.1 earlier.2 parked owed in
+      let same : duty.place ≡ earlier.0.place = owed_place es place duty owed ∙ sym earlier.2 in
+      record {
+        is = gone.0;
+        places = ap place_of_duty gone.1 ∙ sym (ap (λ l. filter (λ r. not (r == duty.place)) l) (ap place_of_duty earlier.1) ∙ none_left earlier.0.place duty.place (sym same));
+        others = others_stay;
+        parked = λ other was. parked_at other was (λ d there. absurd (none-some d (sym gone.1 ∙ there)));
+      }
+    where
+      who_waits : (o : Option Owed) (i place : ℕ) → slice_get (place_of_duty o) i ≡ Some place → (earlier : Owed) × (o ≡ Some earlier) × (earlier.place ≡ place)
+      who_waits None i place at = absurd (none-some place at)
+      who_waits (Some earlier) zero place at = (earlier, refl, same_Some _ _ at)
+      who_waits (Some earlier) (suc i) place at = absurd (none-some place at)
+
+      none_left : (p q : ℕ) → p ≡ q → filter (λ r. not (r == q)) (p ∷ []) ≡ []
+      none_left p q same = ap (λ b. cond b (p ∷ []) []) (equal p q same)
+        where
+          equal : (p q : ℕ) → p ≡ q → not (p == q) ≡ false
+          equal p q same = grind (arith, nat_tests)
 
 -- ---- free exchangers
 

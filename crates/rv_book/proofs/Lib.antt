@@ -9,8 +9,10 @@ pub mod Histories
 pub mod Keys
 pub mod Waits
 pub mod Sides
+pub mod Slots
 pub mod Tabled
 pub mod Withdrawn
+pub mod Exchanging
 pub mod Waiters
 pub mod Owing
 pub mod Following
@@ -53,9 +55,5 @@ pub mod Cancelling
 pub mod Standing
 pub mod Repeating
 mod DeadlineTable
-mod FirstStops
-mod Lasting
-mod Ticking
 mod EndingTables
-mod TimedOutSessions
 mod TimingOut
