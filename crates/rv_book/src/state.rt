@@ -379,6 +379,7 @@ impl State {
         ensures sessions { self.new.sessions ≡ self.old.sessions }
         ensures queues { self.new.queues ≡ self.old.queues }
         ensures waiting { self.new.waiting ≡ self.old.waiting }
+        ensures due { self.new.due ≡ self.old.due }
     {
         self.account.push(moment, Act::Cancel { key }, None);
     }
@@ -445,6 +446,7 @@ impl State {
         ensures sessions { self.new.sessions ≡ self.old.sessions }
         ensures queues { self.new.queues ≡ self.old.queues }
         ensures waiting { self.new.waiting ≡ self.old.waiting }
+        ensures due { self.new.due ≡ self.old.due }
     {
         let hello = Act::Hello {
             client,
