@@ -1,9 +1,11 @@
 -- The deadlines of the requests with a property, when one comes or goes.
-use Rattle.std.proofs.Common.{◌≡◌, inl, inr, ◌⊎◌, ℕ, ◌<◌, List, ◌++◌, ◌∷◌, [], length, Bool, true, false, not, ◌&&◌, ◌||◌, Option, Some, None, IsSome, IfSome, false≢true, refl, sym, ap, subst, ◌∙◌}
+use Rattle.std.proofs.Common.{◌≡◌, inl, inr, ◌⊎◌, ℕ, ◌<◌, List, ◌++◌, ◌∷◌, [], length, Bool, true, false, not, ◌&&◌, ◌||◌, Option, Some, None, IsSome, IfSome, refl, sym, ap, subst, ◌∙◌}
+use Rattle.std.proofs.lemmas.Bool.{false≢true}
 use Rattle.std.specs.FinSet.{contains, contains-insert, contains-remove, insert, remove}
 use Rattle.std.specs.Cmp.{Equal-is}
 use Rattle.std.specs.Ordering.{eq_by_cmp}
 use Rattle.std.proofs.lemmas.Option.{none-some, same_Some}
+use Rattle.std.proofs.lemmas.Cmp.{eq_by_cmp_equiv}
 use Rattle.rv_due.specs.Deadlines.{Deadline, Deadlines, by_moment}
 use Rattle.rv_due.proofs.Order.{by_moment_total, by_moment-IsAntisymmetric}
 use Rattle.rv_session.specs.Owed.{Owed}

@@ -259,16 +259,13 @@ end_behind es key limit r s = elim (cases_lt r s) [
 same_parts : (key other : Key) (call more : Call) → Some (Arrive key call) ≡ Some (Arrive other more) → (key ≡ other) × (call ≡ more)
 same_parts key other call more e = (cc, cc)
 
-stopped_by : (es : List Entry) (r : ℕ) (key : Key) (call : Call) → act_at es r ≡ Some (Arrive key call) → (IsPut call → ⊥) → Stopped es r ⊎ (Stopped es r → ⊥)
-stopped_by es r key call arrived no_put = elim (first_below (EndBehind es key (limit_at es r) r) (end_behind es key (limit_at es r) r) (length es)) [
-  | inl found ↦
-      let at = found.2 in
-      inl (found.0, record { key = key; call = call; stopper = at.stopper; arrived = arrived; no_put = no_put; later = at.later; there = at.there; ends = at.ends })
-  | inr none ↦ inr (λ stopped.
-      let h = stopped.1 in
+stops_by : (es : List Entry) (r s : ℕ) (key : Key) (call : Call) → act_at es r ≡ Some (Arrive key call) → (IsPut call → ⊥) → StoppedAt es r s ⊎ (StoppedAt es r s → ⊥)
+stops_by es r s key call arrived no_put = elim (end_behind es key (limit_at es r) r s) [
+  | inl at ↦ inl (record { key = key; call = call; stopper = at.stopper; arrived = arrived; no_put = no_put; later = at.later; there = at.there; ends = at.ends })
+  | inr none ↦ inr (λ h.
       let own : h.key ≡ key = (same_parts h.key key h.call call (sym h.arrived ∙ arrived)).0 in
       let ends = subst (λ (k : Key). EndsWait h.stopper.act h.stopper.moment k (limit_at es r)) own h.ends in
-      none stopped.0 (within es stopped.0 h.stopper h.there) (record { later = h.later; stopper = h.stopper; there = h.there; ends = ends }))
+      none (record { later = h.later; stopper = h.stopper; there = h.there; ends = ends }))
 ]
 
 pub arrives_no_cancel : (key : Key) (call : Call) (other : Key) → Some (Arrive key call) ≡ Some (Cancel other) → ⊥
@@ -277,18 +274,24 @@ arrives_no_cancel key call other e = cc
 pub arrives_no_tick : (key : Key) (call : Call) → Some (Arrive key call) ≡ Some Tick → ⊥
 arrives_no_tick key call e = cc
 
-stopped_of : (es : List Entry) (r : ℕ) (o : Option Act) → act_at es r ≡ o → Stopped es r ⊎ (Stopped es r → ⊥)
-stopped_of es r None there = inr (λ stopped. none-some _ (sym there ∙ stopped.1.arrived))
-stopped_of es r (Some (Hello client i)) there = inr (λ stopped. arrives_no_hello stopped.1.key stopped.1.call client i (sym stopped.1.arrived ∙ there))
-stopped_of es r (Some (Cancel key)) there = inr (λ stopped. arrives_no_cancel stopped.1.key stopped.1.call key (sym stopped.1.arrived ∙ there))
-stopped_of es r (Some Tick) there = inr (λ stopped. arrives_no_tick stopped.1.key stopped.1.call (sym stopped.1.arrived ∙ there))
-stopped_of es r (Some (Arrive key call)) there = elim (put_or_not call) [
-  | inr no_put ↦ stopped_by es r key call there no_put
-  | inl put ↦ inr (λ stopped. stopped.1.no_put (subst IsPut (sym (same_parts stopped.1.key key stopped.1.call call (sym stopped.1.arrived ∙ there)).1) put))
+stops_of : (es : List Entry) (r s : ℕ) (o : Option Act) → act_at es r ≡ o → StoppedAt es r s ⊎ (StoppedAt es r s → ⊥)
+stops_of es r s None there = inr (λ h. none-some _ (sym there ∙ h.arrived))
+stops_of es r s (Some (Hello client i)) there = inr (λ h. arrives_no_hello h.key h.call client i (sym h.arrived ∙ there))
+stops_of es r s (Some (Cancel key)) there = inr (λ h. arrives_no_cancel h.key h.call key (sym h.arrived ∙ there))
+stops_of es r s (Some Tick) there = inr (λ h. arrives_no_tick h.key h.call (sym h.arrived ∙ there))
+stops_of es r s (Some (Arrive key call)) there = elim (put_or_not call) [
+  | inr no_put ↦ stops_by es r s key call there no_put
+  | inl put ↦ inr (λ h. h.no_put (subst IsPut (sym (same_parts h.key key h.call call (sym h.arrived ∙ there)).1) put))
 ]
 
+pub stops_or_not : (es : List Entry) (r s : ℕ) → StoppedAt es r s ⊎ (StoppedAt es r s → ⊥)
+stops_or_not es r s = stops_of es r s (act_at es r) refl
+
 pub stopped_or_not : (es : List Entry) (r : ℕ) → Stopped es r ⊎ (Stopped es r → ⊥)
-stopped_or_not es r = stopped_of es r (act_at es r) refl
+stopped_or_not es r = elim (first_below (StoppedAt es r) (stops_or_not es r) (length es)) [
+  | inl found ↦ inl (found.0, found.2)
+  | inr none ↦ inr (λ stopped. none stopped.0 (within es stopped.0 stopped.1.stopper stopped.1.there) stopped.1)
+]
 
 -- ---- who is open on a side
 

@@ -1,5 +1,6 @@
 -- The account and its tables stay sound, whatever a step does.
 use Rattle.std.proofs.Common.{◌≡◌, inl, inr, ℕ, ◌+◌, ◌≤◌, ◌^◌, List, [], ◌∷◌, ◌++◌, length, Some, refl, sym, ap, subst, ◌∙◌, arith, length-append, nat_cmp}
+use Rattle.std.proofs.lemmas.Bool.{false≢true}
 use Rattle.std.specs.FinMap.{empty, get-empty}
 use Rattle.std.specs.List.{slice_get}
 use Rattle.std.proofs.lemmas.Option.{none-some}
@@ -11,6 +12,10 @@ use Rattle.rv_book.specs.declared.account.Entry.{Entry}
 use Rattle.rv_book.specs.declared.state.State.{State}
 use Rattle.rv_book.specs.Legal.{Legal}
 use Rattle.rv_book.specs.Limits.{FitsAccount, FitsEntry}
+use Rattle.rv_due.specs.Deadlines.{by_moment}
+use Rattle.std.specs.FinSet.{contains, contains-empty}
+use Rattle.std.specs.FinSet.{empty as no_deadline}
+use Rattle.rv_book.specs.Elapsing.{AreDeadlines}
 use Rattle.rv_book.specs.Parked.{AreQueues}
 use Rattle.rv_book.specs.Tables.{AreSessions, IsSame, IsSound, account_of}
 use Rattle.rv_book.specs.Views.{AllEmpty}
@@ -34,6 +39,7 @@ sound_same old new sound same =
       sessions_are = subst (λ (a : Account). AreSessions a new.sessions) (sym same.account) sessions;
       queues_are = subst (λ (a : Account). AreQueues a.entries new.queues) (sym same.account) queues;
       waiting_is = subst (λ (a : Account). NumberOf (Waiting a.entries) new.waiting) (sym same.account) counted;
+      due_are = subst (λ (a : Account). AreDeadlines a.entries new.due) (sym same.account) (subst (AreDeadlines (account_of old).entries) (sym same.due) sound.due_are);
       spare = let room : old.account.room ≤ new.account.room = same.room in let spare : old.waiting ≤ old.account.room = sound.spare in let waiting : new.waiting ≡ old.waiting = same.waiting in omega arith;
     }
 
@@ -47,6 +53,7 @@ pub record Answers (a : Account) (e : Entry) (new : State) : Type 0 where
   pub sessions_are : AreSessions (with_entry a e) new.sessions
   pub queues_are : AreQueues (a.entries ++ e ∷ []) new.queues
   pub waiting_is : NumberOf (Waiting (a.entries ++ e ∷ [])) new.waiting
+  pub due_are : AreDeadlines (a.entries ++ e ∷ []) new.due
   pub space : length a.entries + 1 + new.waiting ≤ 100000
   pub spare : new.waiting ≤ new.account.room
 
@@ -67,6 +74,7 @@ sound_with a e new fits is =
       sessions_are = subst (λ (b : Account). AreSessions b new.sessions) (sym is.account) is.sessions_are;
       queues_are = subst (λ (b : Account). AreQueues b.entries new.queues) (sym is.account) is.queues_are;
       waiting_is = subst (λ (b : Account). NumberOf (Waiting b.entries) new.waiting) (sym is.account) is.waiting_is;
+      due_are = subst (λ (b : Account). AreDeadlines b.entries new.due) (sym is.account) is.due_are;
       spare = is.spare;
     }
 
@@ -81,8 +89,8 @@ none_waits es none = record {
 }
 
 pub sound_empty : (state : State) → FitsIdentifier (account_of state).epoch → (account_of state).opened ≤ 2 ^ 62 → (account_of state).entries ≡ []
-    → state.sessions ≡ record { epoch = (account_of state).epoch; sessions = empty } → AllEmpty state.queues → state.waiting ≡ 0 → IsSound state
-sound_empty state epoch opened none sessions no_places zero_wait =
+    → state.sessions ≡ record { epoch = (account_of state).epoch; sessions = empty } → AllEmpty state.queues → state.waiting ≡ 0 → state.due ≡ no_deadline → IsSound state
+sound_empty state epoch opened none sessions no_places zero_wait no_due =
     let a = account_of state in
     let nothing = λ (r : ℕ) (e : Entry) (there : slice_get a.entries r ≡ Some e). none-some e (sym (ap (λ (es : List Entry). slice_get es r) none) ∙ there) in
     let counted = none_waits a.entries none in
@@ -97,5 +105,9 @@ sound_empty state epoch opened none sessions no_places zero_wait =
       sessions_are = no_sessions a state.sessions none (ap (λ (t : Table). t.epoch) sessions) (λ client. ap (λ (t : Table). session_of t client) sessions ∙ get-empty nat_cmp client);
       queues_are = no_queues a.entries state.queues none no_places;
       waiting_is = subst (NumberOf (Waiting a.entries)) (sym zero_wait) counted;
+      due_are = record {
+        are = λ limit r there. absurd (false≢true (sym (contains-empty by_moment (limit, r)) ∙ ap (λ s. contains s (limit, r)) (sym no_due) ∙ there));
+        each = λ limit r waits at. let inside = waiting_inside a.entries r waits in let short : length a.entries ≡ 0 = ap length none in absurd (omega (arith, inside));
+      };
       spare = omega arith;
     }

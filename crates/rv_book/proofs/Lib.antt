@@ -18,6 +18,9 @@ pub mod Lines
 pub mod OnePartner
 pub mod Leaving
 pub mod Limits
+pub mod Lasting
+pub mod FirstStops
+pub mod Ticking
 pub mod ReplyLaws
 pub mod Unmet
 pub mod Puts
@@ -48,3 +51,7 @@ pub mod Greeting
 pub mod Cancelling
 pub mod Standing
 pub mod Repeating
+mod DeadlineTable
+mod FirstStops
+mod Lasting
+mod Ticking

@@ -10,5 +10,5 @@ pub returns-in_err-add-clause-err : goal.returns-in_err-add-clause-err
 returns-in_err-add-clause-err c =
     let old = c.args.self.now in
     let need = need_of c.args.call.now in
-    err_gives c.from_residual-in_err-add.result _ (NoEntryDue (account_of old) need) c.from_residual-in_err-add.ensures
+    err_gives c.from_residual-in_err-add.result _ (NoEntryDue (account_of old) need) c.from_residual-in_err-add.ensures.1
     (λ refusal is. inr (room_left (account_of old) old.waiting need c.requires.sound.waiting_is c.in_ok-make_room.ensures.ok.space, is))
