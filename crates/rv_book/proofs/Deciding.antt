@@ -315,7 +315,7 @@ same_side (Looks p) (Gives q) = inr (λ e. let no : ⊥ = cc in no)
 same_side (Looks p) (Takes q) = inr (λ e. let no : ⊥ = cc in no)
 same_side (Looks p) (Looks q) = elim (same_or_not p q) [ inl same ↦ inl (ap Looks same) | inr apart ↦ inr (looks_apart p q apart) ]
 
-lasts_or_not : (wait : Option Wait) → Lasts wait ⊎ (Lasts wait → ⊥)
+pub lasts_or_not : (wait : Option Wait) → Lasts wait ⊎ (Lasts wait → ⊥)
 lasts_or_not None = inl tt
 lasts_or_not (Some Now) = inr (λ lasts. lasts)
 lasts_or_not (Some (Millis n)) = elim (cases_lt 0 n) [ inl lasts ↦ inl lasts | inr over ↦ inr (λ lasts. omega arith) ]

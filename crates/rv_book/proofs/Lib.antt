@@ -37,6 +37,7 @@ pub mod CancelledSessions
 pub mod Settling
 pub mod Deciding
 pub mod Staying
+pub mod StoppedReplies
 pub mod ToldCancelled
 pub mod Entering
 pub mod OneStep

@@ -7,7 +7,6 @@ use Rattle.rv_text.specs.declared.call.Call.TheVariants.{Take}
 use Rattle.rv_text.specs.declared.call.Side.{Side}
 use Rattle.rv_text.specs.declared.call.Side.TheVariants.{Gives, Looks, Takes}
 use Rattle.rv_text.specs.declared.call.Wait.{Wait}
-use Rattle.rv_text.specs.declared.call.Wait.TheVariants.{Now, Forever}
 use Rattle.rv_text.specs.Calls.{item_of, side_of}
 use Rattle.rv_text.specs.Limits.{FitsItem, FitsReply}
 use Rattle.rv_text.proofs.Kept.{item_fits}
@@ -23,7 +22,7 @@ use Rattle.rv_book.specs.Limits.{FitsAccount}
 use Rattle.rv_book.specs.Replies.{Gets, Meet, RepliesAt}
 use Rattle.rv_book.specs.Verdicts.{item_at}
 use Rattle.rv_book.specs.Waiting.{Met, NamesPartner, Waiting}
-use Rattle.rv_book.proofs.Unmet.{one_unmet, still_unmet, unmet_exists, unmet_fits, unmet_stays, unmet_waits_not}
+use Rattle.rv_book.proofs.Unmet.{kept_told, one_unmet, passes_by, passing_told, still_unmet, told_at_once, unmet_exists, unmet_fits, unmet_stays, unmet_waits_not}
 use Rattle.rv_text.proofs.Kept.{empty_fits}
 use Rattle.rv_book.proofs.Growing.{NamesPartner-on, call_read, partner_read, reads_on}
 use Rattle.rv_book.proofs.CallKinds.{gives_item}
@@ -36,7 +35,7 @@ use Rattle.rv_book.proofs.Sides.{last_unmet}
 use Rattle.rv_book.proofs.Deciding.{met_or_not}
 use Rattle.rv_book.proofs.Fronts.{read_whole}
 use Rattle.rv_text.specs.declared.call.Call.{Call}
-use Rattle.rv_book.specs.Tables.{partners_reply}
+use Rattle.rv_book.specs.Tables.{kept_at_once, partners_reply}
 use Rattle.rv_book.specs.Arriving.{IsKept}
 
 -- what an unmet take is told that does not wait
@@ -45,15 +44,15 @@ empty = reply.TheVariants.Empty
 
 -- ---- what is kept
 
-pub poll_replies : (a : Account) (queue : ℕ) → WillReply a (Take queue Now) None kept.TheVariants.Empty
-poll_replies a queue moment key before after =
-    let e = entry moment (Arrive key (Take queue Now)) None in
-    record { reply = reply.TheVariants.Empty; is = refl; replies = inr (last_unmet a e before refl, refl) }
-
--- an unmet take that does not go on is one that never waits
-pub take_unmet : (a : Account) (queue : ℕ) (wait : Wait) → (GoesOn (Take queue wait) None → ⊥) → WillReply a (Take queue wait) None kept.TheVariants.Empty
-take_unmet a queue Now ends = poll_replies a queue
-take_unmet a queue Forever ends = absurd (ends (record { unmet = refl; stays = (refl, tt); no_put = λ put. none-some Forever (sym put.1) }))
+-- an unmet take that does not go on is one whose wait does not last
+pub take_unmet : (a : Account) (queue : ℕ) (wait : Wait) → (GoesOn (Take queue wait) None → ⊥) → WillReply a (Take queue wait) None (kept_at_once wait kept.TheVariants.Empty)
+take_unmet a queue wait ends moment key before after =
+    let e = entry moment (Arrive key (Take queue wait)) None in
+    record {
+      reply = told_at_once wait empty;
+      is = kept_told wait (with_entry a e).entries kept.TheVariants.Empty empty refl;
+      replies = inr (last_unmet a e before refl, passing_told wait (with_entry a e).entries (length a.entries) empty (passes_by (Take queue wait) wait refl refl ends));
+    }
 
 takes_meet_givers : (queue : ℕ) (side : Side) → opposite (Takes queue) ≡ Some side → side ≡ Gives queue
 takes_meet_givers queue side opposes = cc
