@@ -66,7 +66,7 @@ module _ (old : State) (moment : ℕ) (key : Key) (comes : Comes old moment (Can
     ends_marks : Marks old moment (Cancel key) UnderKey
     ends_marks =
         let last = waiting_is_last before place key there.call comes.sound.legal there.waits there.arrived in
-        marks (cancel_follows before moment key comes.time last.epoch last.incarnation (inl (record { place = place; call = there.call; arrived = there.arrived; waits = there.waits })))
+        marks (cancel_follows before moment key comes.time comes.nothing_due last.epoch last.incarnation (inl (record { place = place; call = there.call; arrived = there.arrived; waits = there.waits })))
 
     pub ended_sound : (mid new : State) → EndsAt old mid place kept.Cancelled → mid.account ≡ old.account → account_of new ≡ with_entry (account_of mid) own_entry → new.sessions ≡ mid.sessions → new.queues ≡ mid.queues
         → new.waiting ≡ mid.waiting → mid.account.room ≤ new.account.room + 1 → IsSound new
@@ -101,7 +101,7 @@ module _ (old : State) (moment : ℕ) (key : Key) (comes : Comes old moment (Can
     next = is_next before old.sessions comes.sound.sessions_are comes.sound.legal key has
 
     bury_marks : Marks old moment (Cancel key) UnderKey
-    bury_marks = marks (cancel_follows before moment key comes.time next.epoch next.incarnation (inr (record { last = next.last; is_last = next.is_last; next = next.next; idle = next.idle })))
+    bury_marks = marks (cancel_follows before moment key comes.time comes.nothing_due next.epoch next.incarnation (inr (record { last = next.last; is_last = next.is_last; next = next.next; idle = next.idle })))
 
     pub buried_sound : (new : State) → account_of new ≡ with_entry before own_entry → OnlySets old.sessions new.sessions key.client (settled_session key.incarnation key.number None kept.Cancelled) → new.queues ≡ old.queues
         → new.waiting ≡ old.waiting → HasSpace old 1 → old.waiting ≤ new.account.room → IsSound new

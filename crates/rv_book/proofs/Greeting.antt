@@ -12,7 +12,7 @@ use Rattle.rv_book.specs.declared.account.Act.{Act}
 use Rattle.rv_book.specs.declared.account.Act.TheVariants.{Hello}
 use Rattle.rv_book.specs.declared.account.Entry.{Entry}
 use Rattle.rv_book.specs.declared.state.State.{State}
-use Rattle.rv_book.specs.Legal.{HasWaiting, KeepsTime}
+use Rattle.rv_book.specs.Legal.{HasWaiting, KeepsTime, NothingDue}
 use Rattle.rv_book.specs.Sessions.{HasOnlyLower}
 use Rattle.rv_book.specs.Tables.{AreSessions, Comes, EndsIf, HasSpace, IsReady, IsSound, account_of}
 use Rattle.rv_book.specs.Waiting.{Open, Waiting}
@@ -64,6 +64,7 @@ comes_ready old ready moment does need side comes prepared = record {
   sound = sound_same old ready comes.sound prepared.same;
   time = subst (λ a. KeepsTime a moment) (sym prepared.same.account) comes.time;
   moment_fits = comes.moment_fits;
+  nothing_due = subst (λ (a : Account). NothingDue a.entries moment) (sym prepared.same.account) comes.nothing_due;
   act_fits = comes.act_fits;
 }
 
@@ -89,7 +90,7 @@ module _ (old : State) (moment client incarnation : ℕ) (comes : Comes old mome
     sound = comes.sound;
     moment_fits = comes.moment_fits;
     act_fits = comes.act_fits;
-    follows = hello_follows before moment client incarnation comes.time lower;
+    follows = hello_follows before moment client incarnation comes.time comes.nothing_due lower;
     stops = record {
       no_call = refl;
       none = refl;

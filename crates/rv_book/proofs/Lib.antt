@@ -52,7 +52,4 @@ pub mod Greeting
 pub mod Cancelling
 pub mod Standing
 pub mod Repeating
-mod DeadlineTable
-mod FirstStops
-mod Lasting
-mod Ticking
+pub mod DeadlineTable

@@ -6,7 +6,6 @@ use Rattle.rv_text.specs.declared.answer.Reply.TheVariants.{Cancelled}
 use Rattle.rv_book.specs.declared.account.Act as act
 use Rattle.rv_book.specs.Tables.{IsRefused, NoEntryDue, account_of}
 use Rattle.rv_book.proofs.Repeating.{cancelled_late, cancelled_waiting, next_cancel, refused_cancel}
-use Rattle.rv_book.proofs.TimedOutSessions.{sessions_turned, sessions_at_last}
 use Rattle.rv_book.proofs.Stepping.{becomes_refused, entered, err_gives, unentered}
 use Rattle.rv_book.proofs.state.State.cancel.Goals as goal
 

@@ -5,10 +5,13 @@ use Rattle.rv_book.specs.Arriving.{IsCancelled, entry}
 use Rattle.rv_book.specs.declared.account.Act.TheVariants.{Cancel}
 use Rattle.rv_book.specs.Tables.{account_of}
 use Rattle.rv_book.proofs.Cancelling.{ended_cancelled, ended_sound, there}
+use Rattle.rv_book.proofs.Ending.{may_end}
 use Rattle.rv_book.proofs.state.State.end_wait.Goals as goal
 
-pub end-requires-clause-waits : goal.end-requires-clause-waits
-end-requires-clause-waits c = (there c.args.self.now c.args.moment c.args.key c.requires.comes c.args.place c.requires.waits).waits
+pub end-requires : goal.end-requires
+end-requires c =
+    let waits = (there c.args.self.now c.args.moment c.args.key c.requires.comes c.args.place c.requires.waits).waits in
+    may_end c.args.self.now c.args.place c.requires.comes.sound waits
 
 pub returns-clause-sound : goal.returns-clause-sound
 returns-clause-sound c =
