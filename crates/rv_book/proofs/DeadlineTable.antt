@@ -11,7 +11,11 @@ use Rattle.rv_due.proofs.Order.{by_moment_total, by_moment-IsAntisymmetric}
 use Rattle.rv_session.specs.Owed.{Owed}
 use Rattle.rv_book.specs.declared.account.Entry.{Entry}
 use Rattle.rv_book.specs.Elapsing.{AreDeadlinesOf, with_deadline, without_deadline, without_duty}
-use Rattle.rv_book.specs.Waiting.{limit_at, limit_in}
+use Rattle.rv_book.specs.Account.{act_at}
+use Rattle.rv_book.specs.declared.account.Act.TheVariants.{Arrive}
+use Rattle.rv_book.specs.Waiting.{Waiting, limit_at}
+use Rattle.rv_book.proofs.Growing.{limit_on}
+use Rattle.rv_book.proofs.Keys.{act_called}
 
 -- ---- sets of deadlines
 
@@ -136,3 +140,11 @@ ButDuty P (Some duty) r = P r × (r ≡ duty.place → ⊥)
 pub due_without_duty : (es : List Entry) (P : ℕ → Type 0) (due : Deadlines) (duty : Option Owed) → AreDeadlinesOf es P due → AreDeadlinesOf es (ButDuty P duty) (without_duty es duty due)
 due_without_duty es P due None are = are
 due_without_duty es P due (Some duty) are = due_without es P due duty.place are (limit_at es duty.place) refl
+
+-- ---- limits
+
+-- a request that waits keeps its limit
+pub limit_waits : (es more : List Entry) (r : ℕ) → Waiting es r → limit_at (es ++ more) r ≡ limit_at es r
+limit_waits es more r waits =
+    let there = act_called (act_at es r) waits.is_open.call waits.is_open.arrived in
+    limit_on es more r (Arrive there.0 waits.is_open.call) there.1

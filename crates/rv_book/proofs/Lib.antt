@@ -52,4 +52,10 @@ pub mod Greeting
 pub mod Cancelling
 pub mod Standing
 pub mod Repeating
-pub mod DeadlineTable
+mod DeadlineTable
+mod FirstStops
+mod Lasting
+mod Ticking
+mod EndingTables
+mod TimedOutSessions
+mod TimingOut

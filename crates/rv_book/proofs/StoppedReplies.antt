@@ -1,17 +1,19 @@
 -- What stops a waiting request first tells it its reply.
-use Rattle.std.proofs.Common.{◌≡◌, inl, inr, ℕ, ◌<◌, List, [], ◌∷◌, ◌++◌, length, Some, None, option_and_then, refl, sym, ap, subst, ◌∙◌, arith}
+use Rattle.std.proofs.Common.{◌≡◌, inl, inr, ℕ, ◌<◌, List, [], ◌∷◌, ◌++◌, length, Some, None, refl, sym, ap, subst, ◌∙◌, arith}
 use Rattle.std.proofs.lemmas.Option.{none-some, same_Some}
 use Rattle.rv_text.specs.declared.call.Call as call
 use Rattle.rv_text.specs.declared.call.Call.{Call}
 use Rattle.rv_text.specs.declared.answer.Reply as reply
 use Rattle.rv_text.specs.declared.answer.Reply.{Reply}
 use Rattle.rv_book.specs.declared.account.Entry.{Entry}
+use Rattle.rv_book.specs.declared.account.Act.TheVariants.{Tick}
 use Rattle.rv_book.specs.Account.{call_at}
 use Rattle.rv_book.specs.Calls.{IsPut, Stays}
 use Rattle.rv_book.specs.Replies.{RepliesAt, ToldStopped, told_by}
 use Rattle.rv_book.specs.Waiting.{Met, StoppedAt, Waiting}
 use Rattle.rv_book.proofs.FirstStops.{told_by_last}
 use Rattle.rv_book.proofs.Growing.{Met-back, call_read, reads_within}
+use Rattle.rv_book.proofs.Sides.{IsRequestUntil, tick_stops}
 use Rattle.rv_book.proofs.Unmet.{lasting_told}
 
 -- a request that stays, unmet and stopped, is told by what stopped it first
@@ -34,3 +36,9 @@ told_stopped es e r call w arrived unnamed stopped =
       | inr new ↦ elim new [ inl last ↦ omega arith | inr named ↦ unnamed named ]
     ])
     (told_by_last es e r opened.unstopped stopped)
+
+-- by a tick: that it timed out
+pub timed_out_reply : (es : List Entry) (e : Entry) (r : ℕ) (call : Call) → Waiting es r → call_at es r ≡ Some call → e.act ≡ Tick → e.partner ≡ None → IsRequestUntil es e.moment r
+    → RepliesAt (es ++ e ∷ []) r call reply.TheVariants.TimedOut
+timed_out_reply es e r call w arrived says none request =
+    subst (RepliesAt (es ++ e ∷ []) r call) (ap told_by says) (told_stopped es e r call w arrived (λ named. none-some r (sym none ∙ named)) (tick_stops es e r says request))

@@ -7,7 +7,7 @@ use Rattle.rv_book.specs.declared.account.Entry.{Entry}
 use Rattle.rv_book.specs.Account.{Account, act_at, call_in, with_entry}
 use Rattle.rv_book.specs.Arriving.{entry}
 use Rattle.rv_book.specs.Legal.{IsDueAt, KeepsTime, Legal, NamesFreePartner, NothingDue, SomethingDue}
-use Rattle.rv_book.specs.Steps.{Adds, Ticks}
+use Rattle.rv_book.specs.Steps.{Ticks}
 use Rattle.rv_book.specs.Waiting.{limit_at}
 use Rattle.rv_book.proofs.Deciding.{waits_or_not}
 use Rattle.rv_book.proofs.Following.{tick_follows}

@@ -21,7 +21,7 @@ use Rattle.rv_book.specs.declared.account.Entry.{Entry}
 use Rattle.rv_book.specs.declared.queues.Arrived.{Arrived}
 use Rattle.rv_book.specs.Legal.{Legal, NamesFreePartner}
 use Rattle.rv_book.specs.Meeting.{ArrivedOn, FindsNobody, Leaves, MayWait, Meets, MeetsFirst}
-use Rattle.rv_book.specs.Parked.{AreParked, AreQueues, IsLine, owed_at, owed_by, owed_in}
+use Rattle.rv_book.specs.Parked.{AreParked, AreQueues, IsLine, IsLineOf, owed_at, owed_by, owed_in}
 use Rattle.rv_book.specs.Views.{AllEmpty, AreBelow, SameQueues, takers_places, waiting_on}
 use Rattle.rv_book.specs.Waiting.{OpenAt, StoppedAt, IsOldest}
 use Rattle.rv_book.proofs.Deciding.{same_side}
@@ -123,6 +123,22 @@ rises_on p (first ∷ places) rising =
 passes_not : (n p : ℕ) → not (n == p) ≡ true → n ≡ p → ⊥
 passes_not n p passes same = grind (arith, nat_tests)
 
+-- ---- lines of places with a property
+
+pub line_to : (P Q : ℕ → Type 0) (places : List ℕ) → IsLineOf P places → ((r : ℕ) → P r → Q r) → ((r : ℕ) → Q r → P r) → IsLineOf Q places
+line_to P Q places line to back = record {
+  are = λ i r at. to r (line.are i r at);
+  each = λ r has. line.each r (back r has);
+  rising = line.rising;
+}
+
+pub line_but : (P : ℕ → Type 0) (places : List ℕ) (p : ℕ) → IsLineOf P places → IsLineOf (λ r. P r × (r ≡ p → ⊥)) (filter (λ r. not (r == p)) places)
+line_but P places p line = record {
+  are = λ i r at. let old = filter_get (λ n. not (n == p)) places i r at in (line.are old.0 r old.1, passes_not r p old.2);
+  each = λ r has. let old = line.each r has.0 in get_filter (λ n. not (n == p)) places old.0 r old.1 (differs r p has.1);
+  rising = rises_on p places line.rising;
+}
+
 -- the entry stops the one that stands at p, and no other of the side
 pub line_without : (es : List Entry) (e : Entry) (side : Side) (places : List ℕ) (p : ℕ) → IsLine es side places → NamesFreePartner es e → e.partner ≡ None
     → StoppedAt (es ++ e ∷ []) p (length es) → ((r : ℕ) → OpenAt es side r → StoppedAt (es ++ e ∷ []) r (length es) → r ≡ p) → (OpenAt (es ++ e ∷ []) side (length es) → ⊥)
@@ -169,11 +185,15 @@ open_inside es side r opened = reads_within call_read refl es r opened.of_side.c
 pub below_account : (es : List Entry) (queues : List Queue) → AreQueues es queues → AreBelow queues (length es)
 below_account es queues are side i r at = open_inside es side r ((are.lines side).are i r at)
 
-pub parked_on : (es : List Entry) (e : Entry) (queues : List Queue) → AreQueues es queues → AreParked (es ++ e ∷ []) queues
-parked_on es e queues are queue = record {
-  givers = λ i offer at. owed_on es e (place_of offer) (below_account es queues are (Gives queue) i (place_of offer) (slice_get-map place_of _ i ∙ ap (option_map place_of) at)) ∙ (are.parked queue).givers i offer at;
-  takers = λ i duty at. owed_on es e duty.place (below_account es queues are (Takes queue) i duty.place (slice_get-map (λ (d : Owed). d.place) _ i ∙ ap (option_map (λ (d : Owed). d.place)) at)) ∙ (are.parked queue).takers i duty at;
+-- the duties of those who wait below an entry stay parked with it
+pub parked_below : (es : List Entry) (e : Entry) (queues : List Queue) → AreBelow queues (length es) → AreParked es queues → AreParked (es ++ e ∷ []) queues
+parked_below es e queues below parked queue = record {
+  givers = λ i offer at. owed_on es e (place_of offer) (below (Gives queue) i (place_of offer) (slice_get-map place_of _ i ∙ ap (option_map place_of) at)) ∙ (parked queue).givers i offer at;
+  takers = λ i duty at. owed_on es e duty.place (below (Takes queue) i duty.place (slice_get-map (λ (d : Owed). d.place) _ i ∙ ap (option_map (λ (d : Owed). d.place)) at)) ∙ (parked queue).takers i duty at;
 }
+
+pub parked_on : (es : List Entry) (e : Entry) (queues : List Queue) → AreQueues es queues → AreParked (es ++ e ∷ []) queues
+parked_on es e queues are = parked_below es e queues (below_account es queues are) are.parked
 
 pub queues_as_before : (es : List Entry) (old new : List Queue) → SameQueues old new → AreQueues es old → AreQueues es new
 queues_as_before es old new same are = record {
@@ -294,7 +314,7 @@ pub record Stops (es : List Entry) (e : Entry) (P : ℕ → Type 0) : Type 0 whe
   pub stopped : (r : ℕ) → StoppedAt (es ++ e ∷ []) r (length es) → P r
 
 module _ (es : List Entry) (e : Entry) (P : ℕ → Type 0) (free : NamesFreePartner es e) (is : Stops es e P) where
-  no_arrival : (side : Side) → OpenAt (es ++ e ∷ []) side (length es) → ⊥
+  pub no_arrival : (side : Side) → OpenAt (es ++ e ∷ []) side (length es) → ⊥
   no_arrival side opened =
       none-some opened.of_side.call (sym (ap call_read (get-append_end es e) ∙ is.no_call) ∙ opened.of_side.arrived)
 
