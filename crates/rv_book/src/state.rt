@@ -41,13 +41,7 @@ fn needed(call: &Call) -> usize
 {
     match call.wait() {
         None => 1,
-        Some(wait) => {
-            if lasts(wait) {
-                2
-            } else {
-                1
-            }
-        }
+        Some(wait) => { if lasts(wait) { 2 } else { 1 } }
     }
 }
 
