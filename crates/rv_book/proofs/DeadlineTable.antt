@@ -93,10 +93,15 @@ due_without es P due p are None has = record {
 due_without es P due p are (Some own_limit) has = record {
   are = λ limit r there.
       let left = left_in due (own_limit, p) (limit, r) there in
-      let is = are.are limit r left.0 in
-      ((is.0, λ same.
-      let one : limit ≡ own_limit = same_Some _ _ (sym is.1 ∙ ap (limit_at es) same ∙ has) in
-      left.1 (both limit own_limit r p one same)), is.1);
+      let is = are.are limit r left.0 in (
+        (
+          is.0,
+          λ same.
+              let one : limit ≡ own_limit = same_Some _ _ (sym is.1 ∙ ap (limit_at es) same ∙ has) in
+              left.1 (both limit own_limit r p one same),
+        ),
+        is.1,
+      );
   each = λ limit r has at. stays_in due (own_limit, p) (limit, r) (are.each limit r has.0 at) (λ same. has.1 (ap (λ (d : Deadline). d.1) same));
 }
   where

@@ -56,9 +56,10 @@ module _ (es : List Entry) (moment : ℕ) (due : Deadlines) (limit place : ℕ) 
   left_after P r both = (both.0.0, λ taken. both.0.1 (taken_back es moment due (limit, place) r both.1 taken))
 
   left_before : (P : ℕ → Type 0) (r : ℕ) → Left es moment rest P r → Left es moment due P r × (r ≡ place → ⊥)
-  left_before P r left =
-      ((left.0, λ taken. left.1 (taken_on es moment due (limit, place) r taken)),
-      λ same. left.1 (subst (TakenOut es moment rest) (sym same) (taken_now es moment due limit place is_due.waits has elapsed)))
+  left_before P r left = (
+    (left.0, λ taken. left.1 (taken_on es moment due (limit, place) r taken)),
+    λ same. left.1 (subst (TakenOut es moment rest) (sym same) (taken_now es moment due limit place is_due.waits has elapsed)),
+  )
 
   pub queues_turn : (old new : List Queue) (side : Side) (duty : Owed) (result : Option Owed) → AreQueuesLeft es moment due old → Leaves old new side duty result → duty.place ≡ place → SideAt es side place
       → AreQueuesLeft es moment rest new

@@ -153,13 +153,16 @@ module _ (old mid : State) (moment : ℕ) (is : IsTime old moment) (ending : IsE
   legal_after = Legal-with_entry before own_entry ending.legal follows
 
   pub ticks : (new : State) → account_of new ≡ with_entry before own_entry → Ticks (account_of old) moment (account_of new)
-  ticks new pushed = inl (something, record {
-    entry = own_entry;
-    moment_is = refl;
-    act_is = refl;
-    follows = pushed ∙ ap (λ (s : Stored). with_entry s.account own_entry) same;
-    legal = subst Legal (sym pushed) legal_after;
-  })
+  ticks new pushed = inl (
+    something,
+    record {
+      entry = own_entry;
+      moment_is = refl;
+      act_is = refl;
+      follows = pushed ∙ ap (λ (s : Stored). with_entry s.account own_entry) same;
+      legal = subst Legal (sym pushed) legal_after;
+    },
+  )
 
   pub none_due_after : (new : State) → account_of new ≡ with_entry before own_entry → NothingDue (account_of new).entries moment
   none_due_after new pushed = subst (λ (b : Account). NothingDue b.entries moment) (sym pushed) (tick_ends before.entries own_entry follows.pairs.names_free_partner refl)

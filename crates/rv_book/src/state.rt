@@ -41,13 +41,7 @@ fn needed(call: &Call) -> usize
 {
     match call.wait() {
         None => 1,
-        Some(wait) => {
-            if lasts(wait) {
-                2
-            } else {
-                1
-            }
-        }
+        Some(wait) => { if lasts(wait) { 2 } else { 1 } }
     }
 }
 
@@ -379,6 +373,7 @@ impl State {
         ensures sessions { self.new.sessions ≡ self.old.sessions }
         ensures queues { self.new.queues ≡ self.old.queues }
         ensures waiting { self.new.waiting ≡ self.old.waiting }
+        ensures due { self.new.due ≡ self.old.due }
     {
         self.account.push(moment, Act::Cancel { key }, None);
     }
@@ -445,6 +440,7 @@ impl State {
         ensures sessions { self.new.sessions ≡ self.old.sessions }
         ensures queues { self.new.queues ≡ self.old.queues }
         ensures waiting { self.new.waiting ≡ self.old.waiting }
+        ensures due { self.new.due ≡ self.old.due }
     {
         let hello = Act::Hello {
             client,
