@@ -113,11 +113,8 @@ pub due_with : (es : List Entry) (P : ℕ → Type 0) (due : Deadlines) (p : ℕ
     → AreDeadlinesOf es (λ r. P r ⊎ ((r ≡ p) × IsSome o)) (with_deadline o p due)
 due_with es P due p are None has = record {
   are = λ limit r there. let is = are.are limit r there in (inl is.0, is.1);
-  each = λ limit r either at. elim either [ inl was ↦ are.each limit r was at | inr none ↦ absurd (no_some none.1) ];
+  each = λ limit r either at. elim either [ inl was ↦ are.each limit r was at | inr none ↦ absurd (let no : ⊥ = cc in no) ];
 }
-  where
-    no_some : IsSome {A = ℕ} None → ⊥
-    no_some some = cc
 due_with es P due p are (Some own_limit) has = record {
   are = λ limit r there. elim (inserted due (own_limit, p) (limit, r) there) [
     | inl same ↦

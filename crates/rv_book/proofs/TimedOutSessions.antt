@@ -1,15 +1,10 @@
 -- While a time-out takes out what is due the table of sessions says what the account says but for that; after the tick it
 -- is what the account says.
-use Rattle.std.proofs.Common.{◌≡◌, ℕ, ◌<◌, ◌+◌, ◌≤◌, List, [], ◌∷◌, ◌++◌, length, Bool, true, false, not, ◌&&◌, Option, Some, None, inl, inr, option_and_then, refl, sym, ap, subst, ◌∙◌, arith}
-use Rattle.std.proofs.lemmas.Bool.{cases_Bool, false_from_ne_true, true≢false}
-use Rattle.std.proofs.lemmas.Cmp.{eq_by_cmp_equiv}
+use Rattle.std.proofs.Common.{◌≡◌, ℕ, ◌<◌, ◌+◌, ◌≤◌, List, [], ◌∷◌, ◌++◌, length, true, Option, Some, None, inl, inr, option_and_then, refl, sym, ap, subst, ◌∙◌, arith}
+use Rattle.std.proofs.lemmas.Bool.{false_from_ne_true, true≢false}
 use Rattle.std.proofs.lemmas.Option.{none-some, same_Some}
-use Rattle.std.proofs.Math.Bool.{and-false}
-use Rattle.std.specs.Cmp.{Equal-is}
-use Rattle.std.specs.FinSet.{contains, contains-remove, remove}
-use Rattle.std.specs.Ordering.{eq_by_cmp}
-use Rattle.rv_due.proofs.Order.{by_moment-IsAntisymmetric, by_moment_total}
-use Rattle.rv_due.specs.Deadlines.{AllAbove, Deadline, Deadlines, by_moment}
+use Rattle.std.specs.FinSet.{contains, remove}
+use Rattle.rv_due.specs.Deadlines.{AllAbove, Deadline, Deadlines}
 use Rattle.rv_text.specs.declared.call.Call.{Call}
 use Rattle.rv_text.specs.declared.message.Key.{Key}
 use Rattle.rv_text.specs.declared.answer.Reply.TheVariants.{TimedOut}
@@ -28,6 +23,7 @@ use Rattle.rv_book.specs.Tables.{AreSessions, IsSessionOf, IsSettledAt, IsWaitin
 use Rattle.rv_book.specs.Waiting.{Waiting, limit_at}
 use Rattle.rv_book.specs.declared.account.Act.TheVariants.{Arrive, Tick}
 use Rattle.rv_book.specs.declared.account.Entry.{Entry}
+use Rattle.rv_book.proofs.DeadlineTable.{left_in, stays_in, taken_out}
 use Rattle.rv_book.proofs.Growing.{act_read, reads_on}
 use Rattle.rv_book.proofs.Histories.{one_incarnation, one_last_number}
 use Rattle.rv_book.proofs.Keys.{client_of, tick_no_hello}
@@ -35,7 +31,7 @@ use Rattle.rv_book.proofs.Numbers.{same_or_not}
 use Rattle.rv_book.proofs.OnePartner.{arrives_once}
 use Rattle.rv_book.proofs.SessionTable.{CancelledFirst-on, IsApart, IsAt-on, SaidHello-back, settled_on}
 use Rattle.rv_book.proofs.Sides.{Waiting-on, due_until, stopped_by_tick, tick_stops, until_due}
-use Rattle.rv_book.proofs.ToldCancelled.{told_stopped}
+use Rattle.rv_book.proofs.StoppedReplies.{told_stopped}
 use Rattle.rv_book.proofs.WaitingTable.{same_parts, settled_not}
 use Rattle.rv_book.proofs.Waits.{arrival, waiting_is_last}
 
@@ -64,34 +60,25 @@ due_is_taken es moment due r above is_due = record {
 
 -- ---- one deadline less
 
-dropped : (due : Deadlines) (d : Deadline) → contains (remove due d) d ≡ false
-dropped due d = contains-remove by_moment_total due d d ∙ ap (λ own. not own && contains due d) ((eq_by_cmp_equiv by_moment_total).refl d)
-
-others_there : (due : Deadlines) (d q : Deadline) → (q ≡ d → ⊥) → contains (remove due d) q ≡ contains due q
-others_there due d q apart =
-    contains-remove by_moment_total due d q
-    ∙ ap (λ own. not own && contains due q) (false_from_ne_true (eq_by_cmp by_moment q d) (λ own. apart (by_moment-IsAntisymmetric q d ((Equal-is (by_moment q d)).0 own))))
-
 -- what was taken out stays so
 pub taken_on : (es : List Entry) (moment : ℕ) (due : Deadlines) (d : Deadline) (r : ℕ) → TakenOut es moment due r → TakenOut es moment (remove due d) r
 taken_on es moment due d r taken = record {
   is_due = taken.is_due;
-  gone = contains-remove by_moment_total due d (taken.is_due.limit, r)
-      ∙ ap (λ there. not (eq_by_cmp by_moment (taken.is_due.limit, r) d) && there) taken.gone
-      ∙ and-false (not (eq_by_cmp by_moment (taken.is_due.limit, r) d));
+  gone = false_from_ne_true (contains (remove due d) (taken.is_due.limit, r)) (λ there. true≢false (sym (left_in due d (taken.is_due.limit, r) there).0 ∙ taken.gone));
 }
 
 -- and at any place but the deadline's nothing else is taken out
 pub taken_back : (es : List Entry) (moment : ℕ) (due : Deadlines) (d : Deadline) (r : ℕ) → (r ≡ d.1 → ⊥) → TakenOut es moment (remove due d) r → TakenOut es moment due r
 taken_back es moment due d r apart taken = record {
   is_due = taken.is_due;
-  gone = sym (others_there due d (taken.is_due.limit, r) (λ same. apart (ap (λ (x : Deadline). x.1) same))) ∙ taken.gone;
+  gone = false_from_ne_true (contains due (taken.is_due.limit, r)) (λ there.
+      true≢false (sym (stays_in due d (taken.is_due.limit, r) there (λ same. apart (ap (λ (x : Deadline). x.1) same))) ∙ taken.gone));
 }
 
 -- the request of the deadline is
 pub taken_now : (es : List Entry) (moment : ℕ) (due : Deadlines) (limit r : ℕ) → Waiting es r → limit_at es r ≡ Some limit → limit ≤ moment → TakenOut es moment (remove due (limit, r)) r
 taken_now es moment due limit r waits has elapsed =
-    record { is_due = record { waits = waits; limit = limit; has = has; elapsed = elapsed }; gone = dropped due (limit, r) }
+    record { is_due = record { waits = waits; limit = limit; has = has; elapsed = elapsed }; gone = taken_out due (limit, r) }
 
 -- ---- before the first turn
 
@@ -230,7 +217,7 @@ module _ (a : Account) (e : Entry) (due : Deadlines) (before : Legal a) (after :
       reply = TimedOut;
       is = refl;
       replies = subst (λ does. RepliesAt (with_entry a e).entries r is.waited.call (told_by does)) says
-          (told_stopped a e r is.waited.call is.waited.waits (ap (option_and_then call_in) is.waited.arrived) none (tick_stops a.entries e r says (due_until a.entries e.moment r is.taken.is_due)));
+          (told_stopped a.entries e r is.waited.call is.waited.waits (ap (option_and_then call_in) is.waited.arrived) (λ named. none-some r (sym none ∙ named)) (tick_stops a.entries e r says (due_until a.entries e.moment r is.taken.is_due)));
     };
   })
 

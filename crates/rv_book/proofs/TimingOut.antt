@@ -56,7 +56,8 @@ ending_at_first state moment sound =
 
 same_state : (s : State) (account : Stored) (due : Deadlines) → s.account ≡ account → s.due ≡ due
     → s ≡ record { account = account; sessions = s.sessions; queues = s.queues; waiting = s.waiting; due = due }
-same_state s account due p q = cc
+same_state s account due p q =
+    ap (λ (x : Stored). record { account = x; sessions = s.sessions; queues = s.queues; waiting = s.waiting; due = s.due }) p ∙ ap (λ (d : Deadlines). record { account = account; sessions = s.sessions; queues = s.queues; waiting = s.waiting; due = d }) q
 
 module _ (old : State) (moment limit place : ℕ) (is : IsEnding old moment) (least : IsLeastUntil old.due moment (limit, place)) where
   abbrev a : Account

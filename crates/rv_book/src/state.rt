@@ -378,6 +378,7 @@ impl State {
         ensures sessions { self.new.sessions ≡ self.old.sessions }
         ensures stations { self.new.stations ≡ self.old.stations }
         ensures waiting { self.new.waiting ≡ self.old.waiting }
+        ensures due { self.new.due ≡ self.old.due }
     {
         self.account.push(moment, Act::Cancel { key }, None);
     }
@@ -444,6 +445,7 @@ impl State {
         ensures sessions { self.new.sessions ≡ self.old.sessions }
         ensures stations { self.new.stations ≡ self.old.stations }
         ensures waiting { self.new.waiting ≡ self.old.waiting }
+        ensures due { self.new.due ≡ self.old.due }
     {
         let hello = Act::Hello {
             client,
