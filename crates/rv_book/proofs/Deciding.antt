@@ -4,7 +4,7 @@ use Rattle.rv_book.specs.declared.account.Act.TheVariants.{Arrive, Cancel, Hello
 use Rattle.std.proofs.Common.{Bool, List, None, Option, Some, ap, arith, false, inl, inr, length, refl, subst, suc, sym, true, zero, ℕ, ◌<◌, ◌∙◌, ◌≡◌, ◌≤◌, ◌⊎◌, [], ◌+◌, ◌∷◌}
 use Rattle.rv_text.specs.declared.call.Call.{Call}
 use Rattle.rv_book.specs.declared.account.Entry.{Entry}
-use Rattle.rv_text.specs.declared.call.Side.TheVariants.{Gives, Looks, Takes}
+use Rattle.rv_text.specs.declared.call.Side.TheVariants.{Exchanges, Gives, Looks, Takes}
 use Rattle.rv_book.specs.Sessions.{HasIncarnation, LastHello, LastNumber, NamesKey, SaidHello}
 use Rattle.rv_book.specs.Arriving.{MeetsOldest}
 use Rattle.rv_text.specs.declared.message.Key.{Key}
@@ -301,6 +301,9 @@ gives_apart p q apart e = apart (cc)
 takes_apart : (p q : ℕ) → (p ≡ q → ⊥) → Takes p ≡ Takes q → ⊥
 takes_apart p q apart e = apart (cc)
 
+exchanges_apart : (p q : ℕ) → (p ≡ q → ⊥) → Exchanges p ≡ Exchanges q → ⊥
+exchanges_apart p q apart e = apart cc
+
 looks_apart : (p q : ℕ) → (p ≡ q → ⊥) → Looks p ≡ Looks q → ⊥
 looks_apart p q apart e = apart (cc)
 
@@ -314,6 +317,13 @@ same_side (Takes p) (Looks q) = inr (λ e. let no : ⊥ = cc in no)
 same_side (Looks p) (Gives q) = inr (λ e. let no : ⊥ = cc in no)
 same_side (Looks p) (Takes q) = inr (λ e. let no : ⊥ = cc in no)
 same_side (Looks p) (Looks q) = elim (same_or_not p q) [ inl same ↦ inl (ap Looks same) | inr apart ↦ inr (looks_apart p q apart) ]
+same_side (Gives p) (Exchanges q) = inr (λ e. let no : ⊥ = cc in no)
+same_side (Takes p) (Exchanges q) = inr (λ e. let no : ⊥ = cc in no)
+same_side (Looks p) (Exchanges q) = inr (λ e. let no : ⊥ = cc in no)
+same_side (Exchanges p) (Gives q) = inr (λ e. let no : ⊥ = cc in no)
+same_side (Exchanges p) (Takes q) = inr (λ e. let no : ⊥ = cc in no)
+same_side (Exchanges p) (Looks q) = inr (λ e. let no : ⊥ = cc in no)
+same_side (Exchanges p) (Exchanges q) = elim (same_or_not p q) [ inl same ↦ inl (ap Exchanges same) | inr apart ↦ inr (exchanges_apart p q apart) ]
 
 pub lasts_or_not : (wait : Option Wait) → Lasts wait ⊎ (Lasts wait → ⊥)
 lasts_or_not None = inl tt

@@ -4,14 +4,13 @@ use Rattle.std.specs.List.{slice_get}
 use Rattle.std.proofs.lemmas.Option.{same_Some}
 use Rattle.rv_text.specs.declared.call.Side.{Side}
 use Rattle.rv_text.specs.Calls.{side_of}
-use Rattle.rv_dual.specs.Queue.{Queue}
 use Rattle.rv_book.specs.Account.{act_at}
 use Rattle.rv_book.specs.declared.account.Entry.{Entry}
 use Rattle.rv_book.specs.declared.state.State.{State}
 use Rattle.rv_book.specs.Meeting.{StandsOn}
 use Rattle.rv_book.specs.Parked.{IsLineOf}
 use Rattle.rv_book.specs.Tables.{IsSound, MayEnd, account_of}
-use Rattle.rv_book.specs.Views.{waiting_on}
+use Rattle.rv_book.specs.Views.{Stations, waiting_on}
 use Rattle.rv_book.specs.Waiting.{OpenAt, SideAt, Waiting}
 use Rattle.rv_book.proofs.Keys.{act_called}
 use Rattle.rv_book.proofs.Owing.{some_has, waiting_owed}
@@ -19,9 +18,9 @@ use Rattle.rv_book.proofs.Sides.{one_side, waiting_is_open}
 use Rattle.rv_book.proofs.WaitingTable.{waits_in_table}
 
 -- who stands in the line of a side stands in no other
-pub stands_on : (es : List Entry) (queues : List Queue) (P : Side → ℕ → Type 0) → ((side : Side) (r : ℕ) → P side r → SideAt es side r) → ((side : Side) → IsLineOf (P side) (waiting_on queues side))
-    → (side : Side) (place : ℕ) → P side place → StandsOn queues side place
-stands_on es queues P of_side lines side place has =
+pub stands_on : (es : List Entry) (stations : Stations) (P : Side → ℕ → Type 0) → ((side : Side) (r : ℕ) → P side r → SideAt es side r) → ((side : Side) → IsLineOf (P side) (waiting_on stations side))
+    → (side : Side) (place : ℕ) → P side place → StandsOn stations side place
+stands_on es stations P of_side lines side place has =
     let at = (lines side).each place has in
     record {
       i = at.0;
@@ -42,7 +41,7 @@ may_end state place sound waits =
       due_in = waits_in_table (account_of state) state.sessions place there.0 call sound.legal sound.sessions_are waits there.1;
       call = call;
       arrived = waits.is_open.arrived;
-      parked = sound.queues_are.parked;
-      stands = stands_on es state.queues (OpenAt es) (λ side r opened. opened.of_side) sound.queues_are.lines (side_of call) place (waiting_is_open es place waits);
+      parked = sound.stations_are.parked;
+      stands = stands_on es state.stations (OpenAt es) (λ side r opened. opened.of_side) sound.stations_are.lines (side_of call) place (waiting_is_open es place waits);
       counted = some_has (Waiting es) state.waiting place sound.waiting_is waits;
     }

@@ -1,4 +1,4 @@
--- While a time-out takes out what is due, one request a turn, the queues, the deadlines and the number of those that wait
+-- While a time-out takes out what is due, one request a turn, the stations, the deadlines and the number of those that wait
 -- are what the account says but for that; after the tick they are what the account says.
 use Rattle.std.proofs.Common.{◌≡◌, inl, inr, ℕ, ◌+◌, ◌<◌, ◌≤◌, List, [], ◌∷◌, ◌++◌, length, Option, Some, None, refl, sym, ap, subst, ◌∙◌, arith}
 use Rattle.std.specs.FinSet.{contains, remove}
@@ -6,15 +6,14 @@ use Rattle.std.proofs.lemmas.Option.{none-some, same_Some}
 use Rattle.rv_text.specs.declared.call.Side.{Side}
 use Rattle.rv_session.specs.Owed.{Owed}
 use Rattle.rv_due.specs.Deadlines.{AllAbove, Deadlines}
-use Rattle.rv_dual.specs.Queue.{Queue}
 use Rattle.rv_book.specs.declared.account.Entry.{Entry}
 use Rattle.rv_book.specs.Counting.{NumberOf}
 use Rattle.rv_book.specs.Elapsing.{AreDeadlines, AreDeadlinesOf}
-use Rattle.rv_book.specs.Ending.{AreQueuesLeft, Left, TakenOut}
+use Rattle.rv_book.specs.Ending.{AreStationsLeft, Left, TakenOut}
 use Rattle.rv_book.specs.Legal.{IsDueAt, NamesFreePartner}
 use Rattle.rv_book.specs.Meeting.{Leaves}
-use Rattle.rv_book.specs.Parked.{AreQueues, IsLine, IsLineOf}
-use Rattle.rv_book.specs.Views.{waiting_on}
+use Rattle.rv_book.specs.Parked.{AreStations, IsLine, IsLineOf}
+use Rattle.rv_book.specs.Views.{Stations, waiting_on}
 use Rattle.rv_book.specs.Waiting.{OpenAt, SideAt, Waiting, limit_at}
 use Rattle.rv_book.proofs.Counting.{number_drop, same_number}
 use Rattle.rv_book.proofs.Deciding.{same_side}
@@ -30,9 +29,9 @@ module _ (es : List Entry) (moment : ℕ) (due : Deadlines) (are : AreDeadlines 
   none_taken : (r : ℕ) → TakenOut es moment due r → ⊥
   none_taken r taken = nothing_taken es moment due r are taken
 
-  pub queues_at_first : (queues : List Queue) → AreQueues es queues → AreQueuesLeft es moment due queues
-  queues_at_first queues is = record {
-    lines = λ side. line_to (OpenAt es side) (Left es moment due (OpenAt es side)) (waiting_on queues side) (is.lines side) (λ r opened. (opened, none_taken r)) (λ r left. left.0);
+  pub stations_at_first : (stations : Stations) → AreStations es stations → AreStationsLeft es moment due stations
+  stations_at_first stations is = record {
+    lines = λ side. line_to (OpenAt es side) (Left es moment due (OpenAt es side)) (waiting_on stations side) (is.lines side) (λ r opened. (opened, none_taken r)) (λ r left. left.0);
     parked = is.parked;
   }
 
@@ -61,9 +60,9 @@ module _ (es : List Entry) (moment : ℕ) (due : Deadlines) (limit place : ℕ) 
     λ same. left.1 (subst (TakenOut es moment rest) (sym same) (taken_now es moment due limit place is_due.waits has elapsed)),
   )
 
-  pub queues_turn : (old new : List Queue) (side : Side) (duty : Owed) (result : Option Owed) → AreQueuesLeft es moment due old → Leaves old new side duty result → duty.place ≡ place → SideAt es side place
-      → AreQueuesLeft es moment rest new
-  queues_turn old new side duty result are leaves at of_side = record {
+  pub stations_turn : (old new : Stations) (side : Side) (duty : Owed) (result : Option Owed) → AreStationsLeft es moment due old → Leaves old new side duty result → duty.place ≡ place → SideAt es side place
+      → AreStationsLeft es moment rest new
+  stations_turn old new side duty result are leaves at of_side = record {
     lines = λ other. elim (same_side other side) [
       | inl same ↦
           subst (λ s. IsLineOf (Left es moment rest (OpenAt es s)) (waiting_on new s)) (sym same)
@@ -121,10 +120,10 @@ module _ (es : List Entry) (e : Entry) (moment : ℕ) (due : Deadlines) (above :
     | inr new ↦ absurd (no_arrival es e Until free is side (subst (OpenAt (es ++ e ∷ []) side) new.0 opened))
   ]
 
-  pub queues_at_last : (queues : List Queue) → AreQueuesLeft es moment due queues → AreQueues (es ++ e ∷ []) queues
-  queues_at_last queues are = record {
-    lines = λ side. line_to (Left es moment due (OpenAt es side)) (OpenAt (es ++ e ∷ []) side) (waiting_on queues side) (are.lines side) (opened_on side) (opened_back side);
-    parked = parked_below es e queues (λ side i r at. open_inside es side r ((are.lines side).are i r at).0) are.parked;
+  pub stations_at_last : (stations : Stations) → AreStationsLeft es moment due stations → AreStations (es ++ e ∷ []) stations
+  stations_at_last stations are = record {
+    lines = λ side. line_to (Left es moment due (OpenAt es side)) (OpenAt (es ++ e ∷ []) side) (waiting_on stations side) (are.lines side) (opened_on side) (opened_back side);
+    parked = parked_below es e stations (λ side i r at. open_inside es side r ((are.lines side).are i r at).0) are.parked;
   }
 
   pub number_at_last : (n : ℕ) → NumberOf (Left es moment due (Waiting es)) n → NumberOf (Waiting (es ++ e ∷ [])) n

@@ -26,8 +26,10 @@ pub mod Ticking
 pub mod ReplyLaws
 pub mod Unmet
 pub mod Puts
+pub mod Getting
 pub mod Takes
 pub mod Transfers
+pub mod Swaps
 pub mod Looking
 pub mod Counts
 pub mod Peeks

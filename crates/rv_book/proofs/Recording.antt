@@ -6,7 +6,6 @@ use Rattle.rv_text.specs.Calls.{side_of, wait_of}
 use Rattle.rv_session.specs.Owed.{Owed}
 use Rattle.rv_session.specs.Table.{OnlySets, Table, waiting_session}
 use Rattle.rv_session.specs.declared.kept.Kept.{Kept}
-use Rattle.rv_dual.specs.Queue.{Queue}
 use Rattle.rv_book.specs.Account.{Account, with_entry}
 use Rattle.rv_book.specs.Arriving.{GoesOn, IsKept, IsNext, IsRecorded, MeetsOldest, WillReply, entry}
 use Rattle.rv_book.specs.Calls.{Lasts, MayMeet, need_by, need_of}
@@ -15,11 +14,11 @@ use Rattle.rv_text.specs.declared.call.Wait.TheVariants.{Forever, Now}
 use Rattle.rv_book.specs.Counting.{NumberOf}
 use Rattle.rv_book.specs.declared.account.Act.TheVariants.{Arrive}
 use Rattle.rv_book.specs.declared.account.Entry.{Entry}
-use Rattle.rv_book.specs.declared.queues.Arrived.{Arrived}
+use Rattle.rv_book.specs.declared.arrived.Arrived.{Arrived}
 use Rattle.rv_book.specs.declared.state.State.{State}
 use Rattle.rv_book.specs.Legal.{Legal, MayFollow}
 use Rattle.rv_book.specs.Meeting.{ArrivedOn, Meets, OwnDuty, PartnersDuty, ends_waiting, starts_waiting}
-use Rattle.rv_book.specs.Parked.{AreQueues}
+use Rattle.rv_book.specs.Parked.{AreStations}
 use Rattle.rv_book.specs.Tables.{AreSessions, IsSound, MayRecord, SettlesIf, account_of, partners_reply}
 use Rattle.rv_book.specs.Waiting.{Waiting}
 use Rattle.rv_book.proofs.Following.{arrival_follows}
@@ -29,7 +28,8 @@ use Rattle.rv_book.proofs.Owing.{Waits-after, goes_not_on, goes_on}
 use Rattle.rv_book.proofs.Replying.{recorded, recorded_waits}
 use Rattle.rv_book.proofs.Settling.{sessions_recorded}
 use Rattle.rv_book.proofs.Standing.{is_next}
-use Rattle.rv_book.proofs.Waiters.{meets_partner, queues_after, queues_as_before}
+use Rattle.rv_book.proofs.Waiters.{meets_partner, stations_after, stations_as_before}
+use Rattle.rv_book.specs.Views.{Stations}
 
 -- ---- what an arrival may come to need
 
@@ -54,11 +54,11 @@ abbrev pub duty_of_new : State → Key → Owed
 duty_of_new old key = record { place = length (account_of old).entries; client = key.client }
 
 -- a request comes to a state in which it may be recorded, and has arrived in its queue
-pub record Arrives (old : State) (moment : ℕ) (key : Key) (call : Call) (queues : List Queue) (arrived : Arrived) : Type 0 where
+pub record Arrives (old : State) (moment : ℕ) (key : Key) (call : Call) (stations : Stations) (arrived : Arrived) : Type 0 where
   pub may : MayRecord old moment key call
-  pub on : ArrivedOn old.queues queues (side_of call) (wait_of call) (duty_of_new old key) arrived
+  pub on : ArrivedOn old.stations stations (side_of call) (wait_of call) (duty_of_new old key) arrived
 
-module _ (old : State) (moment : ℕ) (key : Key) (call : Call) (queues : List Queue) (arrived : Arrived) (is : Arrives old moment key call queues arrived) where
+module _ (old : State) (moment : ℕ) (key : Key) (call : Call) (stations : Stations) (arrived : Arrived) (is : Arrives old moment key call stations arrived) where
   abbrev pub before : Account
   before = account_of old
 
@@ -72,7 +72,7 @@ module _ (old : State) (moment : ℕ) (key : Key) (call : Call) (queues : List Q
   next = is_next before old.sessions sound.sessions_are sound.legal key is.may.next
 
   pub meets : MeetsOldest (account_of old).entries (side_of call) arrived.partner
-  meets = meets_partner before.entries old.queues queues (side_of call) (wait_of call) (length before.entries) arrived.partner sound.queues_are is.on.meets
+  meets = meets_partner before.entries old.stations stations (side_of call) (wait_of call) (length before.entries) arrived.partner sound.stations_are is.on.meets
 
   pub follows : MayFollow before own_entry
   follows = arrival_follows before moment key call arrived.partner is.may.comes.time next meets
@@ -81,7 +81,7 @@ module _ (old : State) (moment : ℕ) (key : Key) (call : Call) (queues : List Q
   legal_after = Legal-with_entry before own_entry sound.legal follows
 
   other_is : PartnersDuty before.entries arrived.partner arrived.other
-  other_is = is.on.other before.entries sound.queues_are.parked
+  other_is = is.on.other before.entries sound.stations_are.parked
 
   pub count_after : (k : ℕ) × (old.waiting + starts_waiting arrived.own ≡ k + ends_waiting arrived.other) × NumberOf (Waiting (before.entries ++ own_entry ∷ [])) k
   count_after = Waits-after before own_entry key call sound.legal follows.pairs.names_free_partner refl old.waiting arrived.partner (duty_of_new old key) arrived.own arrived.other sound.waiting_is refl meets is.on.own other_is
@@ -89,17 +89,17 @@ module _ (old : State) (moment : ℕ) (key : Key) (call : Call) (queues : List Q
   pub least : ends_waiting arrived.other ≤ old.waiting + starts_waiting arrived.own
   least = let h = count_after in let k = h.0 in let same : old.waiting + starts_waiting arrived.own ≡ k + ends_waiting arrived.other = h.1 in omega arith
 
-  pub queues_are : AreQueues (before.entries ++ own_entry ∷ []) queues
-  queues_are = queues_after before own_entry old.queues queues key call sound.legal sound.queues_are follows.pairs.names_free_partner refl (duty_of_new old key) arrived refl refl is.on
+  pub stations_are : AreStations (before.entries ++ own_entry ∷ []) stations
+  stations_are = stations_after before own_entry old.stations stations key call sound.legal sound.stations_are follows.pairs.names_free_partner refl (duty_of_new old key) arrived refl refl is.on
 
   -- what a call that looks sees, once it has arrived
-  pub sees : (MayMeet call → ⊥) → AreQueues before.entries queues
+  pub sees : (MayMeet call → ⊥) → AreStations before.entries stations
   sees looks = by_partner arrived.partner is.on.meets
     where
-      by_partner : (partner : Option ℕ) → Meets old.queues queues (side_of call) (wait_of call) (length before.entries) partner → AreQueues before.entries queues
+      by_partner : (partner : Option ℕ) → Meets old.stations stations (side_of call) (wait_of call) (length before.entries) partner → AreStations before.entries stations
       by_partner (Some p) first = absurd (looks (ap is_some first.opposes))
       by_partner None (inl waits) = absurd (looks waits.0.0)
-      by_partner None (inr goes) = queues_as_before before.entries old.queues queues goes.2 sound.queues_are
+      by_partner None (inr goes) = stations_as_before before.entries old.stations stations goes.2 sound.stations_are
 
   module _ (kept others : Kept) (will : (GoesOn call arrived.partner → ⊥) → WillReply before call arrived.partner kept) (begun : Table) (begins : OnlySets old.sessions begun key.client (waiting_session key.incarnation key.number (length before.entries)))
       (others_is : others ≡ partners_reply (side_of call) (length before.entries)) where
@@ -119,9 +119,9 @@ module _ (old : State) (moment : ℕ) (key : Key) (call : Call) (queues : List Q
       sessions_are = sessions_recorded before own_entry key call arrived.partner sound.legal legal_after next refl refl meets old.sessions begun mid last others kept sound.sessions_are begins others_is
           arrived.other arrived.own settles ends other_is is.on.own (kept_is arrived.own refl)
 
-      pub sound_after : (new : State) → account_of new ≡ with_entry before own_entry → new.sessions ≡ last → new.queues ≡ queues → new.waiting + ends_waiting arrived.other ≡ old.waiting + starts_waiting arrived.own
+      pub sound_after : (new : State) → account_of new ≡ with_entry before own_entry → new.sessions ≡ last → new.stations ≡ stations → new.waiting + ends_waiting arrived.other ≡ old.waiting + starts_waiting arrived.own
           → old.account.room ≤ new.account.room + 1 → IsSound new
-      sound_after new pushed same_sessions same_queues counted room =
+      sound_after new pushed same_sessions same_stations counted room =
           let k = count_after.0 in
           let told_count : old.waiting + starts_waiting arrived.own ≡ k + ends_waiting arrived.other = count_after.1 in
           let same : new.waiting ≡ k = omega arith in
@@ -133,7 +133,7 @@ module _ (old : State) (moment : ℕ) (key : Key) (call : Call) (queues : List Q
             entry_fits = (is.may.comes.moment_fits, is.may.comes.act_fits);
             account = pushed;
             sessions_are = subst (AreSessions (with_entry before own_entry)) (sym same_sessions) sessions_are;
-            queues_are = subst (AreQueues (before.entries ++ own_entry ∷ [])) (sym same_queues) queues_are;
+            stations_are = subst (AreStations (before.entries ++ own_entry ∷ [])) (sym same_stations) stations_are;
             waiting_is = subst (NumberOf (Waiting (before.entries ++ own_entry ∷ []))) (sym same) count_after.2;
             space = omega arith;
             spare = omega arith;

@@ -115,6 +115,10 @@ kept_stays a b (kept.TheVariants.Peeked place) r extends is =
     let item = mapped reply.TheVariants.Peeked (item_at a.entries place) r is in
     let there : item_at b.entries place ≡ Some item.0 = reading_on (λ o. option_and_then item_of (call_read o)) refl a b place item.0 extends item.1 in
     ap (option_map reply.TheVariants.Peeked) (there ∙ sym item.1) ∙ is
+kept_stays a b (kept.TheVariants.Swapped place) r extends is =
+    let item = mapped reply.TheVariants.Swapped (item_at a.entries place) r is in
+    let there : item_at b.entries place ≡ Some item.0 = reading_on (λ o. option_and_then item_of (call_read o)) refl a b place item.0 extends item.1 in
+    ap (option_map reply.TheVariants.Swapped) (there ∙ sym item.1) ∙ is
 kept_stays a b k r extends is = is
 
 pub said_stays : (a b : Account) (s : Said) (x : Answer) → Extends a b → answer_of a.entries s ≡ Some x → answer_of b.entries s ≡ Some x

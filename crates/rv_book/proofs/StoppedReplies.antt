@@ -21,6 +21,7 @@ pub stopped_replies : (c : Call) (es : List Entry) (r : ℕ) (told : Reply) → 
 stopped_replies (call.TheVariants.Put queue item) es r told stays no_put unmet stopped = absurd (no_put (refl, refl))
 stopped_replies (call.TheVariants.Transfer queue item wait) es r told stays no_put unmet stopped = inr (unmet, lasting_told wait es r reply.TheVariants.Nobody told stays.1 stopped)
 stopped_replies (call.TheVariants.Take queue wait) es r told stays no_put unmet stopped = inr (unmet, lasting_told wait es r reply.TheVariants.Empty told stays.1 stopped)
+stopped_replies (call.TheVariants.Swap exchanger item wait) es r told stays no_put unmet stopped = inr (unmet, lasting_told wait es r reply.TheVariants.TimedOut told stays.1 stopped)
 stopped_replies (call.TheVariants.Count queue) es r told stays no_put unmet stopped = absurd (let no : ⊥ = let is = stays.0 in cc in no)
 stopped_replies (call.TheVariants.Peek queue) es r told stays no_put unmet stopped = absurd (let no : ⊥ = let is = stays.0 in cc in no)
 

@@ -10,7 +10,6 @@ use Rattle.rv_due.proofs.Rising.{remove_absent}
 use Rattle.rv_session.specs.Owed.{Owed}
 use Rattle.rv_session.specs.Table.{OnlySettles}
 use Rattle.rv_session.specs.declared.kept.Kept.TheVariants as kept
-use Rattle.rv_dual.specs.Queue.{Queue}
 use Rattle.rv_book.specs.declared.account.Act.TheVariants.{Arrive, Tick}
 use Rattle.rv_book.specs.declared.account.Entry.{Entry}
 use Rattle.rv_book.specs.declared.state.State.{State}
@@ -20,13 +19,13 @@ use Rattle.rv_book.specs.Counting.{NumberOf}
 use Rattle.rv_book.specs.Elapsing.{AreDeadlines, without_deadline}
 use Rattle.rv_book.specs.Ending.{IsEnding, Left, TakenOut}
 use Rattle.rv_book.specs.Legal.{IsDueAt, KeepsTime, Legal, MayFollow, NothingDue, SomethingDue}
-use Rattle.rv_book.specs.Parked.{AreQueues}
+use Rattle.rv_book.specs.Parked.{AreStations}
 use Rattle.rv_book.specs.Steps.{Adds, Ticks, max_moment}
 use Rattle.rv_book.specs.Tables.{AreSessions, EndsAt, IsSound, IsTime, MayEnd, account_of, with_due}
 use Rattle.rv_book.specs.Waiting.{OpenAt, SideAt, Waiting, limit_at}
 use Rattle.rv_book.proofs.DeadlineTable.{taken_out}
 use Rattle.rv_book.proofs.Ending.{stands_on}
-use Rattle.rv_book.proofs.EndingTables.{due_at_first, due_at_last, due_turn, number_at_first, number_at_last, number_turn, queues_at_first, queues_at_last, queues_turn}
+use Rattle.rv_book.proofs.EndingTables.{due_at_first, due_at_last, due_turn, number_at_first, number_at_last, number_turn, stations_at_first, stations_at_last, stations_turn}
 use Rattle.rv_book.proofs.Following.{tick_follows}
 use Rattle.rv_book.proofs.Keeping.{sound_with}
 use Rattle.rv_book.proofs.Keys.{act_called}
@@ -46,7 +45,7 @@ ending_at_first state moment sound =
       legal = sound.legal;
       fits = sound.fits;
       sessions_are = sessions_at_first a moment state.due state.sessions sound.due_are sound.sessions_are;
-      queues_are = queues_at_first a.entries moment state.due sound.due_are state.queues sound.queues_are;
+      stations_are = stations_at_first a.entries moment state.due sound.due_are state.stations sound.stations_are;
       waiting_is = number_at_first a.entries moment state.due sound.due_are state.waiting sound.waiting_is;
       due_are = due_at_first a.entries moment state.due sound.due_are;
       spare = sound.spare;
@@ -55,9 +54,9 @@ ending_at_first state moment sound =
 -- ---- a turn
 
 same_state : (s : State) (account : Stored) (due : Deadlines) → s.account ≡ account → s.due ≡ due
-    → s ≡ record { account = account; sessions = s.sessions; queues = s.queues; waiting = s.waiting; due = due }
+    → s ≡ record { account = account; sessions = s.sessions; stations = s.stations; waiting = s.waiting; due = due }
 same_state s account due p q =
-    ap (λ (x : Stored). record { account = x; sessions = s.sessions; queues = s.queues; waiting = s.waiting; due = s.due }) p ∙ ap (λ (d : Deadlines). record { account = account; sessions = s.sessions; queues = s.queues; waiting = s.waiting; due = d }) q
+    ap (λ (x : Stored). record { account = x; sessions = s.sessions; stations = s.stations; waiting = s.waiting; due = s.due }) p ∙ ap (λ (d : Deadlines). record { account = account; sessions = s.sessions; stations = s.stations; waiting = s.waiting; due = d }) q
 
 module _ (old : State) (moment limit place : ℕ) (is : IsEnding old moment) (least : IsLeastUntil old.due moment (limit, place)) where
   abbrev a : Account
@@ -87,8 +86,8 @@ module _ (old : State) (moment limit place : ℕ) (is : IsEnding old moment) (le
     due_in = waits_in_ending a moment old.due old.sessions place request.0 waits.is_open.call is.legal is.sessions_are waits request.1 found.0.1;
     call = waits.is_open.call;
     arrived = waits.is_open.arrived;
-    parked = is.queues_are.parked;
-    stands = stands_on a.entries old.queues (λ side. Left a.entries moment old.due (OpenAt a.entries side)) (λ side r left. left.0.of_side) is.queues_are.lines
+    parked = is.stations_are.parked;
+    stands = stands_on a.entries old.stations (λ side. Left a.entries moment old.due (OpenAt a.entries side)) (λ side r left. left.0.of_side) is.stations_are.lines
         (side_of waits.is_open.call) place (waiting_is_open a.entries place waits, found.0.1);
     counted = some_has (Left a.entries moment old.due (Waiting a.entries)) old.waiting place is.waiting_is found.0;
   }
@@ -107,7 +106,7 @@ module _ (old : State) (moment limit place : ℕ) (is : IsEnding old moment) (le
         legal = legal;
         fits = is.fits;
         sessions_are = sessions_turned a moment old.due old.sessions new.sessions limit place request.0 waits.is_open.call legal is.sessions_are waits found.1 least.due request.1 settles;
-        queues_are = queues_turn a.entries moment old.due limit place turn_due found.1 old.queues new.queues (side_of ends.call) ends.duty (Some ends.duty) is.queues_are ends.leaves ends.is_at of_side;
+        stations_are = stations_turn a.entries moment old.due limit place turn_due found.1 old.stations new.stations (side_of ends.call) ends.duty (Some ends.duty) is.stations_are ends.leaves ends.is_at of_side;
         waiting_is = number_turn a.entries moment old.due limit place turn_due found.1 old.waiting new.waiting is.waiting_is found.0 counted;
         due_are = due_turn a.entries moment old.due limit place turn_due found.1 is.due_are;
         spare = omega arith;
@@ -167,9 +166,9 @@ module _ (old mid : State) (moment : ℕ) (is : IsTime old moment) (ending : IsE
   pub none_due_after : (new : State) → account_of new ≡ with_entry before own_entry → NothingDue (account_of new).entries moment
   none_due_after new pushed = subst (λ (b : Account). NothingDue b.entries moment) (sym pushed) (tick_ends before.entries own_entry follows.pairs.names_free_partner refl)
 
-  pub time_after : (new : State) → account_of new ≡ with_entry before own_entry → new.sessions ≡ mid.sessions → new.queues ≡ mid.queues → new.waiting ≡ mid.waiting → new.due ≡ mid.due
+  pub time_after : (new : State) → account_of new ≡ with_entry before own_entry → new.sessions ≡ mid.sessions → new.stations ≡ mid.stations → new.waiting ≡ mid.waiting → new.due ≡ mid.due
       → mid.account.room ≤ new.account.room + 1 → IsTime new moment
-  time_after new pushed sessions queues waiting due room =
+  time_after new pushed sessions stations waiting due room =
       let free = follows.pairs.names_free_partner in
       let filled : length (account_of old).entries + old.waiting ≤ 100000 = is.sound.fits.room old.waiting is.sound.waiting_is in
       let spare : old.waiting ≤ old.account.room = is.sound.spare in
@@ -184,7 +183,7 @@ module _ (old mid : State) (moment : ℕ) (is : IsTime old moment) (ending : IsE
           entry_fits = (is.fits, tt);
           account = pushed;
           sessions_are = subst (AreSessions (with_entry before own_entry)) (sym sessions) (sessions_at_last before own_entry mid.due mid.sessions ending.legal legal_after refl refl above ending.sessions_are);
-          queues_are = subst (AreQueues (before.entries ++ own_entry ∷ [])) (sym queues) (queues_at_last before.entries own_entry moment mid.due above free stops mid.queues ending.queues_are);
+          stations_are = subst (AreStations (before.entries ++ own_entry ∷ [])) (sym stations) (stations_at_last before.entries own_entry moment mid.due above free stops mid.stations ending.stations_are);
           waiting_is = subst (NumberOf (Waiting (before.entries ++ own_entry ∷ []))) (sym waiting) (number_at_last before.entries own_entry moment mid.due above free stops mid.waiting ending.waiting_is);
           due_are = subst (AreDeadlines (before.entries ++ own_entry ∷ [])) (sym due) (due_at_last before.entries own_entry moment mid.due above free stops ending.due_are);
           space = omega arith;

@@ -23,7 +23,7 @@ use Rattle.rv_book.proofs.Sides.{last_unmet}
 use Rattle.rv_book.proofs.Unmet.{kept_told, one_unmet, passes_by, passing_told, still_unmet, told_at_once, unmet_exists, unmet_fits, unmet_stays, unmet_waits_not}
 use Rattle.rv_text.specs.declared.call.Call.{Call}
 use Rattle.rv_text.specs.declared.call.Side.{Side}
-use Rattle.rv_text.specs.declared.call.Side.TheVariants.{Gives, Takes, Looks}
+use Rattle.rv_text.specs.declared.call.Side.TheVariants.{Gives, Takes, Looks, Exchanges}
 use Rattle.rv_text.specs.Calls.{side_of}
 use Rattle.rv_book.specs.Calls.{opposite}
 use Rattle.rv_book.specs.Tables.{kept_at_once, partners_reply}
@@ -94,6 +94,7 @@ takers_meet : (side : Side) (queue : ℕ) → opposite side ≡ Some (Gives queu
 takers_meet (Takes other) queue opposes = cc
 takers_meet (Gives other) queue opposes = absurd (let no : ⊥ = cc in no)
 takers_meet (Looks other) queue opposes = absurd (none-some _ opposes)
+takers_meet (Exchanges other) queue opposes = absurd (let no : ⊥ = cc in no)
 
 met : (queue : ℕ) (item : List ℕ) (wait : Wait) (b : Account) (earlier later : ℕ) (other : Call) → NamesPartner b.entries later earlier → side_of other ≡ Takes queue
     → IsKept b.entries earlier (Transfer queue item wait) (partners_reply (side_of other) later)

@@ -19,7 +19,7 @@ use Rattle.rv_text.specs.Calls.{item_of}
 abbrev pub item_at : List Entry → ℕ → Option (List ℕ)
 item_at entries place = option_and_then item_of (call_at entries place)
 
--- the reply that is kept; none where no call has such a reply yet
+-- the reply that is kept; none where no item arrived at its place
 abbrev pub reply_of : List Entry → Kept → Option Reply
 reply_of entries kept.TheVariants.Done = Some reply.TheVariants.Done
 reply_of entries (kept.TheVariants.Item place) = option_map reply.TheVariants.Item (item_at entries place)
@@ -32,7 +32,6 @@ reply_of entries kept.TheVariants.TimedOut = Some reply.TheVariants.TimedOut
 reply_of entries (kept.TheVariants.Counted items consumers) =
     Some (reply.TheVariants.Counted items consumers)
 reply_of entries (kept.TheVariants.Peeked place) = option_map reply.TheVariants.Peeked (item_at entries place)
-reply_of entries _ = None
 
 abbrev pub answer_of : List Entry → Said → Option Answer
 answer_of entries (Welcome epoch client incarnation) =

@@ -21,9 +21,9 @@ pub returns-in_err-enter-clause-sound : goal.returns-in_err-enter-clause-sound
 returns-in_err-enter-clause-sound c =
     let ready = c.make_room.new.self in
     let same = c.in_ok-make_room.ensures.same in
-    let left : State = record { account = ready.account; sessions = c.enter.new.self; queues = ready.queues; waiting = ready.waiting; due = ready.due } in
+    let left : State = record { account = ready.account; sessions = c.enter.new.self; stations = ready.stations; waiting = ready.waiting; due = ready.due } in
     sound_same c.args.self.now left c.requires.comes.sound
-    (record { due = same.due; account = same.account; room = same.room; sessions = c.in_err-enter.ensures.err ∙ same.sessions; queues = same.queues; waiting = same.waiting })
+    (record { due = same.due; account = same.account; room = same.room; sessions = c.in_err-enter.ensures.err ∙ same.sessions; stations = same.stations; waiting = same.waiting })
 
 pub returns-in_err-enter-clause-err : goal.returns-in_err-enter-clause-err
 returns-in_err-enter-clause-err c =
@@ -43,7 +43,7 @@ returns-clause-sound c =
     let entered = set_changes ready.sessions c.enter.new.self c.args.client (fresh c.args.incarnation) c.in_ok-enter.ensures.ok in
     sound_idle ready c.args.moment c.args.client c.args.incarnation comes lower (space_ready old ready 1 _ prepared) new c.push_hello.ensures.entry
     (subst (λ t. Changes ready.sessions t c.args.client (fresh c.args.incarnation)) (sym c.push_hello.ensures.sessions) entered)
-    (ap (option_and_then (λ (s : _). waiting_place s.state)) unknown) c.push_hello.ensures.queues c.push_hello.ensures.waiting c.push_hello.ensures.due
+    (ap (option_and_then (λ (s : _). waiting_place s.state)) unknown) c.push_hello.ensures.stations c.push_hello.ensures.waiting c.push_hello.ensures.due
     (omega (arith, c.push_hello.ensures.room, prepared.room, prepared.same.waiting))
 
 pub returns-clause-ok : goal.returns-clause-ok

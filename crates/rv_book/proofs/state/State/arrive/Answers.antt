@@ -26,6 +26,6 @@ record-requires c =
       stands = ap (λ t. standing_of t c.args.key) same.sessions ∙ c.requires.stands;
       next = subst (λ t. HasNext t c.args.key) (sym same.sessions) c.requires.next;
       room = omega (arith, ready.room, same.waiting, c.needed.ensures.exact);
-      queue_room = subst (HasRoomOn new.queues) c.side.ensures ready.queue_room;
+      side_room = subst (HasRoomOn new.stations) c.side.ensures ready.side_room;
       space = let entries = ap (λ a. length a.entries) same.account in omega (arith, ready.space, entries, same.waiting, c.needed.ensures.exact);
     }

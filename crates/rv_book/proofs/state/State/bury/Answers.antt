@@ -23,7 +23,7 @@ returns-clause-sound c =
     let comes = comes_ready old ready c.args.moment (Cancel c.args.key) 1 _ c.requires.comes prepared in
     let has = subst (λ t. HasNext t c.args.key) (sym prepared.same.sessions) c.requires.next in
     let sets = subst (λ t. OnlySets ready.sessions t c.args.key.client (settled_session c.args.key.incarnation c.args.key.number None kept.Cancelled)) (sym pushed.sessions) c.bury.ensures in
-    buried_sound ready c.args.moment c.args.key comes has c.push_cancel.new.self pushed.entry sets pushed.queues pushed.waiting pushed.due (space_ready old ready 1 _ prepared)
+    buried_sound ready c.args.moment c.args.key comes has c.push_cancel.new.self pushed.entry sets pushed.stations pushed.waiting pushed.due (space_ready old ready 1 _ prepared)
     (omega (arith, pushed.room, prepared.room, prepared.same.waiting))
 
 pub returns-clause-ok : goal.returns-clause-ok

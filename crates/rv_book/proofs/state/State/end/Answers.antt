@@ -6,19 +6,19 @@ use Rattle.rv_session.specs.Table.{OnlySettles}
 use Rattle.rv_text.specs.declared.call.Call.{Call}
 use Rattle.rv_text.specs.declared.call.Side.{Side}
 use Rattle.rv_text.specs.Calls.{side_of}
-use Rattle.rv_dual.specs.Queue.{Queue}
 use Rattle.rv_book.specs.Elapsing.{without_deadline, without_duty}
 use Rattle.rv_book.specs.Meeting.{Leaves, StandsOn}
 use Rattle.rv_book.specs.Tables.{IsDueIn, SettlesIf, account_of}
 use Rattle.rv_book.specs.Waiting.{limit_at}
 use Rattle.rv_book.proofs.state.State.end.Goals as goal
+use Rattle.rv_book.specs.Views.{Stations}
 
 pub settle-requires-clause-waits : goal.settle-requires-clause-waits
 settle-requires-clause-waits c =
     let old = c.args.self.now in
     let may = c.requires in
     let call : may.call ≡ c.call_of.result.now = same_Some _ _ (sym may.arrived ∙ c.call_of.ensures) in
-    let stands = subst (λ side. StandsOn old.queues side c.args.place) (ap side_of call ∙ sym c.side-side.ensures) may.stands in
+    let stands = subst (λ side. StandsOn old.stations side c.args.place) (ap side_of call ∙ sym c.side-side.ensures) may.stands in
     let leaves = c.withdraw-duty.ensures (account_of old).entries may.duty may.parked stands may.owed in
     subst (λ (o : Option Owed). IfSome o (IsDueIn old.sessions)) (sym leaves.is) may.due_in
 
@@ -29,9 +29,9 @@ returns-clause-ended c =
     let may = c.requires in
     let call : may.call ≡ c.call_of.result.now = same_Some _ _ (sym may.arrived ∙ c.call_of.ensures) in
     let side = ap side_of call ∙ sym c.side-side.ensures in
-    let stands = subst (λ s. StandsOn old.queues s c.args.place) side may.stands in
+    let stands = subst (λ s. StandsOn old.stations s c.args.place) side may.stands in
     let leaves = c.withdraw-duty.ensures es may.duty may.parked stands may.owed in
-    let left = subst (λ (s : Side). Leaves old.queues c.withdraw-duty.new.self s may.duty c.withdraw-duty.result) (sym side) leaves in
+    let left = subst (λ (s : Side). Leaves old.stations c.withdraw-duty.new.self s may.duty c.withdraw-duty.result) (sym side) leaves in
     let settled = subst (λ (o : Option Owed). SettlesIf old.sessions c.settle.new.self.sessions o c.args.kept) leaves.is c.settle.ensures.sessions in
     let counted : 1 ≤ old.waiting = may.counted in
     record {
@@ -40,8 +40,8 @@ returns-clause-ended c =
       owed = may.owed;
       call = may.call;
       arrived = may.arrived;
-      leaves = subst (λ (q : List Queue). Leaves old.queues q (side_of may.call) may.duty (Some may.duty)) (sym c.settle.ensures.queues)
-          (subst (λ (o : Option Owed). Leaves old.queues c.withdraw-duty.new.self (side_of may.call) may.duty o) leaves.is left);
+      leaves = subst (λ (q : Stations). Leaves old.stations q (side_of may.call) may.duty (Some may.duty)) (sym c.settle.ensures.stations)
+          (subst (λ (o : Option Owed). Leaves old.stations c.withdraw-duty.new.self (side_of may.call) may.duty o) leaves.is left);
       settles = subst (λ n. OnlySettles old.sessions c.settle.new.self.sessions may.duty.client n c.args.kept) may.is_at settled;
       counted = omega (arith, c.settle.ensures.waiting);
       due = c.settle.ensures.due ∙ ap (λ o. without_duty es o old.due) leaves.is ∙ ap (λ n. without_deadline (limit_at es n) n old.due) may.is_at;

@@ -18,7 +18,7 @@ returns-clause-sound c =
     let old = c.args.self.now in
     let mid = c.end.new.self in
     let pushed = c.push_cancel.ensures in
-    ended_sound old c.args.moment c.args.key c.requires.comes c.args.place c.requires.waits mid c.push_cancel.new.self c.end.ensures.ended c.end.ensures.account pushed.entry pushed.sessions pushed.queues pushed.waiting pushed.due pushed.room
+    ended_sound old c.args.moment c.args.key c.requires.comes c.args.place c.requires.waits mid c.push_cancel.new.self c.end.ensures.ended c.end.ensures.account pushed.entry pushed.sessions pushed.stations pushed.waiting pushed.due pushed.room
 
 pub returns-clause-cancelled : goal.returns-clause-cancelled
 returns-clause-cancelled c =

@@ -34,7 +34,7 @@ returns-clause-sound c =
     let waits = newer.waits ∙ sym (ap (λ t. waiting_of t client) prepared.same.sessions) in
     let sets = subst (λ t. OnlySets mid.sessions t client (fresh incarnation)) (sym c.push_hello.ensures.sessions) (ok_gives c.enter.result _ (c.enter.ensures.known (still_known ready mid c.args.waiting Cancelled client newer.session c.end_if.ensures.ended there)) c.enter.ensures.ok) in
     sound_renewed ready c.args.moment client incarnation comes lower (space_ready old ready 1 _ prepared) c.args.waiting mid new Cancelled waits c.end_if.ensures.ended c.end_if.ensures.account
-    c.push_hello.ensures.entry sets c.push_hello.ensures.queues c.push_hello.ensures.waiting c.push_hello.ensures.due (omega (arith, c.push_hello.ensures.room, prepared.room, prepared.same.waiting, ap (λ stored. stored.room) c.end_if.ensures.account))
+    c.push_hello.ensures.entry sets c.push_hello.ensures.stations c.push_hello.ensures.waiting c.push_hello.ensures.due (omega (arith, c.push_hello.ensures.room, prepared.room, prepared.same.waiting, ap (λ stored. stored.room) c.end_if.ensures.account))
 
 pub returns-clause-ok : goal.returns-clause-ok
 returns-clause-ok c =

@@ -57,7 +57,7 @@ returns-in-Count c = λ sees ends.
     let are = (subst (Sees state) c.in-Count.is sees) (looks_alone queue) in
     let counted = c.count-items.ensures in
     subst (λ (call : Call). WillReply a call c.args.partner (kept.TheVariants.Counted c.count-items.result.0 c.count-items.result.1)) (sym c.in-Count.is)
-    (count_replies a queue c.count-items.result.0 c.count-items.result.1 c.args.partner (seen_number a.entries state.queues (Gives queue) _ are counted.items) (seen_number a.entries state.queues (Takes queue) _ are counted.consumers))
+    (count_replies a queue c.count-items.result.0 c.count-items.result.1 c.args.partner (seen_number a.entries state.stations (Gives queue) _ are counted.items) (seen_number a.entries state.stations (Takes queue) _ are counted.consumers))
 
 pub returns-in-Some-front : goal.returns-in-Some-front
 returns-in-Some-front c = λ sees ends.
@@ -67,7 +67,7 @@ returns-in-Some-front c = λ sees ends.
     let place = c.in-Some-front.place in
     let are = (subst (Sees state) c.in-Peek.is sees) (looks_alone queue) in
     subst (λ (call : Call). WillReply a call c.args.partner (kept.TheVariants.Peeked place)) (sym c.in-Peek.is)
-    (peek_replies a queue place c.args.partner (seen_first a.entries state.queues (Gives queue) place are (sym c.in-Some-front.is ∙ c.front.ensures)))
+    (peek_replies a queue place c.args.partner (seen_first a.entries state.stations (Gives queue) place are (sym c.in-Some-front.is ∙ c.front.ensures)))
 
 pub returns-in-None-front : goal.returns-in-None-front
 returns-in-None-front c = λ sees ends.
@@ -76,4 +76,4 @@ returns-in-None-front c = λ sees ends.
     let queue = c.in-Peek.queue in
     let are = (subst (Sees state) c.in-Peek.is sees) (looks_alone queue) in
     subst (λ (call : Call). WillReply a call c.args.partner kept.TheVariants.Empty) (sym c.in-Peek.is)
-    (peek_finds_none a queue c.args.partner (seen_none a.entries state.queues queue are (sym c.in-None-front.is ∙ c.front.ensures)))
+    (peek_finds_none a queue c.args.partner (seen_none a.entries state.stations queue are (sym c.in-None-front.is ∙ c.front.ensures)))
