@@ -119,6 +119,7 @@ fn reply_of(alloc: Global, account: &Account, kept: Kept) -> Result<Reply, NoMem
             consumers: consumers as u64,
         }),
         Kept::Peeked(place) => Ok(Reply::Peeked(account.item(place).copy(alloc)?)),
-        _ => unreachable!(),
+        Kept::TimedOut => Ok(Reply::TimedOut),
+        Kept::Swapped(_) => unreachable!(),
     }
 }
