@@ -11,7 +11,7 @@ use Rattle.rv_book.specs.Counting.{NumberOf}
 use Rattle.rv_book.specs.declared.account.Entry.{Entry}
 use Rattle.rv_book.specs.declared.state.State.{State}
 use Rattle.rv_book.specs.Legal.{Legal}
-use Rattle.rv_book.specs.Limits.{FitsAccount, FitsEntry}
+use Rattle.rv_book.specs.Limits.{FitEntries, FitsAccount, FitsEntry}
 use Rattle.rv_due.specs.Deadlines.{by_moment}
 use Rattle.std.specs.FinSet.{contains, contains-empty}
 use Rattle.std.specs.FinSet.{empty as no_deadline}
@@ -57,12 +57,15 @@ pub record Answers (a : Account) (e : Entry) (new : State) : Type 0 where
   pub space : length a.entries + 1 + new.waiting ≤ 100000
   pub spare : new.waiting ≤ new.account.room
 
+pub fit_with : (es : List Entry) (e : Entry) → FitEntries es → FitsEntry e → FitEntries (es ++ e ∷ [])
+fit_with es e fit own = λ r x there. elim (get-append_cases es e x r there) [ inl inside ↦ fit r x inside.1 | inr last ↦ subst FitsEntry last.1 own ]
+
 pub sound_with : (a : Account) (e : Entry) (new : State) → FitsAccount a → Answers a e new → IsSound new
 sound_with a e new fits is =
     let fitting : FitsAccount (with_entry a e) = record {
       epoch = fits.epoch;
       opened = fits.opened;
-      entries = λ r x there. elim (get-append_cases a.entries e x r there) [ inl inside ↦ fits.entries r x inside.1 | inr last ↦ subst FitsEntry last.1 is.entry_fits ];
+      entries = fit_with a.entries e fits.entries is.entry_fits;
       room = λ waiting count.
           let same : waiting ≡ new.waiting = one_number (Waiting (a.entries ++ e ∷ [])) waiting new.waiting count is.waiting_is in
           let space : length a.entries + 1 + new.waiting ≤ 100000 = is.space in

@@ -50,6 +50,7 @@ pub mod ToldNow
 pub mod Ending
 pub mod Keeping
 pub mod Stepping
+pub mod ArrivedDeadlines
 pub mod Recording
 pub mod Marking
 pub mod Greeting

@@ -246,6 +246,7 @@ pub record Becomes (a : Account) (moment : ℕ) (m : Message) (b : Account) (sai
 pub record BecomesAfterTicks (a : Account) (now : ℕ) (m : Message) (b : Account) (said : Said) : Type 0 where
   pub ticked : Account
   pub ticks : Ticks a (step_moment a now) ticked
+  pub fits : FitsAccount ticked
   pub becomes : Becomes ticked (step_moment a now) m b said
 
 -- the message was refused so

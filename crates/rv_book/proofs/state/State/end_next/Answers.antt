@@ -1,9 +1,9 @@
 -- The request of the least deadline was ended: the tables are what the account says but for it too.
-use Rattle.std.proofs.Common.{◌≡◌, ℕ, sym, subst}
+use Rattle.std.proofs.Common.{◌≡◌, ◌+◌, ℕ, sym, subst, arith}
 use Rattle.rv_due.specs.Deadlines.{Deadlines}
 use Rattle.rv_session.specs.declared.kept.Kept.TheVariants as kept
 use Rattle.rv_book.specs.Tables.{EndsAt, MayEnd, with_due}
-use Rattle.rv_book.proofs.TimingOut.{turn_ends, turn_may_end}
+use Rattle.rv_book.proofs.TimingOut.{turn_due, turn_ends, turn_may_end}
 use Rattle.rv_book.proofs.state.State.end_next.Goals as goal
 
 pub end-requires : goal.end-requires
@@ -19,4 +19,9 @@ returns-in-Some-clause-ending c =
     (subst (λ (due : Deadlines). EndsAt (with_due old due) new c.in-Some.place kept.TimedOut) c.in-Some.ensures.taken c.end.ensures.ended)
 
 pub returns-in-Some-clause-one : goal.returns-in-Some-clause-one
-returns-in-Some-clause-one c = ?
+returns-in-Some-clause-one c one =
+    let counted : c.args.self.now.waiting ≡ c.end.new.self.waiting + 1 = c.end.ensures.ended.counted in
+    record {
+      is_due = (c.in-Some.place, turn_due c.args.self.now c.args.moment c.in-Some.field-0-0 c.in-Some.place c.requires c.in-Some.ensures.least);
+      fewer = omega arith;
+    }

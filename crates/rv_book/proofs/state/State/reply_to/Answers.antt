@@ -32,8 +32,9 @@ returns-in-None c = λ sees ends.
     let a = account_of c.args.self.now in
     let own = Transfer c.in-Transfer.queue c.in-Transfer.item c.in-Transfer.wait in
     let unmet = subst (λ (call : Call). GoesOn call None → ⊥) c.in-Transfer.is (subst (λ (partner : Option _). GoesOn c.args.call.now partner → ⊥) c.in-None.is ends) in
-    subst (λ (call : Call). WillReply a call c.args.partner kept.TheVariants.Nobody) (sym c.in-Transfer.is)
-    (subst (λ (partner : Option _). WillReply a own partner kept.TheVariants.Nobody) (sym c.in-None.is) (transfer_unmet a c.in-Transfer.queue c.in-Transfer.item c.in-Transfer.wait unmet))
+    let told = subst (WillReply a own None) (sym c.reply_at_once.ensures) (transfer_unmet a c.in-Transfer.queue c.in-Transfer.item c.in-Transfer.wait unmet) in
+    subst (λ (call : Call). WillReply a call c.args.partner c.reply_at_once.result) (sym c.in-Transfer.is)
+    (subst (λ (partner : Option _). WillReply a own partner c.reply_at_once.result) (sym c.in-None.is) told)
 
 pub returns-in-Some-partner : goal.returns-in-Some-partner
 returns-in-Some-partner c = λ sees ends.
@@ -46,8 +47,10 @@ pub returns-in-None-partner : goal.returns-in-None-partner
 returns-in-None-partner c = λ sees ends.
     let a = account_of c.args.self.now in
     let unmet = subst (λ (call : Call). GoesOn call None → ⊥) c.in-Take.is (subst (λ (partner : Option _). GoesOn c.args.call.now partner → ⊥) c.in-None-partner.is ends) in
-    subst (λ (call : Call). WillReply a call c.args.partner kept.TheVariants.Empty) (sym c.in-Take.is)
-    (subst (λ (partner : Option _). WillReply a (Take c.in-Take.queue c.in-Take.wait) partner kept.TheVariants.Empty) (sym c.in-None-partner.is) (take_unmet a c.in-Take.queue c.in-Take.wait unmet))
+    let own = Take c.in-Take.queue c.in-Take.wait in
+    let told = subst (WillReply a own None) (sym c.reply_at_once-in-None-partner.ensures) (take_unmet a c.in-Take.queue c.in-Take.wait unmet) in
+    subst (λ (call : Call). WillReply a call c.args.partner c.reply_at_once-in-None-partner.result) (sym c.in-Take.is)
+    (subst (λ (partner : Option _). WillReply a own partner c.reply_at_once-in-None-partner.result) (sym c.in-None-partner.is) told)
 
 pub returns-in-Count : goal.returns-in-Count
 returns-in-Count c = λ sees ends.
