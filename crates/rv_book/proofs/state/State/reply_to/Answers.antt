@@ -1,7 +1,7 @@
 -- What is kept is the reply, whomever the call met.
 use Rattle.std.proofs.Common.{◌∙◌, Option, None, sym, subst}
 use Rattle.rv_text.specs.declared.call.Call.{Call}
-use Rattle.rv_text.specs.declared.call.Call.TheVariants.{Take, Transfer}
+use Rattle.rv_text.specs.declared.call.Call.TheVariants.{Swap, Take, Transfer}
 use Rattle.rv_text.specs.declared.call.Side.TheVariants.{Gives, Takes}
 use Rattle.rv_session.specs.declared.kept.Kept.{Kept}
 use Rattle.rv_session.specs.declared.kept.Kept as kept
@@ -10,6 +10,7 @@ use Rattle.rv_book.specs.Tables.{Sees, account_of}
 use Rattle.rv_book.proofs.Counts.{count_replies}
 use Rattle.rv_book.proofs.Peeks.{peek_finds_none, peek_replies}
 use Rattle.rv_book.proofs.Puts.{put_replies}
+use Rattle.rv_book.proofs.Swaps.{swap_replies, swap_unmet}
 use Rattle.rv_book.proofs.Takes.{take_replies, take_unmet}
 use Rattle.rv_book.proofs.ToldNow.{looks_alone, seen_first, seen_none, seen_number}
 use Rattle.rv_book.proofs.Transfers.{received_replies, transfer_unmet}
@@ -51,6 +52,23 @@ returns-in-None-partner c = λ sees ends.
     let told = subst (WillReply a own None) (sym c.reply_at_once-in-None-partner.ensures) (take_unmet a c.in-Take.queue c.in-Take.wait unmet) in
     subst (λ (call : Call). WillReply a call c.args.partner c.reply_at_once-in-None-partner.result) (sym c.in-Take.is)
     (subst (λ (partner : Option _). WillReply a own partner c.reply_at_once-in-None-partner.result) (sym c.in-None-partner.is) told)
+
+pub returns-in-Some-partner-2 : goal.returns-in-Some-partner-2
+returns-in-Some-partner-2 c = λ sees ends.
+    let a = account_of c.args.self.now in
+    let own = Swap c.in-Swap.exchanger c.in-Swap.item c.in-Swap.wait in
+    let place = c.in-Some-partner-2.place in
+    subst (λ (call : Call). WillReply a call c.args.partner (kept.TheVariants.Swapped place)) (sym c.in-Swap.is)
+    (subst (λ (partner : Option _). WillReply a own partner (kept.TheVariants.Swapped place)) (sym c.in-Some-partner-2.is) (swap_replies c.in-Swap.exchanger c.in-Swap.item c.in-Swap.wait a place))
+
+pub returns-in-None-partner-2 : goal.returns-in-None-partner-2
+returns-in-None-partner-2 c = λ sees ends.
+    let a = account_of c.args.self.now in
+    let own = Swap c.in-Swap.exchanger c.in-Swap.item c.in-Swap.wait in
+    let unmet = subst (λ (call : Call). GoesOn call None → ⊥) c.in-Swap.is (subst (λ (partner : Option _). GoesOn c.args.call.now partner → ⊥) c.in-None-partner-2.is ends) in
+    let told = subst (WillReply a own None) (sym c.reply_at_once-in-None-partner-2.ensures) (swap_unmet c.in-Swap.exchanger c.in-Swap.item c.in-Swap.wait a unmet) in
+    subst (λ (call : Call). WillReply a call c.args.partner c.reply_at_once-in-None-partner-2.result) (sym c.in-Swap.is)
+    (subst (λ (partner : Option _). WillReply a own partner c.reply_at_once-in-None-partner-2.result) (sym c.in-None-partner-2.is) told)
 
 pub returns-in-Count : goal.returns-in-Count
 returns-in-Count c = λ sees ends.
