@@ -54,9 +54,5 @@ pub mod Cancelling
 pub mod Standing
 pub mod Repeating
 mod DeadlineTable
-mod FirstStops
-mod Lasting
-mod Ticking
 mod EndingTables
-mod TimedOutSessions
 mod TimingOut
