@@ -2,13 +2,15 @@
 use Rattle.std.specs.Prelude.{IfSome}
 use Rattle.std.proofs.Common.{sym, subst}
 use Rattle.rv_text.specs.Limits.{FitsAnswer}
+use Rattle.rv_book.specs.Account.{Account}
 use Rattle.rv_book.specs.Steps.{step_moment}
+use Rattle.rv_book.specs.Tables.{BecomesAfterTicks}
 use Rattle.rv_book.proofs.Fitting.{step_fits}
 use Rattle.rv_book.proofs.book.Book.handle.Goals as goal
 
 pub returns-clause-step : goal.returns-clause-step
 returns-clause-step c =
-    let became = c.step.ensures.step in
+    let became = subst (λ (a : Account). BecomesAfterTicks a c.args.now c.args.message c.step.new.self.account.account c.step.result) c.self.view_is c.step.ensures.step in
     record {
       answer = became.becomes.answer;
       is = became.becomes.is;
