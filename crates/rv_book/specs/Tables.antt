@@ -26,7 +26,8 @@ use Rattle.rv_book.specs.Replies.{CancelledFirst}
 use Rattle.rv_book.specs.declared.state.State.{State}
 use Rattle.rv_book.specs.declared.verdict.Said.{Said}
 use Rattle.rv_book.specs.declared.verdict.Said.TheVariants.{Refused}
-use Rattle.rv_book.specs.Account.{Account, act_at, call_at}
+use Rattle.rv_book.specs.declared.account.Entry.{Entry}
+use Rattle.rv_book.specs.Account.{Account, act_at, call_at, with_entry}
 use Rattle.rv_book.specs.Arriving.{IsKept}
 use Rattle.rv_book.specs.Legal.{Legal, KeepsTime, NothingDue}
 use Rattle.rv_book.specs.Limits.{FitEntries, FitsAccount, FitsAct}
@@ -130,6 +131,15 @@ pub record IsSame (old new : State) : Type 0 where
   pub sessions : new.sessions ≡ old.sessions
   pub stations : SameStations old.stations new.stations
   pub waiting : new.waiting ≡ old.waiting
+
+-- the entry was recorded, and the tables are as they were
+pub record IsPushed (old new : State) (e : Entry) : Type 0 where
+  pub entry : account_of new ≡ with_entry (account_of old) e
+  pub room : old.account.room ≤ new.account.room + 1
+  pub sessions : new.sessions ≡ old.sessions
+  pub stations : new.stations ≡ old.stations
+  pub waiting : new.waiting ≡ old.waiting
+  pub due : new.due ≡ old.due
 
 -- the epoch has room for so many entries more, beside one for each request that waits
 abbrev pub HasSpace : State → ℕ → Type 0

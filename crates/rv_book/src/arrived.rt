@@ -1,5 +1,5 @@
 //! What becomes of an arrival: whom it met, and whose duties are to be settled.
-ghost use Rattle.std.specs.Prelude.{◌≡◌, ◌↔◌, Some, IsTrue};
+ghost use Rattle.std.specs.Prelude.{◌≡◌, ◌↔◌, None, Some, IsTrue};
 ghost use Rattle.rv_book.specs.Calls.{Lasts};
 
 use rv_session::{Duty, Kept, Place};
@@ -18,6 +18,28 @@ pub(crate) struct Arrived {
 impl Arrived {
     ghost use Rattle.std.specs.Prelude.{◌≤◌, ◌+◌, ◌^◌, option_map};
     ghost use Rattle.rv_book.specs.Meeting.{ends_waiting, starts_waiting};
+
+    /// It met the earlier arrival at this place.
+    pub(crate) fn met(partner: Place, own: Option<Duty>, other: Option<Duty>) -> Arrived
+        ensures { result ≡ record { partner = Some partner; own = own; other = other } }
+    {
+        Arrived {
+            partner: Some(partner),
+            own,
+            other,
+        }
+    }
+
+    /// It met nobody, and waits where its own duty doesn't come back.
+    pub(crate) fn alone(own: Option<Duty>) -> Arrived
+        ensures { result ≡ record { partner = None; own = own; other = None } }
+    {
+        Arrived {
+            partner: None,
+            own,
+            other: None,
+        }
+    }
 
     /// What is told to it now: what is kept as its reply, or nothing where it waits.
     pub(crate) fn told(&self, kept: Kept) -> Option<Kept>

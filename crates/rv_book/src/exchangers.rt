@@ -2,8 +2,6 @@
 ghost use Rattle.std.specs.Prelude.{◌≡◌, Some, IfOk};
 ghost use Rattle.rv_text.specs.Limits.{FitsSide};
 ghost use Rattle.rv_text.specs.declared.call.Side.TheVariants.{Exchanges};
-ghost use Rattle.rv_text.specs.declared.call.Wait.{Wait};
-ghost use Rattle.rv_book.specs.Calls.{Lasts};
 ghost use Rattle.rv_book.specs.Meeting.{Exchanged, LeftExchanger};
 ghost use Rattle.rv_book.specs.Views.{AllFree, OnlyExchanger, exchanger_at};
 
@@ -22,49 +20,23 @@ fn swapped(earlier: Duty, later: Duty) -> Arrived
       other = Some earlier;
     } }
 {
-    Arrived {
-        partner: Some(earlier.place()),
-        own: Some(later),
-        other: Some(earlier),
-    }
+    Arrived::met(earlier.place(), Some(later), Some(earlier))
 }
 
-// A request arrives at an exchanger, and waits where nobody is there.
-fn swap(exchanger: &mut Swap, duty: Duty) -> Arrived
-    ensures { (wait : Wait) → Lasts (Some wait) → Exchanged exchanger.old exchanger.new wait duty result }
-{
-    match exchanger.arrive(duty) {
-        rv_swap::Arrived::Met(earlier, later) => swapped(earlier, later),
-        rv_swap::Arrived::Parked => Arrived {
-            partner: None,
-            own: None,
-            other: None,
-        },
-    }
-}
-
-// A request arrives at an exchanger, and goes where nobody is there.
-fn try_swap(exchanger: &mut Swap, duty: Duty) -> Arrived
-    ensures { (wait : Wait) → ¬ Lasts (Some wait) → Exchanged exchanger.old exchanger.new wait duty result }
-{
-    match exchanger.try_arrive(duty) {
-        Tried::Met(earlier, later) => swapped(earlier, later),
-        Tried::Alone(duty) => Arrived {
-            partner: None,
-            own: Some(duty),
-            other: None,
-        },
-    }
-}
-
-// A request arrives at an exchanger.
+// A request arrives at an exchanger: where nobody is there it waits, or goes.
 fn exchange(exchanger: &mut Swap, wait: Wait, duty: Duty) -> Arrived
     ensures { Exchanged exchanger.old exchanger.new wait duty result }
 {
     if lasts(wait) {
-        swap(exchanger, duty)
+        match exchanger.arrive(duty) {
+            rv_swap::Arrived::Met(earlier, later) => swapped(earlier, later),
+            rv_swap::Arrived::Parked => Arrived::alone(None),
+        }
     } else {
-        try_swap(exchanger, duty)
+        match exchanger.try_arrive(duty) {
+            Tried::Met(earlier, later) => swapped(earlier, later),
+            Tried::Alone(duty) => Arrived::alone(Some(duty)),
+        }
     }
 }
 

@@ -1,8 +1,6 @@
 //! The queues: who waits in each, the oldest first.
 ghost use Rattle.std.specs.Prelude.{◌≡◌, ◌<◌, None, Some, OnOk, IfOk, length, slice_get};
 ghost use Rattle.rv_text.specs.Limits.{FitsQueue};
-ghost use Rattle.rv_text.specs.declared.call.Wait.{Wait};
-ghost use Rattle.rv_book.specs.Calls.{Lasts};
 ghost use Rattle.rv_dual.specs.Offers.{duty_of, place_of, places_of};
 ghost use Rattle.rv_dual.specs.Queue.{IsAbove};
 ghost use Rattle.rv_dual.specs.Withdrawing.{Withdraws};
@@ -29,17 +27,9 @@ fn put(queue: &mut Dual, duty: Duty) -> Arrived
                 None => duty,
                 Some(_giver) => unreachable!(),
             };
-            Arrived {
-                partner: Some(taker.place()),
-                own: Some(own),
-                other: Some(taker),
-            }
+            Arrived::met(taker.place(), Some(own), Some(taker))
         }
-        Given::Parked => Arrived {
-            partner: None,
-            own: Some(duty),
-            other: None,
-        },
+        Given::Parked => Arrived::alone(Some(duty)),
     }
 }
 
@@ -52,11 +42,7 @@ fn gave(pair: Pair) -> Arrived
     } }
 {
     let (own, taker, _) = pair.part();
-    Arrived {
-        partner: Some(taker.place()),
-        own,
-        other: Some(taker),
-    }
+    Arrived::met(taker.place(), own, Some(taker))
 }
 
 // What became of a taker that met a giver.
@@ -68,70 +54,25 @@ fn took(pair: Pair) -> Arrived
     } }
 {
     let (other, own, place) = pair.part();
-    Arrived {
-        partner: Some(place),
-        own: Some(own),
-        other,
-    }
+    Arrived::met(place, Some(own), other)
 }
 
-// A request that gives arrives, and waits where no consumer is there.
-fn transfer(queue: &mut Dual, duty: Duty) -> Arrived
+// A request that gives arrives: where no consumer is there it waits, or goes.
+fn transfer(queue: &mut Dual, wait: Wait, duty: Duty) -> Arrived
     requires room { 0 < queue.old.room }
     requires above { IsAbove queue.old duty.place }
-    ensures { (wait : Wait) → Lasts (Some wait) → Gave queue.old queue.new (Some wait) duty result }
+    ensures { Gave queue.old queue.new (Some wait) duty result }
 {
-    match queue.give(Giver::Waits(duty)) {
-        Given::Met(pair) => gave(pair),
-        Given::Parked => Arrived {
-            partner: None,
-            own: None,
-            other: None,
-        },
-    }
-}
-
-// A request that gives arrives, and goes where no consumer is there.
-fn try_transfer(queue: &mut Dual, duty: Duty) -> Arrived
-    ensures { (wait : Wait) → ¬ Lasts (Some wait) → Gave queue.old queue.new (Some wait) duty result }
-{
-    match queue.try_give(duty) {
-        Tried::Met(pair) => gave(pair),
-        Tried::Alone(duty) => Arrived {
-            partner: None,
-            own: Some(duty),
-            other: None,
-        },
-    }
-}
-
-// Who takes arrives, and waits where no item is there.
-fn take(queue: &mut Dual, duty: Duty) -> Arrived
-    requires room { 0 < queue.old.room }
-    requires above { IsAbove queue.old duty.place }
-    ensures { (wait : Wait) → Lasts (Some wait) → Took queue.old queue.new (Some wait) duty result }
-{
-    match queue.take(duty) {
-        Taken::Met(pair) => took(pair),
-        Taken::Parked => Arrived {
-            partner: None,
-            own: None,
-            other: None,
-        },
-    }
-}
-
-// Who takes arrives, and goes where no item is there.
-fn poll(queue: &mut Dual, duty: Duty) -> Arrived
-    ensures { (wait : Wait) → ¬ Lasts (Some wait) → Took queue.old queue.new (Some wait) duty result }
-{
-    match queue.try_take(duty) {
-        Tried::Met(pair) => took(pair),
-        Tried::Alone(duty) => Arrived {
-            partner: None,
-            own: Some(duty),
-            other: None,
-        },
+    if lasts(wait) {
+        match queue.give(Giver::Waits(duty)) {
+            Given::Met(pair) => gave(pair),
+            Given::Parked => Arrived::alone(None),
+        }
+    } else {
+        match queue.try_give(duty) {
+            Tried::Met(pair) => gave(pair),
+            Tried::Alone(duty) => Arrived::alone(Some(duty)),
+        }
     }
 }
 
@@ -143,26 +84,26 @@ fn give(queue: &mut Dual, wait: Option<Wait>, duty: Duty) -> Arrived
 {
     match wait {
         None => put(queue, duty),
-        Some(wait) => {
-            if lasts(wait) {
-                transfer(queue, duty)
-            } else {
-                try_transfer(queue, duty)
-            }
-        }
+        Some(wait) => transfer(queue, wait, duty),
     }
 }
 
-// Who takes arrives.
+// Who takes arrives: where no item is there it waits, or goes.
 fn receive(queue: &mut Dual, wait: Wait, duty: Duty) -> Arrived
     requires room { 0 < queue.old.room }
     requires above { IsAbove queue.old duty.place }
     ensures { Took queue.old queue.new (Some wait) duty result }
 {
     if lasts(wait) {
-        take(queue, duty)
+        match queue.take(duty) {
+            Taken::Met(pair) => took(pair),
+            Taken::Parked => Arrived::alone(None),
+        }
     } else {
-        poll(queue, duty)
+        match queue.try_take(duty) {
+            Tried::Met(pair) => took(pair),
+            Tried::Alone(duty) => Arrived::alone(Some(duty)),
+        }
     }
 }
 

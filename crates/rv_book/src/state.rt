@@ -1,11 +1,12 @@
 //! The account with the tables that answer for it, and the steps that change them together.
-ghost use Rattle.std.specs.Prelude.{◌≡◌, ◌<◌, ◌≤◌, ◌+◌, [], None, Some, OnOk, OnErr, IfOk, IfErr, IfSome};
-ghost use Rattle.rv_text.specs.Limits.{FitsCall, FitsIdentifier, FitsSide};
-ghost use Rattle.rv_book.specs.Arriving.{GoesOn, IsCancelled, IsRecorded, WillReply, said_of};
+ghost use Rattle.std.specs.Prelude.{◌≡◌, ◌<◌, ◌≤◌, ◌+◌, [], None, Some, OnOk, OnErr, IfOk, IfErr, IfSome, true, false};
+ghost use Rattle.rv_text.specs.Limits.{FitsCall, FitsIdentifier, FitsMessage, FitsSide};
+ghost use Rattle.rv_book.specs.Arriving.{GoesOn, IsCancelled, IsRecorded, WillReply, entry, said_of};
 ghost use Rattle.rv_text.specs.Members.{FitsWait};
+ghost use Rattle.rv_due.specs.Deadlines.{AllAbove};
 ghost use Rattle.rv_book.specs.Calls.{need_of};
-ghost use Rattle.rv_book.specs.Elapsing.{deadline_after};
-ghost use Rattle.rv_book.specs.Steps.{max_moment};
+ghost use Rattle.rv_book.specs.Elapsing.{deadline_after, without_deadline, without_duty};
+ghost use Rattle.rv_book.specs.Steps.{Adds, NextAt, Ticks, max_moment, step_moment};
 ghost use Rattle.rv_book.specs.Tables.{kept_at_once, partners_reply};
 
 use crate::account::{Account, Act};
@@ -41,7 +42,7 @@ fn needed(call: &Call) -> usize
 {
     match call.wait() {
         None => 1,
-        Some(wait) => { if lasts(wait) { 2 } else { 1 } }
+        Some(wait) => 1 + usize::from(lasts(wait)),
     }
 }
 
@@ -53,13 +54,7 @@ fn deadline_after(moment: u64, wait: Option<Wait>) -> Option<u64>
 {
     match wait? {
         Wait::Now => None,
-        Wait::Millis(millis) => {
-            if millis > 0 {
-                Some(moment + millis)
-            } else {
-                None
-            }
-        }
+        Wait::Millis(millis) => (millis > 0).then_some(moment + millis),
         Wait::Forever => None,
     }
 }
@@ -69,9 +64,8 @@ fn reply_at_once(wait: Wait, nobody: Kept) -> Kept
     ensures { result ≡ kept_at_once wait nobody }
 {
     match wait {
-        Wait::Now => nobody,
         Wait::Millis(_) => Kept::TimedOut,
-        Wait::Forever => nobody,
+        Wait::Now | Wait::Forever => nobody,
     }
 }
 
@@ -91,20 +85,13 @@ impl State {
     ghost use Rattle.rv_text.specs.declared.message.Message.TheVariants as message;
     ghost use Rattle.rv_text.specs.declared.message.Message.TheVariants.{Request};
     ghost use Rattle.rv_text.specs.declared.answer.Answer.TheVariants.{Welcome};
-    ghost use Rattle.rv_text.specs.Limits.{FitsMessage};
-    ghost use Rattle.rv_book.specs.declared.account.Act.TheVariants.{Hello, Arrive, Cancel, Tick};
-    ghost use Rattle.rv_book.specs.Account.{with_entry};
-    ghost use Rattle.rv_book.specs.Arriving.{entry};
-    ghost use Rattle.std.specs.Prelude.{true, false};
-    ghost use Rattle.rv_due.specs.Deadlines.{AllAbove};
-    ghost use Rattle.rv_book.specs.Elapsing.{without_deadline, without_duty};
+    ghost use Rattle.rv_book.specs.declared.account.Act.TheVariants.{Hello, Arrive, Cancel};
     ghost use Rattle.rv_book.specs.Ending.{EndedOne, IsEnding};
     ghost use Rattle.rv_book.specs.Legal.{KeepsTime, NothingDue};
     ghost use Rattle.rv_book.specs.Limits.{FitEntries};
     ghost use Rattle.rv_book.specs.Waiting.{Waiting, limit_at};
-    ghost use Rattle.rv_book.specs.Steps.{Adds, NextAt, Ticks, step_moment};
     ghost use Rattle.rv_book.specs.Tables.{Becomes, BecomesAfterTicks, Comes, EndsAt, EndsIf, HasRoomFor, HasSpace};
-    ghost use Rattle.rv_book.specs.Tables.{IsDueIn, IsPrepared, IsReady, IsTime, MayEnd, with_due};
+    ghost use Rattle.rv_book.specs.Tables.{IsDueIn, IsPrepared, IsPushed, IsReady, IsTime, MayEnd, with_due};
     ghost use Rattle.rv_book.specs.Tables.{IsRefused, IsRepeat, IsSame, IsSound, MayRecord, NoEntryDue, Sees};
     ghost use Rattle.rv_book.specs.Tables.{SettlesIf, account_of};
     ghost use Rattle.rv_session.specs.Meanings.{HasLast, HasNext, IsNewer};
@@ -169,19 +156,6 @@ impl State {
         }
     }
 
-    // Makes room where an arrival of this side would wait. Where a growth is refused nothing changes.
-    fn reserve(&mut self, side: Option<Side>) -> Result<(), NoMemory>
-        requires { IfSome side FitsSide }
-        ensures account { self.new.account ≡ self.old.account }
-        ensures same { IsSame self.old self.new }
-        ensures room { OnOk result (HasRoomFor self.new side) }
-    {
-        match side {
-            Some(side) => self.stations.reserve(side),
-            None => Ok(()),
-        }
-    }
-
     // Tests the epoch's room for an entry that may need one more later, and makes all growths that the entry
     // and its side need. It changes nothing but room; what follows it can't fail, but for a new client's
     // session.
@@ -198,7 +172,9 @@ impl State {
             return Err(Refusal::EpochFull);
         }
         self.account.reserve(more)?;
-        self.reserve(side)?;
+        if let Some(side) = side {
+            self.stations.reserve(side)?;
+        }
         Ok(())
     }
 
@@ -289,6 +265,14 @@ impl State {
         Ok(self.record(moment, key, call))
     }
 
+    // Records an entry that names no partner, for which there is room.
+    fn push(&mut self, moment: u64, act: Act)
+        requires { 0 < self.old.account.room }
+        ensures { IsPushed self.old self.new (entry moment act None) }
+    {
+        self.account.push(moment, act, None);
+    }
+
     // What a request is told that arrived at a place, if it came with this call: the reply that is kept, or
     // that it waits.
     fn repeat(
@@ -365,22 +349,8 @@ impl State {
     {
         self.make_room(1, None)?;
         self.sessions.bury(&key);
-        self.push_cancel(moment, key);
+        self.push(moment, Act::Cancel { key });
         Ok(())
-    }
-
-    // Records a cancel, for which there is room.
-    fn push_cancel(&mut self, moment: u64, key: Key)
-        requires { 0 < self.old.account.room }
-        ensures entry { account_of self.new
-            ≡ with_entry (account_of self.old) (entry moment (Cancel key) None) }
-        ensures room { self.old.account.room ≤ self.new.account.room + 1 }
-        ensures sessions { self.new.sessions ≡ self.old.sessions }
-        ensures stations { self.new.stations ≡ self.old.stations }
-        ensures waiting { self.new.waiting ≡ self.old.waiting }
-        ensures due { self.new.due ≡ self.old.due }
-    {
-        self.account.push(moment, Act::Cancel { key }, None);
     }
 
     // Cancels the request that waits at a place. It takes no memory, and there is always room.
@@ -391,7 +361,7 @@ impl State {
         ensures cancelled { IsCancelled (account_of self.old) (account_of self.new) moment key }
     {
         self.end(place, Kept::Cancelled);
-        self.push_cancel(moment, key);
+        self.push(moment, Act::Cancel { key });
     }
 
     // Answers a cancel: ends the request that waits, tells the reply of a settled one, and settles one that
@@ -432,26 +402,14 @@ impl State {
     {
         self.make_room(1, None)?;
         self.sessions.enter(client, incarnation)?;
-        self.push_hello(moment, client, incarnation);
+        self.push(
+            moment,
+            Act::Hello {
+                client,
+                incarnation,
+            },
+        );
         Ok(())
-    }
-
-    // Records a hello, for which there is room.
-    fn push_hello(&mut self, moment: u64, client: u64, incarnation: u64)
-        requires { 0 < self.old.account.room }
-        ensures entry { account_of self.new
-            ≡ with_entry (account_of self.old) (entry moment (Hello client incarnation) None) }
-        ensures room { self.old.account.room ≤ self.new.account.room + 1 }
-        ensures sessions { self.new.sessions ≡ self.old.sessions }
-        ensures stations { self.new.stations ≡ self.old.stations }
-        ensures waiting { self.new.waiting ≡ self.old.waiting }
-        ensures due { self.new.due ≡ self.old.due }
-    {
-        let hello = Act::Hello {
-            client,
-            incarnation,
-        };
-        self.account.push(moment, hello, None);
     }
 
     // Records a client's hello of a greater incarnation. The request that waits in its session, if one does,
@@ -475,7 +433,13 @@ impl State {
         self.make_room(1, None)?;
         self.end_if(waiting, Kept::Cancelled);
         self.sessions.enter(client, incarnation).unwrap();
-        self.push_hello(moment, client, incarnation);
+        self.push(
+            moment,
+            Act::Hello {
+                client,
+                incarnation,
+            },
+        );
         Ok(())
     }
 
@@ -535,19 +499,6 @@ impl State {
         while self.end_next(moment) {}
     }
 
-    // Records a tick, for which there is room.
-    fn push_tick(&mut self, moment: u64)
-        requires { 0 < self.old.account.room }
-        ensures entry { account_of self.new ≡ with_entry (account_of self.old) (entry moment Tick None) }
-        ensures room { self.old.account.room ≤ self.new.account.room + 1 }
-        ensures sessions { self.new.sessions ≡ self.old.sessions }
-        ensures stations { self.new.stations ≡ self.old.stations }
-        ensures waiting { self.new.waiting ≡ self.old.waiting }
-        ensures due { self.new.due ≡ self.old.due }
-    {
-        self.account.push(moment, Act::Tick, None);
-    }
-
     // Times out all requests that are due at a moment, by one tick; where none is, nothing changes. It takes no
     // memory, and there is always room. Where nothing is due the least limit alone is looked at.
     fn time_out(&mut self, moment: u64)
@@ -558,7 +509,7 @@ impl State {
     {
         if self.end_next(moment) {
             self.end_due(moment);
-            self.push_tick(moment);
+            self.push(moment, Act::Tick);
         }
     }
 

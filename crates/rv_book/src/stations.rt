@@ -83,11 +83,7 @@ impl Stations {
                 Some(wait) => self.queues.receive(queue, wait, duty),
                 None => unreachable!(),
             },
-            Side::Looks(_) => Arrived {
-                partner: None,
-                own: Some(duty),
-                other: None,
-            },
+            Side::Looks(_) => Arrived::alone(Some(duty)),
             Side::Exchanges(exchanger) => match call.wait() {
                 Some(wait) => self.exchangers.exchange(exchanger, wait, duty),
                 None => unreachable!(),

@@ -17,12 +17,12 @@ pub returns-clause-sound : goal.returns-clause-sound
 returns-clause-sound c =
     let old = c.args.self.now in
     let mid = c.end.new.self in
-    let pushed = c.push_cancel.ensures in
-    ended_sound old c.args.moment c.args.key c.requires.comes c.args.place c.requires.waits mid c.push_cancel.new.self c.end.ensures.ended c.end.ensures.account pushed.entry pushed.sessions pushed.stations pushed.waiting pushed.due pushed.room
+    let pushed = c.push.ensures in
+    ended_sound old c.args.moment c.args.key c.requires.comes c.args.place c.requires.waits mid c.push.new.self c.end.ensures.ended c.end.ensures.account pushed.entry pushed.sessions pushed.stations pushed.waiting pushed.due pushed.room
 
 pub returns-clause-cancelled : goal.returns-clause-cancelled
 returns-clause-cancelled c =
     let old = c.args.self.now in
     let e = entry c.args.moment (Cancel c.args.key) None in
-    let pushed = c.push_cancel.ensures.entry ∙ ap (λ stored. with_entry stored.account e) c.end.ensures.account in
+    let pushed = c.push.ensures.entry ∙ ap (λ stored. with_entry stored.account e) c.end.ensures.account in
     subst (λ b. IsCancelled (account_of old) b c.args.moment c.args.key) (sym pushed) (ended_cancelled old c.args.moment c.args.key c.requires.comes c.args.place c.requires.waits)

@@ -20,7 +20,7 @@ returns-then-end_next-clause-time c =
     let first : c.end_next.new.self.waiting < old.waiting = one.fewer in
     let then : mid.waiting ≤ c.end_next.new.self.waiting = c.end_due.ensures.waiting in
     time_after old mid c.args.moment c.requires c.end_due.ensures.ending (c.end_due.ensures.account ∙ c.end_next.ensures.account) (omega arith) c.end_due.ensures.all one.is_due
-    c.push_tick.new.self c.push_tick.ensures.entry c.push_tick.ensures.sessions c.push_tick.ensures.stations c.push_tick.ensures.waiting c.push_tick.ensures.due c.push_tick.ensures.room
+    c.push.new.self c.push.ensures.entry c.push.ensures.sessions c.push.ensures.stations c.push.ensures.waiting c.push.ensures.due c.push.ensures.room
 
 pub returns-then-end_next-clause-nothing_due : goal.returns-then-end_next-clause-nothing_due
 returns-then-end_next-clause-nothing_due c =
@@ -29,7 +29,7 @@ returns-then-end_next-clause-nothing_due c =
     let one = c.if-end_next.ensures.one refl in
     let first : c.end_next.new.self.waiting < old.waiting = one.fewer in
     let then : mid.waiting ≤ c.end_next.new.self.waiting = c.end_due.ensures.waiting in
-    none_due_after old mid c.args.moment c.requires c.end_due.ensures.ending (c.end_due.ensures.account ∙ c.end_next.ensures.account) (omega arith) c.end_due.ensures.all one.is_due c.push_tick.new.self c.push_tick.ensures.entry
+    none_due_after old mid c.args.moment c.requires c.end_due.ensures.ending (c.end_due.ensures.account ∙ c.end_next.ensures.account) (omega arith) c.end_due.ensures.all one.is_due c.push.new.self c.push.ensures.entry
 
 pub returns-then-end_next-clause-ticks : goal.returns-then-end_next-clause-ticks
 returns-then-end_next-clause-ticks c =
@@ -38,7 +38,7 @@ returns-then-end_next-clause-ticks c =
     let one = c.if-end_next.ensures.one refl in
     let first : c.end_next.new.self.waiting < old.waiting = one.fewer in
     let then : mid.waiting ≤ c.end_next.new.self.waiting = c.end_due.ensures.waiting in
-    ticks old mid c.args.moment c.requires c.end_due.ensures.ending (c.end_due.ensures.account ∙ c.end_next.ensures.account) (omega arith) c.end_due.ensures.all one.is_due c.push_tick.new.self c.push_tick.ensures.entry
+    ticks old mid c.args.moment c.requires c.end_due.ensures.ending (c.end_due.ensures.account ∙ c.end_next.ensures.account) (omega arith) c.end_due.ensures.all one.is_due c.push.new.self c.push.ensures.entry
 
 pub returns-else-end_next-clause-nothing_due : goal.returns-else-end_next-clause-nothing_due
 returns-else-end_next-clause-nothing_due c =
