@@ -105,11 +105,13 @@ module _ (a : Account) (e : Entry) (key : Key) (call : Call) (legal : Legal a) (
     old_left : (mine : Option Owed) (r : ℕ) → mine ≡ own → Waiting a.entries r → ButDuty Either other r → ButDuty (ButDuty Either other) mine r
     old_left None r same waits left = left
     old_left (Some d) r same waits left =
-        let mine : OwnDuty (side_of call) (wait_of call) partner duty (Some d) = subst (OwnDuty (side_of call) (wait_of call) partner duty) (sym same) own_is in
-        (left, λ here.
-        let is : r ≡ place = here ∙ ap (λ (x : Owed). x.place) mine.0 ∙ at in
-        let inside : r < place = waiting_inside a.entries r waits in
-        omega arith)
+        let mine : OwnDuty (side_of call) (wait_of call) partner duty (Some d) = subst (OwnDuty (side_of call) (wait_of call) partner duty) (sym same) own_is in (
+          left,
+          λ here.
+              let is : r ≡ place = here ∙ ap (λ (x : Owed). x.place) mine.0 ∙ at in
+              let inside : r < place = waiting_inside a.entries r waits in
+              omega arith,
+        )
 
     new_left : (mine : Option Owed) → mine ≡ own → GoesOn call partner → ButDuty Either other place → ButDuty (ButDuty Either other) mine place
     new_left None same on left = left
