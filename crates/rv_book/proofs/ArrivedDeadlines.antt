@@ -1,6 +1,6 @@
 -- After an arrival the deadlines are those of all that wait: with its own, if it waits for some time, and without that of the
 -- request that it met.
-use Rattle.std.proofs.Common.{◌≡◌, ◌⊎◌, inl, inr, ℕ, zero, suc, ◌<◌, ◌+◌, List, [], ◌∷◌, ◌++◌, length, Option, Some, None, IsSome, is_some, option_and_then, refl, sym, ap, subst, ◌∙◌, arith}
+use Rattle.std.proofs.Common.{◌≡◌, ◌⊎◌, inl, inr, ℕ, zero, suc, ◌<◌, List, [], ◌∷◌, ◌++◌, length, Option, Some, None, IsSome, is_some, option_and_then, refl, sym, ap, subst, ◌∙◌, arith}
 use Rattle.std.proofs.lemmas.Option.{none-some, same_Some}
 use Rattle.rv_due.specs.Deadlines.{Deadlines}
 use Rattle.rv_text.specs.declared.call.Call.{Call}
@@ -12,7 +12,7 @@ use Rattle.rv_session.specs.Owed.{Owed}
 use Rattle.rv_book.specs.Account.{Account, call_in}
 use Rattle.rv_book.specs.Arriving.{GoesOn}
 use Rattle.rv_book.specs.Calls.{IsPut, Lasts, Stays, limit_after, limit_of}
-use Rattle.rv_book.specs.Elapsing.{AreDeadlines, AreDeadlinesOf, deadline_after, deadline_of, with_deadline, without_duty}
+use Rattle.rv_book.specs.Elapsing.{AreDeadlines, deadline_after, deadline_of, with_deadline, without_duty}
 use Rattle.rv_book.specs.Legal.{Legal, NamesFreePartner}
 use Rattle.rv_book.specs.Meeting.{OwnDuty, PartnersDuty}
 use Rattle.rv_book.specs.Waiting.{Waiting, limit_at, limit_in}

@@ -1,5 +1,5 @@
 -- The deadlines of the requests with a property, when one comes or goes.
-use Rattle.std.proofs.Common.{◌≡◌, inl, inr, ◌⊎◌, ℕ, ◌<◌, List, ◌++◌, ◌∷◌, [], length, Bool, true, false, not, ◌&&◌, ◌||◌, Option, Some, None, IsSome, IfSome, refl, sym, ap, subst, ◌∙◌}
+use Rattle.std.proofs.Common.{◌≡◌, inl, inr, ◌⊎◌, ℕ, List, ◌++◌, Bool, true, false, not, ◌&&◌, ◌||◌, Option, Some, None, IsSome, refl, sym, ap, subst, ◌∙◌}
 use Rattle.std.proofs.lemmas.Bool.{false≢true}
 use Rattle.std.specs.FinSet.{contains, contains-insert, contains-remove, insert, remove}
 use Rattle.std.specs.Cmp.{Equal-is}

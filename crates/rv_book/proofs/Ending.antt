@@ -1,7 +1,5 @@
 -- A request that waits may be ended: its duty is parked in its queue, and its session waits for it.
-use Rattle.std.proofs.Common.{◌≡◌, ◌≤◌, ℕ, List, Some, refl, sym, subst, ◌∙◌}
-use Rattle.std.specs.List.{slice_get}
-use Rattle.std.proofs.lemmas.Option.{same_Some}
+use Rattle.std.proofs.Common.{ℕ, List, refl}
 use Rattle.rv_text.specs.declared.call.Side.{Side}
 use Rattle.rv_text.specs.Calls.{side_of}
 use Rattle.rv_book.specs.Account.{act_at}

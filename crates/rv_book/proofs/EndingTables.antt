@@ -1,7 +1,7 @@
--- While a time-out takes out what is due, one request a turn, the stations, the deadlines and the number of those that wait
+-- While a time-out takes out what is due, one request a turn, who waits where, the deadlines and the number of those that wait
 -- are what the account says but for that; after the tick they are what the account says.
-use Rattle.std.proofs.Common.{◌≡◌, inl, inr, ℕ, ◌+◌, ◌<◌, ◌≤◌, List, [], ◌∷◌, ◌++◌, length, Option, Some, None, refl, sym, ap, subst, ◌∙◌, arith}
-use Rattle.std.specs.FinSet.{contains, remove}
+use Rattle.std.proofs.Common.{◌≡◌, inl, inr, ℕ, ◌+◌, ◌≤◌, List, [], ◌∷◌, ◌++◌, Option, Some, sym, subst, ◌∙◌, arith}
+use Rattle.std.specs.FinSet.{remove}
 use Rattle.std.proofs.lemmas.Option.{none-some, same_Some}
 use Rattle.rv_text.specs.declared.call.Side.{Side}
 use Rattle.rv_session.specs.Owed.{Owed}
@@ -12,14 +12,14 @@ use Rattle.rv_book.specs.Elapsing.{AreDeadlines, AreDeadlinesOf}
 use Rattle.rv_book.specs.Ending.{AreStationsLeft, Left, TakenOut}
 use Rattle.rv_book.specs.Legal.{IsDueAt, NamesFreePartner}
 use Rattle.rv_book.specs.Meeting.{Leaves}
-use Rattle.rv_book.specs.Parked.{AreStations, IsLine, IsLineOf}
+use Rattle.rv_book.specs.Parked.{AreStations, IsLineOf}
 use Rattle.rv_book.specs.Views.{Stations, waiting_on}
 use Rattle.rv_book.specs.Waiting.{OpenAt, SideAt, Waiting, limit_at}
 use Rattle.rv_book.proofs.Counting.{number_drop, same_number}
 use Rattle.rv_book.proofs.Deciding.{same_side}
 use Rattle.rv_book.proofs.DeadlineTable.{due_on, due_same, due_without, limit_waits}
 use Rattle.rv_book.proofs.Owing.{still_there, was_there}
-use Rattle.rv_book.proofs.Sides.{IsRequestUntil, OpenAt-back, OpenAt-on, due_until, one_side, until_due, waiting_is_open}
+use Rattle.rv_book.proofs.Sides.{IsRequestUntil, OpenAt-back, OpenAt-on, due_until, one_side, until_due}
 use Rattle.rv_book.proofs.TimedOutSessions.{due_is_taken, nothing_taken, taken_back, taken_now, taken_on}
 use Rattle.rv_book.proofs.Waiters.{Stops, line_but, line_to, no_arrival, open_inside, parked_below}
 

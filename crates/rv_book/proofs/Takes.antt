@@ -8,27 +8,25 @@ use Rattle.rv_text.specs.declared.call.Side.{Side}
 use Rattle.rv_text.specs.declared.call.Side.TheVariants.{Exchanges, Gives, Looks, Takes}
 use Rattle.rv_text.specs.declared.call.Wait.{Wait}
 use Rattle.rv_text.specs.Calls.{item_of, side_of}
-use Rattle.rv_text.specs.Limits.{FitsItem, FitsReply}
-use Rattle.rv_text.proofs.Kept.{item_fits}
+use Rattle.rv_text.specs.Limits.{FitsReply}
 use Rattle.rv_book.specs.declared.account.Act.TheVariants.{Arrive}
 use Rattle.rv_book.specs.declared.account.Entry.{Entry}
 use Rattle.rv_session.specs.declared.kept.Kept as kept
 use Rattle.rv_session.specs.declared.kept.Kept.{Kept}
-use Rattle.rv_book.specs.Account.{Account, act_at, call_at, call_in, with_entry}
+use Rattle.rv_book.specs.Account.{Account, call_at, with_entry}
 use Rattle.rv_book.specs.Arriving.{GoesOn, WillReply, entry}
 use Rattle.rv_book.specs.Calls.{opposite}
 use Rattle.rv_book.specs.Legal.{Legal, before}
 use Rattle.rv_book.specs.Limits.{FitsAccount}
-use Rattle.rv_book.specs.Replies.{Gets, Meet, RepliesAt}
+use Rattle.rv_book.specs.Replies.{Gets, RepliesAt}
 use Rattle.rv_book.specs.Verdicts.{item_at}
 use Rattle.rv_book.specs.Waiting.{Met, NamesPartner, Waiting}
 use Rattle.rv_book.proofs.Unmet.{kept_told, one_unmet, passes_by, passing_told, still_unmet, told_at_once, unmet_exists, unmet_fits, unmet_stays, unmet_waits_not}
 use Rattle.rv_text.proofs.Kept.{empty_fits}
-use Rattle.rv_book.proofs.Growing.{NamesPartner-on, call_read, partner_read, reads_on}
+use Rattle.rv_book.proofs.Growing.{call_read, partner_read, reads_on}
 use Rattle.rv_book.proofs.CallKinds.{gives_item}
 use Rattle.rv_book.proofs.Legality.{follows_itself}
-use Rattle.rv_book.proofs.Limits.{act_fits, act_there, call_of_act}
-use Rattle.rv_book.proofs.OnePartner.{meets_one, partner_open}
+use Rattle.rv_book.proofs.OnePartner.{partner_open}
 use Rattle.rv_book.proofs.Places.{get-append_end, within}
 use Rattle.rv_book.proofs.Getting.{gets_met, gets_on, given_fits, one_item}
 use Rattle.rv_book.proofs.ReplyLaws.{ReplyLaws}

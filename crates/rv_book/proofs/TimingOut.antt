@@ -1,8 +1,7 @@
 -- The time-outs of a step: a request that is due may be ended, each turn leaves the tables as they are to be, and so does the tick.
 use Rattle.std.proofs.Common.{◌≡◌, inl, inr, ℕ, ◌+◌, ◌<◌, ◌≤◌, List, [], ◌∷◌, ◌++◌, length, Some, None, refl, sym, ap, subst, ◌∙◌, arith}
 use Rattle.std.specs.FinSet.{remove}
-use Rattle.std.proofs.lemmas.Option.{none-some, same_Some}
-use Rattle.rv_text.specs.declared.call.Call.{Call}
+use Rattle.std.proofs.lemmas.Option.{same_Some}
 use Rattle.rv_text.specs.declared.message.Key.{Key}
 use Rattle.rv_text.specs.Calls.{side_of}
 use Rattle.rv_due.specs.Deadlines.{AllAbove, Deadlines, IsLeastUntil}
@@ -17,10 +16,10 @@ use Rattle.rv_book.specs.Account.{Account, Stored, act_at, call_in, with_entry}
 use Rattle.rv_book.specs.Arriving.{entry}
 use Rattle.rv_book.specs.Counting.{NumberOf}
 use Rattle.rv_book.specs.Elapsing.{AreDeadlines, without_deadline}
-use Rattle.rv_book.specs.Ending.{IsEnding, Left, TakenOut}
+use Rattle.rv_book.specs.Ending.{IsEnding, Left}
 use Rattle.rv_book.specs.Legal.{IsDueAt, KeepsTime, Legal, MayFollow, NothingDue, SomethingDue}
 use Rattle.rv_book.specs.Parked.{AreStations}
-use Rattle.rv_book.specs.Steps.{Adds, Ticks, max_moment}
+use Rattle.rv_book.specs.Steps.{Ticks}
 use Rattle.rv_book.specs.Tables.{AreSessions, EndsAt, IsSound, IsTime, MayEnd, account_of, with_due}
 use Rattle.rv_book.specs.Waiting.{OpenAt, SideAt, Waiting, limit_at}
 use Rattle.rv_book.proofs.DeadlineTable.{taken_out}

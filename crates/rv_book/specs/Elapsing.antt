@@ -1,5 +1,5 @@
 -- What the table of deadlines says of a list of entries.
-use Rattle.std.specs.Prelude.{◌≡◌, ◌+◌, ℕ, suc, zero, List, Option, Some, None, option_and_then, true}
+use Rattle.std.specs.Prelude.{◌≡◌, ◌+◌, ℕ, suc, zero, List, Option, Some, None, true}
 use Rattle.std.specs.FinSet.{contains, insert, remove}
 use Rattle.rv_text.specs.declared.call.Wait.{Wait}
 use Rattle.rv_text.specs.declared.call.Wait.TheVariants.{Now, Millis, Forever}

@@ -1,5 +1,5 @@
 -- The answer that a verdict stands for, in an account that has the places which the verdict keeps.
-use Rattle.std.specs.Prelude.{◌≡◌, ℕ, List, Option, Some, None, option_map, option_and_then}
+use Rattle.std.specs.Prelude.{◌≡◌, ℕ, List, Option, Some, option_map, option_and_then}
 use Rattle.rv_text.specs.declared.answer.Reply.{Reply}
 use Rattle.rv_text.specs.declared.answer.Reply as reply
 use Rattle.rv_text.specs.declared.answer.Answer.{Answer}
@@ -24,7 +24,8 @@ abbrev pub reply_of : List Entry → Kept → Option Reply
 reply_of entries kept.TheVariants.Done = Some reply.TheVariants.Done
 reply_of entries (kept.TheVariants.Item place) = option_map reply.TheVariants.Item (item_at entries place)
 reply_of entries kept.TheVariants.Empty = Some reply.TheVariants.Empty
-reply_of entries (kept.TheVariants.Swapped place) = option_map reply.TheVariants.Swapped (item_at entries place)
+reply_of entries (kept.TheVariants.Swapped place) =
+    option_map reply.TheVariants.Swapped (item_at entries place)
 reply_of entries kept.TheVariants.Received = Some reply.TheVariants.Received
 reply_of entries kept.TheVariants.Nobody = Some reply.TheVariants.Nobody
 reply_of entries kept.TheVariants.Cancelled = Some reply.TheVariants.Cancelled

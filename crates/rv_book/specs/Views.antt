@@ -1,4 +1,4 @@
--- What contracts see of who waits: the queues and the exchangers, and for each side the places that wait on it.
+-- What contracts see of who waits: the queues and the exchangers, and for each side the places on it.
 use Rattle.std.specs.Prelude.{◌≡◌, ◌≢◌, ◌<◌, ℕ, List, [], ◌∷◌, Option, Some, None, map, unwrap_or, slice_get}
 use Rattle.rv_text.specs.declared.call.Side.{Side}
 use Rattle.rv_text.specs.declared.call.Side.TheVariants.{Gives, Takes, Looks, Exchanges}

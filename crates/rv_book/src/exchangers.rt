@@ -70,8 +70,8 @@ impl Exchangers {
         Ok(Exchangers { exchangers })
     }
 
-    /// A request arrives at an exchanger: it meets the one that waits there, which leaves; or, where none does,
-    /// waits itself, if its wait lasts.
+    /// A request arrives at an exchanger: it meets the one that waits there, which leaves; or, where none
+    /// does, waits itself, if its wait lasts.
     pub(crate) fn exchange(&mut self, exchanger: u64, wait: Wait, duty: Duty) -> Arrived
         requires { FitsSide (Exchanges exchanger) }
         ensures exchanged { Exchanged (exchanger_at self.old exchanger) (exchanger_at self.new exchanger) wait
@@ -81,7 +81,8 @@ impl Exchangers {
         exchange(&mut self.exchangers[exchanger as usize], wait, duty)
     }
 
-    /// The request that waits at an exchanger leaves it, if it arrived at this place, and gives its duty back.
+    /// The request that waits at an exchanger leaves it, if it arrived at this place, and gives its duty
+    /// back.
     pub(crate) fn withdraw(&mut self, exchanger: u64, place: Place) -> Option<Duty>
         requires { FitsSide (Exchanges exchanger) }
         ensures left { LeftExchanger (exchanger_at self.old exchanger) (exchanger_at self.new exchanger) place

@@ -172,8 +172,8 @@ impl Queues {
         self.queues[queue as usize].reserve()
     }
 
-    /// Who gives arrives in a queue: it meets the oldest consumer, which leaves; or, where none is there, waits
-    /// behind the other items, if its wait lasts.
+    /// Who gives arrives in a queue: it meets the oldest consumer, which leaves; or, where none is there,
+    /// waits behind the other items, if its wait lasts.
     pub(crate) fn give(&mut self, queue: u64, wait: Option<Wait>, duty: Duty) -> Arrived
         requires fits { FitsQueue queue }
         requires room { 0 < (queue_at self.old queue).room }

@@ -56,7 +56,8 @@ impl Stations {
         self.queues.count(queue)
     }
 
-    /// Makes room for an arrival of this side. Where a growth is refused nothing changes. An exchanger needs none.
+    /// Makes room for an arrival of this side; an exchanger needs none. Where a growth is refused nothing
+    /// changes.
     pub(crate) fn reserve(&mut self, side: Side) -> Result<(), NoMemory>
         requires { FitsSide side }
         ensures same { SameStations self.old self.new }

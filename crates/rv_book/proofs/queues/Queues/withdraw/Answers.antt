@@ -1,5 +1,5 @@
 -- What was taken out of its queue was taken out of the table.
-use Rattle.std.proofs.Common.{◌≡◌, ◌∙◌, ◌<◌, List, length, sym, subst, arith}
+use Rattle.std.proofs.Common.{◌≡◌, ◌<◌, List, length, sym, subst, arith}
 use Rattle.std.specs.Prelude.{slice_set}
 use Rattle.rv_dual.specs.Queue.{Queue}
 use Rattle.rv_dual.specs.Withdrawing.{Withdraws}

@@ -1,9 +1,8 @@
 -- The request that waited was taken out of its queue, and its session was settled.
-use Rattle.std.proofs.Common.{◌≡◌, ◌≤◌, List, Option, Some, IfSome, sym, subst, ap, ◌∙◌, arith}
+use Rattle.std.proofs.Common.{◌≡◌, ◌≤◌, Option, Some, IfSome, sym, subst, ap, ◌∙◌, arith}
 use Rattle.std.proofs.lemmas.Option.{same_Some}
 use Rattle.rv_session.specs.Owed.{Owed}
 use Rattle.rv_session.specs.Table.{OnlySettles}
-use Rattle.rv_text.specs.declared.call.Call.{Call}
 use Rattle.rv_text.specs.declared.call.Side.{Side}
 use Rattle.rv_text.specs.Calls.{side_of}
 use Rattle.rv_book.specs.Elapsing.{without_deadline, without_duty}

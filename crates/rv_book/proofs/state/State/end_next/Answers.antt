@@ -1,5 +1,5 @@
 -- The request of the least deadline was ended: the tables are what the account says but for it too.
-use Rattle.std.proofs.Common.{◌≡◌, ◌+◌, ℕ, sym, subst, arith}
+use Rattle.std.proofs.Common.{◌≡◌, ◌+◌, sym, subst, arith}
 use Rattle.rv_due.specs.Deadlines.{Deadlines}
 use Rattle.rv_session.specs.declared.kept.Kept.TheVariants as kept
 use Rattle.rv_book.specs.Tables.{EndsAt, MayEnd, with_due}

@@ -1,8 +1,6 @@
 -- What is due is timed out by one tick; where nothing is, nothing changes.
-use Rattle.std.proofs.Common.{◌≡◌, ◌<◌, ◌≤◌, ℕ, refl, sym, ap, subst, ◌∙◌, arith}
+use Rattle.std.proofs.Common.{◌<◌, ◌≤◌, refl, sym, subst, ◌∙◌, arith}
 use Rattle.rv_book.specs.declared.state.State.{State}
-use Rattle.rv_book.specs.Account.{Stored, with_entry}
-use Rattle.rv_book.specs.Arriving.{entry}
 use Rattle.rv_book.specs.Legal.{NothingDue}
 use Rattle.rv_book.specs.Steps.{Ticks}
 use Rattle.rv_book.specs.Tables.{account_of}

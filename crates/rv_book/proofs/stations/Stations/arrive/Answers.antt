@@ -1,5 +1,5 @@
 -- What the arrival did in its queue or at its exchanger is what it did to all who wait.
-use Rattle.std.proofs.Common.{◌∙◌, Some, refl, sym, subst}
+use Rattle.std.proofs.Common.{◌∙◌, refl, sym, subst}
 use Rattle.rv_text.specs.declared.call.Side.TheVariants.{Exchanges, Gives, Takes}
 use Rattle.rv_text.specs.Calls.{side_of, wait_of}
 use Rattle.rv_book.specs.Meeting.{ArrivedOn}
