@@ -1,11 +1,15 @@
 //! The account of an epoch: what came to the book, in order, and who met whom.
-ghost use Rattle.std.specs.Prelude.{◌≡◌, ◌==◌, [], length, slice_get, OnOk};
+ghost use Rattle.std.specs.Prelude.{◌≡◌, ◌↔◌, ◌<◌, ◌≤◌, ◌+◌, ◌==◌, [], Some, IsSome, IsTrue, OnOk};
+ghost use Rattle.std.specs.Prelude.{length, option_map, slice_get};
 ghost use Rattle.std.specs.Option.{option_copied};
-ghost use Rattle.std.specs.Prelude.{◌≤◌};
 ghost use Rattle.rv_text.specs.Members.{FitsWait};
-ghost use Rattle.rv_book.specs.Account.{with_entry};
+ghost use Rattle.rv_book.specs.Account.{call_at, with_entry};
+ghost use Rattle.rv_book.specs.Arriving.{entry};
 ghost use Rattle.rv_book.specs.Calls.{limit_after};
-ghost use Rattle.rv_book.specs.Steps.{max_moment};
+ghost use Rattle.rv_book.specs.Limits.{FitEntries};
+ghost use Rattle.rv_book.specs.Steps.{max_moment, own_moment};
+ghost use Rattle.rv_book.specs.Verdicts.{item_at};
+ghost use Rattle.rv_book.specs.Waiting.{limit_at};
 
 use rv_session::Place;
 use rv_text::{Call, Item, Key, NoMemory, Wait};
@@ -72,16 +76,6 @@ impl Model for Account {
 }
 
 impl Account {
-    ghost use Rattle.std.specs.Prelude.{option_map};
-    ghost use Rattle.rv_book.specs.Account.{call_at};
-    ghost use Rattle.rv_book.specs.Limits.{FitEntries};
-    ghost use Rattle.rv_book.specs.Waiting.{limit_at};
-    ghost use Rattle.rv_book.specs.Arriving.{entry};
-    ghost use Rattle.std.specs.Prelude.{◌↔◌, ◌<◌, ◌+◌, IsTrue};
-    ghost use Rattle.rv_book.specs.Steps.{own_moment};
-    ghost use Rattle.rv_book.specs.Verdicts.{item_at};
-    ghost use Rattle.std.specs.Prelude.{Some, IsSome};
-
     /// The epoch, 1 to 2^53 - 1.
     pub fn epoch(&self) -> u64
         ensures { result ≡ self.now.account.epoch }

@@ -1,5 +1,5 @@
 //! The exchangers: who waits at each.
-ghost use Rattle.std.specs.Prelude.{◌≡◌, Some, IfOk};
+ghost use Rattle.std.specs.Prelude.{IfOk};
 ghost use Rattle.rv_text.specs.Limits.{FitsSide};
 ghost use Rattle.rv_text.specs.declared.call.Side.TheVariants.{Exchanges};
 ghost use Rattle.rv_book.specs.Meeting.{Exchanged, LeftExchanger};
@@ -12,29 +12,20 @@ use rv_text::{MAX_EXCHANGER, NoMemory, Wait};
 use std::alloc::Global;
 use std::marker::Model;
 
-// What became of a request that met the earlier one.
-fn swapped(earlier: Duty, later: Duty) -> Arrived
-    ensures { result ≡ record {
-      partner = Some earlier.place;
-      own = Some later;
-      other = Some earlier;
-    } }
-{
-    Arrived::met(earlier.place(), Some(later), Some(earlier))
-}
-
 // A request arrives at an exchanger: where nobody is there it waits, or goes.
 fn exchange(exchanger: &mut Swap, wait: Wait, duty: Duty) -> Arrived
     ensures { Exchanged exchanger.old exchanger.new wait duty result }
 {
     if lasts(wait) {
         match exchanger.arrive(duty) {
-            rv_swap::Arrived::Met(earlier, later) => swapped(earlier, later),
+            rv_swap::Arrived::Met(earlier, later) => {
+                Arrived::met(earlier.place(), Some(later), Some(earlier))
+            }
             rv_swap::Arrived::Parked => Arrived::alone(None),
         }
     } else {
         match exchanger.try_arrive(duty) {
-            Tried::Met(earlier, later) => swapped(earlier, later),
+            Tried::Met(earlier, later) => Arrived::met(earlier.place(), Some(later), Some(earlier)),
             Tried::Alone(duty) => Arrived::alone(Some(duty)),
         }
     }
