@@ -243,6 +243,47 @@ ROWS = [
         @9 2#2 take 3 now => item "a"
         @9 2#3 take 3 now => item "b"
         """),
+    ("the greatest moment that a line can have", 1, THREE + """
+        @9999999999999999999 1#1 transfer 3 "a" 10 => waiting
+        @9999999999999999999 1#1 transfer 3 "a" 10 => waiting
+        @9999999999999999999 2#1 take 3 now => item "a"
+        @5 1#1 transfer 3 "a" 10 => received
+        """),
+    ("one tick ends all that is due, and leaves what is not", 1, THREE + """
+        1#1 transfer 3 "a" 10 => waiting
+        2#1 take 4 12 => waiting
+        3#1 take 4 13 => waiting
+        @12 1#1 transfer 3 "a" 10 => timedout
+        @12 1#2 count 3 => counted 0 0
+        @12 1#3 count 4 => counted 0 1
+        @12 1#4 put 4 "b" => done
+        @12 2#1 take 4 12 => timedout
+        @12 3#1 take 4 13 => item "b"
+        @13 3#1 take 4 13 => item "b"
+        """),
+    ("time passes with a message that is refused, and not with a body that is none", 1, THREE + """
+        @100 9#1 put 3 "x" => refused 3
+        1#1 transfer 3 "a" 10 => waiting
+        line 100 {"client":0,"incarnation":1,"kind":"hello"} => refused 1
+        @9 2#1 take 3 now => item "a"
+        @9 1#2 transfer 3 "b" 10 => waiting
+        @18 9#1 put 3 "x" => refused 3
+        @17 1#2 transfer 3 "b" 10 => waiting
+        @19 9#1 put 3 "x" => refused 3
+        @9 2#2 take 3 now => empty
+        1#2 transfer 3 "b" 10 => timedout
+        """),
+    ("what comes to a request at its limit comes too late", 1, THREE + """
+        1#1 transfer 3 "a" 10 => waiting
+        2#1 take 4 10 => waiting
+        @9 1#2 count 3 => refused 7 1
+        @10 cancel 1#1 => timedout
+        @10 1#2 count 3 => counted 0 0
+        @10 hello 2/2 => welcome
+        @10 2/2#1 take 4 1 => waiting
+        @11 1#3 transfer 4 "b" now => nobody
+        @11 2/2#1 take 4 1 => timedout
+        """),
     ("lines of another form", 1, """
         line 0 { "kind":"hello", "incarnation":1, "client":7 } => {"client":7,"epoch":1,"incarnation":1,"kind":"welcome"}
         line 0 {"client":1,"incarnation":1,"kind":"hello","x":1} => refused 1

@@ -2,7 +2,7 @@
 import json
 
 from model_parts.account import (
-    MAX_CLIENTS, Account, Key, Request, first_fault, incarnation, last_number, reply, waiting_of)
+    MAX_CLIENTS, Account, Key, Request, first_fault, incarnation, last_number, limit, reply, waiting, waiting_of)
 from model_parts.steps import TODAY, WHOLE, replied, told
 from model_parts.texts import KEY, MAX_BODY_BYTES, MAX_IDENTIFIER, written
 
@@ -17,7 +17,11 @@ NUMERALS = ["1.0", "1e2", "1E0", "-0", "-1", "01", "+1", ".5", "1.", "1e999", "1
 FURTHER = ["x", "", "Kind", "item", "wait", "queue", "exchanger"]
 BYTES = [b"\xff", b"\xc0\x80", b"\xed\xa0\x80", b"\xc2\xa0", b"\x0b", b"\x00"]
 ESCAPES = [b"\\ud800", b"\\udc00", b"\\ud83d\\ude00", b"\\x", b"\\u12", b"\\"]
-WAITS = ["forever", "now", 0, 1, 2, 3, 5, 10, 20, 86_400_000, 86_400_001]
+MILLIS = [0, 0, 1, 1, 2, 3, 5, 10, 20, 100, 86_399_999, 86_400_000, 86_400_001]
+WAITS = ["forever", "now", *MILLIS]
+# What a moment rises or falls by from line to line, one pace for each script.
+PACES = [[0, 0, 0, 1, 1, 2, 5, -3], [0, 0, 0, 0, 0, 1], [0, 3, 10, 30, -20], [0, 1, -1, 1, -1, 2]]
+LEAPS = [0, 1000, 86_400_000, 10**9, 2**62 - 86_400_000, 2**62 - 1, 2**62, 2**62 + 1, 10**19 - 1]
 # How far above its session's last number a key's number is: mostly one, or often a repeat, a stale one or a gap.
 STEPS = [
     [1] * 16 + [0, 0, -1, 2, 3],
@@ -44,6 +48,8 @@ class Script:
         self.gives = chance.choice([0.35, 0.5, 0.65])
         self.puts = chance.choice([0.1, 0.4, 0.7])
         self.patience = chance.choice([0.2, 0.5, 0.9])
+        self.haste = chance.choice([0.1, 0.5, 0.9])
+        self.pace = chance.choice(PACES)
         self.longs = chance.random() < 0.2
         self.leaps = chance.random() < 0.2
         self.crowd = []
@@ -78,12 +84,21 @@ class Script:
         return line.replace(b"\n", b" ")
 
     def moment(self):
-        """A moment that mostly rises a little."""
-        self.now = max(0, self.now + self.chance.choice([0, 0, 0, 1, 1, 2, 5, -3]))
+        """A moment: it rises a little, stays, falls, leaps, or stands at the limit of a request that waits, or beside it."""
+        self.now = max(0, self.now + self.chance.choice(self.pace))
+        if self.odds(0.05):
+            self.now = self.limit() or self.now
         if self.leaps and self.odds(0.03):
-            self.now = self.chance.choice([0, 1000, 2**62 - 1, 2**62, 2**62 + 1, 10**19 - 1])
+            self.now = self.chance.choice(LEAPS)
         digits = str(min(self.now, 10**19 - 1))
         return (digits.zfill(self.chance.randint(1, 19)) if self.odds(0.05) else digits).encode()
+
+    def limit(self):
+        """The limit of a request that waits, or a moment beside it; none where no request has one."""
+        entries = self.account.entries
+        limits = [limit(entries, r) for r in waiting(entries) if limit(entries, r) is not None]
+        near = [moment for moment in limits if moment < self.now + 1_000]
+        return self.chance.choice(near) + self.chance.choice([-1, 0, 0, 1]) if near else None
 
     def spoilt_line(self, line):
         """A line of another form, or nearly so."""
@@ -170,10 +185,9 @@ class Script:
 
     def wait(self):
         """A wait, mostly one that exists."""
-        wait = self.chance.choice(WAITS)
-        if isinstance(wait, int) and not self.have["waits in milliseconds"] and self.odds(0.95):
-            return "forever" if self.odds(self.patience) else "now"
-        return wait
+        if self.have["waits in milliseconds"] and self.odds(self.haste) or self.odds(0.02):
+            return self.chance.choice(MILLIS)
+        return "forever" if self.odds(self.patience) else "now"
 
     def item(self):
         """A text of some letters, now and then as long as one may be, or a byte longer."""

@@ -27,7 +27,7 @@ TODAY = {
     "count": True,
     "peek": True,
     "cancel": True,
-    "waits in milliseconds": False,
+    "waits in milliseconds": True,
     "kept replies": True,
     "client limit": True,
 }
@@ -70,11 +70,21 @@ def welcome(account, hello):
     return {"kind": "welcome", "epoch": account.epoch, "client": hello.client, "incarnation": hello.incarnation}
 
 
+def step_moment(account, now):
+    """The moment of a step."""
+    return max(account.own_moment(), min(now, MAX_MOMENT))
+
+
+def ticked(account, now):
+    """The account with the tick that is due at a moment that was handed in, if one is."""
+    moment = step_moment(account, now)
+    return account.with_entry(Entry(moment, Tick())) if overdue(account.entries, moment) else account
+
+
 def step(account, now, message, have):
     """The account after a message that was handed in at a moment, and the members of its answer."""
-    moment = max(account.own_moment(), min(now, MAX_MOMENT))
-    if overdue(account.entries, moment):
-        account = account.with_entry(Entry(moment, Tick()))
+    moment = step_moment(account, now)
+    account = ticked(account, now)
     lines = hello_lines if isinstance(message, Hello) else key_lines
     answer = lines(account, message, have) or full(account, message)
     if answer:

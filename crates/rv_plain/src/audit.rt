@@ -1,6 +1,6 @@
 //! A plain, slow reading of accounts, each rule by its formula over places, and what it says of accounts that
 //! are broken by hand.
-use crate::line::{Line, cancel, count, hello, put, take, transfer};
+use crate::line::{Line, cancel, count, hello, put, take, tick, transfer};
 use rv_book::{Account, Act, Entry, Place};
 use rv_text::{Call, Key, NoMemory, Side, Wait};
 use std::alloc::{AllocGlobal, Global};
@@ -13,6 +13,10 @@ use std::test::Fail;
 pub(crate) enum Rule {
     /// Moments never fall, and none is below the opening moment.
     M1,
+    /// No other entry than a tick stands where a waiting request has a limit at or below its moment.
+    M2,
+    /// A tick stands only where a waiting request has a limit at or below its moment.
+    M3,
     /// A hello's incarnation is above those of its client's earlier hellos.
     N1,
     /// An arrival or a cancel has the account's epoch and the incarnation of its client's last hello.
@@ -48,8 +52,9 @@ fn first_broken(account: &Account, place: Place, entry: &Entry) -> Option<Rule> 
         } => (broken_by_hello(account, place, *client, *incarnation), None),
         Act::Arrive { key, call } => (broken_by_key(account, place, key), opposite(call.side())),
         Act::Cancel { key } => (broken_by_cancel(account, place, key), None),
+        Act::Tick => (None, None),
     };
-    broken_by_moment(account, place, entry.moment)
+    broken_by_moment(account, place, entry)
         .or(numbers)
         .or(broken_by_partner(account, place, other, entry.partner))
 }
@@ -58,7 +63,7 @@ fn first_broken(account: &Account, place: Place, entry: &Entry) -> Option<Rule> 
 fn arrival_at(account: &Account, place: Place) -> Option<(&Key, &Call)> {
     match &account.entry(place)?.act {
         Act::Arrive { key, call } => Some((key, call)),
-        Act::Hello { .. } | Act::Cancel { .. } => None,
+        Act::Hello { .. } | Act::Cancel { .. } | Act::Tick => None,
     }
 }
 
@@ -66,16 +71,42 @@ fn arrival_at(account: &Account, place: Place) -> Option<(&Key, &Call)> {
 fn key_at(account: &Account, place: Place) -> Option<&Key> {
     match &account.entry(place)?.act {
         Act::Arrive { key, .. } | Act::Cancel { key } => Some(key),
-        Act::Hello { .. } => None,
+        Act::Hello { .. } | Act::Tick => None,
     }
 }
 
 // ---- moments and numbers
 
-fn broken_by_moment(account: &Account, place: Place, moment: u64) -> Option<Rule> {
+// The limit of the arrival at a place, if it has one.
+fn limit(account: &Account, arrival: Place) -> Option<u64> {
+    match arrival_at(account, arrival)?.1.wait() {
+        Some(Wait::Millis(millis)) => account.entry(arrival)?.moment.checked_add(millis),
+        _ => None,
+    }
+}
+
+// Whether the arrival has a limit at or below a moment.
+fn is_over(account: &Account, arrival: Place, moment: u64) -> bool {
+    limit(account, arrival).is_some_and(|limit| limit <= moment)
+}
+
+// Whether a request that waits before the place has a limit at or below a moment.
+fn is_overdue(account: &Account, place: Place, moment: u64) -> bool {
+    (0..place).any(|arrival| match staying_side(account, arrival) {
+        Some(side) => is_over(account, arrival, moment) && is_open(account, side, arrival, place),
+        None => false,
+    })
+}
+
+fn broken_by_moment(account: &Account, place: Place, entry: &Entry) -> Option<Rule> {
     let before = place.checked_sub(1).and_then(|last| account.entry(last));
-    if moment < before.map_or(account.opened(), |last| last.moment) {
+    let overdue = is_overdue(account, place, entry.moment);
+    if entry.moment < before.map_or(account.opened(), |last| last.moment) {
         Some(Rule::M1)
+    } else if overdue && entry.act != Act::Tick {
+        Some(Rule::M2)
+    } else if !overdue && entry.act == Act::Tick {
+        Some(Rule::M3)
     } else {
         None
     }
@@ -169,7 +200,8 @@ fn staying_side(account: &Account, place: Place) -> Option<Side> {
     match call.wait() {
         None => Some(call.side()),
         Some(Wait::Forever) => Some(call.side()),
-        Some(Wait::Now) => None,
+        Some(Wait::Millis(millis)) if millis > 0 => Some(call.side()),
+        Some(Wait::Millis(_) | Wait::Now) => None,
     }
 }
 
@@ -181,16 +213,25 @@ fn met(account: &Account, arrival: Place, place: Place) -> bool {
     })
 }
 
-// Whether a hello of its client or a cancel stops the arrival before the place. Nothing stops a put.
+// Whether the entry at a later place stops the arrival, which has this key: a hello of its client, a cancel of it,
+// or a tick at or behind its limit.
+fn stops(account: &Account, arrival: Place, of: &Key, later: Place) -> bool {
+    match account.entry(later) {
+        Some(entry) => match &entry.act {
+            Act::Hello { client, .. } => *client == of.client,
+            Act::Cancel { key } => key == of,
+            Act::Tick => is_over(account, arrival, entry.moment),
+            Act::Arrive { .. } => false,
+        },
+        None => false,
+    }
+}
+
+// Whether an entry before the place stops the arrival. Nothing stops a put.
 fn stopped(account: &Account, arrival: Place, place: Place) -> bool {
-    let stops = |later: Place, of: &Key| match account.entry(later).map(|entry| &entry.act) {
-        Some(Act::Hello { client, .. }) => *client == of.client,
-        Some(Act::Cancel { key }) => key == of,
-        _ => false,
-    };
     match arrival_at(account, arrival) {
         Some((key, call)) if call.wait().is_some() => {
-            (arrival..place).any(|later| stops(later, key))
+            (arrival..place).any(|later| stops(account, arrival, key, later))
         }
         _ => false,
     }
@@ -362,5 +403,35 @@ fn each_rule_on_cancels(rt: HostRuntime) -> Result<(), Fail> {
         (ended, Some(Rule::N3)),
     ];
     breaks(&rt, 0, &[one, ended], &lasts)?;
+    Ok(())
+}
+
+#[test]
+fn each_rule_on_ticks(rt: HostRuntime) -> Result<(), Fail> {
+    let [one, two] = [hello(1, 1), hello(2, 1)];
+    let [given, poll] = [transfer(1, 1, "a").waits_for(10), take(2, 1)];
+    let lasts = [
+        (poll.at(9).meeting(2), None),
+        (poll.at(10).meeting(2), Some(Rule::M2)),
+        (poll.at(10), Some(Rule::M2)),
+        (cancel(1, 1).at(10), Some(Rule::M2)),
+        (hello(1, 2).at(11), Some(Rule::M2)),
+        (tick(9), Some(Rule::M3)),
+        (tick(10), None),
+        (tick(11), None),
+        (tick(10).meeting(2), Some(Rule::P1)),
+    ];
+    breaks(&rt, 0, &[one, two, given], &lasts)?;
+    let lasts = [
+        (tick(10), Some(Rule::M3)),
+        (tick(9), Some(Rule::M1)),
+        (poll.at(10).meeting(2), Some(Rule::P2)),
+        (poll.at(10), None),
+        (cancel(1, 1).at(10), Some(Rule::N3)),
+        (put(1, 2, "b").at(10), None),
+    ];
+    breaks(&rt, 0, &[one, two, given, tick(10)], &lasts)?;
+    let lasts = [(tick(0), Some(Rule::M3)), (put(1, 1, "b"), None)];
+    breaks(&rt, 0, &[one, two, poll.waits_for(0)], &lasts)?;
     Ok(())
 }

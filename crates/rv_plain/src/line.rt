@@ -8,6 +8,7 @@ use std::process::Abort;
 enum Does {
     Hello,
     Cancel,
+    Tick,
     Put(&'static str),
     Transfer(&'static str),
     Take,
@@ -55,6 +56,11 @@ pub(crate) fn cancel(client: u64, number: u64) -> Line {
     Line::of(client, number, Does::Cancel)
 }
 
+/// A tick at a moment: an entry, and no message.
+pub(crate) fn tick(moment: u64) -> Line {
+    Line::of(1, 0, Does::Tick).at(moment)
+}
+
 fn item(alloc: Global, text: &str) -> Result<Item, NoMemory> {
     Ok(Item::from_text(String::from_str(alloc, text)?))
 }
@@ -95,6 +101,12 @@ impl Line {
         self
     }
 
+    /// The same line, which waits so many milliseconds.
+    pub(crate) fn waits_for(mut self, millis: u64) -> Line {
+        self.wait = Wait::Millis(millis);
+        self
+    }
+
     /// The same line of another queue.
     pub(crate) fn on(mut self, queue: u64) -> Line {
         self.queue = queue;
@@ -113,7 +125,7 @@ impl Line {
         self
     }
 
-    fn message(&self, alloc: Global) -> Result<Message, NoMemory> {
+    fn act(&self, alloc: Global) -> Result<Act, NoMemory> {
         let Line {
             key,
             queue,
@@ -122,12 +134,13 @@ impl Line {
         } = *self;
         let call = match self.does {
             Does::Hello => {
-                return Ok(Message::Hello {
+                return Ok(Act::Hello {
                     client: key.client,
                     incarnation: key.incarnation,
                 });
             }
-            Does::Cancel => return Ok(Message::Cancel { key }),
+            Does::Cancel => return Ok(Act::Cancel { key }),
+            Does::Tick => return Ok(Act::Tick),
             Does::Put(text) => Call::Put {
                 queue,
                 item: item(alloc, text)?,
@@ -141,24 +154,29 @@ impl Line {
             Does::Count => Call::Count { queue },
             Does::Peek => Call::Peek { queue },
         };
-        Ok(Message::Request { key, call })
+        Ok(Act::Arrive { key, call })
+    }
+
+    // A tick is no message.
+    fn message(&self, alloc: Global) -> Result<Option<Message>, NoMemory> {
+        Ok(match self.act(alloc)? {
+            Act::Hello {
+                client,
+                incarnation,
+            } => Some(Message::Hello {
+                client,
+                incarnation,
+            }),
+            Act::Arrive { key, call } => Some(Message::Request { key, call }),
+            Act::Cancel { key } => Some(Message::Cancel { key }),
+            Act::Tick => None,
+        })
     }
 
     pub(crate) fn entry(&self, alloc: Global) -> Result<Entry, NoMemory> {
-        let act = match self.message(alloc)? {
-            Message::Hello {
-                client,
-                incarnation,
-            } => Act::Hello {
-                client,
-                incarnation,
-            },
-            Message::Request { key, call } => Act::Arrive { key, call },
-            Message::Cancel { key } => Act::Cancel { key },
-        };
         Ok(Entry {
             moment: self.moment,
-            act,
+            act: self.act(alloc)?,
             partner: self.partner,
         })
     }
@@ -170,7 +188,9 @@ impl Line {
         book: &mut Book,
     ) -> Result<Answer, NoMemory> {
         let alloc = rt.alloc();
-        let message = self.message(alloc).or_else(|_| self.message(alloc))?;
+        let Some(message) = self.message(alloc).or_else(|_| self.message(alloc))? else {
+            panic!(rt; "no message makes a tick")
+        };
         assert!(rt; message.fits());
         let verdict = book.handle(self.moment, message);
         match book.answer(alloc, &verdict) {

@@ -1,19 +1,27 @@
 //! Worked rows, and the entries that a book has after each, also where a growth is refused. With ample memory
 //! none is; under `rt try --test --fail-alloc N` the Nth is, and what it stopped is asked again.
 use crate::audit::first_fault;
-use crate::line::{Line, cancel, count, hello, peek, put, take, transfer};
-use rv_book::Book;
+use crate::line::{Line, cancel, count, hello, peek, put, take, tick, transfer};
+use rv_book::{Account, Act, Book};
 use rv_text::{Answer, NoMemory, Refusal};
 use std::alloc::AllocGlobal;
 use std::process::Abort;
 use std::test::Fail;
+
+// Whether a step that found no memory left the account, which had so many entries, but for a tick.
+fn is_left(account: &Account, before: usize) -> bool {
+    let is_tick = |place| account
+        .entry(place)
+        .is_some_and(|entry| entry.act == Act::Tick);
+    account.len() == before || account.len() == before + 1 && is_tick(before)
+}
 
 // Sends the line, again where a growth was refused, which left the account.
 fn send(rt: &(impl Abort + AllocGlobal), book: &mut Book, line: &Line) -> Result<(), NoMemory> {
     let before = book.account().len();
     let refused = Answer::Refused(Refusal::NoMemory);
     if line.ask(rt, book)? == refused {
-        assert_eq!(rt; book.account().len(), before);
+        assert!(rt; is_left(book.account(), before));
         assert!(rt; line.ask(rt, book)? != refused);
     }
     Ok(())
@@ -137,6 +145,38 @@ fn a_cancel_is_recorded_where_it_ends_a_request(rt: HostRuntime) -> Result<(), F
         cancel(2, 9).at(6),
     ];
     records(&rt, 0, &sent, &[one, two, early, waits, ended, given])?;
+    Ok(())
+}
+
+#[test]
+fn a_tick_ends_all_that_is_due(rt: HostRuntime) -> Result<(), Fail> {
+    let [one, two, three] = [hello(1, 1), hello(2, 1), hello(3, 1)];
+    let [a, b] = [
+        transfer(1, 1, "a").waits_for(10),
+        take(2, 1).waits_for(4).on(5),
+    ];
+    let [late, zero] = [take(3, 1).waits().at(10), take(2, 2).waits_for(0).at(10)];
+    let stranger = put(9, 1, "q").at(3);
+    let sent = [
+        one,
+        two,
+        three,
+        a,
+        b,
+        stranger,
+        late,
+        zero,
+        a.at(12),
+        b.at(12),
+    ];
+    let entries = [one, two, three, a, b, tick(10), late, zero];
+    records(&rt, 0, &sent, &entries)?;
+    let [c, poll] = [transfer(2, 1, "c").waits_for(4).at(2), take(2, 2).at(7)];
+    let sent = [one, two, c, stranger.at(5), stranger.at(6), c.at(5), poll];
+    records(&rt, 0, &sent, &[one, two, c, tick(6), poll])?;
+    let [far, d] = [4_611_686_018_427_387_904, take(2, 1).waits_for(1)];
+    let sent = [one, two, d.at(u64::MAX), d.at(u64::MAX), a.at(0)];
+    records(&rt, 0, &sent, &[one, two, d.at(far), a.at(far)])?;
     Ok(())
 }
 
