@@ -23,7 +23,7 @@ TODAY = {
     "put": True,
     "take": True,
     "transfer": True,
-    "swap": False,
+    "swap": True,
     "count": True,
     "peek": True,
     "cancel": True,

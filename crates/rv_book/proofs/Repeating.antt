@@ -14,7 +14,7 @@ use Rattle.rv_book.specs.Account.{Account, act_at, call_in}
 use Rattle.rv_text.specs.declared.answer.Answer.{Answer}
 use Rattle.rv_book.specs.Tables.{AreSessions, Becomes, IsRepeat}
 use Rattle.rv_text.specs.declared.call.Call.{Call}
-use Rattle.rv_book.specs.Steps.{Answers, EntersOrNoMemory, EpochFullDue, KeyWaits, NextAt, OtherCallDue, RefuseOr, Refuses, Repeats, Replies}
+use Rattle.rv_book.specs.Steps.{Answers, EntersOrNoMemory, EpochFullDue, NextAt, OtherCallDue, RefuseOr, Refuses, Repeats, Replies}
 use Rattle.rv_book.specs.Sessions.{HasIncarnation}
 use Rattle.rv_book.specs.Arriving.{IsCancelled}
 use Rattle.rv_book.specs.Replies.{RepliesToArrival}
@@ -24,7 +24,7 @@ use Rattle.rv_text.specs.declared.answer.Reply as reply
 use Rattle.rv_session.specs.declared.kept.Kept as kept
 use Rattle.rv_session.specs.declared.kept.Kept.{Kept}
 use Rattle.rv_text.specs.declared.message.Key.{Key}
-use Rattle.rv_book.specs.Legal.{Legal}
+use Rattle.rv_book.specs.Legal.{Legal, WaitsUnder}
 use Rattle.std.proofs.Common.{None, Option, Some, ap, inl, inr, option_and_then, option_map, refl, subst, sym, ℕ, ◌<◌, ◌∙◌, ◌≡◌, ◌≤◌}
 use Rattle.rv_text.specs.declared.answer.Refusal.{Refusal}
 use Rattle.rv_book.proofs.OnePartner.{arrives_once}
@@ -153,7 +153,7 @@ module _ (a : Account) (t : Table) (moment : ℕ) (are : AreSessions a t) (legal
   cancelled_late key place k has positive =
       let told = told_at key place k has in
       let x = Replied key told.told in
-      let not_waiting = λ (waits : KeyWaits a key). waiting_or_replied key told.told (one_told a key x (Waiting key) legal told.answers (inr (waits, refl))) in
+      let not_waiting = λ (waits : WaitsUnder a.entries key). waiting_or_replied key told.told (one_told a key x (Waiting key) legal told.answers (inr (waits, refl))) in
       record {
         answer = x;
         is = ap (option_map (Replied key)) told.is;

@@ -18,7 +18,7 @@ use Rattle.rv_book.specs.Calls.{opposite}
 use Rattle.rv_book.specs.Legal.{Legal}
 use Rattle.rv_book.specs.Meeting.{OwnDuty, PartnersDuty}
 use Rattle.rv_book.specs.Parked.{owed_at, owed_by, owed_in}
-use Rattle.rv_book.specs.Tables.{AreSessions, IsDueIn, IsSession, IsSessionOf, SettlesIf, partners_reply}
+use Rattle.rv_book.specs.Tables.{AreSessions, IsOwedIn, IsSession, IsSessionOf, SettlesIf, partners_reply}
 use Rattle.rv_book.specs.Waiting.{NamesPartner, Waiting}
 use Rattle.rv_book.proofs.Growing.{act_read, call_read, partner_read, reads_on}
 use Rattle.rv_book.proofs.Keys.{act_called, client_of}
@@ -96,7 +96,7 @@ told_waiting a old call partner d legal are met = ap (waiting_of old) (sym met.o
 
 -- once the arrival's own session waits, the session of the request that it met waits still
 pub partner_due : (a : Account) (old begun : Table) (key : Key) (call : Call) (partner : Option ℕ) (s : Session) (other : Option Owed) → Legal a → AreSessions a old → IsNext a key
-    → MeetsOldest a.entries (side_of call) partner → OnlySets old begun key.client s → PartnersDuty a.entries partner other → IfSome other (IsDueIn begun)
+    → MeetsOldest a.entries (side_of call) partner → OnlySets old begun key.client s → PartnersDuty a.entries partner other → IfSome other (IsOwedIn begun)
 partner_due a old begun key call partner s None legal are next meets begins duty = tt
 partner_due a old begun key call partner s (Some d) legal are next meets begins duty =
     let met = partner_met a call partner d meets duty in
@@ -113,11 +113,11 @@ own_stays a old begun mid key call partner s (Some d) others next meets begins s
 -- once the partner's session was settled, the arrival's own waits still
 pub own_due : (a : Account) (old begun mid : Table) (key : Key) (call : Call) (partner : Option ℕ) (place : ℕ) (other own : Option Owed) (others : Kept) → IsNext a key
     → MeetsOldest a.entries (side_of call) partner → OnlySets old begun key.client (waiting_session key.incarnation key.number place) → SettlesIf begun mid other others
-    → PartnersDuty a.entries partner other → OwnDuty (side_of call) (wait_of call) partner (record { place = place; client = key.client }) own → IfSome own (IsDueIn mid)
+    → PartnersDuty a.entries partner other → OwnDuty (side_of call) (wait_of call) partner (record { place = place; client = key.client }) own → IfSome own (IsOwedIn mid)
 own_due a old begun mid key call partner place other None others next meets begins settles duty own = tt
 own_due a old begun mid key call partner place other (Some d) others next meets begins settles duty own =
     let there = own_stays a old begun mid key call partner (waiting_session key.incarnation key.number place) other others next meets begins settles duty in
-    subst (IsDueIn mid) (sym own.0) (ap (option_and_then (λ (x : Session). waiting_place x.state)) there)
+    subst (IsOwedIn mid) (sym own.0) (ap (option_and_then (λ (x : Session). waiting_place x.state)) there)
 
 -- ---- what the account says after the arrival
 

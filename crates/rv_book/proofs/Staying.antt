@@ -7,7 +7,7 @@ use Rattle.rv_book.specs.declared.verdict.Said as said
 use Rattle.rv_text.specs.declared.message.Message.TheVariants.{Cancel, Hello, Request}
 use Rattle.rv_book.specs.Account.{Account, Extends, act_at, call_in, key_in}
 use Rattle.rv_book.specs.declared.account.Act.{Act}
-use Rattle.rv_book.specs.Steps.{Adds, Answers, EntersOrNoMemory, KeyWaits, NextAt, Refuses, Replies, Ticks}
+use Rattle.rv_book.specs.Steps.{Adds, Answers, EntersOrNoMemory, NextAt, Refuses, Replies, Ticks}
 use Rattle.rv_book.specs.Waiting.{Waiting}
 use Rattle.rv_text.specs.declared.answer.Answer.{Answer}
 use Rattle.rv_text.specs.declared.call.Call.{Call}
@@ -15,7 +15,7 @@ use Rattle.rv_book.specs.declared.account.Entry.{Entry}
 use Rattle.rv_book.specs.Replies.{CancelledFirst, HasReply, RepliesAt, RepliesToArrival}
 use Rattle.rv_session.specs.declared.kept.Kept.{Kept}
 use Rattle.rv_text.specs.declared.message.Key.{Key}
-use Rattle.rv_book.specs.Legal.{Legal, before}
+use Rattle.rv_book.specs.Legal.{Legal, before, WaitsUnder}
 use Rattle.std.proofs.Common.{List, None, Option, Some, [], ap, append_assoc, append-nil, arith, inl, inr, length, option_and_then, option_map, refl, subst, sym, ℕ, ◌++◌, ◌<◌, ◌∙◌, ◌∷◌, ◌≡◌}
 use Rattle.rv_text.specs.declared.message.Message.{Message}
 use Rattle.rv_book.proofs.Growing.{act_read, call_read, reads_on, reads_within}
@@ -148,7 +148,7 @@ one_reply b key x y legal (inr first) (inl second) = absurd (first.0.not_arrived
 one_reply b key x y legal (inr first) (inr second) = second.1 ∙ sym first.1
 
 -- who waits has no reply
-pub reply_or_waits : (b : Account) (key : Key) (reply : Reply) → Legal b → HasReply b.entries key reply → KeyWaits b key → ⊥
+pub reply_or_waits : (b : Account) (key : Key) (reply : Reply) → Legal b → HasReply b.entries key reply → WaitsUnder b.entries key → ⊥
 reply_or_waits b key reply legal (inl has) waits =
     let place : waits.place ≡ has.place = arrives_once b waits.place has.place key waits.call has.call legal waits.arrived has.arrived in
     let there : Waiting b.entries has.place = subst (Waiting b.entries) place waits.waits in

@@ -13,7 +13,7 @@ use Rattle.rv_dual.specs.declared.giver.Offer.{Offer}
 use Rattle.rv_book.specs.declared.account.Entry.{Entry}
 use Rattle.rv_book.specs.declared.arrived.Arrived.{Arrived}
 use Rattle.rv_book.specs.Calls.{Lasts, opposite}
-use Rattle.rv_book.specs.Meeting.{ArrivedOn, FindsNobody, Gave, GaveNobody, GaveTo, LaysDown, MayWait, OwnDuty, StandsBy, Took, TookFrom, TookNothing, offer_by, own_by}
+use Rattle.rv_book.specs.Meeting.{ArrivedOn, FindsNobody, Gave, GaveNobody, GaveTo, LaysDown, StaysBy, OwnDuty, StandsBy, Took, TookFrom, TookNothing, offer_by, own_by}
 use Rattle.rv_book.specs.Parked.{AreParked, IsParked, owed_at}
 use Rattle.rv_book.specs.Views.{AllEmpty, AreBelow, OnlyQueue, SameStations, Stations, exchanger_at, place_of_duty, queue_at, takers_places, waiting_on}
 use Rattle.rv_book.proofs.Numbers.{same_or_not}
@@ -275,7 +275,7 @@ module _ (old new : Stations) (queue : ℕ) (changed : ChangedAt old new queue) 
 pub looked_on : (stations : Stations) (queue : ℕ) (wait : Option Wait) (duty : Owed) (result : Arrived) → result ≡ record { partner = None; own = Some duty; other = None }
     → ArrivedOn stations stations (Looks queue) wait duty result
 looked_on stations queue wait duty result is =
-    let no_wait = λ (may : MayWait (Looks queue) wait). let no : IsSome (opposite (Looks queue)) = may.0 in absurd (cc) in
+    let no_wait = λ (may : StaysBy (Looks queue) wait). let no : IsSome (opposite (Looks queue)) = may.0 in absurd (cc) in
     let same : SameStations stations stations = record { queues = λ other. record { givers = refl; takers = refl }; exchangers = λ exchanger. refl } in
     subst (ArrivedOn stations stations (Looks queue) wait duty) (sym is) (record {
       meets = inr (no_wait, (λ other opposes. absurd (none-some other opposes)), same);

@@ -19,7 +19,7 @@ use Rattle.rv_book.specs.declared.account.Act.TheVariants.{Arrive}
 use Rattle.rv_book.specs.declared.account.Entry.{Entry}
 use Rattle.rv_book.specs.declared.arrived.Arrived.{Arrived}
 use Rattle.rv_book.specs.Legal.{Legal, NamesFreePartner}
-use Rattle.rv_book.specs.Meeting.{ArrivedOn, FindsNobody, Leaves, MayWait, Meets, MeetsFirst}
+use Rattle.rv_book.specs.Meeting.{ArrivedOn, FindsNobody, Leaves, StaysBy, Meets, MeetsFirst}
 use Rattle.rv_book.specs.Parked.{AreParked, AreStations, IsLine, IsLineOf, owed_at, owed_by, owed_in}
 use Rattle.rv_book.specs.Views.{AreBelow, NobodyWaits, SameStations, Stations, place_of_duty, takers_places, waiting_on}
 use Rattle.rv_book.specs.Waiting.{OpenAt, StoppedAt, IsOldest}
@@ -269,7 +269,7 @@ module _ (a : Account) (e : Entry) (old new : Stations) (key : Key) (call : Call
         subst (λ s. IsLine (a.entries ++ e ∷ []) s (waiting_on new s)) (sym same)
         (subst (IsLine (a.entries ++ e ∷ []) (side_of call)) (sym waits.last)
         (line_push a e (side_of call) (waiting_on old (side_of call)) (are.lines (side_of call)) legal free (untouched none (side_of call)) none
-        (record { call = call; arrives = ap call_in arrives; is = refl; stays = subst (MayWait (side_of call)) (sym is) may })))
+        (record { call = call; arrives = ap call_in arrives; is = refl; stays = subst (StaysBy (side_of call)) (sym is) may })))
     | inr apart ↦
         subst (IsLine (a.entries ++ e ∷ []) side) (sym (waits.others side apart))
         (line_same a.entries e side (waiting_on old side) (are.lines side) free (untouched none side) (λ opened.
@@ -282,7 +282,7 @@ module _ (a : Account) (e : Entry) (old new : Stations) (key : Key) (call : Call
       (line_same a.entries e side (waiting_on old side) (are.lines side) free (untouched none side) (λ opened.
       let own = own_side side opened in
       let called : own.call ≡ call = same_Some _ _ (sym own.arrives ∙ ap call_in arrives) in
-      goes.0 (subst (MayWait (side_of call)) is (subst Stays called own.stays))))
+      goes.0 (subst (StaysBy (side_of call)) is (subst Stays called own.stays))))
 
   by_partner : (partner : Option ℕ) → e.partner ≡ partner → Meets old new (side_of call) (wait_of call) (length a.entries) partner → (side : Side) → IsLine (a.entries ++ e ∷ []) side (waiting_on new side)
   by_partner None named meets = unmet_lines (wait_of call) refl named meets

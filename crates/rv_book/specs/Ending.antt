@@ -1,5 +1,5 @@
--- What the tables say while a time-out takes out what is due, one request a turn: what the account says before the
--- tick, but for the requests that were taken out.
+-- What the tables say while a time-out takes out what is due, one request a turn: what the account says
+-- before the tick, but for the requests that were taken out.
 use Rattle.std.specs.Prelude.{◌≡◌, ◌⊎◌, ◌<◌, ◌≤◌, ℕ, List, Option, Some, None, false}
 use Rattle.std.specs.FinSet.{contains}
 use Rattle.rv_text.specs.declared.call.Side.{Side}
@@ -32,9 +32,12 @@ pub record TakenOut (entries : List Entry) (moment : ℕ) (due : Deadlines) (r :
 abbrev pub Left : List Entry → ℕ → Deadlines → (ℕ → Type 0) → ℕ → Type 0
 Left entries moment due P r = P r × ¬ TakenOut entries moment due r
 
--- each side's line is that of its open arrivals that are left, and parked with them are the duties to settle them
-pub record AreStationsLeft (entries : List Entry) (moment : ℕ) (due : Deadlines) (stations : Stations) : Type 0 where
-  pub lines : (side : Side) → IsLineOf (Left entries moment due (OpenAt entries side)) (waiting_on stations side)
+-- each side's line is that of its open arrivals that are left, and parked with them are the duties to settle
+-- them
+pub record AreStationsLeft (entries : List Entry) (moment : ℕ) (due : Deadlines) (stations : Stations)
+    : Type 0 where
+  pub lines : (side : Side)
+      → IsLineOf (Left entries moment due (OpenAt entries side)) (waiting_on stations side)
   pub parked : AreParked entries stations
 
 -- the request of the session's last number arrived at the place, was taken out there, and timed out
@@ -54,7 +57,8 @@ StandsLeft a moment due client s (state.Settled (Some place) told) =
 StandsLeft a moment due client s (state.Settled None told) =
     Stands a client s (state.Settled None told)
 
-pub record IsSessionLeft (a : Account) (moment : ℕ) (due : Deadlines) (client : ℕ) (s : Session) : Type 0 where
+pub record IsSessionLeft (a : Account) (moment : ℕ) (due : Deadlines) (client : ℕ) (s : Session)
+    : Type 0 where
   pub incarnation : HasIncarnation a.entries client s.incarnation
   pub number : LastNumber a.entries client s.last
   pub stands : StandsLeft a moment due client s s.state
@@ -67,16 +71,19 @@ pub record AreSessionsLeft (a : Account) (moment : ℕ) (due : Deadlines) (t : T
   pub epoch : t.epoch ≡ a.epoch
   pub each : (client : ℕ) → IsSessionLeftOf a moment due client (session_of t client)
 
+-- the requests that wait and are left
+abbrev pub WaitingLeft : State → ℕ → ℕ → Type 0
+WaitingLeft state moment r =
+    Left (account_of state).entries moment state.due (Waiting (account_of state).entries) r
+
 -- the tables are what the account says, but for what is due at the moment and was taken out
 pub record IsEnding (state : State) (moment : ℕ) : Type 0 where
   pub legal : Legal (account_of state)
   pub fits : FitsAccount (account_of state)
   pub sessions_are : AreSessionsLeft (account_of state) moment state.due state.sessions
   pub stations_are : AreStationsLeft (account_of state).entries moment state.due state.stations
-  pub waiting_is : NumberOf (Left (account_of state).entries moment state.due (Waiting (account_of state).entries))
-      state.waiting
-  pub due_are : AreDeadlinesOf (account_of state).entries
-      (Left (account_of state).entries moment state.due (Waiting (account_of state).entries)) state.due
+  pub waiting_is : NumberOf (WaitingLeft state moment) state.waiting
+  pub due_are : AreDeadlinesOf (account_of state).entries (WaitingLeft state moment) state.due
   pub spare : state.waiting ≤ state.account.room
 
 -- a request that is due at the moment was ended: fewer wait

@@ -37,15 +37,16 @@ abbrev pub TicksCanEnter : Type 0
 TicksCanEnter = (a : Account) (now : ℕ) → Legal a
     → (b : Account) × Ticks a (step_moment a now) b × Legal b
 
--- after the time-outs of a step, where no refusal of a request is due, a repeat has its answer, or a legal account
--- with the request's entry and its answer exists
+-- after the time-outs of a step, where no refusal of a request is due, a repeat has its answer, or a legal
+-- account with the request's entry and its answer exists
 abbrev pub RequestsCanEnter : Type 0
 RequestsCanEnter = (before a : Account) (now : ℕ) (key : Key) (call : Call) → Legal before
     → Ticks before (step_moment before now) a
     → RequestLines a key call (λ refusal. Unit {0}) ((x : Answer) × Answers a key x)
     (CanEnter a (step_moment before now) key call)
 
--- after the time-outs of a step, where no refusal of a hello is due and it is no repeat, a legal account with its entry exists
+-- after the time-outs of a step, where no refusal of a hello is due and it is no repeat, a legal account with
+-- its entry exists
 abbrev pub HellosCanEnter : Type 0
 HellosCanEnter = (before a : Account) (now client incarnation : ℕ) → Legal before
     → Ticks before (step_moment before now) a
@@ -58,8 +59,8 @@ pub record CanCancel (a : Account) (moment : ℕ) (key : Key) : Type 0 where
   pub adds : Adds a moment (Cancel key) after
   pub replies : Replies after key (Replied key Cancelled)
 
--- after the time-outs of a step, where no refusal of a cancel is due, a settled request has its answer, or a legal account with the cancel's
--- entry exists, after which its request is cancelled
+-- after the time-outs of a step, where no refusal of a cancel is due, a settled request has its answer, or a
+-- legal account with the cancel's entry exists, after which its request is cancelled
 abbrev pub CancelsCanEnter : Type 0
 CancelsCanEnter = (before a : Account) (now : ℕ) (key : Key) → Legal before
     → Ticks before (step_moment before now) a

@@ -97,10 +97,10 @@ pub record KeepsNumbers (a : Account) (does : Act) : Type 0 where
 
 -- ---- pairs and swaps
 --
--- A pair joins one that gives and one that takes (Java SE 21, `TransferQueue`; the fair dual queue of Scherer,
--- Lea and Scott, PPoPP 2006). A swap joins two that exchange at one exchanger (Java SE 21, `Exchanger`): each
--- is there what the other meets, so the earlier one is open when the later comes, and nobody waits where
--- another does.
+-- A pair joins one that gives and one that takes (Java SE 21, `TransferQueue`; the fair dual queue of
+-- Scherer, Lea and Scott, PPoPP 2006). A swap joins two that exchange at one exchanger (Java SE 21,
+-- `Exchanger`): each is there what the other meets, so the earlier one is open when the later comes, and
+-- nobody waits where another does.
 
 -- only a call that may meet names a partner: an earlier place that is in no pair or swap yet
 pub record IsFreePartner (entries : List Entry) (e : Entry) (p : ℕ) : Type 0 where

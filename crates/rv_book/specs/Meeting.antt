@@ -117,8 +117,8 @@ LeftExchanger old new place (Some duty) = Withdraws old place new duty
 -- ---- what an arrival does
 
 -- such an arrival stays where nobody is there
-abbrev pub MayWait : Side → Option Wait → Type 0
-MayWait side wait = IsSome (opposite side) × Lasts wait
+abbrev pub StaysBy : Side → Option Wait → Type 0
+StaysBy side wait = IsSome (opposite side) × Lasts wait
 
 -- it met the first of the other side, which left
 pub record MeetsFirst (old new : Stations) (side : Side) (place : ℕ) : Type 0 where
@@ -141,14 +141,14 @@ pub record StartsToWait (old new : Stations) (side : Side) (place : ℕ) : Type 
 abbrev pub Meets : Stations → Stations → Side → Option Wait → ℕ → Option ℕ → Type 0
 Meets old new side wait place (Some partner) = MeetsFirst old new side partner
 Meets old new side wait place None =
-    (MayWait side wait × StartsToWait old new side place)
-    ⊎ ((¬ MayWait side wait) × FindsNobody old side × SameStations old new)
+    (StaysBy side wait × StartsToWait old new side place)
+    ⊎ ((¬ StaysBy side wait) × FindsNobody old side × SameStations old new)
 
 -- its own duty comes back, but where it is a request that waits now
 abbrev pub OwnDuty : Side → Option Wait → Option ℕ → Owed → Option Owed → Type 0
-OwnDuty side wait partner duty None = (partner ≡ None) × MayWait side wait × IsSome wait
+OwnDuty side wait partner duty None = (partner ≡ None) × StaysBy side wait × IsSome wait
 OwnDuty side wait partner duty (Some own) =
-    (own ≡ duty) × ((partner ≡ None) → MayWait side wait → wait ≡ None)
+    (own ≡ duty) × ((partner ≡ None) → StaysBy side wait → wait ≡ None)
 
 -- how many requests start to wait with an arrival whose own duty is this, and how many stop with one that met
 -- the request of this duty

@@ -48,7 +48,8 @@ pub record ToldStopped (entries : List Entry) (r : ℕ) (told : Reply) : Type 0 
   pub stop : FirstStop entries r place
   pub is : told ≡ told_by stop.stops.stopper.act
 
--- what the unmet request that arrived at r is told, by its wait: at once this reply, or that its time is over;
+-- what the unmet request that arrived at r is told, by its wait: at once this reply, or that its time is
+-- over;
 -- or, once it was stopped, by what stopped it
 abbrev pub RepliesUnmet : List Entry → ℕ → Wait → Reply → Reply → Type 0
 RepliesUnmet entries r Now at_once told = told ≡ at_once

@@ -115,10 +115,6 @@ pub record EpochFullDue (a : Account) (need : ℕ) (refusal : Refusal) : Type 0 
 
 -- ---- the lines of a step, of which the first that applies decides
 
--- the request with this key arrived, and it waits
-abbrev pub KeyWaits : Account → Key → Type 0
-KeyWaits b key = WaitsUnder b.entries key
-
 -- a refusal is due, and it refuses
 pub record RefusesDue (due refuses : Refusal → Type 0) : Type 0 where
   pub refusal : Refusal
@@ -158,7 +154,7 @@ RequestLines a key call refuses repeats enters =
 abbrev pub CancelLines : Account → Key → (Refusal → Type 0) → Type 0 → Type 0 → Type 0 → Type 0
 CancelLines a key refuses ends repeats enters =
     KeyLines a key refuses
-    (WhereElse (KeyWaits a key) ends
+    (WhereElse (WaitsUnder a.entries key) ends
     repeats)
     (RefuseOr (EpochFullDue a 1) refuses
     enters)
@@ -194,7 +190,8 @@ pub record Replies (b : Account) (key : Key) (answer : Answer) : Type 0 where
 
 -- the answer is the reply of the request with this key, or that it waits
 abbrev pub Answers : Account → Key → Answer → Type 0
-Answers b key said = Replies b key said ⊎ (KeyWaits b key × (said ≡ answer.TheVariants.Waiting key))
+Answers b key said =
+    Replies b key said ⊎ (WaitsUnder b.entries key × (said ≡ answer.TheVariants.Waiting key))
 
 -- the account stays, and the answer is what the request with this key is told, and nothing else
 pub record Repeats (a b : Account) (key : Key) (answer : Answer) : Type 0 where
@@ -226,8 +223,8 @@ NextAt a moment (Cancel key) b answer =
     (EntersOrNoMemory a moment (act.TheVariants.Cancel key) b answer
     (Replies b key answer))
 
--- the account after the time-outs of a step: where something is due at its moment, with one tick of that moment
--- more, which ends all that is due; else the same
+-- the account after the time-outs of a step: where something is due at its moment, with one tick of that
+-- moment more, which ends all that is due; else the same
 abbrev pub Ticks : Account → ℕ → Account → Type 0
 Ticks a moment b = WhereElse (SomethingDue a.entries moment) (Adds a moment act.TheVariants.Tick b) (b ≡ a)
 

@@ -168,8 +168,8 @@ pub record IsPrepared (old new : State) (moment : ℕ) (call : Call) : Type 0 wh
   pub ready : IsReady old (with_due new old.due) (need_of call) (Some (side_of call))
   pub due : new.due ≡ with_deadline (deadline_of moment call) (length (account_of old).entries) old.due
 
--- a request that has its session's next number comes to a state that is sound but for the deadline of the request
--- itself, and all that it adds has room
+-- a request that has its session's next number comes to a state that is sound but for the deadline of the
+-- request itself, and all that it adds has room
 pub record MayRecord (state : State) (moment : ℕ) (key : Key) (call : Call) : Type 0 where
   pub deadlines : Deadlines
   pub comes : Comes (with_due state deadlines) moment (Arrive key call)
@@ -187,8 +187,8 @@ Sees state call = ¬ MayMeet call → AreStations (account_of state).entries sta
 -- ---- who is settled
 
 -- the session of the duty waits at the duty's place
-abbrev pub IsDueIn : Table → Owed → Type 0
-IsDueIn t duty = waiting_of t duty.client ≡ Some duty.place
+abbrev pub IsOwedIn : Table → Owed → Type 0
+IsOwedIn t duty = waiting_of t duty.client ≡ Some duty.place
 
 -- the request of the duty was settled with this, if there is one
 abbrev pub SettlesIf : Table → Table → Option Owed → Kept → Type 0
@@ -209,7 +209,7 @@ pub record MayEnd (state : State) (place : ℕ) : Type 0 where
   pub duty : Owed
   pub is_at : duty.place ≡ place
   pub owed : owed_at (account_of state).entries place ≡ Some duty
-  pub due_in : IsDueIn state.sessions duty
+  pub due_in : IsOwedIn state.sessions duty
   pub call : Call
   pub arrived : call_at (account_of state).entries place ≡ Some call
   pub parked : AreParked (account_of state).entries state.stations
@@ -252,7 +252,8 @@ pub record Becomes (a : Account) (moment : ℕ) (m : Message) (b : Account) (sai
   pub is : answer_of b.entries said ≡ Some answer
   pub step : NextAt a moment m b answer
 
--- what became of a message that came with this moment: this answer, by the time-outs that were due and one step
+-- what became of a message that came with this moment: this answer, by the time-outs that were due and one
+-- step
 pub record BecomesAfterTicks (a : Account) (now : ℕ) (m : Message) (b : Account) (said : Said) : Type 0 where
   pub ticked : Account
   pub ticks : Ticks a (step_moment a now) ticked

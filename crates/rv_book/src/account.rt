@@ -32,11 +32,11 @@ pub enum Act {
 /// One line of an account.
 #[derive(Debug, PartialEq, Eq, Drop)]
 pub struct Entry {
-    /// When it was recorded, in milliseconds; at most 2^62.
+    /// When it was recorded, in milliseconds; in a book's account at most 2^62.
     pub moment: u64,
     /// What it records.
     pub act: Act,
-    /// On the later arrival of a pair, the place of the earlier.
+    /// On the later arrival of a pair or swap, the place of the earlier.
     pub partner: Option<Place>,
 }
 
@@ -76,14 +76,14 @@ impl Model for Account {
 }
 
 impl Account {
-    /// The epoch, 1 to 2^53 - 1.
+    /// The epoch; in a book's account 1 to 2^53 - 1.
     pub fn epoch(&self) -> u64
         ensures { result ≡ self.now.account.epoch }
     {
         self.epoch
     }
 
-    /// The moment at which the epoch was opened, in milliseconds; at most 2^62.
+    /// The moment at which the epoch was opened, in milliseconds; in a book's account at most 2^62.
     pub fn opened(&self) -> u64
         ensures { result ≡ self.now.account.opened }
     {

@@ -15,7 +15,8 @@ use std::marker::Model;
 /// The book of an epoch, which contracts see as its [`Account`].
 ///
 /// The account is always legal and within the limits; what the book keeps beside it, one session for
-/// each client, 64 queues and 64 exchangers of who waits, is what the account says.
+/// each client, 64 queues and 64 exchangers of who waits, their number and the limits of their waits, is what
+/// the account says.
 #[derive(Drop)]
 pub struct Book {
     state: State,
@@ -57,15 +58,15 @@ impl Book {
         Ok(Book { state })
     }
 
-    /// Takes one step with a message that came at a moment in milliseconds. First, where some waiting request
-    /// has a limit at or before the moment, one tick times out all such requests; then the message is refused,
-    /// and the account stays as it is then, or it is recorded. It always gives a verdict; where a growth was
-    /// refused the verdict is refusal 11, and nothing changed but by the tick, which takes no memory. A moment
-    /// before the book's own counts as the book's own, one above 2^62 as 2^62.
+    /// Takes one step with a message that came at a moment in milliseconds. First, where some waiting
+    /// request has a limit at or before the moment, one tick times out all such requests; then the message
+    /// is refused, and the account stays as it is then, or it is recorded. It always gives a verdict; where
+    /// a growth was refused the verdict is refusal 11, and nothing changed but by the tick, which takes no
+    /// memory. A moment before the book's own counts as the book's own, one above 2^62 as 2^62.
     ///
-    /// The cost grows with the clients, and not with the entries nor with the items that wait. Where nothing is
-    /// due the least limit alone is looked at; to time out k requests takes k turns, each of which goes over the
-    /// queue of its request.
+    /// The cost grows with the clients, and not with the entries. To end a wait by a time-out, a cancel or a
+    /// hello goes over the queue of its request; a limit that comes or goes moves the later ones. Where
+    /// nothing is due the least limit alone is looked at.
     pub fn handle(&mut self, now: u64, message: Message) -> Verdict
         requires { FitsMessage message }
         ensures step { IsStep self.old now message self.new result }

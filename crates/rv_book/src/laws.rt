@@ -13,19 +13,20 @@ pub fn ticks_can_enter()
     ensures { TicksCanEnter }
 {}
 
-/// Where no refusal of a request is due, a legal account with the request's entry exists, and with it
-/// the request's reply, or that it waits.
+/// After the time-outs of a step, where no refusal of a request is due, a repeat has its answer, or a legal
+/// account with the request's entry exists, and with it the request's reply, or that it waits.
 pub fn requests_can_enter()
     ensures { RequestsCanEnter }
 {}
 
-/// Where no refusal of a cancel is due, its request has its reply, or a legal account with the cancel's entry
-/// exists, after which the request is cancelled.
+/// After the time-outs of a step, where no refusal of a cancel is due, its request has its reply, or a legal
+/// account with the cancel's entry exists, after which the request is cancelled.
 pub fn cancels_can_enter()
     ensures { CancelsCanEnter }
 {}
 
-/// Where no refusal of a hello is due and the hello is no repeat, a legal account with its entry exists.
+/// After the time-outs of a step, where no refusal of a hello is due and the hello is no repeat, a legal
+/// account with its entry exists.
 pub fn hellos_can_enter()
     ensures { HellosCanEnter }
 {}

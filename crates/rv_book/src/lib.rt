@@ -1,4 +1,4 @@
-//! The book: sessions and waiting items of one epoch, and the account of all that happened to them.
+//! The book: sessions and all that waits in one epoch, and the account of what happened to them.
 #![tactic(auto)]
 
 mod account;

@@ -1,5 +1,6 @@
 //! The account with the tables that answer for it, and the steps that change them together.
-ghost use Rattle.std.specs.Prelude.{◌≡◌, ◌<◌, ◌≤◌, ◌+◌, [], None, Some, OnOk, OnErr, IfOk, IfErr, IfSome, true, false};
+ghost use Rattle.std.specs.Prelude.{◌≡◌, ◌<◌, ◌≤◌, ◌+◌, [], None, Some, OnOk, OnErr, IfOk, IfErr, IfSome};
+ghost use Rattle.std.specs.Prelude.{true, false};
 ghost use Rattle.rv_text.specs.Limits.{FitsCall, FitsIdentifier, FitsMessage, FitsSide};
 ghost use Rattle.rv_book.specs.Arriving.{GoesOn, IsCancelled, IsRecorded, WillReply, entry, said_of};
 ghost use Rattle.rv_text.specs.Members.{FitsWait};
@@ -59,7 +60,8 @@ fn deadline_after(moment: u64, wait: Option<Wait>) -> Option<u64>
     }
 }
 
-// What is kept as the reply of a request that met nobody and doesn't wait, where nobody being there has this reply.
+// What is kept as the reply of a request that met nobody and doesn't wait, where this is said of nobody
+// there.
 fn reply_at_once(wait: Wait, nobody: Kept) -> Kept
     ensures { result ≡ kept_at_once wait nobody }
 {
@@ -90,8 +92,8 @@ impl State {
     ghost use Rattle.rv_book.specs.Legal.{KeepsTime, NothingDue};
     ghost use Rattle.rv_book.specs.Limits.{FitEntries};
     ghost use Rattle.rv_book.specs.Waiting.{Waiting, limit_at};
-    ghost use Rattle.rv_book.specs.Tables.{Becomes, BecomesAfterTicks, Comes, EndsAt, EndsIf, HasRoomFor, HasSpace};
-    ghost use Rattle.rv_book.specs.Tables.{IsDueIn, IsPrepared, IsPushed, IsReady, IsTime, MayEnd, with_due};
+    ghost use Rattle.rv_book.specs.Tables.{Becomes, BecomesAfterTicks, Comes, EndsAt, EndsIf, HasSpace};
+    ghost use Rattle.rv_book.specs.Tables.{IsOwedIn, IsPrepared, IsPushed, IsReady, IsTime, MayEnd, with_due};
     ghost use Rattle.rv_book.specs.Tables.{IsRefused, IsRepeat, IsSame, IsSound, MayRecord, NoEntryDue, Sees};
     ghost use Rattle.rv_book.specs.Tables.{SettlesIf, account_of};
     ghost use Rattle.rv_session.specs.Meanings.{HasLast, HasNext, IsNewer};
@@ -157,8 +159,8 @@ impl State {
     }
 
     // Tests the epoch's room for an entry that may need one more later, and makes all growths that the entry
-    // and its side need. It changes nothing but room; what follows it can't fail, but for a new client's
-    // session.
+    // and its side need. It changes nothing but room; what follows it can't fail, but for a deadline that is
+    // added and a new client's session.
     fn make_room(&mut self, need: usize, side: Option<Side>) -> Result<(), Refusal>
         requires sound { IsSound self.old }
         requires small { need ≤ 2 }
@@ -192,7 +194,7 @@ impl State {
 
     // Settles the request that a duty is for, if there is one: it has this reply, and no deadline any more.
     fn settle(&mut self, duty: Option<Duty>, kept: Kept)
-        requires waits { IfSome duty (IsDueIn self.old.sessions) }
+        requires waits { IfSome duty (IsOwedIn self.old.sessions) }
         requires fit { FitEntries (account_of self.old).entries }
         ensures sessions { SettlesIf self.old.sessions self.new.sessions duty kept }
         ensures due { self.new.due ≡ without_duty (account_of self.old).entries duty self.old.due }
@@ -206,8 +208,8 @@ impl State {
         }
     }
 
-    // Makes all growths of a request that comes at a moment: of its entries, its queue and, where it may wait for some
-    // time, its deadline. What follows can't fail.
+    // Makes all growths of a request that comes at a moment: of its entries, its side and, where it may wait
+    // for some time, its deadline. What follows can't fail.
     fn prepare(&mut self, moment: u64, call: &Call) -> Result<(), Refusal>
         requires sound { IsSound self.old }
         requires moment { moment ≤ max_moment }
@@ -312,7 +314,7 @@ impl State {
         }
     }
 
-    // Ends the request that waits at a place: it leaves its queue and the deadlines, and this is kept as its reply.
+    // Ends the request that waits at a place: it leaves its side and the deadlines, and has this reply.
     fn end(&mut self, place: Place, kept: Kept)
         requires { MayEnd self.old place }
         ensures account { self.new.account ≡ self.old.account }
@@ -471,7 +473,8 @@ impl State {
         self.account.own_moment().max(now.min(MAX_MOMENT))
     }
 
-    // Ends the request with the least limit that is due at a moment, if there is one, and tells whether there was.
+    // Ends the request with the least limit that is due at a moment, if there is one, and tells whether it
+    // did.
     fn end_next(&mut self, moment: u64) -> bool
         requires { IsEnding self.old moment }
         ensures ending { IsEnding self.new moment }
@@ -499,8 +502,8 @@ impl State {
         while self.end_next(moment) {}
     }
 
-    // Times out all requests that are due at a moment, by one tick; where none is, nothing changes. It takes no
-    // memory, and there is always room. Where nothing is due the least limit alone is looked at.
+    // Times out all requests that are due at a moment, by one tick; where none is, nothing changes. It takes
+    // no memory, and there is always room. Where nothing is due the least limit alone is looked at.
     fn time_out(&mut self, moment: u64)
         requires { IsTime self.old moment }
         ensures time { IsTime self.new moment }
@@ -513,8 +516,8 @@ impl State {
         }
     }
 
-    /// Takes one step with a message that came at a moment, and says what became of it: first it times out what
-    /// is due, and then the message is looked at.
+    /// Takes one step with a message that came at a moment, and says what became of it: first it times out
+    /// what is due, and then the message is looked at.
     pub(crate) fn step(&mut self, now: u64, message: Message) -> Said
         requires sound { IsSound self.old }
         requires fits { FitsMessage message }
@@ -523,11 +526,11 @@ impl State {
     {
         let moment = self.moment_at(now);
         self.time_out(moment);
-        self.take(moment, message)
+        self.answer(moment, message)
     }
 
     // Takes the message's own step at a moment at which nothing is due, and says what became of it.
-    fn take(&mut self, moment: u64, message: Message) -> Said
+    fn answer(&mut self, moment: u64, message: Message) -> Said
         requires time { IsTime self.old moment }
         requires nothing_due { NothingDue (account_of self.old).entries moment }
         requires fits { FitsMessage message }

@@ -7,7 +7,7 @@ use Rattle.rv_text.specs.declared.call.Side.{Side}
 use Rattle.rv_text.specs.Calls.{side_of}
 use Rattle.rv_book.specs.Elapsing.{without_deadline, without_duty}
 use Rattle.rv_book.specs.Meeting.{Leaves, StandsOn}
-use Rattle.rv_book.specs.Tables.{IsDueIn, SettlesIf, account_of}
+use Rattle.rv_book.specs.Tables.{IsOwedIn, SettlesIf, account_of}
 use Rattle.rv_book.specs.Waiting.{limit_at}
 use Rattle.rv_book.proofs.state.State.end.Goals as goal
 use Rattle.rv_book.specs.Views.{Stations}
@@ -19,7 +19,7 @@ settle-requires-clause-waits c =
     let call : may.call ≡ c.call_of.result.now = same_Some _ _ (sym may.arrived ∙ c.call_of.ensures) in
     let stands = subst (λ side. StandsOn old.stations side c.args.place) (ap side_of call ∙ sym c.side-side.ensures) may.stands in
     let leaves = c.withdraw-duty.ensures (account_of old).entries may.duty may.parked stands may.owed in
-    subst (λ (o : Option Owed). IfSome o (IsDueIn old.sessions)) (sym leaves.is) may.due_in
+    subst (λ (o : Option Owed). IfSome o (IsOwedIn old.sessions)) (sym leaves.is) may.due_in
 
 pub returns-clause-ended : goal.returns-clause-ended
 returns-clause-ended c =

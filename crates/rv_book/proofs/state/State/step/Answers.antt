@@ -13,5 +13,5 @@ returns-clause-step c =
       ticked = mid;
       ticks = subst (λ moment. Ticks a moment mid) exact c.time_out.ensures.ticks;
       fits = c.time_out.ensures.time.sound.fits;
-      becomes = subst (λ moment. Becomes mid moment c.args.message (account_of c.take.new.self) c.take.result) exact c.take.ensures.step;
+      becomes = subst (λ moment. Becomes mid moment c.args.message (account_of c.answer.new.self) c.answer.result) exact c.answer.ensures.step;
     }

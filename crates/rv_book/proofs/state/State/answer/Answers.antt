@@ -3,7 +3,7 @@ use Rattle.std.proofs.Common.{Some, sym, ap, subst}
 use Rattle.rv_text.specs.declared.message.Message.{Message}
 use Rattle.rv_text.specs.declared.answer.Answer.TheVariants.{Welcome}
 use Rattle.rv_book.specs.Steps.{NextAt}
-use Rattle.rv_book.proofs.state.State.take.Goals as goal
+use Rattle.rv_book.proofs.state.State.answer.Goals as goal
 
 pub returns-in-Ok-clause-step : goal.returns-in-Ok-clause-step
 returns-in-Ok-clause-step c =
