@@ -174,7 +174,8 @@ fn a_tick_ends_all_that_is_due(rt: HostRuntime) -> Result<(), Fail> {
     let [c, poll] = [transfer(2, 1, "c").waits_for(4).at(2), take(2, 2).at(7)];
     let sent = [one, two, c, stranger.at(5), stranger.at(6), c.at(5), poll];
     records(&rt, 0, &sent, &[one, two, c, tick(6), poll])?;
-    let [far, d] = [4_611_686_018_427_387_904, take(2, 1).waits_for(1)];
+    let far = 4_611_686_018_427_387_904;
+    let d = take(2, 1).waits_for(1);
     let sent = [one, two, d.at(u64::MAX), d.at(u64::MAX), a.at(0)];
     records(&rt, 0, &sent, &[one, two, d.at(far), a.at(far)])?;
     Ok(())
