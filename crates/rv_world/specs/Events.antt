@@ -61,9 +61,9 @@ pub record Starts (w : World) (client incarnation : ℕ) (v : World) (shows : Se
   pub newest : IsNewest w client incarnation
   pub turns : OnlyTurns w v client (Some (New (starting client incarnation)))
   pub rest : v ≡ sends (record w {
-      clients = v.clients;
-      started = w.started ++ (client, incarnation) ∷ [];
-    }) (hello_of (starting client incarnation))
+    clients = v.clients;
+    started = w.started ++ (client, incarnation) ∷ [];
+  }) (hello_of (starting client incarnation))
   pub shown : shows ≡ next_message w
 
 -- an idle process begins the call with its next key, and its request is sent
@@ -72,9 +72,9 @@ pub record Begins (w : World) (client : ℕ) (call : Call) (v : World) (shows : 
   pub idle : process_of w client ≡ Some (Idle (Some key))
   pub turns : OnlyTurns w v client (Some (Outstanding (record { key = key; call = call })))
   pub rest : v ≡ sends (record w {
-      clients = v.clients;
-      asked = w.asked ++ (key, call) ∷ [];
-    }) (request_of (record { key = key; call = call }))
+    clients = v.clients;
+    asked = w.asked ++ (key, call) ∷ [];
+  }) (request_of (record { key = key; call = call }))
   pub shown : shows ≡ next_message w
 
 -- an outstanding process sends what it says
@@ -112,9 +112,9 @@ pub record ReachesServer (w : World) (packet moment : ℕ) (v : World) (shows : 
   pub told : Answer
   pub is_told : IsTold said told
   pub rest : v ≡ record w {
-      present = v.present;
-      to_client = w.to_client ++ record { client = sender message; answer = told } ∷ [];
-    }
+    present = v.present;
+    to_client = w.to_client ++ record { client = sender message; answer = told } ∷ [];
+  }
   pub shown : shows ≡ next_answer w
 
 -- ---- deliveries to a client

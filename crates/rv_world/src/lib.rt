@@ -2,9 +2,9 @@
 //! a time. The servers are the book, and the clients are those of the typed client.
 #![tactic(auto)]
 
+mod clients;
 mod event;
 mod packet;
-mod clients;
 mod process;
 mod runs;
 mod seen;
@@ -17,3 +17,5 @@ pub use runs::run;
 pub use seen::{Seen, WorldRefusal};
 pub use world::World;
 
+#[cfg(test)]
+mod tests;

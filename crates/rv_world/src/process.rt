@@ -105,9 +105,7 @@ fn settle(outstanding: Outstanding, answer: Answer) -> Told
             held: Some((key, reply)),
             seen: Seen::Settled(key),
         },
-        Heard::Still(same) => {
-            Told::of(Some(Running::Outstanding(same.park())), Seen::Ignored)
-        }
+        Heard::Still(same) => { Told::of(Some(Running::Outstanding(same.park())), Seen::Ignored) }
         Heard::EpochEnded(_, current) => Told::of(None, Seen::Ended(current)),
         Heard::Replaced(_, current) => Told::of(None, Seen::Replaced(current)),
     }

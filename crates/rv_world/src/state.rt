@@ -6,7 +6,7 @@ ghost use Rattle.rv_world.specs.declared.seen.Seen.TheVariants as sees;
 use crate::clients::Clients;
 use crate::event::Event;
 use crate::packet::{Packet, copy_answer, copy_message, sender};
-use crate::process::Running;
+use crate::process::{Running, Told};
 use crate::seen::{Seen, WorldRefusal};
 use rv_book::Book;
 use rv_client::{New, Outstanding};
@@ -215,10 +215,11 @@ impl State {
     fn rest(&mut self, client: u64, outstanding: Outstanding)
         requires { Stands self.old.clients client }
         ensures { self.new ≡ record self.old {
-            clients = with_process self.old.clients client (Some (process.Outstanding outstanding));
+          clients = with_process self.old.clients client (Some (process.Outstanding outstanding));
         } }
     {
-        self.clients.turn(client, Some(Running::Outstanding(outstanding.park())));
+        self.clients
+            .turn(client, Some(Running::Outstanding(outstanding.park())));
     }
 
     // A client's process ends.
@@ -233,12 +234,7 @@ impl State {
     }
 
     // A message comes to the server.
-    fn to_server(
-        &mut self,
-        alloc: Global,
-        packet: usize,
-        moment: u64,
-    ) -> Result<Seen, WorldRefusal>
+    fn to_server(&mut self, alloc: Global, packet: usize, moment: u64) -> Result<Seen, WorldRefusal>
         requires sound { IsSoundState self.old }
         ensures comes { Comes (world_of self.old) (event.ToServer packet moment) (world_of self.new) result }
         ensures newest { AreNewest self.new.clients (started_by self.new.to_server.items) }
@@ -281,18 +277,23 @@ impl State {
         requires room { vec_len self.old.held < vec_capacity self.old.held }
         ensures heard { (running : process.Process) → process_of (world_of self.old) client ≡ Some running
             → IsHeard (world_of self.old) running (record { client = client; answer = answer })
-                (world_of self.new) result }
+            (world_of self.new) result }
         ensures newest { self.new.clients.newest ≡ self.old.clients.newest }
     {
         let told = match self.clients.turn(client, None) {
             Some(running) => running.hear(answer),
             None => unreachable!(),
         };
-        self.clients.turn(client, told.process);
-        if let Some(taken) = told.held {
+        let Told {
+            process,
+            held,
+            seen,
+        } = told;
+        self.clients.turn(client, process);
+        if let Some(taken) = held {
             self.held.push_reserved(taken);
         }
-        told.seen
+        seen
     }
 
     // A server starts in an epoch.
