@@ -46,13 +46,16 @@ pub record NoTwoReplies (w : World) : Type 0 where
   pub asked_once : HasEachKeyOnce w.asked
   pub held_once : HasEachKeyOnce w.held
   pub held_answered : (key : Key) (told : Reply) → IsHeld w key told → IsAnswered w key told
-  pub answered_asked : (key : Key) (told : Reply) → IsAnswered w key told → (call : Call) × WasAsked w key call
+  pub answered_asked : (key : Key) (told : Reply) → IsAnswered w key told
+      → (call : Call) × WasAsked w key call
   pub answered_is : (key : Key) (told : Reply) → IsAnswered w key told → IsReplyOf w key told
 
 -- ---- 2: legal accounts
 
--- each account is legal, and the key and call of each arrival were asked
+-- each epoch has one account; each account is legal, and the key and call of each arrival were asked
 pub record LegalAccounts (w : World) : Type 0 where
+  pub one_each : (a b : Account) → Contains (accounts w) a → Contains (accounts w) b → a.epoch ≡ b.epoch
+      → a ≡ b
   pub legal : (a : Account) → Contains (accounts w) a → Legal a
   pub arrivals_asked : (a : Account) (r : ℕ) (key : Key) (call : Call) → Contains (accounts w) a
       → ArrivesAt a.entries key r call → WasAsked w key call

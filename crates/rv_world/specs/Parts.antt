@@ -5,7 +5,7 @@ use Rattle.rv_text.specs.declared.message.Message.{Message}
 use Rattle.rv_text.specs.declared.message.Message.TheVariants as message
 use Rattle.rv_world.specs.declared.state.State.{State}
 use Rattle.rv_world.specs.World.{World}
-use Rattle.rv_world.specs.Sound.{IsSound}
+use Rattle.rv_world.specs.Sound.{AllFits, IsSound}
 use Rattle.rv_world.specs.Table.{AreNewest}
 
 -- the client and incarnation of a hello: each start sends one, and nothing else does
@@ -29,7 +29,8 @@ world_of state = record {
   to_client = state.to_client.items;
 }
 
--- the world is sound, and the table knows its clients' greatest incarnations
+-- the world is sound and keeps its limits, and the table knows its clients' greatest incarnations
 pub record IsSoundState (state : State) : Type 0 where
   pub sound : IsSound (world_of state)
-  pub newest : AreNewest state.clients (started_by state.to_server.items)
+  pub fits : AllFits (world_of state)
+  pub newest : AreNewest state.clients.newest (started_by state.to_server.items)

@@ -103,7 +103,6 @@ pub record IsAccountedFor (w : World) : Type 0 where
 -- ---- together
 
 pub record IsSound (w : World) : Type 0 where
-  pub fits : AllFits w
   pub epochs_rise : EpochsRise w
   pub no_two_replies : NoTwoReplies w
   pub legal_accounts : LegalAccounts w

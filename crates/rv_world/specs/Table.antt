@@ -50,11 +50,12 @@ pub record Enters (old new : Table) (client incarnation : ℕ) (process : Proces
   pub newest : newest_of new client ≡ Some incarnation
   pub other_newest : (other : ℕ) → other ≢ client → newest_of new other ≡ newest_of old other
 
--- the greatest incarnations are those of the starts
+-- the client was last started in this incarnation
 pub record IsGreatest (started : List (ℕ × ℕ)) (client newest : ℕ) : Type 0 where
   pub there : Contains started (client, newest)
   pub greatest : (other : ℕ) → Contains started (client, other) → other ≤ newest
 
-pub record AreNewest (table : Table) (started : List (ℕ × ℕ)) : Type 0 where
-  pub known : (client newest : ℕ) → newest_of table client ≡ Some newest → IsGreatest started client newest
-  pub unknown : (client : ℕ) → newest_of table client ≡ None → (any : ℕ) → ¬ Contains started (client, any)
+-- these are the clients that were started, each with its last incarnation
+pub record AreNewest (newest started : List (ℕ × ℕ)) : Type 0 where
+  pub known : (client last : ℕ) → lookup (nat_eq client) newest ≡ Some last → IsGreatest started client last
+  pub unknown : (client any : ℕ) → lookup (nat_eq client) newest ≡ None → ¬ Contains started (client, any)

@@ -83,7 +83,7 @@ impl State {
         requires sound { IsSoundState self.old }
         requires fits { FitsEvent event.now }
         ensures comes { Comes (world_of self.old) event.now (world_of self.new) result }
-        ensures newest { AreNewest self.new.clients (started_by self.new.to_server.items) }
+        ensures newest { AreNewest self.new.clients.newest (started_by self.new.to_server.items) }
     {
         match event {
             Event::Start(client, incarnation) => self.start(*client, *incarnation),
@@ -102,8 +102,9 @@ impl State {
         requires sound { IsSoundState self.old }
         requires client { FitsIdentifier client }
         requires incarnation { FitsIdentifier incarnation }
-        ensures comes { Comes (world_of self.old) (event.Start client incarnation) (world_of self.new) result }
-        ensures newest { AreNewest self.new.clients (started_by self.new.to_server.items) }
+        ensures comes { Comes (world_of self.old) (event.Start client incarnation)
+            (world_of self.new) result }
+        ensures newest { AreNewest self.new.clients.newest (started_by self.new.to_server.items) }
     {
         self.must_be_newest(client, incarnation)?;
         self.to_server.reserve(1)?;
@@ -115,7 +116,7 @@ impl State {
 
     // Whether a client was started only in lower incarnations: else why it can't start in this one.
     fn must_be_newest(&self, client: u64, incarnation: u64) -> Result<(), WorldRefusal>
-        requires { AreNewest self.now.clients (started_by self.now.to_server.items) }
+        requires { AreNewest self.now.clients.newest (started_by self.now.to_server.items) }
         ensures ok { OnOk result (IsNewest (world_of self.now) client incarnation) }
         ensures err { IfErr result (λ refusal. WasStarted (world_of self.now) client incarnation
             × (refusal ≡ refuses.IncarnationNotGreater)) }
@@ -170,7 +171,7 @@ impl State {
         requires sound { IsSoundState self.old }
         requires call { FitsCall call.now }
         ensures comes { Comes (world_of self.old) (event.Begin client call.now) (world_of self.new) result }
-        ensures newest { AreNewest self.new.clients (started_by self.new.to_server.items) }
+        ensures newest { AreNewest self.new.clients.newest (started_by self.new.to_server.items) }
     {
         let key = self.next_key(client)?;
         let asked = call.copy(alloc)?;
@@ -187,7 +188,7 @@ impl State {
     fn resend(&mut self, alloc: Global, client: u64) -> Result<Seen, WorldRefusal>
         requires sound { IsSoundState self.old }
         ensures comes { Comes (world_of self.old) (event.Resend client) (world_of self.new) result }
-        ensures newest { AreNewest self.new.clients (started_by self.new.to_server.items) }
+        ensures newest { AreNewest self.new.clients.newest (started_by self.new.to_server.items) }
     {
         self.must_be_asking(client)?;
         self.to_server.reserve(1)?;
@@ -201,7 +202,7 @@ impl State {
     fn send_cancel(&mut self, client: u64) -> Result<Seen, WorldRefusal>
         requires sound { IsSoundState self.old }
         ensures comes { Comes (world_of self.old) (event.CancelSent client) (world_of self.new) result }
-        ensures newest { AreNewest self.new.clients (started_by self.new.to_server.items) }
+        ensures newest { AreNewest self.new.clients.newest (started_by self.new.to_server.items) }
     {
         self.must_be_asking(client)?;
         self.to_server.reserve(1)?;
@@ -226,7 +227,7 @@ impl State {
     fn crash(&mut self, client: u64) -> Result<Seen, WorldRefusal>
         requires sound { IsSoundState self.old }
         ensures comes { Comes (world_of self.old) (event.Crash client) (world_of self.new) result }
-        ensures newest { AreNewest self.new.clients (started_by self.new.to_server.items) }
+        ensures newest { AreNewest self.new.clients.newest (started_by self.new.to_server.items) }
     {
         self.process(client)?;
         self.clients.turn(client, None);
@@ -237,7 +238,7 @@ impl State {
     fn to_server(&mut self, alloc: Global, packet: usize, moment: u64) -> Result<Seen, WorldRefusal>
         requires sound { IsSoundState self.old }
         ensures comes { Comes (world_of self.old) (event.ToServer packet moment) (world_of self.new) result }
-        ensures newest { AreNewest self.new.clients (started_by self.new.to_server.items) }
+        ensures newest { AreNewest self.new.clients.newest (started_by self.new.to_server.items) }
     {
         let message = match self.to_server.get(packet) {
             Some(message) => copy_message(alloc, message)?,
@@ -257,7 +258,7 @@ impl State {
     fn to_client(&mut self, alloc: Global, packet: usize) -> Result<Seen, WorldRefusal>
         requires sound { IsSoundState self.old }
         ensures comes { Comes (world_of self.old) (event.ToClient packet) (world_of self.new) result }
-        ensures newest { AreNewest self.new.clients (started_by self.new.to_server.items) }
+        ensures newest { AreNewest self.new.clients.newest (started_by self.new.to_server.items) }
     {
         let Some(packet) = self.to_client.get(packet) else {
             return Err(WorldRefusal::NoSuchPacket);
@@ -301,7 +302,7 @@ impl State {
         requires sound { IsSoundState self.old }
         requires epoch { FitsIdentifier epoch }
         ensures comes { Comes (world_of self.old) (event.NewEpoch epoch) (world_of self.new) result }
-        ensures newest { AreNewest self.new.clients (started_by self.new.to_server.items) }
+        ensures newest { AreNewest self.new.clients.newest (started_by self.new.to_server.items) }
     {
         if epoch <= self.present.account().epoch() {
             return Err(WorldRefusal::EpochNotGreater);
