@@ -1,14 +1,15 @@
 -- The table of clients as lists: what a look-up finds there, and what a write at a client leaves of it.
-use Rattle.std.proofs.Common.{◌≡◌, ◌≢◌, ℕ, Bool, true, false, cond, nat_eq, List, [], ◌∷◌, Option, Some, None, map, option_map, Bor, IsSome, refl, sym, ap, subst, ◌∙◌}
+use Rattle.std.proofs.Common.{◌≡◌, ◌≢◌, ℕ, Bool, true, false, cond, nat_eq, List, [], ◌∷◌, Option, Some, None, map, option_map, Bor, IsSome, refl, sym, ap, subst, ◌∙◌, arith}
 use Rattle.std.specs.Prelude.{option_and_then}
 use Rattle.std.specs.Option.{option_copied}
 use Rattle.std.specs.Map.{lookup, set_value}
 use Rattle.std.proofs.lemmas.Bool.{false≢true}
+use Rattle.std.proofs.lemmas.Bool.Decides.{nat_tests}
 use Rattle.std.proofs.lemmas.Map.Made.{lookup-map_values}
 use Rattle.std.proofs.lemmas.Map.Steps.{set_value_same}
 use Rattle.rv_client.specs.Process.{Process}
 use Rattle.rv_world.specs.Processes.{process_in}
-use Rattle.rv_world.specs.Table.{Table, processes_in, newest_in, running_of, newest_of, with_process, Stands}
+use Rattle.rv_world.specs.Table.{Table, processes_in, newest_in, running_of, newest_of, with_process, Stands, Enters}
 use Rattle.rv_world.specs.declared.clients.Client.{Client}
 use Rattle.rv_world.specs.declared.process.Running.{Running}
 
@@ -70,3 +71,22 @@ table_set clients client old process there =
     let processes : processes_in (set_value (nat_eq client) clients (record { newest = old.newest; process = process })) ≡ set_value (nat_eq client) (processes_in clients) (option_map process_in process) =
       map_set kept_process (nat_eq client) clients _ in
     cc (newest, processes)
+
+-- ---- insertions
+
+other_key : (client other : ℕ) → other ≢ client → nat_eq client other ≡ false
+other_key client other apart = grind (arith, nat_tests)
+
+-- a client that is entered has what it is entered with, and the others what they had
+pub entered : (old new : List (ℕ × Client)) (client newest : ℕ) (process : Running)
+    → lookup (nat_eq client) new ≡ Some (record { newest = newest; process = Some process })
+    → ((other : ℕ) → nat_eq client other ≡ false → lookup (nat_eq other) new ≡ lookup (nat_eq other) old)
+    → Enters (table_of old) (table_of new) client newest (process_in process)
+entered old new client newest process own others = record {
+  own = running_found new client ∙ ap (λ (o : Option Client). option_and_then kept_process o) own;
+  others = λ other apart. running_found new other
+    ∙ ap (λ (o : Option Client). option_and_then kept_process o) (others other (other_key client other apart)) ∙ sym (running_found old other);
+  newest = newest_found new client ∙ ap (λ (o : Option Client). option_map (λ (c : Client). c.newest) o) own;
+  other_newest = λ other apart. newest_found new other
+    ∙ ap (λ (o : Option Client). option_map (λ (c : Client). c.newest) o) (others other (other_key client other apart)) ∙ sym (newest_found old other);
+}

@@ -76,10 +76,10 @@ impl Clients {
         ensures err { OnErr result (self.new ≡ self.old) }
     {
         let process = Some(process);
-        self.clients
-            .insert(client, Client { newest, process })
-            .map_err(AllocError::from)?;
-        Ok(())
+        match self.clients.insert(client, Client { newest, process }) {
+            Ok(_) => Ok(()),
+            Err(refused) => Err(AllocError::from(refused)),
+        }
     }
 
     // Replaces the process of a client that stands in the table, and gives back what ran.
