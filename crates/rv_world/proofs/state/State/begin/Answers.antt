@@ -1,0 +1,8 @@
+-- A call that is begun.
+use Rattle.rv_world.proofs.state.State.begin.Goals as goal
+
+pub returns-clause-comes : goal.returns-clause-comes
+returns-clause-comes c = ?
+
+pub returns-clause-newest : goal.returns-clause-newest
+returns-clause-newest c = ?
