@@ -1,2 +1,4 @@
 pub mod Tables
 pub mod Turning
+pub mod Starting
+pub mod Refused

@@ -114,3 +114,18 @@ only_turns w v old new client process before after is stands =
 
 pub same_asking : (one : Asking) (key : Key) (call : Call) → one.key ≡ key → one.call ≡ call → one ≡ asking key call
 same_asking one key call keys calls = ap (λ (k : Key). asking k one.call) keys ∙ ap (λ (c : Call). asking key c) calls
+
+-- ---- made of parts
+
+-- two worlds with the same parts are the same
+pub same_world : (v w : World) → v.earlier ≡ w.earlier → v.present ≡ w.present → v.started ≡ w.started → v.clients ≡ w.clients
+    → v.asked ≡ w.asked → v.held ≡ w.held → v.to_server ≡ w.to_server → v.to_client ≡ w.to_client → v ≡ w
+same_world v w e p s c a h m t =
+    ap (λ x. record v { earlier = x }) e
+    ∙ ap (λ x. record v { earlier = w.earlier; present = x }) p
+    ∙ ap (λ x. record v { earlier = w.earlier; present = w.present; started = x }) s
+    ∙ ap (λ x. record v { earlier = w.earlier; present = w.present; started = w.started; clients = x }) c
+    ∙ ap (λ x. record w { asked = x; held = v.held; to_server = v.to_server; to_client = v.to_client }) a
+    ∙ ap (λ x. record w { held = x; to_server = v.to_server; to_client = v.to_client }) h
+    ∙ ap (λ x. record w { to_server = x; to_client = v.to_client }) m
+    ∙ ap (λ x. record w { to_client = x }) t

@@ -1,8 +1,5 @@
--- A cancel that is sent.
+-- What an outstanding process says is sent.
 use Rattle.rv_world.proofs.state.State.send_cancel.Goals as goal
-
-pub rest-requires : goal.rest-requires
-rest-requires c = ?
 
 pub returns-clause-comes : goal.returns-clause-comes
 returns-clause-comes c = ?
