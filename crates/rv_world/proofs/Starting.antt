@@ -72,3 +72,10 @@ module _ (started : List (ℕ × ℕ)) (client incarnation : ℕ) where
     | inr apart ↦ are.unknown one any (sym (enters.other_newest one apart) ∙ none) (other_contained one any apart there)
     ];
   }
+
+-- a message that is no hello leaves the greatest incarnations
+pub newest_after : (old new : List (ℕ × ℕ)) (messages sent : List Message) (said : Message) → AreNewest old (started_by messages) → new ≡ old
+    → sent ≡ messages ++ said ∷ [] → hello_in said ≡ None → AreNewest new (started_by sent)
+newest_after old new messages sent said are same is quiet =
+    subst (λ (l : List (ℕ × ℕ)). AreNewest l (started_by sent)) (sym same)
+      (subst (λ (l : List (ℕ × ℕ)). AreNewest old l) (sym (ap (λ (l : List Message). started_by l) is ∙ sent_quiet messages said quiet)) are)
