@@ -265,6 +265,7 @@ impl State {
             → IsHeard (world_of self.old) running (record { client = client; answer = answer })
             (world_of self.new) result }
         ensures newest { self.new.clients.newest ≡ self.old.clients.newest }
+        ensures sent { self.new.to_server ≡ self.old.to_server }
     {
         let told = match self.clients.turn(client, None) {
             Some(running) => running.hear(answer),
