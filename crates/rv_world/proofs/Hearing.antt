@@ -12,7 +12,7 @@ use Rattle.rv_world.specs.World.{World, process_of}
 use Rattle.rv_world.specs.Events.{OnlyTurns, Turns, Becomes, IsHeard}
 use Rattle.rv_world.specs.Processes.{process_in, Leaves, LeavesBy, HearsAs}
 use Rattle.rv_world.specs.Table.{Table, running_of, with_process}
-use Rattle.rv_world.proofs.Turning.{only_turns, runs_stands, turned_back}
+use Rattle.rv_world.proofs.TableWrites.{only_turns, runs_stands, turned_back}
 
 -- the replies that are held when this one is, if any is
 abbrev pub held_after : List (Key × Reply) → Option (Key × Reply) → List (Key × Reply)

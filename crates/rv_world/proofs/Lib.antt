@@ -1,5 +1,5 @@
 pub mod Tables
-pub mod Turning
+pub mod TableWrites
 pub mod Starting
 pub mod Refused
 pub mod Hearing

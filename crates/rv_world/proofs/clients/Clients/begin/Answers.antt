@@ -3,7 +3,7 @@ use Rattle.std.proofs.Common.{◌≡◌, ap, sym, subst, ◌∙◌, Option, Some
 use Rattle.rv_client.specs.Process.{Process, Asking, Outstanding}
 use Rattle.rv_world.specs.Processes.{asking}
 use Rattle.rv_world.specs.Table.{Table, Stands, with_process}
-use Rattle.rv_world.proofs.Turning.{turned_stands, turned_twice, runs_stands, same_asking}
+use Rattle.rv_world.proofs.TableWrites.{turned_stands, turned_twice, runs_stands, same_asking}
 use Rattle.rv_world.proofs.clients.Clients.begin.Goals as goal
 
 pub rest-requires : goal.rest-requires

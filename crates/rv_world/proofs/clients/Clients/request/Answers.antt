@@ -2,7 +2,7 @@
 use Rattle.std.proofs.Common.{sym, subst, ap, ◌∙◌, Some, None}
 use Rattle.rv_client.specs.Process.{Outstanding}
 use Rattle.rv_world.specs.Table.{Table, Stands, with_process}
-use Rattle.rv_world.proofs.Turning.{turned_stands, turned_twice, turned_back, runs_stands}
+use Rattle.rv_world.proofs.TableWrites.{turned_stands, turned_twice, turned_back, runs_stands}
 use Rattle.rv_world.proofs.clients.Clients.request.Goals as goal
 
 pub rest-requires : goal.rest-requires

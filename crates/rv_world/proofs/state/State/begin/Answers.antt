@@ -8,7 +8,7 @@ use Rattle.rv_world.specs.declared.seen.Seen.TheVariants as sees
 use Rattle.rv_world.specs.Processes.{asking}
 use Rattle.rv_world.specs.Table.{Table, with_process}
 use Rattle.rv_world.specs.Parts.{started_by, world_of}
-use Rattle.rv_world.proofs.Turning.{same_world, only_turns, runs_stands}
+use Rattle.rv_world.proofs.TableWrites.{same_world, only_turns, runs_stands}
 use Rattle.rv_world.proofs.Starting.{sent_after, sent_quiet, newest_after}
 use Rattle.rv_world.proofs.state.State.begin.Goals as goal
 

@@ -1,7 +1,7 @@
 -- A process ends.
 use Rattle.std.proofs.Common.{refl, None}
 use Rattle.rv_world.specs.Parts.{world_of}
-use Rattle.rv_world.proofs.Turning.{only_turns, runs_stands}
+use Rattle.rv_world.proofs.TableWrites.{only_turns, runs_stands}
 use Rattle.rv_world.proofs.state.State.crash.Goals as goal
 
 pub returns-clause-comes : goal.returns-clause-comes

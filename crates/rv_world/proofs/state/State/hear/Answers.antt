@@ -10,7 +10,7 @@ use Rattle.rv_world.specs.Parts.{world_of}
 use Rattle.rv_world.specs.Processes.{process_in, HearsAs}
 use Rattle.rv_world.specs.Table.{Table, Stands, with_process}
 use Rattle.rv_world.proofs.Hearing.{held_after, heard}
-use Rattle.rv_world.proofs.Turning.{runs_stands, turned_stands, turned_twice}
+use Rattle.rv_world.proofs.TableWrites.{runs_stands, turned_stands, turned_twice}
 use Rattle.rv_world.proofs.state.State.hear.Goals as goal
 
 pub turn-requires-2 : goal.turn-requires-2

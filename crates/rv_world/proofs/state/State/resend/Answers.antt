@@ -5,7 +5,7 @@ use Rattle.rv_client.specs.Process.{request_of}
 use Rattle.rv_world.specs.declared.seen.Seen.TheVariants as sees
 use Rattle.rv_world.specs.Table.{Table}
 use Rattle.rv_world.specs.Parts.{started_by}
-use Rattle.rv_world.proofs.Turning.{same_world}
+use Rattle.rv_world.proofs.TableWrites.{same_world}
 use Rattle.rv_world.proofs.Starting.{sent_after, sent_quiet, newest_after}
 use Rattle.rv_world.proofs.state.State.resend.Goals as goal
 

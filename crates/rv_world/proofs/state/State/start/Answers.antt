@@ -8,7 +8,7 @@ use Rattle.rv_world.specs.Events.{starting}
 use Rattle.rv_world.specs.Table.{Table, AreNewest}
 use Rattle.rv_world.specs.Parts.{hello_in, started_by, world_of}
 use Rattle.rv_world.proofs.Refused.{lacks_memory, start_due}
-use Rattle.rv_world.proofs.Turning.{same_world}
+use Rattle.rv_world.proofs.TableWrites.{same_world}
 use Rattle.rv_world.proofs.Starting.{sent_after, sent_hello, entered_newest}
 use Rattle.rv_world.proofs.state.State.start.Goals as goal
 
