@@ -4,3 +4,4 @@ pub mod Listing
 pub mod Epochs
 pub mod OneReply
 pub mod Turning
+pub mod Soundness
