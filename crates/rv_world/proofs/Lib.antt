@@ -3,3 +3,10 @@ pub mod TableWrites
 pub mod Starting
 pub mod Refused
 pub mod Hearing
+pub mod Growth
+pub mod Answered
+pub mod Listing
+pub mod Epochs
+pub mod OneReply
+pub mod Turning
+pub mod Soundness
