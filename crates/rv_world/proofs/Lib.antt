@@ -10,3 +10,4 @@ pub mod Epochs
 pub mod OneReply
 pub mod Turning
 pub mod Soundness
+pub mod ByEpoch
