@@ -1,8 +1,9 @@
 -- The world that a state is.
-use Rattle.std.specs.Prelude.{◌≡◌, ℕ, List, Option, Some, None}
+use Rattle.std.specs.Prelude.{◌≡◌, ℕ, List, Option, Some, None, slice_get}
 use Rattle.std.specs.List.{filter_map}
 use Rattle.rv_text.specs.declared.message.Message.{Message}
 use Rattle.rv_text.specs.declared.message.Message.TheVariants as message
+use Rattle.rv_book.specs.Account.{Account}
 use Rattle.rv_world.specs.declared.state.State.{State}
 use Rattle.rv_world.specs.World.{World}
 use Rattle.rv_world.specs.Sound.{AllFits, IsSound}
@@ -28,6 +29,12 @@ world_of state = record {
   to_server = state.to_server.items;
   to_client = state.to_client.items;
 }
+
+-- the account at i has this epoch
+pub record IsBookOf (books : List Account) (epoch i : ℕ) : Type 0 where
+  pub account : Account
+  pub there : slice_get books i ≡ Some account
+  pub epoch_is : account.epoch ≡ epoch
 
 -- the world is sound and keeps its limits, and the table knows its clients' greatest incarnations
 pub record IsSoundState (state : State) : Type 0 where

@@ -91,14 +91,17 @@ IsProcessOf w client (Outstanding asking) = IsOwed w client asking
 
 -- ---- packets
 
+-- what a message asks for was asked
+abbrev pub IsAskedFor : World → Message → Type 0
+IsAskedFor w (message.Hello client incarnation) = Unit {0}
+IsAskedFor w (message.Request key call) = WasAsked w key call
+IsAskedFor w (message.Cancel key) = (call : Call) × WasAsked w key call
+
 -- each request that was sent, and each cancel, is of a key that was asked; what was asked was started
 pub record IsAccountedFor (w : World) : Type 0 where
-  pub requests : (key : Key) (call : Call) → Contains w.to_server (message.Request key call)
-      → WasAsked w key call
-  pub cancels : (key : Key) → Contains w.to_server (message.Cancel key) → (call : Call) × WasAsked w key call
+  pub messages : (m : Message) → Contains w.to_server m → IsAskedFor w m
   pub starts : (key : Key) (call : Call) → WasAsked w key call
       → Contains w.started (key.client, key.incarnation)
-  pub held_asked : (key : Key) (told : Reply) → IsHeld w key told → (call : Call) × WasAsked w key call
 
 -- ---- together
 

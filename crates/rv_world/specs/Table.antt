@@ -3,7 +3,8 @@ use Rattle.std.specs.Prelude.{◌≡◌, ◌≢◌, ◌≤◌, ℕ, List, Option
 use Rattle.std.specs.Prelude.{IsSome, option_and_then}
 use Rattle.std.specs.List.{Contains}
 use Rattle.std.specs.Map.{lookup, set_value}
-use Rattle.rv_client.specs.Process.{Process}
+use Rattle.rv_text.specs.declared.message.Message.{Message}
+use Rattle.rv_client.specs.Process.{Process, Asking, Outstanding}
 use Rattle.rv_world.specs.Events.{IsAsking, IsReady}
 use Rattle.rv_world.specs.Processes.{process_in}
 use Rattle.rv_world.specs.declared.clients.Client.{Client}
@@ -29,6 +30,12 @@ IsAskingIn table client = (process : Process) × (running_of table client ≡ So
 
 abbrev pub IsReadyIn : Table → ℕ → Type 0
 IsReadyIn table client = (process : Process) × (running_of table client ≡ Some process) × IsReady process
+
+-- the client's process is outstanding, and this is what it says
+pub record SaysIn (table : Table) (client : ℕ) (says : Asking → Message) (message : Message) : Type 0 where
+  pub asking : Asking
+  pub outstanding : running_of table client ≡ Some (Outstanding asking)
+  pub is : message ≡ says asking
 
 -- the client stands in the table
 abbrev pub Stands : Table → ℕ → Type 0

@@ -1,5 +1,5 @@
 //! The table of clients: of each its process, and the greatest incarnation that it was started in.
-ghost use Rattle.std.specs.Prelude.{◌≡◌, [], None, Some, OnOk, OnErr, option_map};
+ghost use Rattle.std.specs.Prelude.{◌≡◌, [], None, Some, IfOk, OnOk, OnErr, option_map};
 ghost use Rattle.rv_text.specs.declared.message.Key.{Key};
 ghost use Rattle.rv_client.specs.Process as process;
 ghost use Rattle.rv_world.specs.Processes.{process_in};
@@ -7,7 +7,7 @@ ghost use Rattle.rv_world.specs.Processes.{process_in};
 use crate::process::Running;
 use indexmap::IndexMap;
 use rv_client::Outstanding;
-use rv_text::{Call, NoMemory};
+use rv_text::{Call, Message, NoMemory};
 use std::alloc::{AllocError, Global};
 use std::marker::Model;
 
@@ -38,7 +38,8 @@ impl Model for Clients {
 
 impl Clients {
     ghost use Rattle.rv_world.specs.Table.{Enters, Stands, newest_of, running_of, with_process};
-    ghost use Rattle.rv_world.specs.Table.{IsAskingIn, IsReadyIn};
+    ghost use Rattle.rv_world.specs.Table.{IsAskingIn, IsReadyIn, SaysIn};
+    ghost use Rattle.rv_client.specs.Process.{cancel_of, request_of};
     ghost use Rattle.rv_world.specs.Processes.{asking};
 
     // The table with no client. It takes no memory yet.
@@ -76,10 +77,10 @@ impl Clients {
         ensures err { OnErr result (self.new ≡ self.old) }
     {
         let process = Some(process);
-        self.clients
-            .insert(client, Client { newest, process })
-            .map_err(AllocError::from)?;
-        Ok(())
+        match self.clients.insert(client, Client { newest, process }) {
+            Ok(_) => Ok(()),
+            Err(refused) => Err(AllocError::from(refused)),
+        }
     }
 
     // Replaces the process of a client that stands in the table, and gives back what ran.
@@ -94,8 +95,8 @@ impl Clients {
         }
     }
 
-    // Takes out the request of a client whose process is outstanding, until it is put back by a turn.
-    pub(crate) fn wake(&mut self, client: u64) -> Outstanding
+    // Takes out the request of a client whose process is outstanding, until it is laid aside again.
+    fn wake(&mut self, client: u64) -> Outstanding
         requires { IsAskingIn self.old client }
         ensures request { running_of self.old client ≡ Some (process.Outstanding result) }
         ensures after { self.new ≡ with_process self.old client None }
@@ -104,6 +105,38 @@ impl Clients {
             Some(running) => running.outstanding(),
             None => unreachable!(),
         }
+    }
+
+    // Lays a request of a client that stands in the table aside.
+    fn rest(&mut self, client: u64, outstanding: Outstanding)
+        requires { Stands self.old client }
+        ensures { self.new ≡ with_process self.old client (Some (process.Outstanding outstanding)) }
+    {
+        self.turn(client, Some(Running::Outstanding(outstanding.park())));
+    }
+
+    // The message of the request that a client has begun. It fails only where memory was refused.
+    pub(crate) fn request(&mut self, alloc: Global, client: u64) -> Result<Message, NoMemory>
+        requires { IsAskingIn self.old client }
+        ensures says { IfOk result (SaysIn self.old client request_of) }
+        ensures stays { self.new ≡ self.old }
+    {
+        let outstanding = self.wake(client);
+        let request = outstanding.message(alloc);
+        self.rest(client, outstanding);
+        request
+    }
+
+    // The cancel of the request that a client has begun.
+    pub(crate) fn cancel(&mut self, client: u64) -> Message
+        requires { IsAskingIn self.old client }
+        ensures says { SaysIn self.old client cancel_of result }
+        ensures stays { self.new ≡ self.old }
+    {
+        let outstanding = self.wake(client);
+        let cancel = outstanding.cancel_message();
+        self.rest(client, outstanding);
+        cancel
     }
 
     // Begins a call with the next key of a client whose process is idle.
@@ -116,6 +149,6 @@ impl Clients {
             Some(running) => running.idle().begin(call),
             None => unreachable!(),
         };
-        self.turn(client, Some(Running::Outstanding(outstanding.park())));
+        self.rest(client, outstanding);
     }
 }

@@ -4,6 +4,7 @@
 
 mod clients;
 mod event;
+pub mod laws;
 mod packet;
 mod process;
 mod runs;

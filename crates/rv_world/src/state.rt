@@ -9,7 +9,7 @@ use crate::packet::{Packet, copy_answer, copy_message, sender};
 use crate::process::{Running, Told};
 use crate::seen::{Seen, WorldRefusal};
 use rv_book::Book;
-use rv_client::{New, Outstanding};
+use rv_client::New;
 use rv_text::{Answer, Call, Key, Message, NoMemory, Refusal, Reply};
 use std::alloc::Global;
 use std::mem;
@@ -57,7 +57,7 @@ impl State {
     ghost use Rattle.rv_world.specs.Events.{Comes, IsAsking, IsHeard, IsNewest, IsReady, RunsBut, RunsNone};
     ghost use Rattle.rv_world.specs.Events.{WasStarted};
     ghost use Rattle.rv_world.specs.Processes.{process_in};
-    ghost use Rattle.rv_world.specs.Table.{AreNewest, Stands, with_process};
+    ghost use Rattle.rv_world.specs.Table.{AreNewest};
     ghost use Rattle.rv_world.specs.Parts.{IsSoundState, started_by, world_of};
     ghost use Rattle.rv_world.specs.declared.event.Event.TheVariants as event;
     ghost use Rattle.rv_world.specs.declared.seen.WorldRefusal.TheVariants as refuses;
@@ -192,10 +192,8 @@ impl State {
     {
         self.must_be_asking(client)?;
         self.to_server.reserve(1)?;
-        let outstanding = self.clients.wake(client);
-        let request = outstanding.message(alloc);
-        self.rest(client, outstanding);
-        Ok(send(&mut self.to_server, request?))
+        let request = self.clients.request(alloc, client)?;
+        Ok(send(&mut self.to_server, request))
     }
 
     // A client sends the cancel of its request.
@@ -206,21 +204,8 @@ impl State {
     {
         self.must_be_asking(client)?;
         self.to_server.reserve(1)?;
-        let outstanding = self.clients.wake(client);
-        let cancel = outstanding.cancel_message();
-        self.rest(client, outstanding);
+        let cancel = self.clients.cancel(client);
         Ok(send(&mut self.to_server, cancel))
-    }
-
-    // Lays the request of a client that stands in the table aside.
-    fn rest(&mut self, client: u64, outstanding: Outstanding)
-        requires { Stands self.old.clients client }
-        ensures { self.new ≡ record self.old {
-          clients = with_process self.old.clients client (Some (process.Outstanding outstanding));
-        } }
-    {
-        self.clients
-            .turn(client, Some(Running::Outstanding(outstanding.park())));
     }
 
     // A client's process ends.
@@ -280,6 +265,7 @@ impl State {
             → IsHeard (world_of self.old) running (record { client = client; answer = answer })
             (world_of self.new) result }
         ensures newest { self.new.clients.newest ≡ self.old.clients.newest }
+        ensures sent { self.new.to_server ≡ self.old.to_server }
     {
         let told = match self.clients.turn(client, None) {
             Some(running) => running.hear(answer),

@@ -1,7 +1,8 @@
 //! The world: every server, client and packet, and one event at a time.
-ghost use Rattle.std.specs.Prelude.{◌≡◌, ◌⊎◌, IfOk, IfSome, IfNone, None, option_map, slice_get};
+ghost use Rattle.std.specs.Prelude.{◌≡◌, ◌⊎◌, IfOk, IfSome, IfNone, None, option_map, slice_get, ℕ};
 ghost use Rattle.rv_text.specs.Limits.{FitsIdentifier};
 ghost use Rattle.rv_world.specs.World.{IsAccountOf, first_world};
+ghost use Rattle.rv_world.specs.Parts.{IsBookOf};
 
 use crate::event::Event;
 use crate::seen::{Seen, WorldRefusal};
@@ -17,6 +18,14 @@ use std::marker::Model;
 #[derive(Drop)]
 pub struct World {
     state: State,
+}
+
+// The number of the first of these books whose account is of this epoch.
+fn index_of(books: &[Book], epoch: u64) -> Option<usize>
+    ensures found { IfSome result (IsBookOf books.now epoch) }
+    ensures none { IfNone result ((i : ℕ) → ¬ IsBookOf books.now epoch i) }
+{
+    books.iter().position(|book| book.account().epoch() == epoch)
 }
 
 impl Model for World {
@@ -80,11 +89,8 @@ impl World {
         if present.epoch() == epoch {
             return Some(present);
         }
-        self.state
-            .earlier
-            .iter()
-            .map(Book::account)
-            .find(|account| account.epoch() == epoch)
+        let index = index_of(&self.state.earlier, epoch)?;
+        Some(self.state.earlier[index].account())
     }
 
     /// The answer of a packet, if one of this number was sent.
