@@ -1,6 +1,6 @@
 //! The world: every server, client and packet, and one event at a time.
 ghost use Rattle.std.specs.Prelude.{◌≡◌, ◌⊎◌, IfOk, IfSome, IfNone, None, option_map, slice_get, ℕ};
-ghost use Rattle.rv_text.specs.Limits.{FitsIdentifier};
+ghost use Rattle.rv_text.specs.Limits.{FitsAnswer, FitsIdentifier};
 ghost use Rattle.rv_world.specs.World.{IsAccountOf, first_world};
 ghost use Rattle.rv_world.specs.Parts.{IsBookOf};
 
@@ -95,8 +95,9 @@ impl World {
 
     /// The answer of a packet, if one of this number was sent.
     pub fn answer_packet(&self, packet: usize) -> Option<&Answer>
-        ensures { option_map (λ answer. answer.now) result
+        ensures told { option_map (λ answer. answer.now) result
             ≡ option_map (λ packet. packet.answer) (slice_get self.now.to_client packet) }
+        ensures fits { IfSome result (λ answer. FitsAnswer answer.now) }
     {
         Some(&self.state.to_client.get(packet)?.answer)
     }
