@@ -12,6 +12,7 @@ import re
 from model_parts.account import Account, Call, Entry, Hello, Key, Request, Tick, first_fault
 from model_parts.steps import WHOLE, told
 from model_parts.texts import written
+from model_parts.world import World, world_fault
 
 THREE = "hello 1/1 => welcome\nhello 2/1 => welcome\nhello 3/1 => welcome\n"
 DETAILS = {2: "current", 4: "current", 5: "last", 7: "open", 8: "last"}
@@ -306,6 +307,38 @@ ROWS = [
         """),
 ]
 
+# A world from epoch 1: a transfer comes again and again, and its reply twice and late. There is one pair.
+PLAY = """
+    start 1 1 => sent 0
+    start 2 1 => sent 1
+    server 0 0 => answered 0 welcome 1/1
+    server 1 0 => answered 1 welcome 2/1
+    client 0 => welcomed
+    client 1 => welcomed
+    begin 1 {"call":"transfer","item":"a","queue":3,"wait":"forever"} => sent 2
+    server 2 1 => answered 2 1#1 waiting
+    server 2 1 => answered 3 1#1 waiting
+    begin 2 {"call":"take","queue":3,"wait":"now"} => sent 3
+    server 3 2 => answered 4 2#1 item "a"
+    server 2 3 => answered 5 1#1 received
+    client 5 => settled 1#1 received
+    client 5 => ignored
+    client 4 => settled 2#1 item "a"
+    begin 1 {"call":"put","item":"b","queue":3} => sent 4
+    client 5 => ignored
+    server 2 4 => answered 6 1#1 received
+    server 4 5 => answered 7 1#2 done
+    server 2 6 => answered 8 refused 5 2
+    client 8 => ignored
+    client 6 => ignored
+    client 7 => settled 1#2 done
+    client 9 => refused 1
+    resend 1 => refused 3
+    crash 3 => refused 6
+    start 1 1 => refused 4
+    epoch 1 => refused 5
+    """
+
 # The partner of the take, the take's number, the second hello's client, whether a tick follows; and the fault.
 AUDITS = [
     (2, 1, 2, False, None),
@@ -379,6 +412,43 @@ def pairs_of(epoch, lines):
         moment, what = what.removeprefix("@").split(" ", 1) if row.startswith("@") else (0, what)
         line, key = line_of(what.removesuffix(" "), moment, epoch)
         yield line, answer_of(expected.strip(), key)
+
+
+def result_of(text):
+    """The result line that the row of a world means: a key and a reply, a welcome or a refusal stand for a body."""
+    words = text.split(" ")
+    before = {"answered": 2, "settled": 1}.get(words[0])
+    if before is None:
+        return text
+    first, rest = words[before], " ".join(words[before + 1 :])
+    if first == "welcome":
+        client, incarnation = map(int, rest.split("/"))
+        body = answer_of("welcome", {"epoch": 1, "client": client, "incarnation": incarnation})
+    elif first == "refused":
+        body = answer_of(f"refused {rest}", {})
+    else:
+        body = answer_of(rest, key_of(first, 1))
+    return " ".join([*words[:before], body])
+
+
+def play_pairs():
+    """The lines of the worked world, and their results."""
+    for row in filter(None, map(str.strip, PLAY.splitlines())):
+        line, _, result = row.partition(" => ")
+        yield line, result_of(result)
+
+
+def play_row_fault():
+    """What is wrong with the model's results of the worked world, or with what is left, if something is."""
+    world = World(WHOLE)
+    for line, expected in play_pairs():
+        got = world.play(line.encode())
+        if got != expected:
+            return f"{line}: got {got}"
+    [account] = world.accounts
+    if [entry.partner for entry in account.entries] != [None, None, None, 2, None] or len(world.held) != 3:
+        return f"left: {account}, {world.held}"
+    return world_fault(world)
 
 
 def row_fault(epoch, lines):

@@ -3,6 +3,7 @@ use Rattle.std.specs.Prelude.{length, List, ℕ, ◌≡◌, ◌≤◌}
 use Rattle.std.specs.Int.{IsInRange}
 use Rattle.std.specs.List.{All}
 use Rattle.std.specs.Str.Parse.{digits_value}
+use Rattle.rv_text.specs.Limits.{FitsIdentifier}
 
 -- 1 to 19 ASCII digits, '0' (48) to '9' (57), and nothing else
 pub record IsDigits (text : List ℕ) : Type 0 where
@@ -17,3 +18,7 @@ value_of_digits = digits_value 10
 -- the text is a number's digits
 abbrev pub Writes : List ℕ → ℕ → Type 0
 Writes text n = IsDigits text × (n ≡ value_of_digits text)
+
+-- the text is an identifier's digits
+abbrev pub WritesIdentifier : List ℕ → ℕ → Type 0
+WritesIdentifier text n = Writes text n × FitsIdentifier n

@@ -7,14 +7,13 @@ ghost use Rattle.clap.specs.Words.{subcommand_of, subcommand_rows_of};
 ghost use Rattle.clap.specs.declared.Command.TheViews.{out-Command};
 ghost use Rattle.clap.specs.Walk.{texts};
 ghost use Rattle.rv_app.specs.Command.{FitsCommand, GivesIdentifier, Names, NamesNone, Says};
-ghost use Rattle.rv_app.specs.Command.{book_app, required_option, rv_app};
+ghost use Rattle.rv_app.specs.Command.{book_app, play_app, required_option, rv_app};
 ghost use Rattle.rv_app.specs.declared.command.CommandFault.TheVariants.{Bad, NoMemory};
 ghost use Rattle.clap.specs.declared.error.ErrorKind.TheVariants.{OutOfMemory};
 
-use crate::number::read_number;
+use crate::number::read_identifier;
 use clap::error::ErrorKind;
 use clap::{Arg, ArgAction, ArgMatches};
-use rv_text::MAX_IDENTIFIER;
 use std::alloc::{AllocError, Global};
 use thiserror::Error;
 
@@ -24,6 +23,8 @@ pub enum Command {
     /// `rv book --epoch E`: run the book of this epoch, 1 to 9,007,199,254,740,991, over the lines
     /// of standard input.
     Book(u64),
+    /// `rv play`: act out the events of standard input.
+    Play,
 }
 
 /// Why the words of a command line give no command.
@@ -79,6 +80,7 @@ fn command_of(matches: &ArgMatches) -> Option<Command>
     let (name, options) = matches.subcommand()?;
     match name {
         "book" => book_of(options),
+        "play" => Some(Command::Play),
         _ => None,
     }
 }
@@ -99,12 +101,7 @@ fn identifier_in(value: Option<&str>) -> Option<u64>
     ensures none { result ≡ None
         → (n : ℕ) → ¬ GivesIdentifier (option_map (λ v. v.now) value.entry) n }
 {
-    let n = read_number(value?.as_bytes())?;
-    if 1 <= n && n <= MAX_IDENTIFIER {
-        Some(n)
-    } else {
-        None
-    }
+    read_identifier(value?.as_bytes())
 }
 
 // What clap makes of the words.
@@ -122,7 +119,9 @@ fn matches_of<'a>(alloc: Global, words: &'a [&'a str]) -> Result<ArgMatches<'a>,
 fn program<'a>(alloc: Global) -> Result<clap::Command<'a>, AllocError>
     ensures { IfOk result (λ c. app_of c ≡ rv_app) }
 {
-    clap::Command::new(alloc, "rv").subcommand(book(alloc)?)
+    clap::Command::new(alloc, "rv")
+        .subcommand(book(alloc)?)?
+        .subcommand(play(alloc))
 }
 
 // `book --epoch E`, as clap reads it.
@@ -131,6 +130,14 @@ fn book<'a>(alloc: Global) -> Result<clap::Command<'a>, AllocError>
     ensures local { IfOk result (λ c. (out-Command c).has_globals ≡ false) }
 {
     clap::Command::new(alloc, "book").arg(required_option(alloc, "epoch"))
+}
+
+// `play`, as clap reads it.
+fn play<'a>(alloc: Global) -> clap::Command<'a>
+    ensures shape { shape_of result ≡ play_app.top }
+    ensures local { (out-Command result).has_globals ≡ false }
+{
+    clap::Command::new(alloc, "play")
 }
 
 // An option `--name VALUE` that has to be given.

@@ -1,4 +1,4 @@
-//! Cuts an input into lines, and a line into its moment and body.
+//! Cuts an input into lines, and a line into its fields.
 ghost use Rattle.std.specs.Prelude.{◌≡◌, ◌≢◌, ◌<◌, ◌∷◌, ◌++◌, [], ℕ, List, length, None, IfSome, IfOk, Err};
 ghost use Rattle.std.specs.List.{All};
 ghost use Rattle.rv_app.specs.Lines.{HasForm, IsBadLine, ReadsLine, lines};
@@ -8,13 +8,27 @@ use crate::number::read_number;
 use rv_text::{Message, TextFault, decode_message};
 use std::alloc::Global;
 
-/// Why a line says no message.
+/// Why a line says no message or no event.
 #[derive(Clone, Copy, Debug, PartialEq, Eq)]
 pub(crate) enum LineFault {
-    /// The line is no moment, space and message's body.
+    /// The line has another form.
     Bad,
     /// Memory was refused, for a line that may say one.
     NoMemory,
+}
+
+impl From<TextFault> for LineFault {
+    ghost use Rattle.rv_app.specs.Faults.{line_fault};
+
+    ghost from_gives = { λ text fault. fault ≡ line_fault text };
+
+    fn from(fault: TextFault) -> LineFault {
+        match fault {
+            TextFault::NotJson => LineFault::Bad,
+            TextFault::NotMessage => LineFault::Bad,
+            TextFault::NoMemory => LineFault::NoMemory,
+        }
+    }
 }
 
 /// The first line and the bytes after it, or `None` where there are no bytes. A line ends before
@@ -40,12 +54,7 @@ pub(crate) fn read_line(alloc: Global, line: &[u8]) -> Result<(u64, Message), Li
     ensures no_memory { result ≡ Err LineFault.NoMemory → HasForm line.now }
 {
     let (moment, body) = moment_and_body(line).ok_or(LineFault::Bad)?;
-    match decode_message(alloc, body) {
-        Ok(message) => Ok((moment, message)),
-        Err(TextFault::NotJson) => Err(LineFault::Bad),
-        Err(TextFault::NotMessage) => Err(LineFault::Bad),
-        Err(TextFault::NoMemory) => Err(LineFault::NoMemory),
-    }
+    Ok((moment, decode_message(alloc, body)?))
 }
 
 // The moment of a line, and the bytes behind the one space after it, whatever they are.
@@ -59,8 +68,8 @@ fn moment_and_body(line: &[u8]) -> Option<(u64, &[u8])>
     Some((read_number(digits)?, body))
 }
 
-// The bytes before the first one that is `byte`, and those after it.
-fn cut_at(byte: u8, bytes: &[u8]) -> Option<(&[u8], &[u8])>
+/// The bytes before the first one that is `byte`, and those after it.
+pub(crate) fn cut_at(byte: u8, bytes: &[u8]) -> Option<(&[u8], &[u8])>
     ensures parts { IfSome result (λ p. bytes.now ≡ p.0.now ++ byte ∷ p.1.now) }
     ensures first { IfSome result (λ p. All (λ b. b ≢ byte) p.0.now) }
     ensures none { result ≡ None → All (λ b. b ≢ byte) bytes.now }

@@ -6,16 +6,20 @@ ghost use Rattle.rv_text.specs.Limits.{FitsIdentifier};
 ghost use Rattle.rv_app.specs.Command.{FitsCommand};
 
 mod command;
+mod event;
 mod input;
 pub mod laws;
 mod line;
 mod number;
 mod output;
+mod play;
 mod run;
+mod told;
 mod turn;
 
 pub use command::{Command, CommandFault, read_command};
 pub use output::OutputFault;
+pub use play::play_run;
 pub use run::{RunFault, book_run};
 use rv_frame::{Sink, Source};
 use std::alloc::Global;
@@ -56,6 +60,7 @@ fn main(rt: HostRuntime) -> ExitCode {
 fn run_program(rt: &HostRuntime) -> Result<(), ProgramFault> {
     match command_of_words(rt).map_err(ProgramFault::Command)? {
         Command::Book(epoch) => run_book(rt, epoch).map_err(ProgramFault::Run),
+        Command::Play => run_play(rt).map_err(ProgramFault::Run),
     }
 }
 
@@ -65,6 +70,12 @@ fn run_book(rt: &HostRuntime, epoch: u64) -> Result<(), RunFault>
     let mut source = Source::new(rt.stdin());
     let mut sink = Sink::new(rt.stdout());
     book_run(rt.alloc(), &mut source, &mut sink, epoch)
+}
+
+fn run_play(rt: &HostRuntime) -> Result<(), RunFault> {
+    let mut source = Source::new(rt.stdin());
+    let mut sink = Sink::new(rt.stdout());
+    play_run(rt.alloc(), &mut source, &mut sink)
 }
 
 // Words that are no UTF-8 name no command.

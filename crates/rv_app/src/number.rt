@@ -1,6 +1,8 @@
 //! Reads a number that is written in decimal digits.
-ghost use Rattle.std.specs.Prelude.{IfSome, IsSome, ◌↔◌, ◌≡◌};
-ghost use Rattle.rv_app.specs.Number.{IsDigits, value_of_digits};
+ghost use Rattle.std.specs.Prelude.{IfSome, IsSome, None, ℕ, ◌↔◌, ◌≡◌};
+ghost use Rattle.rv_app.specs.Number.{IsDigits, WritesIdentifier, value_of_digits};
+
+use rv_text::MAX_IDENTIFIER;
 
 // The most digits of a number. Every number of so many digits fits a `u64`.
 const MOST_DIGITS: usize = 19;
@@ -22,4 +24,17 @@ pub(crate) fn read_number(text: &[u8]) -> Option<u64>
         value = 10 * value + (*digit - b'0') as u64;
     }
     Some(value)
+}
+
+/// The identifier that `text` writes: an epoch, a client and the like, 1 to 9,007,199,254,740,991.
+pub(crate) fn read_identifier(text: &[u8]) -> Option<u64>
+    ensures some { IfSome result (WritesIdentifier text.now) }
+    ensures none { result ≡ None → (n : ℕ) → ¬ WritesIdentifier text.now n }
+{
+    let n = read_number(text)?;
+    if 1 <= n && n <= MAX_IDENTIFIER {
+        Some(n)
+    } else {
+        None
+    }
 }

@@ -2,7 +2,6 @@
 ghost use Rattle.std.specs.Prelude.{◌≡◌, ◌∷◌, ◌++◌, ◌+◌, ◌^◌, ◌<◌, ◌≤◌, [], length, IfOk, IfErr, OnOk};
 ghost use Rattle.std.specs.Io.KnownBytes.{Appends};
 ghost use Rattle.std.specs.Vec.{vec_capacity};
-ghost use Rattle.rv_text.specs.Bodies.{HasBodyLength};
 ghost use Rattle.rv_frame.specs.Sink.{FailsWithSink, SinkTakes, sink_contents};
 
 use rv_frame::Sink;
@@ -22,8 +21,8 @@ pub struct OutputFault {
 // How many bytes are gathered at most.
 const ROOM: usize = 65_536;
 
-// The most bytes of a body with its LF.
-const LONGEST_LINE: usize = MAX_BODY_BYTES + 1;
+// The most bytes of a printed line with its LF: a body, and the words before it.
+const LONGEST_LINE: usize = MAX_BODY_BYTES + 64;
 
 // Lines on their way to a sink. Its room is made once, so that a line needs no memory.
 #[derive(Drop)]
@@ -47,18 +46,18 @@ impl Output {
         })
     }
 
-    /// Takes a body in, and LF after it. Where room may be missing, what was gathered is sent
+    /// Takes a text in, and LF after it. Where room may be missing, what was gathered is sent
     /// first, and a fault is one of that.
     pub(crate) fn line<W: Write>(
         &mut self,
         sink: &mut Sink<W>,
-        body: &[u8],
+        text: &[u8],
     ) -> Result<(), OutputFault>
-        requires of_body { HasBodyLength body.now }
+        requires short { length text.now < 4160 }
         requires countable { taken_in self.old < 2 ^ 63 }
         ensures ok { OnOk result (Appends (promised (sink_contents W.contents sink.old) self.old)
-            (promised (sink_contents W.contents sink.new) self.new) (body.now ++ 10 ∷ [])) }
-        ensures count { OnOk result (taken_in self.new ≡ taken_in self.old + length body.now + 1) }
+            (promised (sink_contents W.contents sink.new) self.new) (text.now ++ 10 ∷ [])) }
+        ensures count { OnOk result (taken_in self.new ≡ taken_in self.old + length text.now + 1) }
         ensures fault { IfErr result (λ fault.
             StopsAfter W.contents self.old sink.old sink.new fault.sent) }
         ensures told { FailsWithSink result sink.old sink.new }
@@ -66,7 +65,7 @@ impl Output {
         if self.gathered.len() > ROOM - LONGEST_LINE {
             self.flush(sink)?;
         }
-        self.gather(body);
+        self.gather(text);
         self.gather(b"\n");
         Ok(())
     }

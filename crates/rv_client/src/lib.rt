@@ -13,7 +13,7 @@ pub use calling::{Called, call};
 pub use fault::LinkFault;
 pub use hello::{Greeted, New};
 pub use link::ask;
-pub use request::{Heard, Idle, Outstanding};
+pub use request::{Heard, Idle, Outstanding, Resting};
 
 #[cfg(test)]
 mod tests;

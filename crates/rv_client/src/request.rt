@@ -22,7 +22,8 @@ impl Model for Idle {
 }
 
 /// A client with a request that it has begun. It can be neither copied nor dropped: only
-/// [`Idle::begin`] makes one, a final answer ends it, and [`abandon`](Outstanding::abandon) gives it up.
+/// [`Idle::begin`] makes one, a final answer ends it, and [`abandon`](Outstanding::abandon) gives it up. It is
+/// laid aside by [`park`](Outstanding::park), until [`Resting::wake`].
 /// Contracts see the request's key and call.
 ///
 /// It says its [`message`](Outstanding::message) as often as it likes, which is always the same request, or
@@ -38,6 +39,23 @@ impl Model for Outstanding {
     ghost Value = { Asking };
 
     ghost view = { λ o. record { key = o.key; call = o.call } };
+}
+
+/// A request that was begun and is laid aside, as plain data in a list or a table, until it is woken. Only
+/// [`Outstanding::park`] makes one; it can't be copied, and whoever drops one gives the request up. Contracts
+/// see the request's key and call.
+#[derive(Debug, Drop)]
+pub struct Resting {
+    key: Key,
+    call: Call,
+}
+
+impl Model for Resting {
+    ghost use Rattle.rv_client.specs.Process.{Asking};
+
+    ghost Value = { Asking };
+
+    ghost view = { λ r. record { key = r.key; call = r.call } };
 }
 
 /// What an answer is to a request that was begun.
@@ -183,5 +201,23 @@ impl Outstanding {
     {
         let Outstanding { key, call: _ } = self;
         key
+    }
+
+    /// Lays the request aside, with its key and its call. It takes no memory.
+    pub fn park(self) -> Resting
+        ensures { result ≡ self }
+    {
+        let Outstanding { key, call } = self;
+        Resting { key, call }
+    }
+}
+
+impl Resting {
+    /// The request again, of the same key and call. It takes no memory.
+    pub fn wake(self) -> Outstanding
+        ensures { result ≡ self }
+    {
+        let Resting { key, call } = self;
+        Outstanding { key, call }
     }
 }

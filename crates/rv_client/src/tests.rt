@@ -466,12 +466,13 @@ fn a_request_is_the_same_each_time(rt: HostRuntime) -> Result<(), Fail> {
         call: put(alloc)?,
     };
     let call = put(alloc)?;
-    let outstanding = idle()?.begin(call);
+    let mut outstanding = idle()?.begin(call);
     assert_eq!(rt; outstanding.key(), key(2, 1, 1));
     let cancel = Message::Cancel { key: key(2, 1, 1) };
     assert!(rt; outstanding.cancel_message() == cancel);
     let mut refused = false;
     for _ in 0..3 {
+        outstanding = outstanding.park().wake();
         match outstanding.message(alloc) {
             Ok(message) => assert!(rt; message == want),
             Err(_) => {

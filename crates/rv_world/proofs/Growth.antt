@@ -1,0 +1,144 @@
+-- The world only grows: what was asked, held and answered stays, and so does each account.
+use Rattle.std.proofs.Common.{◌≡◌, ◌⊎◌, inl, inr, ℕ, List, [], ◌∷◌, ◌++◌, Option, Some, None, refl, sym, ap, subst, ◌∙◌, append-nil}
+use Rattle.std.specs.List.{Contains}
+use Rattle.std.proofs.lemmas.List.{append_assoc}
+use Rattle.std.proofs.lemmas.List.Elements.{Contains-append_left, Contains-push, Contains-push_cases}
+use Rattle.rv_book.specs.Account.{Account, Extends}
+use Rattle.rv_book.proofs.Staying.{steps_extend}
+use Rattle.rv_client.specs.Process.{Outcome, Welcomed, TurnedAway, Settled, EpochEnded, Replaced, Ignored, Process}
+use Rattle.rv_text.specs.declared.answer.Answer.{Answer}
+use Rattle.rv_world.specs.declared.event.Event.{Event}
+use Rattle.rv_world.specs.declared.event.Event.TheVariants as event
+use Rattle.rv_world.specs.declared.packet.Packet.{Packet}
+use Rattle.rv_world.specs.declared.seen.Seen.{Seen}
+use Rattle.rv_world.specs.World.{World, accounts, empty_account, process_of}
+use Rattle.rv_world.specs.Events.{Becomes, ComesTo, ReachesServer, Steps, Turns, sender}
+use Rattle.rv_world.specs.Headline.{GoesOn, IsExtended, OnlyGrows}
+use Rattle.rv_world.specs.Runs.{Runs}
+
+-- ---- lists
+
+goes_on_itself : {X : Type 0} (xs : List X) → GoesOn xs xs
+goes_on_itself xs = record { more = []; is = sym (append-nil xs) }
+
+goes_on : {X : Type 0} (xs more : List X) → GoesOn xs (xs ++ more)
+goes_on xs more = record { more = more; is = refl }
+
+goes_on_trans : {X : Type 0} (xs ys zs : List X) → GoesOn xs ys → GoesOn ys zs → GoesOn xs zs
+goes_on_trans xs ys zs first then = record {
+  more = first.more ++ then.more;
+  is = then.is ∙ ap (λ list. list ++ then.more) first.is ∙ append_assoc xs first.more then.more;
+}
+
+-- ---- accounts
+
+extends_itself : (a : Account) → Extends a a
+extends_itself a = record { epoch = refl; opened = refl; more = []; entries = sym (append-nil a.entries) }
+
+-- the same account is still there
+pub still_there : (v : World) (a : Account) → Contains (accounts v) a → IsExtended v a
+still_there v a there = record { account = a; is_there = there; extends = extends_itself a }
+
+extends_trans : (a b c : Account) → Extends a b → Extends b c → Extends a c
+extends_trans a b c first then = record {
+  epoch = then.epoch ∙ first.epoch;
+  opened = then.opened ∙ first.opened;
+  more = first.more ++ then.more;
+  entries = then.entries ∙ ap (λ list. list ++ then.more) first.entries ∙ append_assoc a.entries first.more then.more;
+}
+
+-- ---- together
+
+pub grows_itself : (w : World) → OnlyGrows w w
+grows_itself w = record {
+  asked = goes_on_itself w.asked;
+  held = goes_on_itself w.held;
+  answers = goes_on_itself w.to_client;
+  accounts_extended = still_there w;
+}
+
+pub grows_trans : (u v w : World) → OnlyGrows u v → OnlyGrows v w → OnlyGrows u w
+grows_trans u v w first then = record {
+  asked = goes_on_trans u.asked v.asked w.asked first.asked then.asked;
+  held = goes_on_trans u.held v.held w.held first.held then.held;
+  answers = goes_on_trans u.to_client v.to_client w.to_client first.answers then.answers;
+  accounts_extended = λ a there.
+      let between = first.accounts_extended a there in
+      let last = then.accounts_extended between.account between.is_there in
+      record { account = last.account; is_there = last.is_there; extends = extends_trans a between.account last.account between.extends last.extends };
+}
+
+-- ---- one event
+
+-- where the accounts stay
+same_accounts : (w v : World) → GoesOn w.asked v.asked → GoesOn w.held v.held → GoesOn w.to_client v.to_client → accounts v ≡ accounts w → OnlyGrows w v
+same_accounts w v asked held answers same = record {
+  asked = asked;
+  held = held;
+  answers = answers;
+  accounts_extended = λ a there. still_there v a (subst (λ list. Contains list a) (sym same) there);
+}
+
+-- where only processes are others
+turns_grow : (w : World) (client : ℕ) (process : Option Process) (v : World) → Turns w client process v → OnlyGrows w v
+turns_grow w client process v turns =
+    subst (OnlyGrows w) (sym turns.rest) (same_accounts w (record w { clients = v.clients }) (goes_on_itself w.asked) (goes_on_itself w.held) (goes_on_itself w.to_client) refl)
+
+stays_grows : (w v : World) → v ≡ w → OnlyGrows w v
+stays_grows w v same = subst (OnlyGrows w) (sym same) (grows_itself w)
+
+becomes_grow : (w : World) (client : ℕ) (answer : Answer) (outcome : Outcome) (v : World) (shows : Seen) → Becomes w client answer outcome v shows → OnlyGrows w v
+becomes_grow w client answer (Welcomed next) v shows is = turns_grow w client _ v is.0
+becomes_grow w client answer (TurnedAway same refusal) v shows is = turns_grow w client _ v is.0
+becomes_grow w client answer (Settled next reply) v shows is =
+    let more = (is.key, reply) ∷ [] in
+    subst (OnlyGrows w) (sym is.rest)
+    (same_accounts w (record w { clients = v.clients; held = w.held ++ more }) (goes_on_itself w.asked) (goes_on w.held more) (goes_on_itself w.to_client) refl)
+becomes_grow w client answer (EpochEnded key current) v shows is = turns_grow w client _ v is.0
+becomes_grow w client answer (Replaced key current) v shows is = turns_grow w client _ v is.0
+becomes_grow w client answer (Ignored same) v shows is = stays_grows w v is.0
+
+comes_grow : (process : Option Process) (w : World) (packet : Packet) (v : World) (shows : Seen) → ComesTo process w packet v shows → OnlyGrows w v
+comes_grow None w packet v shows is = stays_grows w v is.0
+comes_grow (Some process) w packet v shows is = becomes_grow w packet.client packet.answer is.outcome v shows is.becomes
+
+-- the present account is extended by a step of the book
+reaches_server_grows : (w : World) (packet moment : ℕ) (v : World) (shows : Seen) → ReachesServer w packet moment v shows → OnlyGrows w v
+reaches_server_grows w packet moment v shows is =
+    let more : List Packet = record { client = sender is.message; answer = is.told } ∷ [] in
+    let extends = steps_extend w.present v.present moment is.message is.said is.next in
+    subst (OnlyGrows w) (sym is.rest) (record {
+      asked = goes_on_itself w.asked;
+      held = goes_on_itself w.held;
+      answers = goes_on w.to_client more;
+      accounts_extended = λ a there. elim (Contains-push_cases w.earlier w.present a there) [
+        | inl before ↦ still_there (record w { present = v.present; to_client = w.to_client ++ more }) a (Contains-append_left w.earlier (v.present ∷ []) a before)
+        | inr last ↦ record { account = v.present; is_there = Contains-push w.earlier v.present; extends = subst (λ (b : Account). Extends b v.present) last extends }
+      ];
+    })
+
+pub step_grows : (w : World) (e : Event) (v : World) (shows : Seen) → Steps w e v shows → OnlyGrows w v
+step_grows w (event.Start client incarnation) v shows is =
+    subst (OnlyGrows w) (sym is.rest) (same_accounts w _ (goes_on_itself w.asked) (goes_on_itself w.held) (goes_on_itself w.to_client) refl)
+step_grows w (event.Begin client call) v shows is =
+    subst (OnlyGrows w) (sym is.rest) (same_accounts w _ (goes_on w.asked ((is.key, call) ∷ [])) (goes_on_itself w.held) (goes_on_itself w.to_client) refl)
+step_grows w (event.Resend client) v shows is =
+    subst (OnlyGrows w) (sym is.after) (same_accounts w _ (goes_on_itself w.asked) (goes_on_itself w.held) (goes_on_itself w.to_client) refl)
+step_grows w (event.CancelSent client) v shows is =
+    subst (OnlyGrows w) (sym is.after) (same_accounts w _ (goes_on_itself w.asked) (goes_on_itself w.held) (goes_on_itself w.to_client) refl)
+step_grows w (event.Crash client) v shows is = turns_grow w client None v is.ends
+step_grows w (event.ToServer packet moment) v shows is = reaches_server_grows w packet moment v shows is
+step_grows w (event.ToClient packet) v shows is = comes_grow (process_of w is.sent.client) w is.sent v shows is.comes
+step_grows w (event.NewEpoch epoch) v shows is =
+    subst (OnlyGrows w) (sym is.after) (record {
+      asked = goes_on_itself w.asked;
+      held = goes_on_itself w.held;
+      answers = goes_on_itself w.to_client;
+      accounts_extended = λ a there. still_there (record w { earlier = accounts w; present = empty_account epoch }) a (Contains-append_left (accounts w) (empty_account epoch ∷ []) a there);
+    })
+
+-- ---- lists of events
+
+pub runs_grow : (w : World) (events : List Event) (v : World) → Runs w events v → OnlyGrows w v
+runs_grow w [] v same = stays_grows w v same
+runs_grow w (e ∷ events) v runs = grows_trans w runs.0 v (step_grows w e runs.0 runs.1 runs.2) (runs_grow runs.0 events v runs.3)

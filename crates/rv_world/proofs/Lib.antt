@@ -1,0 +1,13 @@
+pub mod Tables
+pub mod TableWrites
+pub mod Starting
+pub mod Refused
+pub mod Hearing
+pub mod Growth
+pub mod Answered
+pub mod Listing
+pub mod Epochs
+pub mod OneReply
+pub mod Turning
+pub mod Soundness
+pub mod ByEpoch

@@ -1,0 +1,160 @@
+-- The headline: what holds of the world after every list of events, and between it and every later world.
+use Rattle.std.specs.Prelude.{◌≡◌, ◌⊎◌, ◌++◌, ℕ, List, Some, slice_get}
+use Rattle.std.specs.List.{Contains}
+use Rattle.rv_text.specs.declared.message.Key.{Key}
+use Rattle.rv_text.specs.declared.call.Call.{Call}
+use Rattle.rv_text.specs.Calls.{item_of}
+use Rattle.rv_text.specs.declared.answer.Answer.TheVariants as answers
+use Rattle.rv_text.specs.declared.answer.Reply.{Reply}
+use Rattle.rv_text.specs.declared.answer.Reply.TheVariants as reply
+use Rattle.rv_book.specs.declared.account.Entry.{Entry}
+use Rattle.rv_book.specs.declared.account.Act.TheVariants.{Arrive}
+use Rattle.rv_book.specs.Account.{Account, Extends, act_at}
+use Rattle.rv_book.specs.Legal.{Legal}
+use Rattle.rv_book.specs.Order.{InOrder, PairAt}
+use Rattle.rv_book.specs.Replies.{HasReply}
+use Rattle.rv_book.specs.Waiting.{Met}
+use Rattle.rv_world.specs.declared.event.Event.{Event}
+use Rattle.rv_world.specs.World.{World, accounts, IsAccountOf, WasAsked, IsHeld}
+use Rattle.rv_world.specs.Runs.{Runs}
+
+-- some answer packet that was ever sent is replied with this key and this reply
+abbrev pub IsAnswered : World → Key → Reply → Type 0
+IsAnswered w key told =
+    (client : ℕ) × Contains w.to_client (record { client = client; answer = answers.Replied key told })
+
+-- the request with this key arrived at a place, with a call
+abbrev pub ArrivesAt : List Entry → Key → ℕ → Call → Type 0
+ArrivesAt entries key r call = act_at entries r ≡ Some (Arrive key call)
+
+-- ---- 1: no two replies
+
+-- the entries of the list have keys of their own
+abbrev pub HasEachKeyOnce : {X : Type 0} → List (Key × X) → Type 0
+HasEachKeyOnce {X} list = (i j : ℕ) (key : Key) (one other : X) → slice_get list i ≡ Some (key, one)
+    → slice_get list j ≡ Some (key, other) → i ≡ j
+
+-- the reply is that of the request with this key in the account of its epoch
+pub record IsReplyOf (w : World) (key : Key) (told : Reply) : Type 0 where
+  pub account : Account
+  pub is_of : IsAccountOf w key.epoch account
+  pub has : HasReply account.entries key told
+
+-- each key was asked at most once, with one call, and is held at most once; what is held was answered; what
+-- is answered was asked, and is the reply in the account
+pub record NoTwoReplies (w : World) : Type 0 where
+  pub asked_once : HasEachKeyOnce w.asked
+  pub held_once : HasEachKeyOnce w.held
+  pub held_answered : (key : Key) (told : Reply) → IsHeld w key told → IsAnswered w key told
+  pub answered_asked : (key : Key) (told : Reply) → IsAnswered w key told
+      → (call : Call) × WasAsked w key call
+  pub answered_is : (key : Key) (told : Reply) → IsAnswered w key told → IsReplyOf w key told
+
+-- ---- 2: legal accounts
+
+-- each epoch has one account; each account is legal, and the key and call of each arrival were asked
+pub record LegalAccounts (w : World) : Type 0 where
+  pub one_each : (a b : Account) → Contains (accounts w) a → Contains (accounts w) b → a.epoch ≡ b.epoch
+      → a ≡ b
+  pub legal : (a : Account) → Contains (accounts w) a → Legal a
+  pub arrivals_asked : (a : Account) (r : ℕ) (key : Key) (call : Call) → Contains (accounts w) a
+      → ArrivesAt a.entries key r call → WasAsked w key call
+
+-- ---- 3: received means assigned
+
+-- the giver at g and the taker at t of a queue are a pair
+abbrev pub IsPair : List Entry → ℕ → ℕ → Type 0
+IsPair entries g t = (queue p : ℕ) × PairAt entries queue p g t
+
+-- of the account of its epoch exactly one pair has the arrival of this key as its giver; its taker's reply
+-- is the item that was asked under the key
+pub record IsAssigned (w : World) (key : Key) : Type 0 where
+  pub account : Account
+  pub is_of : IsAccountOf w key.epoch account
+  pub giver : ℕ
+  pub taker : ℕ
+  pub pair : IsPair account.entries giver taker
+  pub call : Call
+  pub arrived : ArrivesAt account.entries key giver call
+  pub asked : WasAsked w key call
+  pub item : List ℕ
+  pub hands_over : item_of call ≡ Some item
+  pub taker_key : Key
+  pub taker_call : Call
+  pub taker_arrived : ArrivesAt account.entries taker_key taker taker_call
+  pub taker_told : HasReply account.entries taker_key (reply.Item item)
+  pub only : (g t : ℕ) (other : Call) → IsPair account.entries g t → ArrivesAt account.entries key g other
+      → (g ≡ giver) × (t ≡ taker)
+
+-- exactly one pair has the arrival of this key as its taker, and the item is its giver's
+pub record IsGiven (w : World) (key : Key) (item : List ℕ) : Type 0 where
+  pub account : Account
+  pub is_of : IsAccountOf w key.epoch account
+  pub giver : ℕ
+  pub taker : ℕ
+  pub pair : IsPair account.entries giver taker
+  pub call : Call
+  pub arrived : ArrivesAt account.entries key taker call
+  pub giver_key : Key
+  pub giver_call : Call
+  pub giver_arrived : ArrivesAt account.entries giver_key giver giver_call
+  pub hands_over : item_of giver_call ≡ Some item
+  pub only : (g t : ℕ) (other : Call) → IsPair account.entries g t → ArrivesAt account.entries key t other
+      → (g ≡ giver) × (t ≡ taker)
+
+-- what is answered received was assigned to one taker; what is answered an item has one giver
+pub record ReceivedMeansAssigned (w : World) : Type 0 where
+  pub received : (key : Key) → IsAnswered w key reply.Received → IsAssigned w key
+  pub items : (key : Key) (item : List ℕ) → IsAnswered w key (reply.Item item) → IsGiven w key item
+
+-- ---- 4: never handed over after a no
+
+-- the replies of a request that met nobody
+abbrev pub IsNo : Reply → Type 0
+IsNo told = (told ≡ reply.Cancelled) ⊎ ((told ≡ reply.Nobody) ⊎ (told ≡ reply.Empty))
+
+-- no pair and no swap of the world has the arrival of this key
+abbrev pub MeetsNobody : World → Key → Type 0
+MeetsNobody w key = (a : Account) (r : ℕ) (call : Call) → Contains (accounts w) a
+    → ArrivesAt a.entries key r call → ¬ Met a.entries r
+
+-- what is answered a no meets nobody, in this world and after any further events
+abbrev pub NeverHandedOver : World → Type 0
+NeverHandedOver w = (key : Key) (told : Reply) (events : List Event) (v : World) → IsAnswered w key told
+    → IsNo told → Runs w events v → MeetsNobody v key
+
+-- ---- 5: order of arrival
+
+-- items leave each queue of each account in the order of their arrival
+abbrev pub OrderOfArrival : World → Type 0
+OrderOfArrival w = (a : Account) → Contains (accounts w) a → InOrder a.entries
+
+-- ---- 7: only growth
+
+-- the second list goes on where the first ends
+pub record GoesOn {X : Type 0} (before after : List X) : Type 0 where
+  pub more : List X
+  pub is : after ≡ before ++ more
+
+-- an account that extends this one is there
+pub record IsExtended (w : World) (a : Account) : Type 0 where
+  pub account : Account
+  pub is_there : Contains (accounts w) account
+  pub extends : Extends a account
+
+-- what was asked and held, the answers and each account are extended
+pub record OnlyGrows (w v : World) : Type 0 where
+  pub asked : GoesOn w.asked v.asked
+  pub held : GoesOn w.held v.held
+  pub answers : GoesOn w.to_client v.to_client
+  pub accounts_extended : (a : Account) → Contains (accounts w) a → IsExtended v a
+
+-- ---- the parts together, as far as this world's calls go
+
+pub record Headline (w : World) : Type 0 where
+  pub no_two_replies : NoTwoReplies w
+  pub legal_accounts : LegalAccounts w
+  pub received_means_assigned : ReceivedMeansAssigned w
+  pub never_handed_over : NeverHandedOver w
+  pub order_of_arrival : OrderOfArrival w
+  pub only_growth : (events : List Event) (v : World) → Runs w events v → OnlyGrows w v

@@ -1,0 +1,12 @@
+-- What a reader must agree with: all that the public contracts cite.
+pub mod World
+pub mod Limits
+pub mod Events
+pub mod Runs
+pub mod Headline
+pub mod Laws
+-- What only private clauses and proofs cite.
+pub mod Processes
+pub mod Table
+pub mod Sound
+pub mod Parts

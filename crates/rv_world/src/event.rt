@@ -1,0 +1,55 @@
+//! What may happen in the world.
+ghost use Rattle.std.specs.Prelude.{◌↔◌, IsTrue};
+ghost use Rattle.rv_text.specs.Limits.{FitsIdentifier};
+ghost use Rattle.rv_world.specs.Limits.{FitsEvent};
+
+use rv_text::{Call, MAX_IDENTIFIER};
+
+/// One event. Packets of each direction are numbered from 0, and may be delivered never, once, or again and
+/// again, in any order.
+#[derive(Debug, PartialEq, Eq, Drop)]
+pub enum Event {
+    /// A client starts in an incarnation. Its running process, if it has one, ends.
+    Start(u64, u64),
+    /// A client begins a call.
+    Begin(u64, Call),
+    /// A client sends its request again.
+    Resend(u64),
+    /// A client sends the cancel of its request.
+    CancelSent(u64),
+    /// A client's process ends.
+    Crash(u64),
+    /// The message of this number comes to the server, at a moment in milliseconds.
+    ToServer(usize, u64),
+    /// The answer of this number comes to its client.
+    ToClient(usize),
+    /// A server starts in an epoch.
+    NewEpoch(u64),
+}
+
+impl Event {
+    /// Whether its numbers and its call are within their limits.
+    pub fn fits(&self) -> bool
+        ensures { IsTrue result ↔ FitsEvent self.now }
+    {
+        match self {
+            Event::Start(client, incarnation) => {
+                fits_identifier(*client) && fits_identifier(*incarnation)
+            }
+            Event::Begin(client, call) => fits_identifier(*client) && call.fits(),
+            Event::Resend(client) => fits_identifier(*client),
+            Event::CancelSent(client) => fits_identifier(*client),
+            Event::Crash(client) => fits_identifier(*client),
+            Event::ToServer(_, _) => true,
+            Event::ToClient(_) => true,
+            Event::NewEpoch(epoch) => fits_identifier(*epoch),
+        }
+    }
+}
+
+// Whether a client, an incarnation or an epoch is within its limits.
+fn fits_identifier(number: u64) -> bool
+    ensures { IsTrue result ↔ FitsIdentifier number }
+{
+    (1..=MAX_IDENTIFIER).contains(&number)
+}

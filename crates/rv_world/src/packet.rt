@@ -1,0 +1,88 @@
+//! Packets: what was sent to a client, and copies of what is delivered.
+ghost use Rattle.std.specs.Prelude.{◌≡◌, IfOk};
+ghost use Rattle.rv_world.specs.Events.{sender};
+
+use rv_text::{Answer, Message, NoMemory, Reply};
+use std::alloc::Global;
+
+/// An answer that was sent, and the client to which it goes.
+#[derive(Debug, PartialEq, Eq, Drop)]
+pub struct Packet {
+    /// The client of the message that is answered.
+    pub client: u64,
+    /// The answer.
+    pub answer: Answer,
+}
+
+// The client that a message comes from.
+pub(crate) fn sender(message: &Message) -> u64
+    ensures { result ≡ sender message.now }
+{
+    match message {
+        Message::Hello { client, .. } => *client,
+        Message::Request { key, .. } => key.client,
+        Message::Cancel { key } => key.client,
+    }
+}
+
+// A copy of a message. It fails only where memory for its item was refused.
+pub(crate) fn copy_message(alloc: Global, message: &Message) -> Result<Message, NoMemory>
+    ensures { IfOk result (λ copy. copy ≡ message.now) }
+{
+    match message {
+        Message::Hello {
+            client,
+            incarnation,
+        } => Ok(Message::Hello {
+            client: *client,
+            incarnation: *incarnation,
+        }),
+        Message::Request { key, call } => Ok(Message::Request {
+            key: *key,
+            call: call.copy(alloc)?,
+        }),
+        Message::Cancel { key } => Ok(Message::Cancel { key: *key }),
+    }
+}
+
+// A copy of a reply. It fails only where memory for its item was refused.
+fn copy_reply(alloc: Global, reply: &Reply) -> Result<Reply, NoMemory>
+    ensures { IfOk result (λ copy. copy ≡ reply.now) }
+{
+    match reply {
+        Reply::Done => Ok(Reply::Done),
+        Reply::Received => Ok(Reply::Received),
+        Reply::Nobody => Ok(Reply::Nobody),
+        Reply::Item(item) => Ok(Reply::Item(item.copy(alloc)?)),
+        Reply::Empty => Ok(Reply::Empty),
+        Reply::Cancelled => Ok(Reply::Cancelled),
+        Reply::Counted { items, consumers } => Ok(Reply::Counted {
+            items: *items,
+            consumers: *consumers,
+        }),
+        Reply::Peeked(item) => Ok(Reply::Peeked(item.copy(alloc)?)),
+    }
+}
+
+// A copy of an answer. It fails only where memory for its item was refused.
+pub(crate) fn copy_answer(alloc: Global, answer: &Answer) -> Result<Answer, NoMemory>
+    ensures { IfOk result (λ copy. copy ≡ answer.now) }
+{
+    match answer {
+        Answer::Welcome {
+            epoch,
+            client,
+            incarnation,
+        } => Ok(Answer::Welcome {
+            epoch: *epoch,
+            client: *client,
+            incarnation: *incarnation,
+        }),
+        Answer::Replied { key, reply } => Ok(Answer::Replied {
+            key: *key,
+            reply: copy_reply(alloc, reply)?,
+        }),
+        Answer::Waiting { key } => Ok(Answer::Waiting { key: *key }),
+        Answer::Refused(refusal) => Ok(Answer::Refused(*refusal)),
+    }
+}

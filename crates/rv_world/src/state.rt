@@ -1,0 +1,302 @@
+//! The parts of a world, and what each event does to them. What can fail comes before the first change.
+ghost use Rattle.std.specs.Prelude.{◌≡◌, ◌<◌, ◌++◌, ◌∷◌, [], IfErr, IfOk, Some, length, vec_len};
+ghost use Rattle.std.specs.Vec.{vec_capacity};
+ghost use Rattle.rv_world.specs.declared.seen.Seen.TheVariants as sees;
+
+use crate::clients::Clients;
+use crate::event::Event;
+use crate::packet::{Packet, copy_answer, copy_message, sender};
+use crate::process::{Running, Told};
+use crate::seen::{Seen, WorldRefusal};
+use rv_book::Book;
+use rv_client::New;
+use rv_text::{Answer, Call, Key, Message, NoMemory, Refusal, Reply};
+use std::alloc::Global;
+use std::mem;
+
+#[derive(Drop)]
+pub(crate) struct State {
+    // The books of the epochs before the present one, in the order in which they were opened.
+    pub(crate) earlier: Vec<Book>,
+    pub(crate) present: Book,
+    clients: Clients,
+    pub(crate) asked: Vec<(Key, Call)>,
+    pub(crate) held: Vec<(Key, Reply)>,
+    to_server: Vec<Message>,
+    pub(crate) to_client: Vec<Packet>,
+}
+
+// Sends a message, for which there is room.
+fn send(to_server: &mut Vec<Message>, message: Message) -> Seen
+    requires { vec_len to_server.old < vec_capacity to_server.old }
+    ensures sent { to_server.new.items ≡ to_server.old.items ++ message ∷ [] }
+    ensures seen { result ≡ sees.Sent (length to_server.old.items) }
+{
+    let number = to_server.len();
+    to_server.push_reserved(message);
+    Seen::Sent(number)
+}
+
+// Sends an answer to a client, for which there is room.
+fn send_answer(to_client: &mut Vec<Packet>, packet: Packet) -> Seen
+    requires { vec_len to_client.old < vec_capacity to_client.old }
+    ensures sent { to_client.new.items ≡ to_client.old.items ++ packet ∷ [] }
+    ensures seen { result ≡ sees.Answered (length to_client.old.items) }
+{
+    let number = to_client.len();
+    to_client.push_reserved(packet);
+    Seen::Answered(number)
+}
+
+impl State {
+    ghost use Rattle.std.specs.Prelude.{◌⊎◌, IsSome, OnOk};
+    ghost use Rattle.rv_text.specs.Limits.{FitsCall, FitsIdentifier};
+    ghost use Rattle.rv_client.specs.Process as process;
+    ghost use Rattle.rv_world.specs.Limits.{FitsEvent};
+    ghost use Rattle.rv_world.specs.World.{first_world, process_of};
+    ghost use Rattle.rv_world.specs.Events.{Comes, IsAsking, IsHeard, IsNewest, IsReady, RunsBut, RunsNone};
+    ghost use Rattle.rv_world.specs.Events.{WasStarted};
+    ghost use Rattle.rv_world.specs.Processes.{process_in};
+    ghost use Rattle.rv_world.specs.Table.{AreNewest};
+    ghost use Rattle.rv_world.specs.Parts.{IsSoundState, started_by, world_of};
+    ghost use Rattle.rv_world.specs.declared.event.Event.TheVariants as event;
+    ghost use Rattle.rv_world.specs.declared.seen.WorldRefusal.TheVariants as refuses;
+
+    // The state of a world that begins in an epoch. It fails only where memory was refused.
+    pub(crate) fn open(alloc: Global, epoch: u64) -> Result<State, NoMemory>
+        requires { FitsIdentifier epoch }
+        ensures { IfOk result (λ state. world_of state ≡ first_world epoch) }
+    {
+        Ok(State {
+            earlier: Vec::new(alloc),
+            present: Book::open(alloc, epoch, 0)?,
+            clients: Clients::empty(alloc),
+            asked: Vec::new(alloc),
+            held: Vec::new(alloc),
+            to_server: Vec::new(alloc),
+            to_client: Vec::new(alloc),
+        })
+    }
+
+    // Takes one event.
+    pub(crate) fn step(&mut self, alloc: Global, event: &Event) -> Result<Seen, WorldRefusal>
+        requires sound { IsSoundState self.old }
+        requires fits { FitsEvent event.now }
+        ensures comes { Comes (world_of self.old) event.now (world_of self.new) result }
+        ensures newest { AreNewest self.new.clients.newest (started_by self.new.to_server.items) }
+    {
+        match event {
+            Event::Start(client, incarnation) => self.start(*client, *incarnation),
+            Event::Begin(client, call) => self.begin(alloc, *client, call),
+            Event::Resend(client) => self.resend(alloc, *client),
+            Event::CancelSent(client) => self.send_cancel(*client),
+            Event::Crash(client) => self.crash(*client),
+            Event::ToServer(packet, moment) => self.to_server(alloc, *packet, *moment),
+            Event::ToClient(packet) => self.to_client(alloc, *packet),
+            Event::NewEpoch(epoch) => self.new_epoch(alloc, *epoch),
+        }
+    }
+
+    // A client starts in an incarnation.
+    fn start(&mut self, client: u64, incarnation: u64) -> Result<Seen, WorldRefusal>
+        requires sound { IsSoundState self.old }
+        requires client { FitsIdentifier client }
+        requires incarnation { FitsIdentifier incarnation }
+        ensures comes { Comes (world_of self.old) (event.Start client incarnation)
+            (world_of self.new) result }
+        ensures newest { AreNewest self.new.clients.newest (started_by self.new.to_server.items) }
+    {
+        self.must_be_newest(client, incarnation)?;
+        self.to_server.reserve(1)?;
+        let new = New::start(client, incarnation);
+        let hello = new.message();
+        self.clients.enter(client, incarnation, Running::New(new))?;
+        Ok(send(&mut self.to_server, hello))
+    }
+
+    // Whether a client was started only in lower incarnations: else why it can't start in this one.
+    fn must_be_newest(&self, client: u64, incarnation: u64) -> Result<(), WorldRefusal>
+        requires { AreNewest self.now.clients.newest (started_by self.now.to_server.items) }
+        ensures ok { OnOk result (IsNewest (world_of self.now) client incarnation) }
+        ensures err { IfErr result (λ refusal. WasStarted (world_of self.now) client incarnation
+            × (refusal ≡ refuses.IncarnationNotGreater)) }
+    {
+        match self.clients.newest(client) {
+            Some(newest) if incarnation <= newest => Err(WorldRefusal::IncarnationNotGreater),
+            _ => Ok(()),
+        }
+    }
+
+    // The process of a client, which is to run.
+    fn process(&self, client: u64) -> Result<&Running, WorldRefusal>
+        ensures ok { IfOk result (λ running. process_of (world_of self.now) client
+            ≡ Some (process_in running.now)) }
+        ensures err { IfErr result (RunsNone (world_of self.now) client) }
+    {
+        self.clients
+            .process(client)
+            .ok_or(WorldRefusal::NoSuchClient)
+    }
+
+    // The key with which an idle process of a client will begin.
+    fn next_key(&self, client: u64) -> Result<Key, WorldRefusal>
+        ensures ok { IfOk result (λ key. process_of (world_of self.now) client
+            ≡ Some (process.Idle (Some key))) }
+        ensures err { IfErr result (λ refusal. RunsNone (world_of self.now) client refusal
+            ⊎ (RunsBut (world_of self.now) client IsReady × (refusal ≡ refuses.NotIdle))) }
+    {
+        match self.process(client)? {
+            Running::Idle(idle) => idle.next_key().ok_or(WorldRefusal::NotIdle),
+            Running::New(_) => Err(WorldRefusal::NotIdle),
+            Running::Outstanding(_) => Err(WorldRefusal::NotIdle),
+        }
+    }
+
+    // Whether a process of a client is outstanding: else why it can say nothing.
+    fn must_be_asking(&self, client: u64) -> Result<(), WorldRefusal>
+        ensures ok { OnOk result ((asking : process.Asking)
+            × (process_of (world_of self.now) client ≡ Some (process.Outstanding asking))) }
+        ensures err { IfErr result (λ refusal. RunsNone (world_of self.now) client refusal
+            ⊎ (RunsBut (world_of self.now) client IsAsking × (refusal ≡ refuses.NotOutstanding))) }
+    {
+        match self.process(client)? {
+            Running::Outstanding(_) => Ok(()),
+            Running::New(_) => Err(WorldRefusal::NotOutstanding),
+            Running::Idle(_) => Err(WorldRefusal::NotOutstanding),
+        }
+    }
+
+    // A client begins a call.
+    fn begin(&mut self, alloc: Global, client: u64, call: &Call) -> Result<Seen, WorldRefusal>
+        requires sound { IsSoundState self.old }
+        requires call { FitsCall call.now }
+        ensures comes { Comes (world_of self.old) (event.Begin client call.now) (world_of self.new) result }
+        ensures newest { AreNewest self.new.clients.newest (started_by self.new.to_server.items) }
+    {
+        let key = self.next_key(client)?;
+        let asked = call.copy(alloc)?;
+        let own = call.copy(alloc)?;
+        let call = call.copy(alloc)?;
+        self.asked.reserve(1)?;
+        self.to_server.reserve(1)?;
+        self.clients.begin(client, own);
+        self.asked.push_reserved((key, asked));
+        Ok(send(&mut self.to_server, Message::Request { key, call }))
+    }
+
+    // A client sends its request again.
+    fn resend(&mut self, alloc: Global, client: u64) -> Result<Seen, WorldRefusal>
+        requires sound { IsSoundState self.old }
+        ensures comes { Comes (world_of self.old) (event.Resend client) (world_of self.new) result }
+        ensures newest { AreNewest self.new.clients.newest (started_by self.new.to_server.items) }
+    {
+        self.must_be_asking(client)?;
+        self.to_server.reserve(1)?;
+        let request = self.clients.request(alloc, client)?;
+        Ok(send(&mut self.to_server, request))
+    }
+
+    // A client sends the cancel of its request.
+    fn send_cancel(&mut self, client: u64) -> Result<Seen, WorldRefusal>
+        requires sound { IsSoundState self.old }
+        ensures comes { Comes (world_of self.old) (event.CancelSent client) (world_of self.new) result }
+        ensures newest { AreNewest self.new.clients.newest (started_by self.new.to_server.items) }
+    {
+        self.must_be_asking(client)?;
+        self.to_server.reserve(1)?;
+        let cancel = self.clients.cancel(client);
+        Ok(send(&mut self.to_server, cancel))
+    }
+
+    // A client's process ends.
+    fn crash(&mut self, client: u64) -> Result<Seen, WorldRefusal>
+        requires sound { IsSoundState self.old }
+        ensures comes { Comes (world_of self.old) (event.Crash client) (world_of self.new) result }
+        ensures newest { AreNewest self.new.clients.newest (started_by self.new.to_server.items) }
+    {
+        self.process(client)?;
+        self.clients.turn(client, None);
+        Ok(Seen::Crashed)
+    }
+
+    // A message comes to the server.
+    fn to_server(&mut self, alloc: Global, packet: usize, moment: u64) -> Result<Seen, WorldRefusal>
+        requires sound { IsSoundState self.old }
+        ensures comes { Comes (world_of self.old) (event.ToServer packet moment) (world_of self.new) result }
+        ensures newest { AreNewest self.new.clients.newest (started_by self.new.to_server.items) }
+    {
+        let message = match self.to_server.get(packet) {
+            Some(message) => copy_message(alloc, message)?,
+            None => return Err(WorldRefusal::NoSuchPacket),
+        };
+        self.to_client.reserve(1)?;
+        let client = sender(&message);
+        let verdict = self.present.handle(moment, message);
+        let answer = match self.present.answer(alloc, &verdict) {
+            Ok(answer) => answer,
+            Err(_) => Answer::Refused(Refusal::NoMemory),
+        };
+        Ok(send_answer(&mut self.to_client, Packet { client, answer }))
+    }
+
+    // An answer comes to its client.
+    fn to_client(&mut self, alloc: Global, packet: usize) -> Result<Seen, WorldRefusal>
+        requires sound { IsSoundState self.old }
+        ensures comes { Comes (world_of self.old) (event.ToClient packet) (world_of self.new) result }
+        ensures newest { AreNewest self.new.clients.newest (started_by self.new.to_server.items) }
+    {
+        let Some(packet) = self.to_client.get(packet) else {
+            return Err(WorldRefusal::NoSuchPacket);
+        };
+        let client = packet.client;
+        if self.clients.process(client).is_none() {
+            return Ok(Seen::Ignored);
+        }
+        let answer = copy_answer(alloc, &packet.answer)?;
+        self.held.reserve(1)?;
+        Ok(self.hear(client, answer))
+    }
+
+    // The running process of a client hears an answer; there is room for what it takes as final.
+    fn hear(&mut self, client: u64, answer: Answer) -> Seen
+        requires runs { IsSome (process_of (world_of self.old) client) }
+        requires room { vec_len self.old.held < vec_capacity self.old.held }
+        ensures heard { (running : process.Process) → process_of (world_of self.old) client ≡ Some running
+            → IsHeard (world_of self.old) running (record { client = client; answer = answer })
+            (world_of self.new) result }
+        ensures newest { self.new.clients.newest ≡ self.old.clients.newest }
+        ensures sent { self.new.to_server ≡ self.old.to_server }
+    {
+        let told = match self.clients.turn(client, None) {
+            Some(running) => running.hear(answer),
+            None => unreachable!(),
+        };
+        let Told {
+            process,
+            held,
+            seen,
+        } = told;
+        self.clients.turn(client, process);
+        if let Some(taken) = held {
+            self.held.push_reserved(taken);
+        }
+        seen
+    }
+
+    // A server starts in an epoch.
+    fn new_epoch(&mut self, alloc: Global, epoch: u64) -> Result<Seen, WorldRefusal>
+        requires sound { IsSoundState self.old }
+        requires epoch { FitsIdentifier epoch }
+        ensures comes { Comes (world_of self.old) (event.NewEpoch epoch) (world_of self.new) result }
+        ensures newest { AreNewest self.new.clients.newest (started_by self.new.to_server.items) }
+    {
+        if epoch <= self.present.account().epoch() {
+            return Err(WorldRefusal::EpochNotGreater);
+        }
+        self.earlier.reserve(1)?;
+        let book = Book::open(alloc, epoch, 0)?;
+        let ended = mem::replace(&mut self.present, book);
+        self.earlier.push_reserved(ended);
+        Ok(Seen::Opened(epoch))
+    }
+}

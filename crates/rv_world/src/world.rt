@@ -1,0 +1,104 @@
+//! The world: every server, client and packet, and one event at a time.
+ghost use Rattle.std.specs.Prelude.{◌≡◌, ◌⊎◌, IfOk, IfSome, IfNone, None, option_map, slice_get, ℕ};
+ghost use Rattle.rv_text.specs.Limits.{FitsAnswer, FitsIdentifier};
+ghost use Rattle.rv_world.specs.World.{IsAccountOf, first_world};
+ghost use Rattle.rv_world.specs.Parts.{IsBookOf};
+
+use crate::event::Event;
+use crate::seen::{Seen, WorldRefusal};
+use crate::state::State;
+use rv_book::{Account, Book};
+use rv_text::{Answer, Call, Key, NoMemory, Reply};
+use std::alloc::Global;
+use std::marker::Model;
+
+/// Servers, clients, and a link that loses, repeats and reorders what was sent.
+///
+/// An event costs what the book's step costs, and one look-up of a client. Nothing is ever forgotten.
+#[derive(Drop)]
+pub struct World {
+    state: State,
+}
+
+// The number of the first of these books whose account is of this epoch.
+fn index_of(books: &[Book], epoch: u64) -> Option<usize>
+    ensures found { IfSome result (IsBookOf books.now epoch) }
+    ensures none { IfNone result ((i : ℕ) → ¬ IsBookOf books.now epoch i) }
+{
+    books.iter().position(|book| book.account().epoch() == epoch)
+}
+
+impl Model for World {
+    ghost use Rattle.rv_world.specs.World.{World};
+    ghost use Rattle.rv_world.specs.Parts.{IsSoundState, world_of};
+
+    ghost Value = { World };
+
+    ghost view = { λ w. world_of w.state };
+
+    ghost invariant = { λ w. IsSoundState w.state };
+}
+
+impl World {
+    ghost use Rattle.rv_world.specs.Limits.{FitsEvent};
+    ghost use Rattle.rv_world.specs.Events.{Comes};
+    ghost use Rattle.rv_world.specs.Headline.{LegalAccounts, NoTwoReplies, OnlyGrows};
+
+    /// The world that begins in an epoch, 1 to 2^53 - 1: a server with an empty account, opened at moment 0,
+    /// and nothing else. It fails only where memory was refused.
+    pub fn open(alloc: Global, epoch: u64) -> Result<World, NoMemory>
+        requires { FitsIdentifier epoch }
+        ensures { IfOk result (λ world. world ≡ first_world epoch) }
+    {
+        let state = State::open(alloc, epoch)?;
+        Ok(World { state })
+    }
+
+    /// Takes one event, and tells what is seen of it. A refused event changes nothing; want of memory is told
+    /// only where no other refusal is due and the server was not asked yet.
+    pub fn step(&mut self, alloc: Global, event: &Event) -> Result<Seen, WorldRefusal>
+        requires { FitsEvent event.now }
+        ensures comes { Comes self.old event.now self.new result }
+        ensures no_two_replies { NoTwoReplies self.new }
+        ensures legal_accounts { LegalAccounts self.new }
+        ensures only_growth { OnlyGrows self.old self.new }
+    {
+        self.state.step(alloc, event)
+    }
+
+    /// The replies that clients took as final, with their keys.
+    pub fn held(&self) -> &[(Key, Reply)]
+        ensures { result.now ≡ self.now.held }
+    {
+        &self.state.held
+    }
+
+    /// The calls that clients began, with their keys.
+    pub fn asked(&self) -> &[(Key, Call)]
+        ensures { result.now ≡ self.now.asked }
+    {
+        &self.state.asked
+    }
+
+    /// The account of an epoch, if it was opened.
+    pub fn account(&self, epoch: u64) -> Option<&Account>
+        ensures found { IfSome result (λ account. IsAccountOf self.now epoch account.now.account) }
+        ensures none { IfNone result ((a : _) → ¬ IsAccountOf self.now epoch a) }
+    {
+        let present = self.state.present.account();
+        if present.epoch() == epoch {
+            return Some(present);
+        }
+        let index = index_of(&self.state.earlier, epoch)?;
+        Some(self.state.earlier[index].account())
+    }
+
+    /// The answer of a packet, if one of this number was sent.
+    pub fn answer_packet(&self, packet: usize) -> Option<&Answer>
+        ensures told { option_map (λ answer. answer.now) result
+            ≡ option_map (λ packet. packet.answer) (slice_get self.now.to_client packet) }
+        ensures fits { IfSome result (λ answer. FitsAnswer answer.now) }
+    {
+        Some(&self.state.to_client.get(packet)?.answer)
+    }
+}
