@@ -11,3 +11,5 @@ pub mod OneReply
 pub mod Turning
 pub mod Soundness
 pub mod ByEpoch
+pub mod Fitting
+pub mod Keeping
