@@ -13,3 +13,4 @@ pub mod Soundness
 pub mod ByEpoch
 pub mod Fitting
 pub mod Keeping
+pub mod EventLists
