@@ -117,25 +117,25 @@ quiet_fits w v fits same told messages processes = record {
 -- a message more
 sent_fits : (w v : World) (said : Message) → AllFits w → v.to_server ≡ w.to_server ++ said ∷ [] → FitsMessage said → (m : Message) → Contains v.to_server m → FitsMessage m
 sent_fits w v said fits sent new m there = elim (Contains-push_cases w.to_server said m (subst (λ (l : List Message). Contains l m) sent there)) [
-    inl before ↦ fits.messages m before
+  | inl before ↦ fits.messages m before
   | inr is ↦ subst FitsMessage is new
-  ]
+]
 
 -- a process that is another
 turned_fits : (w v : World) (client : ℕ) (process : Option Process) → AllFits w → OnlyTurns w v client process → ((new : Process) → process ≡ Some new → FitsProcess new)
     → (other : ℕ) (is : Process) → process_of v other ≡ Some is → FitsProcess is
 turned_fits w v client process fits turns new other is there = elim (same_or_not other client) [
-    inl equal ↦ new is (sym turns.own ∙ subst (λ (c : ℕ). process_of v c ≡ Some is) equal there)
+  | inl equal ↦ new is (sym turns.own ∙ subst (λ (c : ℕ). process_of v c ≡ Some is) equal there)
   | inr differ ↦ fits.processes other is (sym (turns.others other differ) ∙ there)
-  ]
+]
 
 -- a process and nothing else is another
 turns_fits : (w v : World) (client : ℕ) (process : Option Process) → AllFits w → Turns w client process v → ((new : Process) → process ≡ Some new → FitsProcess new) → AllFits v
 turns_fits w v client process fits turns new =
     let rest = turns.rest in
     quiet_fits w v fits (ap (λ (u : World). accounts u) rest) (ap (λ (u : World). u.to_client) rest)
-      (λ m there. fits.messages m (subst (λ (l : List Message). Contains l m) (ap (λ (u : World). u.to_server) rest) there))
-      (turned_fits w v client process fits turns.turns new)
+    (λ m there. fits.messages m (subst (λ (l : List Message). Contains l m) (ap (λ (u : World). u.to_server) rest) there))
+    (turned_fits w v client process fits turns.turns new)
 
 -- ---- keys
 
@@ -161,17 +161,17 @@ module _ (w v : World) (to : ℕ) (answer : Answer) (shows : Seen) (fits : AllFi
   heard_fits : (process : Process) (outcome : Outcome) → FitsProcess process → Hears process answer outcome → Becomes w to answer outcome v shows → AllFits v
   heard_fits (New start) (Welcomed next) good hears becomes =
       let epoch : FitsIdentifier hears.0 = fits.welcomes to hears.0 start.client start.incarnation
-        (subst (λ (x : Answer). Contains w.to_client (record { client = to; answer = x })) hears.1 there) in
+      (subst (λ (x : Answer). Contains w.to_client (record { client = to; answer = x })) hears.1 there) in
       turns_fits w v to (Some (Idle next)) fits becomes.0
-        (one_of (Idle next) (subst (λ (o : Option Key). FitsProcess (Idle o)) (sym hears.2) (epoch, good.0, good.1, (omega arith, omega arith))))
+      (one_of (Idle next) (subst (λ (o : Option Key). FitsProcess (Idle o)) (sym hears.2) (epoch, good.0, good.1, (omega arith, omega arith))))
   heard_fits (New start) (TurnedAway same refusal) good hears becomes =
       turns_fits w v to (Some (New same)) fits becomes.0 (one_of (New same) (subst (λ (s : Starting). FitsProcess (New s)) (sym hears.1) good))
   heard_fits (Outstanding asking) (Settled next reply) good hears becomes =
       let rest = becomes.rest in
       quiet_fits w v fits (ap (λ (u : World). accounts u) rest) (ap (λ (u : World). u.to_client) rest)
-        (λ m is. fits.messages m (subst (λ (l : List Message). Contains l m) (ap (λ (u : World). u.to_server) rest) is))
-        (turned_fits w v to (Some (Idle next)) fits becomes.turns
-          (one_of (Idle next) (subst (λ (o : Option Key). FitsProcess (Idle o)) (sym hears.1) (fits_after asking.key good.0))))
+      (λ m is. fits.messages m (subst (λ (l : List Message). Contains l m) (ap (λ (u : World). u.to_server) rest) is))
+      (turned_fits w v to (Some (Idle next)) fits becomes.turns
+      (one_of (Idle next) (subst (λ (o : Option Key). FitsProcess (Idle o)) (sym hears.1) (fits_after asking.key good.0))))
   heard_fits process (EpochEnded key current) good hears becomes = turns_fits w v to None fits becomes.0 ended
   heard_fits process (Replaced key current) good hears becomes = turns_fits w v to None fits becomes.0 ended
   heard_fits process (Ignored same) good hears becomes = subst AllFits (sym becomes.0) fits
@@ -197,14 +197,14 @@ reached_fits w v packet moment shows fits reaches =
     let own : FitsIdentifier v.present.epoch = subst FitsIdentifier (sym extends.epoch) (fits.epochs w.present (last_account w)) in
     record {
       epochs = λ a there. elim (Contains-push_cases v.earlier v.present a there) [
-          inl before ↦ fits.epochs a (earlier_account w a (subst (λ (l : List Account). Contains l a) earlier before))
+        | inl before ↦ fits.epochs a (earlier_account w a (subst (λ (l : List Account). Contains l a) earlier before))
         | inr last ↦ subst (λ (b : Account). FitsIdentifier b.epoch) last own
-        ];
+      ];
       messages = λ m there. fits.messages m (subst (λ (l : List Message). Contains l m) (ap (λ (u : World). u.to_server) rest) there);
       welcomes = λ to e c i there. elim (Contains-push_cases w.to_client _ _ (subst (λ (l : List Packet). Contains l (record { client = to; answer = answers.Welcome e c i })) (ap (λ (u : World). u.to_client) rest) there)) [
-          inl before ↦ fits.welcomes to e c i before
+        | inl before ↦ fits.welcomes to e c i before
         | inr new ↦ subst FitsIdentifier (sym (told_epoch w.present v.present moment reaches.message reaches.said reaches.told reaches.next reaches.is_told e c i (ap (λ (p : Packet). p.answer) new))) own
-        ];
+      ];
       processes = λ client process there. fits.processes client process (subst (λ (l : List (ℕ × Option Process)). process_of (record w { clients = l }) client ≡ Some process) clients there);
     }
   where
@@ -219,9 +219,9 @@ reached_fits w v packet moment shows fits reaches =
 pub first_fits : (epoch : ℕ) → FitsIdentifier epoch → AllFits (first_world epoch)
 first_fits epoch fits = record {
   epochs = λ a there. elim (Contains-push_cases [] (empty_account epoch) a there) [
-      inl before ↦ absurd (nothing before)
+    | inl before ↦ absurd (nothing before)
     | inr last ↦ subst (λ (b : Account). FitsIdentifier b.epoch) last fits
-    ];
+  ];
   messages = λ m there. absurd (nothing there);
   welcomes = λ to e c i there. absurd (nothing there);
   processes = λ client process there. absurd (none-some process there);
@@ -233,21 +233,21 @@ first_fits epoch fits = record {
 says_fits : (w v : World) (client : ℕ) (said : Message) → AllFits w → v ≡ record w { to_server = w.to_server ++ said ∷ [] } → FitsMessage said → AllFits v
 says_fits w v client said fits after new =
     quiet_fits w v fits (ap (λ (u : World). accounts u) after) (ap (λ (u : World). u.to_client) after)
-      (sent_fits w v said fits (ap (λ (u : World). u.to_server) after) new)
-      (λ other process there. fits.processes other process (subst (λ (l : List (ℕ × Option Process)). process_of (record w { clients = l }) other ≡ Some process) (ap (λ (u : World). u.clients) after) there))
+    (sent_fits w v said fits (ap (λ (u : World). u.to_server) after) new)
+    (λ other process there. fits.processes other process (subst (λ (l : List (ℕ × Option Process)). process_of (record w { clients = l }) other ≡ Some process) (ap (λ (u : World). u.clients) after) there))
 
 pub step_fits : (w : World) (e : Event) (v : World) (shows : Seen) → AllFits w → FitsEvent e → Steps w e v shows → AllFits v
 step_fits w (event.Start client incarnation) v shows fits good steps =
     let rest = steps.rest in
     quiet_fits w v fits (ap (λ (u : World). accounts u) rest) (ap (λ (u : World). u.to_client) rest)
-      (sent_fits w v (hello_of (starting client incarnation)) fits (ap (λ (u : World). u.to_server) rest) good)
-      (turned_fits w v client (Some (New (starting client incarnation))) fits steps.turns (λ new is. subst FitsProcess (same_Some _ _ is) good))
+    (sent_fits w v (hello_of (starting client incarnation)) fits (ap (λ (u : World). u.to_server) rest) good)
+    (turned_fits w v client (Some (New (starting client incarnation))) fits steps.turns (λ new is. subst FitsProcess (same_Some _ _ is) good))
 step_fits w (event.Begin client call) v shows fits good steps =
     let rest = steps.rest in
     let key : FitsKey steps.key = fits.processes client (Idle (Some steps.key)) steps.idle in
     quiet_fits w v fits (ap (λ (u : World). accounts u) rest) (ap (λ (u : World). u.to_client) rest)
-      (sent_fits w v (message.Request steps.key call) fits (ap (λ (u : World). u.to_server) rest) (key, good.1))
-      (turned_fits w v client (Some (Outstanding (record { key = steps.key; call = call }))) fits steps.turns (λ new is. subst FitsProcess (same_Some _ _ is) (key, good.1)))
+    (sent_fits w v (message.Request steps.key call) fits (ap (λ (u : World). u.to_server) rest) (key, good.1))
+    (turned_fits w v client (Some (Outstanding (record { key = steps.key; call = call }))) fits steps.turns (λ new is. subst FitsProcess (same_Some _ _ is) (key, good.1)))
 step_fits w (event.Resend client) v shows fits good steps =
     says_fits w v client (message.Request steps.asking.key steps.asking.call) fits steps.after (fits.processes client (Outstanding steps.asking) steps.outstanding)
 step_fits w (event.CancelSent client) v shows fits good steps =
@@ -260,9 +260,9 @@ step_fits w (event.NewEpoch epoch) v shows fits good steps =
     let after = steps.after in
     record {
       epochs = λ a there. elim (Contains-push_cases (accounts w) (empty_account epoch) a (subst (λ (u : World). Contains (accounts u) a) after there)) [
-          inl before ↦ fits.epochs a before
+        | inl before ↦ fits.epochs a before
         | inr last ↦ subst (λ (b : Account). FitsIdentifier b.epoch) last good
-        ];
+      ];
       messages = λ m there. fits.messages m (subst (λ (u : World). Contains u.to_server m) after there);
       welcomes = λ to e c i there. fits.welcomes to e c i (subst (λ (u : World). Contains u.to_client (record { client = to; answer = answers.Welcome e c i })) after there);
       processes = λ client process there. fits.processes client process (subst (λ (u : World). process_of u client ≡ Some process) after there);

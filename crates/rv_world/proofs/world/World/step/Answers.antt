@@ -26,4 +26,4 @@ returns-clause-legal_accounts c =
 pub returns-clause-only_growth : goal.returns-clause-only_growth
 returns-clause-only_growth c =
     subst (λ (w : World). OnlyGrows w (world_of c.step.new.self)) c.self.view_is
-      (comes_grows (world_of c.self.inside.state) c.args.event.now _ c.step.result c.step.ensures.comes)
+    (comes_grows (world_of c.self.inside.state) c.args.event.now _ c.step.result c.step.ensures.comes)
