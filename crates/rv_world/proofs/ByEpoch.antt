@@ -15,8 +15,8 @@ earlier_of w epoch i is = record {
 
 pub none_of : (w : World) (epoch : ℕ) → ((i : ℕ) → ¬ IsBookOf w.earlier epoch i) → w.present.epoch ≢ epoch → (a : Account) → ¬ IsAccountOf w epoch a
 none_of w epoch nowhere other a is = elim (Contains-push_cases w.earlier w.present a is.is_there) [
-    inl before ↦
+  | inl before ↦
       let at = place_of w.earlier a before in
       nowhere at.0 (record { account = a; there = at.1; epoch_is = is.epoch_is })
   | inr last ↦ other (ap (λ (b : Account). b.epoch) last ∙ is.epoch_is)
-  ]
+]

@@ -41,7 +41,7 @@ module _ (w v : World) (old new : Table) (client : ℕ) (answer : Answer) (told 
   nothing : option_map process_in told.process ≡ Some process → told.held ≡ None → v ≡ w
   nothing is none =
       let back : v.clients ≡ w.clients = after ∙ ap (λ (t : Table). t.processes)
-        (turned ∙ ap (λ (p : Option Process). with_process old client p) is ∙ turned_back old client process runs) ∙ sym before in
+      (turned ∙ ap (λ (p : Option Process). with_process old client p) is ∙ turned_back old client process runs) ∙ sym before in
       rests None none ∙ ap (λ (l : List (ℕ × Option Process)). record w { clients = l }) back
 
   pub becomes : (outcome : Outcome) → Hears process answer outcome → LeavesBy answer outcome told → Becomes w client answer outcome v told.seen

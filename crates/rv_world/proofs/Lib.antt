@@ -11,3 +11,6 @@ pub mod OneReply
 pub mod Turning
 pub mod Soundness
 pub mod ByEpoch
+pub mod Fitting
+pub mod Keeping
+pub mod EventLists

@@ -39,16 +39,16 @@ module _ (started : List (ℕ × ℕ)) (client incarnation : ℕ) where
   own_greatest above = record {
     there = Contains-push started (client, incarnation);
     greatest = λ other there. elim (Contains-push_cases started (client, incarnation) (client, other) there) [
-      inl before ↦ omega (arith, above other before)
-    | inr is ↦ omega (arith, (same_pair (client, incarnation) (client, other) is).1)
+      | inl before ↦ omega (arith, above other before)
+      | inr is ↦ omega (arith, (same_pair (client, incarnation) (client, other) is).1)
     ];
   }
 
   other_contained : (one any : ℕ) → one ≢ client → Contains (started ++ (client, incarnation) ∷ []) (one, any) → Contains started (one, any)
   other_contained one any apart there = elim (Contains-push_cases started (client, incarnation) (one, any) there) [
-      inl before ↦ before
+    | inl before ↦ before
     | inr is ↦ absurd (apart (sym (same_pair (client, incarnation) (one, any) is).0))
-    ]
+  ]
 
   other_greatest : (one last : ℕ) → one ≢ client → IsGreatest started one last → IsGreatest (started ++ (client, incarnation) ∷ []) one last
   other_greatest one last apart is = record {
@@ -61,15 +61,15 @@ module _ (started : List (ℕ × ℕ)) (client incarnation : ℕ) where
       → AreNewest new.newest (started ++ (client, incarnation) ∷ [])
   entered_newest old new process are enters above = record {
     known = λ one last found. elim (cases_eq one client) [
-      inl same ↦
-        let read : Some last ≡ Some incarnation = sym found ∙ ap (λ (k : ℕ). lookup (nat_eq k) new.newest) same ∙ enters.newest in
-        subst (λ (k : ℕ). IsGreatest (started ++ (client, incarnation) ∷ []) k last) (sym same)
+      | inl same ↦
+          let read : Some last ≡ Some incarnation = sym found ∙ ap (λ (k : ℕ). lookup (nat_eq k) new.newest) same ∙ enters.newest in
+          subst (λ (k : ℕ). IsGreatest (started ++ (client, incarnation) ∷ []) k last) (sym same)
           (subst (λ (n : ℕ). IsGreatest (started ++ (client, incarnation) ∷ []) client n) (sym (same_Some _ _ read)) (own_greatest above))
-    | inr apart ↦ other_greatest one last apart (are.known one last (sym (enters.other_newest one apart) ∙ found))
+      | inr apart ↦ other_greatest one last apart (are.known one last (sym (enters.other_newest one apart) ∙ found))
     ];
     unknown = λ one any none there. elim (cases_eq one client) [
-      inl same ↦ none-some incarnation (sym none ∙ ap (λ (k : ℕ). lookup (nat_eq k) new.newest) same ∙ enters.newest)
-    | inr apart ↦ are.unknown one any (sym (enters.other_newest one apart) ∙ none) (other_contained one any apart there)
+      | inl same ↦ none-some incarnation (sym none ∙ ap (λ (k : ℕ). lookup (nat_eq k) new.newest) same ∙ enters.newest)
+      | inr apart ↦ are.unknown one any (sym (enters.other_newest one apart) ∙ none) (other_contained one any apart there)
     ];
   }
 
@@ -78,4 +78,13 @@ pub newest_after : (old new : List (ℕ × ℕ)) (messages sent : List Message) 
     → sent ≡ messages ++ said ∷ [] → hello_in said ≡ None → AreNewest new (started_by sent)
 newest_after old new messages sent said are same is quiet =
     subst (λ (l : List (ℕ × ℕ)). AreNewest l (started_by sent)) (sym same)
-      (subst (λ (l : List (ℕ × ℕ)). AreNewest old l) (sym (ap (λ (l : List Message). started_by l) is ∙ sent_quiet messages said quiet)) are)
+    (subst (λ (l : List (ℕ × ℕ)). AreNewest old l) (sym (ap (λ (l : List Message). started_by l) is ∙ sent_quiet messages said quiet)) are)
+
+pub none_newest : AreNewest [] []
+none_newest = record {
+  known = λ client last found. absurd (none-some last found);
+  unknown = λ client any none there. nothing there.1;
+}
+  where
+    nothing : {k : ℕ} → k < 0 → ⊥
+    nothing below = omega (arith, below)

@@ -94,7 +94,7 @@ pub turned_back : (table : Table) (client : ℕ) (process : Process) → running
     → with_process table client (Some process) ≡ table
 turned_back table client process runs =
     ap (λ (l : List (ℕ × Option Process)). record table { processes = l })
-      (set_value_same (nat_eq client) table.processes (Some process) (runs_there table client process runs))
+    (set_value_same (nat_eq client) table.processes (Some process) (runs_there table client process runs))
 
 -- ---- worlds
 
@@ -106,8 +106,8 @@ only_turns w v old new client process before after is stands =
     record {
       own = ap (λ (l : List (ℕ × Option Process)). option_and_then (λ (p : Option Process). p) (lookup (nat_eq client) l)) left ∙ turned_own old client process stands;
       others = λ other apart. ap (λ (l : List (ℕ × Option Process)). option_and_then (λ (p : Option Process). p) (lookup (nat_eq other) l)) left
-        ∙ turned_other old client other process apart
-        ∙ sym (ap (λ (l : List (ℕ × Option Process)). option_and_then (λ (p : Option Process). p) (lookup (nat_eq other) l)) before);
+          ∙ turned_other old client other process apart
+          ∙ sym (ap (λ (l : List (ℕ × Option Process)). option_and_then (λ (p : Option Process). p) (lookup (nat_eq other) l)) before);
     }
 
 -- ---- requests

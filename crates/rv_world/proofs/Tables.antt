@@ -67,9 +67,9 @@ pub table_set : (clients : List (ℕ × Client)) (client : ℕ) (old : Client) (
 table_set clients client old process there =
     let own : lookup (nat_eq client) (newest_in clients) ≡ Some old.newest = newest_found clients client ∙ ap (λ (o : Option Client). option_map (λ (c : Client). c.newest) o) there in
     let newest : newest_in (set_value (nat_eq client) clients (record { newest = old.newest; process = process })) ≡ newest_in clients =
-      map_set (λ (c : Client). c.newest) (nat_eq client) clients _ ∙ set_value_same (nat_eq client) (newest_in clients) old.newest own in
+    map_set (λ (c : Client). c.newest) (nat_eq client) clients _ ∙ set_value_same (nat_eq client) (newest_in clients) old.newest own in
     let processes : processes_in (set_value (nat_eq client) clients (record { newest = old.newest; process = process })) ≡ set_value (nat_eq client) (processes_in clients) (option_map process_in process) =
-      map_set kept_process (nat_eq client) clients _ in
+    map_set kept_process (nat_eq client) clients _ in
     cc (newest, processes)
 
 -- ---- insertions
@@ -85,8 +85,8 @@ pub entered : (old new : List (ℕ × Client)) (client newest : ℕ) (process : 
 entered old new client newest process own others = record {
   own = running_found new client ∙ ap (λ (o : Option Client). option_and_then kept_process o) own;
   others = λ other apart. running_found new other
-    ∙ ap (λ (o : Option Client). option_and_then kept_process o) (others other (other_key client other apart)) ∙ sym (running_found old other);
+      ∙ ap (λ (o : Option Client). option_and_then kept_process o) (others other (other_key client other apart)) ∙ sym (running_found old other);
   newest = newest_found new client ∙ ap (λ (o : Option Client). option_map (λ (c : Client). c.newest) o) own;
   other_newest = λ other apart. newest_found new other
-    ∙ ap (λ (o : Option Client). option_map (λ (c : Client). c.newest) o) (others other (other_key client other apart)) ∙ sym (newest_found old other);
+      ∙ ap (λ (o : Option Client). option_map (λ (c : Client). c.newest) o) (others other (other_key client other apart)) ∙ sym (newest_found old other);
 }

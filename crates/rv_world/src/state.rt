@@ -65,7 +65,8 @@ impl State {
     // The state of a world that begins in an epoch. It fails only where memory was refused.
     pub(crate) fn open(alloc: Global, epoch: u64) -> Result<State, NoMemory>
         requires { FitsIdentifier epoch }
-        ensures { IfOk result (λ state. world_of state ≡ first_world epoch) }
+        ensures world { IfOk result (λ state. world_of state ≡ first_world epoch) }
+        ensures newest { IfOk result (λ state. AreNewest state.clients.newest (started_by state.to_server.items)) }
     {
         Ok(State {
             earlier: Vec::new(alloc),

@@ -25,7 +25,9 @@ fn index_of(books: &[Book], epoch: u64) -> Option<usize>
     ensures found { IfSome result (IsBookOf books.now epoch) }
     ensures none { IfNone result ((i : ℕ) → ¬ IsBookOf books.now epoch i) }
 {
-    books.iter().position(|book| book.account().epoch() == epoch)
+    books
+        .iter()
+        .position(|book| book.account().epoch() == epoch)
 }
 
 impl Model for World {

@@ -9,7 +9,7 @@ use Rattle.rv_world.proofs.clients.Clients.begin.Goals as goal
 pub rest-requires : goal.rest-requires
 rest-requires c =
     subst (λ (t : Table). Stands t c.args.client) (sym c.turn.ensures.after)
-      (turned_stands c.args.self.now c.args.client None (runs_stands c.args.self.now c.args.client _ c.requires.1))
+    (turned_stands c.args.self.now c.args.client None (runs_stands c.args.self.now c.args.client _ c.requires.1))
 
 pub returns : goal.returns
 returns c = λ key runs.

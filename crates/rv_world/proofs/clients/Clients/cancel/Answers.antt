@@ -8,7 +8,7 @@ use Rattle.rv_world.proofs.clients.Clients.cancel.Goals as goal
 pub rest-requires : goal.rest-requires
 rest-requires c =
     subst (λ (t : Table). Stands t c.args.client) (sym c.wake-outstanding.ensures.after)
-      (turned_stands c.args.self.now c.args.client None (runs_stands c.args.self.now c.args.client _ c.wake-outstanding.ensures.request))
+    (turned_stands c.args.self.now c.args.client None (runs_stands c.args.self.now c.args.client _ c.wake-outstanding.ensures.request))
 
 pub returns-clause-stays : goal.returns-clause-stays
 returns-clause-stays c =

@@ -9,4 +9,4 @@ pub returns-in-Ok-clause-ok : goal.returns-in-Ok-clause-ok
 returns-in-Ok-clause-ok c =
     let updates = c.in-Ok.ensures.updates in
     subst (λ (old : Table). Enters old (table_of c.insert.new.self.entries) c.args.client c.args.newest (process_in c.args.process)) c.self.view_is
-      (entered c.self.inside.clients.entries c.insert.new.self.entries c.args.client c.args.newest c.args.process updates.1 updates.2)
+    (entered c.self.inside.clients.entries c.insert.new.self.entries c.args.client c.args.newest c.args.process updates.1 updates.2)

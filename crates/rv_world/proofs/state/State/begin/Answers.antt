@@ -20,16 +20,16 @@ returns-clause-comes c =
     let says = request_of (asking key c.args.call.now) in
     let sent = sent_after Message _ _ _ _ says c.send.ensures.sent items (ap (λ (own : Call). request_of (asking key own)) c.in_ok-call.ensures.same) in
     let asked = sent_after (Key × Call) c.args.self.now.asked.items c.reserve.new.self.items _ _ (key, c.args.call.now)
-      c.push_reserved.ensures.items c.in_ok-reserve.ensures.items (ap (λ (own : Call). (key, own)) c.in_ok-asked.ensures.same) in
+    c.push_reserved.ensures.items c.in_ok-reserve.ensures.items (ap (λ (own : Call). (key, own)) c.in_ok-asked.ensures.same) in
     let begun = c.begin.ensures key idle ∙ ap (λ (own : Call). with_process c.args.self.now.clients c.args.client (Some (Outstanding (asking key own)))) c.in_ok-own.ensures.same in
     record {
       key = key;
       idle = idle;
       turns = only_turns _ _ c.args.self.now.clients c.begin.new.self c.args.client (Some (Outstanding (asking key c.args.call.now))) refl refl begun
-        (runs_stands c.args.self.now.clients c.args.client _ idle);
+          (runs_stands c.args.self.now.clients c.args.client _ idle);
       rest = same_world _ _ refl refl
-        (ap (λ (l : List Message). started_by l) sent ∙ sent_quiet c.args.self.now.to_server.items says refl)
-        refl asked refl sent refl;
+          (ap (λ (l : List Message). started_by l) sent ∙ sent_quiet c.args.self.now.to_server.items says refl)
+          refl asked refl sent refl;
       shown = c.send.ensures.seen ∙ ap (λ (l : List Message). sees.Sent (length l)) items;
     }
 
@@ -38,5 +38,5 @@ returns-clause-newest c =
     let key = c.in_ok-key.key in
     let says = request_of (asking key c.args.call.now) in
     newest_after _ _ c.args.self.now.to_server.items _ says c.requires.sound.newest
-      (ap (λ (t : Table). t.newest) (c.begin.ensures key c.in_ok-key.ensures.ok))
-      (sent_after Message _ _ _ _ says c.send.ensures.sent c.in_ok-reserve-2.ensures.items (ap (λ (own : Call). request_of (asking key own)) c.in_ok-call.ensures.same)) refl
+    (ap (λ (t : Table). t.newest) (c.begin.ensures key c.in_ok-key.ensures.ok))
+    (sent_after Message _ _ _ _ says c.send.ensures.sent c.in_ok-reserve-2.ensures.items (ap (λ (own : Call). request_of (asking key own)) c.in_ok-call.ensures.same)) refl

@@ -13,7 +13,7 @@ returns-clause-comes c =
       runs = runs;
       ends = record {
         turns = only_turns (world_of old) (world_of (record old { clients = c.turn.new.self })) old.clients c.turn.new.self c.args.client None refl refl
-          c.turn.ensures.after (runs_stands old.clients c.args.client _ runs);
+            c.turn.ensures.after (runs_stands old.clients c.args.client _ runs);
         rest = refl;
       };
       shown = refl;

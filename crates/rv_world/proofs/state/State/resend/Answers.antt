@@ -18,8 +18,8 @@ returns-clause-comes c =
       asking = says.asking;
       outstanding = says.outstanding;
       after = same_world _ _ refl refl
-        (ap (λ (l : List Message). started_by l) sent ∙ sent_quiet c.args.self.now.to_server.items (request_of says.asking) refl)
-        (ap (λ (t : Table). t.processes) c.in_ok-request.ensures.stays) refl refl sent refl;
+          (ap (λ (l : List Message). started_by l) sent ∙ sent_quiet c.args.self.now.to_server.items (request_of says.asking) refl)
+          (ap (λ (t : Table). t.processes) c.in_ok-request.ensures.stays) refl refl sent refl;
       shown = c.send.ensures.seen ∙ ap (λ (l : List Message). sees.Sent (length l)) items;
     }
 
@@ -27,4 +27,4 @@ pub returns-clause-newest : goal.returns-clause-newest
 returns-clause-newest c =
     let says = c.in_ok-request.ensures.says in
     newest_after _ _ c.args.self.now.to_server.items _ (request_of says.asking) c.requires.sound.newest (ap (λ (t : Table). t.newest) c.in_ok-request.ensures.stays)
-      (sent_after Message _ _ _ _ (request_of says.asking) c.send.ensures.sent c.in_ok-reserve.ensures.items says.is) refl
+    (sent_after Message _ _ _ _ (request_of says.asking) c.send.ensures.sent c.in_ok-reserve.ensures.items says.is) refl

@@ -16,16 +16,16 @@ pub returns-in_err-reserve-clause-comes : goal.returns-in_err-reserve-clause-com
 returns-in_err-reserve-clause-comes c =
     let items = c.in_err-reserve.ensures.items in
     lacks_memory (world_of c.args.self.now) (world_of (record c.args.self.now { to_server = c.reserve.new.self })) (event.Start c.args.client c.args.incarnation) _
-      (start_due _ c.args.client c.args.incarnation c.in_ok-must_be_newest.ensures.ok) c.from_residual-in_err-reserve.ensures.1
-      (same_world _ _ refl refl (ap (λ (l : List Message). started_by l) items) refl refl refl items refl)
+    (start_due _ c.args.client c.args.incarnation c.in_ok-must_be_newest.ensures.ok) c.from_residual-in_err-reserve.ensures.1
+    (same_world _ _ refl refl (ap (λ (l : List Message). started_by l) items) refl refl refl items refl)
 
 pub returns-in_err-enter-clause-comes : goal.returns-in_err-enter-clause-comes
 returns-in_err-enter-clause-comes c =
     let items = c.in_ok-reserve.ensures.items in
     lacks_memory (world_of c.args.self.now) (world_of (record c.args.self.now { clients = c.enter.new.self; to_server = c.reserve.new.self }))
-      (event.Start c.args.client c.args.incarnation) _
-      (start_due _ c.args.client c.args.incarnation c.in_ok-must_be_newest.ensures.ok) c.from_residual-in_err-enter.ensures.1
-      (same_world _ _ refl refl (ap (λ (l : List Message). started_by l) items) (ap (λ (t : Table). t.processes) c.in_err-enter.ensures.err) refl refl items refl)
+    (event.Start c.args.client c.args.incarnation) _
+    (start_due _ c.args.client c.args.incarnation c.in_ok-must_be_newest.ensures.ok) c.from_residual-in_err-enter.ensures.1
+    (same_world _ _ refl refl (ap (λ (l : List Message). started_by l) items) (ap (λ (t : Table). t.processes) c.in_err-enter.ensures.err) refl refl items refl)
 
 pub returns-clause-comes : goal.returns-clause-comes
 returns-clause-comes c =
@@ -37,8 +37,8 @@ returns-clause-comes c =
       newest = c.in_ok-must_be_newest.ensures.ok;
       turns = record { own = enters.own ∙ ap (λ s. Some (New s)) c.start-new.ensures; others = enters.others };
       rest = same_world _ _ refl refl
-        (ap (λ (l : List Message). started_by l) sent ∙ sent_hello c.args.self.now.to_server.items (hello_of says) (c.args.client, c.args.incarnation) refl)
-        refl refl refl sent refl;
+          (ap (λ (l : List Message). started_by l) sent ∙ sent_hello c.args.self.now.to_server.items (hello_of says) (c.args.client, c.args.incarnation) refl)
+          refl refl refl sent refl;
       shown = c.send.ensures.seen ∙ ap (λ (l : List Message). sees.Sent (length l)) items;
     }
 
@@ -47,5 +47,5 @@ returns-clause-newest c =
     let says = starting c.args.client c.args.incarnation in
     let sent = sent_after Message _ _ _ _ (hello_of says) c.send.ensures.sent c.in_ok-reserve.ensures.items (c.message-hello.ensures ∙ ap (λ s. hello_of s) c.start-new.ensures) in
     subst (λ (l : List (ℕ × ℕ)). AreNewest c.enter.new.self.newest l)
-      (sym (ap (λ (l : List Message). started_by l) sent ∙ sent_hello c.args.self.now.to_server.items (hello_of says) (c.args.client, c.args.incarnation) refl))
-      (entered_newest _ c.args.client c.args.incarnation c.args.self.now.clients c.enter.new.self _ c.requires.sound.newest c.in_ok-enter.ensures.ok c.in_ok-must_be_newest.ensures.ok)
+    (sym (ap (λ (l : List Message). started_by l) sent ∙ sent_hello c.args.self.now.to_server.items (hello_of says) (c.args.client, c.args.incarnation) refl))
+    (entered_newest _ c.args.client c.args.incarnation c.args.self.now.clients c.enter.new.self _ c.requires.sound.newest c.in_ok-enter.ensures.ok c.in_ok-must_be_newest.ensures.ok)

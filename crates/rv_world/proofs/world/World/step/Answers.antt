@@ -1,14 +1,29 @@
 -- A step keeps the headline.
+use Rattle.std.proofs.Common.{subst}
+use Rattle.rv_world.specs.World.{World}
+use Rattle.rv_world.specs.Headline.{OnlyGrows}
+use Rattle.rv_world.specs.Parts.{world_of}
+use Rattle.rv_world.proofs.Keeping.{comes_sound, comes_fits, comes_grows}
 use Rattle.rv_world.proofs.world.World.step.Goals as goal
 
 pub invariant_of-self : goal.invariant_of-self
-invariant_of-self c = ?
+invariant_of-self c =
+    let w = world_of c.self.inside.state in
+    record {
+      sound = comes_sound w c.args.event.now _ c.step.result c.self.invariant.sound c.step.ensures.comes;
+      fits = comes_fits w c.args.event.now _ c.step.result c.self.invariant.fits c.requires c.step.ensures.comes;
+      newest = c.step.ensures.newest;
+    }
 
 pub returns-clause-no_two_replies : goal.returns-clause-no_two_replies
-returns-clause-no_two_replies c = ?
+returns-clause-no_two_replies c =
+    (comes_sound (world_of c.self.inside.state) c.args.event.now _ c.step.result c.self.invariant.sound c.step.ensures.comes).no_two_replies
 
 pub returns-clause-legal_accounts : goal.returns-clause-legal_accounts
-returns-clause-legal_accounts c = ?
+returns-clause-legal_accounts c =
+    (comes_sound (world_of c.self.inside.state) c.args.event.now _ c.step.result c.self.invariant.sound c.step.ensures.comes).legal_accounts
 
 pub returns-clause-only_growth : goal.returns-clause-only_growth
-returns-clause-only_growth c = ?
+returns-clause-only_growth c =
+    subst (λ (w : World). OnlyGrows w (world_of c.step.new.self)) c.self.view_is
+    (comes_grows (world_of c.self.inside.state) c.args.event.now _ c.step.result c.step.ensures.comes)

@@ -1,0 +1,8 @@
+-- The events so far lead to the world.
+use Rattle.std.proofs.Common.{take}
+use Rattle.rv_world.specs.Runs.{Runs}
+use Rattle.rv_world.specs.World.{first_world}
+use Rattle.rv_world.proofs.runs.run.Given as goal
+
+abbrev pub invariant-loop-i : goal.invariant-loop-i
+invariant-loop-i l = Runs (first_world 1) (take l.i l.events) l.world
