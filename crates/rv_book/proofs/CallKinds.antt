@@ -2,7 +2,7 @@
 use Rattle.std.proofs.Common.{◌≡◌, ℕ, List, Option, Some, None, refl, subst}
 use Rattle.rv_text.specs.declared.call.Wait.{Wait}
 use Rattle.rv_text.specs.declared.call.Side.{Side}
-use Rattle.rv_text.specs.declared.call.Side.TheVariants.{Gives, Takes, Looks}
+use Rattle.rv_text.specs.declared.call.Side.TheVariants.{Gives, Takes, Looks, Exchanges}
 use Rattle.rv_text.specs.declared.call.Call.{Call}
 use Rattle.rv_text.specs.declared.call.Call as call
 use Rattle.rv_text.specs.Calls.{side_of, wait_of, item_of}
@@ -11,12 +11,14 @@ abbrev pub IsKind : Side → Option Wait → Option (List ℕ) → Type 0
 IsKind (Gives queue) wait (Some item) = Unit {0}
 IsKind (Takes queue) (Some wait) None = Unit {0}
 IsKind (Looks queue) None None = Unit {0}
+IsKind (Exchanges exchanger) (Some wait) (Some item) = Unit {0}
 IsKind _ _ _ = ⊥
 
 kind_of : (call : Call) → IsKind (side_of call) (wait_of call) (item_of call)
 kind_of (call.TheVariants.Put queue item) = tt
 kind_of (call.TheVariants.Transfer queue item wait) = tt
 kind_of (call.TheVariants.Take queue wait) = tt
+kind_of (call.TheVariants.Swap exchanger item wait) = tt
 kind_of (call.TheVariants.Count queue) = tt
 kind_of (call.TheVariants.Peek queue) = tt
 
@@ -39,3 +41,17 @@ taker_has None item queue kind = absurd kind
 -- what takes has a wait
 pub takes_wait : (call : Call) (queue : ℕ) → side_of call ≡ Takes queue → (wait : Wait) × (wait_of call ≡ Some wait)
 takes_wait call queue is = taker_has (wait_of call) (item_of call) queue (kind_at call (Takes queue) is)
+
+exchanger_has : (wait : Option Wait) (item : Option (List ℕ)) (exchanger : ℕ) → IsKind (Exchanges exchanger) wait item → (it : Wait) × (bytes : List ℕ) × (wait ≡ Some it) × (item ≡ Some bytes)
+exchanger_has (Some wait) (Some bytes) exchanger kind = (wait, bytes, refl, refl)
+exchanger_has (Some wait) None exchanger kind = absurd kind
+exchanger_has None (Some bytes) exchanger kind = absurd kind
+exchanger_has None None exchanger kind = absurd kind
+
+-- what exchanges hands over an item
+pub exchanges_item : (call : Call) (exchanger : ℕ) → side_of call ≡ Exchanges exchanger → (item : List ℕ) × (item_of call ≡ Some item)
+exchanges_item call exchanger is = let has = exchanger_has (wait_of call) (item_of call) exchanger (kind_at call (Exchanges exchanger) is) in (has.1, has.3)
+
+-- and has a wait
+pub exchanges_wait : (call : Call) (exchanger : ℕ) → side_of call ≡ Exchanges exchanger → (wait : Wait) × (wait_of call ≡ Some wait)
+exchanges_wait call exchanger is = let has = exchanger_has (wait_of call) (item_of call) exchanger (kind_at call (Exchanges exchanger) is) in (has.0, has.2)

@@ -66,11 +66,11 @@ module _ (old : State) (moment : ℕ) (key : Key) (comes : Comes old moment (Can
     ends_marks : Marks old moment (Cancel key) UnderKey
     ends_marks =
         let last = waiting_is_last before place key there.call comes.sound.legal there.waits there.arrived in
-        marks (cancel_follows before moment key comes.time last.epoch last.incarnation (inl (record { place = place; call = there.call; arrived = there.arrived; waits = there.waits })))
+        marks (cancel_follows before moment key comes.time comes.nothing_due last.epoch last.incarnation (inl (record { place = place; call = there.call; arrived = there.arrived; waits = there.waits })))
 
-    pub ended_sound : (mid new : State) → EndsAt old mid place kept.Cancelled → mid.account ≡ old.account → account_of new ≡ with_entry (account_of mid) own_entry → new.sessions ≡ mid.sessions → new.queues ≡ mid.queues
-        → new.waiting ≡ mid.waiting → mid.account.room ≤ new.account.room + 1 → IsSound new
-    ended_sound mid new ends same pushed sessions queues waiting room =
+    pub ended_sound : (mid new : State) → EndsAt old mid place kept.Cancelled → mid.account ≡ old.account → account_of new ≡ with_entry (account_of mid) own_entry → new.sessions ≡ mid.sessions → new.stations ≡ mid.stations
+        → new.waiting ≡ mid.waiting → new.due ≡ mid.due → mid.account.room ≤ new.account.room + 1 → IsSound new
+    ended_sound mid new ends same pushed sessions stations waiting due room =
         let legal = legal_after old moment (Cancel key) UnderKey ends_marks in
         let owed = waiting_owed before.entries place key there.call there.waits there.arrived in
         let own : ends.duty.client ≡ key.client = ap (λ (d : Owed). d.client) (same_Some _ _ (sym ends.owed ∙ owed)) in
@@ -84,7 +84,7 @@ module _ (old : State) (moment : ℕ) (key : Key) (comes : Comes old moment (Can
               there.waits.no_put (subst IsPut (sym called) put);
         } in
         marked_ended old moment (Cancel key) UnderKey ends_marks new (pushed ∙ ap (λ stored. with_entry stored.account own_entry) same) (subst (Rattle.rv_book.specs.Tables.AreSessions (with_entry before own_entry)) (sym sessions) tables)
-        mid place kept.Cancelled there.waits request ends queues waiting (omega (arith, room, comes.sound.spare, ap (λ stored. stored.room) same))
+        mid place kept.Cancelled there.waits request ends stations waiting due (omega (arith, room, comes.sound.spare, ap (λ stored. stored.room) same))
 
     pub ended_cancelled : IsCancelled before (with_entry before own_entry) moment key
     ended_cancelled =
@@ -101,16 +101,16 @@ module _ (old : State) (moment : ℕ) (key : Key) (comes : Comes old moment (Can
     next = is_next before old.sessions comes.sound.sessions_are comes.sound.legal key has
 
     bury_marks : Marks old moment (Cancel key) UnderKey
-    bury_marks = marks (cancel_follows before moment key comes.time next.epoch next.incarnation (inr (record { last = next.last; is_last = next.is_last; next = next.next; idle = next.idle })))
+    bury_marks = marks (cancel_follows before moment key comes.time comes.nothing_due next.epoch next.incarnation (inr (record { last = next.last; is_last = next.is_last; next = next.next; idle = next.idle })))
 
-    pub buried_sound : (new : State) → account_of new ≡ with_entry before own_entry → OnlySets old.sessions new.sessions key.client (settled_session key.incarnation key.number None kept.Cancelled) → new.queues ≡ old.queues
-        → new.waiting ≡ old.waiting → HasSpace old 1 → old.waiting ≤ new.account.room → IsSound new
-    buried_sound new pushed sets queues waiting space room =
+    pub buried_sound : (new : State) → account_of new ≡ with_entry before own_entry → OnlySets old.sessions new.sessions key.client (settled_session key.incarnation key.number None kept.Cancelled) → new.stations ≡ old.stations
+        → new.waiting ≡ old.waiting → new.due ≡ old.due → HasSpace old 1 → old.waiting ≤ new.account.room → IsSound new
+    buried_sound new pushed sets stations waiting due space room =
         let legal = legal_after old moment (Cancel key) UnderKey bury_marks in
         marked_idle old moment (Cancel key) UnderKey bury_marks new pushed
         (sessions_buried before own_entry old.sessions new.sessions key comes.sound.sessions_are comes.sound.legal legal next refl refl sets)
         (λ r waits request. next.idle (record { place = r; key = key; waits = waits; names = record { named = ap (option_and_then key_in) request.arrived; of_client = refl } }))
-        queues waiting space room
+        stations waiting due space room
 
     pub buried_cancelled : IsCancelled before (with_entry before own_entry) moment key
     buried_cancelled =

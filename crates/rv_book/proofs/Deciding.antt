@@ -1,16 +1,16 @@
 -- What any list of entries decides: a client's last hello and last number, who is met, stopped, open or waiting, and whom an arrival meets.
 use Rattle.rv_book.specs.declared.account.Act.{Act}
-use Rattle.rv_book.specs.declared.account.Act.TheVariants.{Arrive, Cancel, Hello}
+use Rattle.rv_book.specs.declared.account.Act.TheVariants.{Arrive, Cancel, Hello, Tick}
 use Rattle.std.proofs.Common.{Bool, List, None, Option, Some, ap, arith, false, inl, inr, length, refl, subst, suc, sym, true, zero, ℕ, ◌<◌, ◌∙◌, ◌≡◌, ◌≤◌, ◌⊎◌, [], ◌+◌, ◌∷◌}
 use Rattle.rv_text.specs.declared.call.Call.{Call}
 use Rattle.rv_book.specs.declared.account.Entry.{Entry}
-use Rattle.rv_text.specs.declared.call.Side.TheVariants.{Gives, Looks, Takes}
+use Rattle.rv_text.specs.declared.call.Side.TheVariants.{Exchanges, Gives, Looks, Takes}
 use Rattle.rv_book.specs.Sessions.{HasIncarnation, LastHello, LastNumber, NamesKey, SaidHello}
 use Rattle.rv_book.specs.Arriving.{MeetsOldest}
 use Rattle.rv_text.specs.declared.message.Key.{Key}
 use Rattle.rv_book.specs.Calls.{IsPut, Lasts, MayMeet, Stays, opposite}
-use Rattle.rv_book.specs.Waiting.{EndsWait, IsOldest, Met, NamesPartner, Open, OpenAt, Stopped, Waiting, limit_at}
-use Rattle.rv_text.specs.declared.call.Wait.TheVariants.{Now, Forever}
+use Rattle.rv_book.specs.Waiting.{EndsWait, HasElapsed, IsOldest, Met, NamesPartner, Open, OpenAt, Stopped, StoppedAt, Waiting, limit_at}
+use Rattle.rv_text.specs.declared.call.Wait.TheVariants.{Now, Millis, Forever}
 use Rattle.rv_text.specs.declared.call.Side.{Side}
 use Rattle.rv_text.specs.declared.call.Wait.{Wait}
 use Rattle.rv_book.specs.Account.{act_at, call_at, key_at, partner_at}
@@ -19,7 +19,7 @@ use Rattle.std.proofs.lemmas.Bool.{cases_lt}
 use Rattle.rv_book.proofs.Places.{within}
 use Rattle.rv_book.proofs.Numbers.{first_below, last_below, same_or_not}
 use Rattle.std.specs.Prelude.{is_some}
-use Rattle.rv_book.proofs.Keys.{key_read, client_of, hello_is_own, cancel_no_hello}
+use Rattle.rv_book.proofs.Keys.{key_read, client_of, hello_is_own, cancel_no_hello, tick_no_hello}
 use Rattle.std.proofs.lemmas.Option.{none-some, same_Some}
 use Rattle.rv_text.specs.Calls.{side_of, wait_of}
 use Rattle.rv_book.specs.Legal.{HasWaiting}
@@ -47,6 +47,7 @@ hello_of c (Some (Hello d j)) = elim (same_or_not d c) [
 ]
 hello_of c (Some (Arrive key call)) = inr (λ h. arrives_no_hello key call c h.0 h.1)
 hello_of c (Some (Cancel key)) = inr (λ h. cancel_no_hello key c h.0 h.1)
+hello_of c (Some Tick) = inr (λ h. tick_no_hello c h.0 h.1)
 
 pub find_hello : (es : List Entry) (c : ℕ) → ((i : ℕ) × HasIncarnation es c i) ⊎ ((r i : ℕ) → act_at es r ≡ Some (Hello c i) → ⊥)
 find_hello es c = elim (last_below (HelloAt es c) (λ r. hello_of c (act_at es r)) (length es)) [
@@ -215,10 +216,15 @@ key_or_other k key = elim (same_or_not k.epoch key.epoch) [
   ]
 ]
 
+elapsed_or_not : (limit : Option ℕ) (moment : ℕ) → HasElapsed limit moment ⊎ (HasElapsed limit moment → ⊥)
+elapsed_or_not None moment = inr (λ over. over)
+elapsed_or_not (Some limit) moment = elim (cases_lt moment limit) [ inl early ↦ inr (λ over. omega arith) | inr over ↦ inl over ]
+
 ends_or_not : (act : Act) (moment : ℕ) (key : Key) (limit : Option ℕ) → EndsWait act moment key limit ⊎ (EndsWait act moment key limit → ⊥)
 ends_or_not (Hello client i) moment key limit = same_or_not client key.client
 ends_or_not (Arrive other call) moment key limit = inr (λ ends. ends)
 ends_or_not (Cancel other) moment key limit = key_or_other other key
+ends_or_not Tick moment key limit = elapsed_or_not limit moment
 
 none_or_some : (wait : Option Wait) → (wait ≡ None) ⊎ (wait ≡ None → ⊥)
 none_or_some None = inl refl
@@ -253,32 +259,39 @@ end_behind es key limit r s = elim (cases_lt r s) [
 same_parts : (key other : Key) (call more : Call) → Some (Arrive key call) ≡ Some (Arrive other more) → (key ≡ other) × (call ≡ more)
 same_parts key other call more e = (cc, cc)
 
-stopped_by : (es : List Entry) (r : ℕ) (key : Key) (call : Call) → act_at es r ≡ Some (Arrive key call) → (IsPut call → ⊥) → Stopped es r ⊎ (Stopped es r → ⊥)
-stopped_by es r key call arrived no_put = elim (first_below (EndBehind es key (limit_at es r) r) (end_behind es key (limit_at es r) r) (length es)) [
-  | inl found ↦
-      let at = found.2 in
-      inl (found.0, record { key = key; call = call; stopper = at.stopper; arrived = arrived; no_put = no_put; later = at.later; there = at.there; ends = at.ends })
-  | inr none ↦ inr (λ stopped.
-      let h = stopped.1 in
+stops_by : (es : List Entry) (r s : ℕ) (key : Key) (call : Call) → act_at es r ≡ Some (Arrive key call) → (IsPut call → ⊥) → StoppedAt es r s ⊎ (StoppedAt es r s → ⊥)
+stops_by es r s key call arrived no_put = elim (end_behind es key (limit_at es r) r s) [
+  | inl at ↦ inl (record { key = key; call = call; stopper = at.stopper; arrived = arrived; no_put = no_put; later = at.later; there = at.there; ends = at.ends })
+  | inr none ↦ inr (λ h.
       let own : h.key ≡ key = (same_parts h.key key h.call call (sym h.arrived ∙ arrived)).0 in
       let ends = subst (λ (k : Key). EndsWait h.stopper.act h.stopper.moment k (limit_at es r)) own h.ends in
-      none stopped.0 (within es stopped.0 h.stopper h.there) (record { later = h.later; stopper = h.stopper; there = h.there; ends = ends }))
+      none (record { later = h.later; stopper = h.stopper; there = h.there; ends = ends }))
 ]
 
 pub arrives_no_cancel : (key : Key) (call : Call) (other : Key) → Some (Arrive key call) ≡ Some (Cancel other) → ⊥
 arrives_no_cancel key call other e = cc
 
-stopped_of : (es : List Entry) (r : ℕ) (o : Option Act) → act_at es r ≡ o → Stopped es r ⊎ (Stopped es r → ⊥)
-stopped_of es r None there = inr (λ stopped. none-some _ (sym there ∙ stopped.1.arrived))
-stopped_of es r (Some (Hello client i)) there = inr (λ stopped. arrives_no_hello stopped.1.key stopped.1.call client i (sym stopped.1.arrived ∙ there))
-stopped_of es r (Some (Cancel key)) there = inr (λ stopped. arrives_no_cancel stopped.1.key stopped.1.call key (sym stopped.1.arrived ∙ there))
-stopped_of es r (Some (Arrive key call)) there = elim (put_or_not call) [
-  | inr no_put ↦ stopped_by es r key call there no_put
-  | inl put ↦ inr (λ stopped. stopped.1.no_put (subst IsPut (sym (same_parts stopped.1.key key stopped.1.call call (sym stopped.1.arrived ∙ there)).1) put))
+pub arrives_no_tick : (key : Key) (call : Call) → Some (Arrive key call) ≡ Some Tick → ⊥
+arrives_no_tick key call e = cc
+
+stops_of : (es : List Entry) (r s : ℕ) (o : Option Act) → act_at es r ≡ o → StoppedAt es r s ⊎ (StoppedAt es r s → ⊥)
+stops_of es r s None there = inr (λ h. none-some _ (sym there ∙ h.arrived))
+stops_of es r s (Some (Hello client i)) there = inr (λ h. arrives_no_hello h.key h.call client i (sym h.arrived ∙ there))
+stops_of es r s (Some (Cancel key)) there = inr (λ h. arrives_no_cancel h.key h.call key (sym h.arrived ∙ there))
+stops_of es r s (Some Tick) there = inr (λ h. arrives_no_tick h.key h.call (sym h.arrived ∙ there))
+stops_of es r s (Some (Arrive key call)) there = elim (put_or_not call) [
+  | inr no_put ↦ stops_by es r s key call there no_put
+  | inl put ↦ inr (λ h. h.no_put (subst IsPut (sym (same_parts h.key key h.call call (sym h.arrived ∙ there)).1) put))
 ]
 
+pub stops_or_not : (es : List Entry) (r s : ℕ) → StoppedAt es r s ⊎ (StoppedAt es r s → ⊥)
+stops_or_not es r s = stops_of es r s (act_at es r) refl
+
 pub stopped_or_not : (es : List Entry) (r : ℕ) → Stopped es r ⊎ (Stopped es r → ⊥)
-stopped_or_not es r = stopped_of es r (act_at es r) refl
+stopped_or_not es r = elim (first_below (StoppedAt es r) (stops_or_not es r) (length es)) [
+  | inl found ↦ inl (found.0, found.2)
+  | inr none ↦ inr (λ stopped. none stopped.0 (within es stopped.0 stopped.1.stopper stopped.1.there) stopped.1)
+]
 
 -- ---- who is open on a side
 
@@ -287,6 +300,9 @@ gives_apart p q apart e = apart (cc)
 
 takes_apart : (p q : ℕ) → (p ≡ q → ⊥) → Takes p ≡ Takes q → ⊥
 takes_apart p q apart e = apart (cc)
+
+exchanges_apart : (p q : ℕ) → (p ≡ q → ⊥) → Exchanges p ≡ Exchanges q → ⊥
+exchanges_apart p q apart e = apart cc
 
 looks_apart : (p q : ℕ) → (p ≡ q → ⊥) → Looks p ≡ Looks q → ⊥
 looks_apart p q apart e = apart (cc)
@@ -301,10 +317,18 @@ same_side (Takes p) (Looks q) = inr (λ e. let no : ⊥ = cc in no)
 same_side (Looks p) (Gives q) = inr (λ e. let no : ⊥ = cc in no)
 same_side (Looks p) (Takes q) = inr (λ e. let no : ⊥ = cc in no)
 same_side (Looks p) (Looks q) = elim (same_or_not p q) [ inl same ↦ inl (ap Looks same) | inr apart ↦ inr (looks_apart p q apart) ]
+same_side (Gives p) (Exchanges q) = inr (λ e. let no : ⊥ = cc in no)
+same_side (Takes p) (Exchanges q) = inr (λ e. let no : ⊥ = cc in no)
+same_side (Looks p) (Exchanges q) = inr (λ e. let no : ⊥ = cc in no)
+same_side (Exchanges p) (Gives q) = inr (λ e. let no : ⊥ = cc in no)
+same_side (Exchanges p) (Takes q) = inr (λ e. let no : ⊥ = cc in no)
+same_side (Exchanges p) (Looks q) = inr (λ e. let no : ⊥ = cc in no)
+same_side (Exchanges p) (Exchanges q) = elim (same_or_not p q) [ inl same ↦ inl (ap Exchanges same) | inr apart ↦ inr (exchanges_apart p q apart) ]
 
-lasts_or_not : (wait : Option Wait) → Lasts wait ⊎ (Lasts wait → ⊥)
+pub lasts_or_not : (wait : Option Wait) → Lasts wait ⊎ (Lasts wait → ⊥)
 lasts_or_not None = inl tt
 lasts_or_not (Some Now) = inr (λ lasts. lasts)
+lasts_or_not (Some (Millis n)) = elim (cases_lt 0 n) [ inl lasts ↦ inl lasts | inr over ↦ inr (λ lasts. omega arith) ]
 lasts_or_not (Some Forever) = inl tt
 
 stays_or_not : (call : Call) → Stays call ⊎ (Stays call → ⊥)

@@ -1,46 +1,45 @@
--- A request that waits: its duty, which is parked in its queue and for which its session waits.
-use Rattle.std.proofs.Common.{◌≡◌, ◌≤◌, ℕ, Some, refl, sym, subst, ◌∙◌}
-use Rattle.std.proofs.lemmas.Option.{same_Some}
-use Rattle.rv_text.specs.declared.call.Call.{Call}
-use Rattle.rv_text.specs.declared.message.Key.{Key}
+-- A request that waits may be ended: its duty is parked in its queue, and its session waits for it.
+use Rattle.std.proofs.Common.{ℕ, List, refl}
+use Rattle.rv_text.specs.declared.call.Side.{Side}
 use Rattle.rv_text.specs.Calls.{side_of}
-use Rattle.rv_session.specs.Owed.{Owed}
-use Rattle.rv_book.specs.Account.{act_at, call_at}
-use Rattle.rv_book.specs.declared.account.Act.TheVariants.{Arrive}
+use Rattle.rv_book.specs.Account.{act_at}
+use Rattle.rv_book.specs.declared.account.Entry.{Entry}
 use Rattle.rv_book.specs.declared.state.State.{State}
-use Rattle.rv_book.specs.Parked.{owed_at}
-use Rattle.rv_book.specs.Tables.{IsDueIn, IsSound, account_of}
-use Rattle.rv_book.specs.Waiting.{OpenAt, Waiting}
+use Rattle.rv_book.specs.Meeting.{StandsOn}
+use Rattle.rv_book.specs.Parked.{IsLineOf}
+use Rattle.rv_book.specs.Tables.{IsSound, MayEnd, account_of}
+use Rattle.rv_book.specs.Views.{Stations, waiting_on}
+use Rattle.rv_book.specs.Waiting.{OpenAt, SideAt, Waiting}
 use Rattle.rv_book.proofs.Keys.{act_called}
 use Rattle.rv_book.proofs.Owing.{some_has, waiting_owed}
+use Rattle.rv_book.proofs.Sides.{one_side, waiting_is_open}
 use Rattle.rv_book.proofs.WaitingTable.{waits_in_table}
-use Rattle.rv_book.proofs.Sides.{waiting_is_open}
 
--- the duty of the request that waits at a place
-pub record DutyAt (state : State) (place : ℕ) (call : Call) : Type 0 where
-  pub duty : Owed
-  pub is_at : duty.place ≡ place
-  pub owed : owed_at (account_of state).entries place ≡ Some duty
-  pub due : IsDueIn state.sessions duty
-  pub opened : OpenAt (account_of state).entries (side_of call) place
-  pub counted : 1 ≤ state.waiting
-  pub key : Key
-  pub arrived : act_at (account_of state).entries place ≡ Some (Arrive key call)
-  pub of_client : duty.client ≡ key.client
-
-unfoldable pub duty_at : (state : State) (place : ℕ) (call : Call) → IsSound state → Waiting (account_of state).entries place → call_at (account_of state).entries place ≡ Some call → DutyAt state place call
-duty_at state place call sound waits called =
-    let es = (account_of state).entries in
-    let same : waits.is_open.call ≡ call = same_Some _ _ (sym waits.is_open.arrived ∙ called) in
-    let there = act_called (act_at es place) call called in
+-- who stands in the line of a side stands in no other
+pub stands_on : (es : List Entry) (stations : Stations) (P : Side → ℕ → Type 0) → ((side : Side) (r : ℕ) → P side r → SideAt es side r) → ((side : Side) → IsLineOf (P side) (waiting_on stations side))
+    → (side : Side) (place : ℕ) → P side place → StandsOn stations side place
+stands_on es stations P of_side lines side place has =
+    let at = (lines side).each place has in
     record {
+      i = at.0;
+      there = at.1;
+      only = λ other j also. one_side es other side place (of_side other place ((lines other).are j place also)) (of_side side place has);
+    }
+
+unfoldable pub may_end : (state : State) (place : ℕ) → IsSound state → Waiting (account_of state).entries place → MayEnd state place
+may_end state place sound waits =
+    let es = (account_of state).entries in
+    let call = waits.is_open.call in
+    let there = act_called (act_at es place) call waits.is_open.arrived in
+    record {
+      entries_fit = sound.fits.entries;
       duty = record { place = place; client = there.0.client };
       is_at = refl;
       owed = waiting_owed es place there.0 call waits there.1;
-      due = waits_in_table (account_of state) state.sessions place there.0 call sound.legal sound.sessions_are waits there.1;
-      opened = subst (λ c. OpenAt es (side_of c) place) same (waiting_is_open es place waits);
+      due_in = waits_in_table (account_of state) state.sessions place there.0 call sound.legal sound.sessions_are waits there.1;
+      call = call;
+      arrived = waits.is_open.arrived;
+      parked = sound.stations_are.parked;
+      stands = stands_on es state.stations (OpenAt es) (λ side r opened. opened.of_side) sound.stations_are.lines (side_of call) place (waiting_is_open es place waits);
       counted = some_has (Waiting es) state.waiting place sound.waiting_is waits;
-      key = there.0;
-      arrived = there.1;
-      of_client = refl;
     }

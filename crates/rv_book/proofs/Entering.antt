@@ -1,7 +1,7 @@
 -- Where an own entry is due, a legal next account exists.
 use Rattle.rv_book.specs.Account.{Account, with_entry, act_at, call_in, key_at, key_in}
 use Rattle.rv_book.specs.Steps.{Adds, EpochFullDue, HelloLines, KeyLines, RefuseOr, max_entries, own_moment, step_moment, ClientsFullDue, OtherCallDue, Answers, Replies, WhereElse}
-use Rattle.rv_book.specs.declared.account.Act.TheVariants.{Arrive, Cancel, Hello}
+use Rattle.rv_book.specs.declared.account.Act.TheVariants.{Arrive, Cancel, Hello, Tick}
 use Rattle.rv_book.specs.declared.account.Act.{Act}
 use Rattle.rv_book.specs.Replies.{CancelledFirst, HasReply}
 use Rattle.rv_text.specs.declared.answer.Reply.TheVariants.{Cancelled}
@@ -9,7 +9,7 @@ use Rattle.rv_book.proofs.Numbers.{first_below}
 use Rattle.rv_book.proofs.Waits.{waiting_is_last}
 use Rattle.rv_book.proofs.ToldCancelled.{next_replies, waiting_replies}
 use Rattle.rv_text.specs.declared.call.Call.{Call}
-use Rattle.rv_book.specs.Laws.{CanCancel, CanEnter, CancelsCanEnter, HellosCanEnter, RequestsCanEnter}
+use Rattle.rv_book.specs.Laws.{CanCancel, CanEnter, CancelsCanEnter, HellosCanEnter, RequestsCanEnter, TicksCanEnter}
 use Rattle.rv_book.specs.declared.account.Entry.{Entry}
 use Rattle.rv_text.specs.declared.answer.Refusal.TheVariants.{EpochFull}
 use Rattle.rv_book.specs.Sessions.{HasIncarnation, HasOnlyLower, LastHello, LastNumber, SaidHello}
@@ -21,7 +21,7 @@ use Rattle.std.proofs.Common.{None, Option, Some, ap, arith, ◌⊎◌, inl, inr
 use Rattle.rv_text.specs.declared.answer.Answer.TheVariants.{Replied, Waiting}
 use Rattle.rv_book.proofs.Following.{arrival_follows, cancel_follows, hello_follows, next_number}
 use Rattle.std.proofs.lemmas.Bool.{cases_lt, cases_order}
-use Rattle.rv_book.proofs.Deciding.{arrives_no_cancel, find_hello, find_last, key_or_other, same_key, find_partner, find_clients, find_waiting, has_waiting_or_not, said_or_not}
+use Rattle.rv_book.proofs.Deciding.{arrives_no_cancel, arrives_no_tick, find_hello, find_last, key_or_other, same_key, find_partner, find_clients, find_waiting, has_waiting_or_not, said_or_not}
 use Rattle.rv_book.proofs.Histories.{hellos_at_most, one_incarnation}
 use Rattle.rv_book.proofs.Lines.{line_again, line_busy, line_gap, line_newer, line_next, line_no_session, line_old_hello, line_old_incarnation, line_old_number, line_other_epoch, no_room, room_left}
 use Rattle.rv_book.proofs.Growing.{moment_read, reads_within, act_read, read_there}
@@ -40,6 +40,7 @@ use Rattle.rv_book.proofs.Lines.{line_last}
 use Rattle.rv_text.specs.declared.answer.Answer.{Answer}
 use Rattle.rv_text.specs.declared.answer.Refusal.{Refusal}
 use Rattle.rv_book.proofs.OnePartner.{arrives_once}
+use Rattle.rv_book.proofs.Ticking.{IsTicked, can_tick, ticked}
 use Rattle.rv_book.proofs.Staying.{one_call, reply_or_waits}
 use Rattle.rv_book.proofs.Counting.{one_number}
 
@@ -122,6 +123,7 @@ unfolding ArrivesAt
 arrives_at es key r None there = inr (λ h. none-some _ (sym there ∙ h.1))
 arrives_at es key r (Some (Hello client incarnation)) there = inr (λ h. no_hello key h.0 client incarnation (sym h.1 ∙ there))
 arrives_at es key r (Some (Cancel other)) there = inr (λ h. arrives_no_cancel key h.0 other (sym h.1 ∙ there))
+arrives_at es key r (Some Tick) there = inr (λ h. arrives_no_tick key h.0 (sym h.1 ∙ there))
 arrives_at es key r (Some (Arrive other call)) there = elim (key_or_other other key) [
   | inl same ↦ inl (call, there ∙ ap (λ k. Some (Arrive k call)) same)
   | inr apart ↦ inr (λ h. apart (same_Some _ _ (ap (option_and_then key_in) (sym there ∙ h.1))))
@@ -158,11 +160,11 @@ answer_at a place key call legal arrived = elim ((reply_laws call).exists a plac
   | inr waits ↦ (Waiting key, inr (record { place = place; call = call; arrived = arrived; waits = waits }, refl))
 ]
 
-enters : (a : Account) (moment : ℕ) (key : Key) (call : Call) → Legal a → KeepsTime a moment → IsNext a key → CanEnter a moment key call
-enters a moment key call legal time next =
+enters : (a : Account) (moment : ℕ) (key : Key) (call : Call) → IsTicked a moment → IsNext a key → CanEnter a moment key call
+enters a moment key call is next =
     let partner = find_partner a.entries (side_of call) in
     let e = entry moment (Arrive key call) partner.0 in
-    let after = Legal-with_entry a e legal (arrival_follows a moment key call partner.0 time next partner.1) in
+    let after = Legal-with_entry a e is.legal (arrival_follows a moment key call partner.0 is.time is.nothing_due next partner.1) in
     let arrived : act_at (with_entry a e).entries (length a.entries) ≡ Some (Arrive key call) = ap act_read (get-append_end a.entries e) in
     let told = answer_at (with_entry a e) (length a.entries) key call after arrived in
     record {
@@ -240,11 +242,13 @@ by_key a key L G legal again goes_on = elim (cases_order key.epoch a.epoch) [
 ]
 
 pub requests_can_enter : RequestsCanEnter
-requests_can_enter a now key call legal =
-    let G : Type 0 = CanEnter a (step_moment a now) key call in
-    by_key a key (RefuseOr (OtherCallDue a key call) (λ refusal. Unit {0}) ((x : Answer) × Answers a key x)) (RefuseOr (EpochFullDue a (need_of call)) (λ refusal. Unit {0}) G) legal
-    (at_last a key call legal)
-    (λ next. room_or a (need_of call) G (enters a (step_moment a now) key call legal (step_keeps_time a now legal) next))
+requests_can_enter before a now key call legal ticks =
+    let moment : ℕ = step_moment before now in
+    let is = ticked before a moment legal (step_keeps_time before now legal) ticks in
+    let G : Type 0 = CanEnter a moment key call in
+    by_key a key (RefuseOr (OtherCallDue a key call) (λ refusal. Unit {0}) ((x : Answer) × Answers a key x)) (RefuseOr (EpochFullDue a (need_of call)) (λ refusal. Unit {0}) G) is.legal
+    (at_last a key call is.legal)
+    (λ next. room_or a (need_of call) G (enters a moment key call is next))
 
 -- ---- cancels
 
@@ -257,37 +261,37 @@ can_cancel a moment key legal follows replies =
       replies = replies;
     }
 
-cancels_waiting : (a : Account) (moment : ℕ) (key : Key) → Legal a → KeepsTime a moment → WaitsUnder a.entries key → CanCancel a moment key
-cancels_waiting a moment key legal time waits =
-    let last = waiting_is_last a waits.place key waits.call legal waits.waits waits.arrived in
-    can_cancel a moment key legal (cancel_follows a moment key time last.epoch last.incarnation (inl waits)) (waiting_replies a (entry moment (Cancel key) None) key refl refl waits)
+cancels_waiting : (a : Account) (moment : ℕ) (key : Key) → IsTicked a moment → WaitsUnder a.entries key → CanCancel a moment key
+cancels_waiting a moment key is waits =
+    let last = waiting_is_last a waits.place key waits.call is.legal waits.waits waits.arrived in
+    can_cancel a moment key is.legal (cancel_follows a moment key is.time is.nothing_due last.epoch last.incarnation (inl waits)) (waiting_replies a (entry moment (Cancel key) None) key refl refl waits)
 
-cancels_next : (a : Account) (moment : ℕ) (key : Key) → Legal a → KeepsTime a moment → IsNext a key → CanCancel a moment key
-cancels_next a moment key legal time next =
+cancels_next : (a : Account) (moment : ℕ) (key : Key) → IsTicked a moment → IsNext a key → CanCancel a moment key
+cancels_next a moment key is next =
     let number = next_number a key next in
-    can_cancel a moment key legal (cancel_follows a moment key time next.epoch next.incarnation (inr number)) (next_replies a (entry moment (Cancel key) None) key legal next.incarnation number refl)
+    can_cancel a moment key is.legal (cancel_follows a moment key is.time is.nothing_due next.epoch next.incarnation (inr number)) (next_replies a (entry moment (Cancel key) None) key is.legal next.incarnation number refl)
 
 -- what a cancel of the last number does: it ends the wait, or repeats the reply
-cancels_last : (a : Account) (moment : ℕ) (key : Key) → Legal a → KeepsTime a moment → Arrived a key ⊎ CancelledFirst a.entries key
+cancels_last : (a : Account) (moment : ℕ) (key : Key) → IsTicked a moment → Arrived a key ⊎ CancelledFirst a.entries key
     → WhereElse (WaitsUnder a.entries key) (CanCancel a moment key) ((x : Answer) × Replies a key x)
-cancels_last a moment key legal time (inr first) = inr ((λ waits. first.not_arrived waits.place waits.call waits.arrived), first_told a key first)
-cancels_last a moment key legal time (inl there) = elim ((reply_laws there.call).exists a there.place legal (ap (option_and_then call_in) there.arrived)) [
+cancels_last a moment key is (inr first) = inr ((λ waits. first.not_arrived waits.place waits.call waits.arrived), first_told a key first)
+cancels_last a moment key is (inl there) = elim ((reply_laws there.call).exists a there.place is.legal (ap (option_and_then call_in) there.arrived)) [
   | inl told ↦
       let has : HasReply a.entries key told.0 = inl (record { place = there.place; call = there.call; arrived = there.arrived; replies = told.1 }) in
-      inr ((λ waits. reply_or_waits a key told.0 legal has waits), (Replied key told.0, record { reply = told.0; has = has; is = refl }))
+      inr ((λ waits. reply_or_waits a key told.0 is.legal has waits), (Replied key told.0, record { reply = told.0; has = has; is = refl }))
   | inr waits ↦
       let under : WaitsUnder a.entries key = record { place = there.place; call = there.call; arrived = there.arrived; waits = waits } in
-      inl (under, cancels_waiting a moment key legal time under)
+      inl (under, cancels_waiting a moment key is under)
 ]
 
 pub cancels_can_enter : CancelsCanEnter
-cancels_can_enter a now key legal =
-    let moment : ℕ = step_moment a now in
-    let time = step_keeps_time a now legal in
+cancels_can_enter before a now key legal ticks =
+    let moment : ℕ = step_moment before now in
+    let is = ticked before a moment legal (step_keeps_time before now legal) ticks in
     let G : Type 0 = CanCancel a moment key in
-    by_key a key (WhereElse (WaitsUnder a.entries key) G ((x : Answer) × Replies a key x)) (RefuseOr (EpochFullDue a 1) (λ refusal. Unit {0}) G) legal
-    (cancels_last a moment key legal time)
-    (λ next. room_or a 1 G (cancels_next a moment key legal time next))
+    by_key a key (WhereElse (WaitsUnder a.entries key) G ((x : Answer) × Replies a key x)) (RefuseOr (EpochFullDue a 1) (λ refusal. Unit {0}) G) is.legal
+    (cancels_last a moment key is)
+    (λ next. room_or a 1 G (cancels_next a moment key is next))
 
 -- ---- hellos
 
@@ -309,25 +313,35 @@ clients_or a client G goes_on = elim (said_or_not a.entries client) [
       ]
 ]
 
-newer_enters : (a : Account) (now client incarnation : ℕ) → Legal a → HasOnlyLower a.entries client incarnation
-    → HelloLines a client incarnation (λ refusal. Unit {0}) (Unit {0}) ((b : Account) × Adds a (step_moment a now) (Hello client incarnation) b)
-newer_enters a now client incarnation legal raises =
-    let e = entry (step_moment a now) (Hello client incarnation) None in
-    let after = Legal-with_entry a e legal (hello_follows a (step_moment a now) client incarnation (step_keeps_time a now legal) raises) in
-    let added : Adds a (step_moment a now) (Hello client incarnation) (with_entry a e) = record { entry = e; moment_is = refl; act_is = refl; follows = refl; legal = after } in
-    line_newer _ _ _ a client incarnation raises (clients_or a client _ (room_or a 1 ((b : Account) × Adds a (step_moment a now) (Hello client incarnation) b) (with_entry a e, added)))
+newer_enters : (a : Account) (moment client incarnation : ℕ) → IsTicked a moment → HasOnlyLower a.entries client incarnation
+    → HelloLines a client incarnation (λ refusal. Unit {0}) (Unit {0}) ((b : Account) × Adds a moment (Hello client incarnation) b)
+newer_enters a moment client incarnation is raises =
+    let e = entry moment (Hello client incarnation) None in
+    let after = Legal-with_entry a e is.legal (hello_follows a moment client incarnation is.time is.nothing_due raises) in
+    let added : Adds a moment (Hello client incarnation) (with_entry a e) = record { entry = e; moment_is = refl; act_is = refl; follows = refl; legal = after } in
+    line_newer _ _ _ a client incarnation raises (clients_or a client _ (room_or a 1 ((b : Account) × Adds a moment (Hello client incarnation) b) (with_entry a e, added)))
 
-pub hellos_can_enter : HellosCanEnter
-hellos_can_enter a now client incarnation legal = elim (find_hello a.entries client) [
-  | inr none ↦ newer_enters a now client incarnation legal (λ r earlier hello. absurd (none r earlier hello))
+hello_enters : (a : Account) (moment client incarnation : ℕ) → IsTicked a moment
+    → HelloLines a client incarnation (λ refusal. Unit {0}) (Unit {0}) ((b : Account) × Adds a moment (Hello client incarnation) b)
+hello_enters a moment client incarnation is = elim (find_hello a.entries client) [
+  | inr none ↦ newer_enters a moment client incarnation is (λ r earlier hello. absurd (none r earlier hello))
   | inl found ↦ elim (cases_order found.0 incarnation) [
     | inl same ↦
         let has = subst (HasIncarnation a.entries client) same found.1 in
         line_again _ _ _ a client incarnation has tt
     | inr differ ↦ elim differ [
       | inr higher ↦ line_old_hello _ _ _ a client incarnation found.0 found.1 higher tt
-      | inl lower ↦ newer_enters a now client incarnation legal
-          (λ r earlier hello. let most : earlier ≤ found.0 = hellos_at_most a client found.0 r earlier legal found.1 hello in omega arith)
+      | inl lower ↦ newer_enters a moment client incarnation is
+          (λ r earlier hello. let most : earlier ≤ found.0 = hellos_at_most a client found.0 r earlier is.legal found.1 hello in omega arith)
     ]
   ]
 ]
+
+pub hellos_can_enter : HellosCanEnter
+hellos_can_enter before a now client incarnation legal ticks =
+    hello_enters a (step_moment before now) client incarnation (ticked before a (step_moment before now) legal (step_keeps_time before now legal) ticks)
+
+-- ---- time-outs
+
+pub ticks_can_enter : TicksCanEnter
+ticks_can_enter a now legal = can_tick a (step_moment a now) legal (step_keeps_time a now legal)

@@ -1,51 +1,39 @@
--- Which entries may stand behind an account: a hello, and an arrival that meets the oldest; each by its moments, its numbers and its pairs.
-use Rattle.std.proofs.Common.{◌≡◌, ◌⊎◌, ℕ, List, Option, Some, None, option_and_then, refl, sym, ap, subst, ◌∙◌, arith}
+-- Which entries may stand behind an account: a hello, a cancel, an arrival that meets the oldest, and a tick; each by its moments, its numbers and its pairs.
+use Rattle.std.proofs.Common.{◌≡◌, ◌⊎◌, ℕ, List, Option, Some, None, refl, sym, ap, subst, ◌∙◌, arith}
 use Rattle.rv_book.specs.Account.{Account, call_in}
 use Rattle.rv_book.specs.declared.account.Act.{Act}
-use Rattle.rv_book.specs.declared.account.Act.TheVariants.{Arrive, Cancel, Hello}
+use Rattle.rv_book.specs.declared.account.Act.TheVariants.{Arrive, Cancel, Hello, Tick}
 use Rattle.rv_text.specs.declared.call.Call.{Call}
 use Rattle.rv_book.specs.declared.account.Entry.{Entry}
 use Rattle.rv_text.specs.declared.message.Key.{Key}
 use Rattle.std.specs.Prelude.{is_some}
 use Rattle.std.proofs.lemmas.Option.{none-some, same_Some}
-use Rattle.rv_text.specs.Calls.{side_of, wait_of}
-use Rattle.rv_text.specs.declared.call.Wait.{Wait}
-use Rattle.rv_text.specs.declared.call.Wait.TheVariants.{Now, Forever}
-use Rattle.std.specs.List.{slice_get}
+use Rattle.rv_text.specs.Calls.{side_of}
 use Rattle.rv_book.specs.Sessions.{HasIncarnation, HasOnlyLower}
-use Rattle.rv_book.specs.Legal.{IsFreePartner, IsNextNumber, IsOpenOpposite, KeepsLimits, KeepsMoments, KeepsNumbers, KeepsPairs, KeepsTime, MayFollow, NothingDue, WaitsUnder}
+use Rattle.rv_book.specs.Legal.{IsFreePartner, IsNextNumber, IsOpenOpposite, KeepsLimits, KeepsMoments, KeepsNumbers, KeepsPairs, KeepsTime, MayFollow, NothingDue, SomethingDue, WaitsUnder}
 use Rattle.rv_book.specs.Arriving.{IsNext, MeetsOldest, entry}
-use Rattle.rv_book.specs.Calls.{MayMeet, limit_after, limit_of}
-use Rattle.rv_book.specs.Waiting.{OpenAt, SideAt, limit_in}
+use Rattle.rv_book.specs.Calls.{MayMeet}
+use Rattle.rv_book.specs.Waiting.{OpenAt, SideAt}
 use Rattle.rv_book.proofs.Growing.{call_read, reads_within}
 use Rattle.rv_book.proofs.Sides.{one_side}
 
 -- ---- moments
 
--- no wait has a limit: one that is over at once, and one that never is
-no_limit_after : (moment : ℕ) (wait : Option Wait) → option_and_then (limit_after moment) wait ≡ None
-no_limit_after moment None = refl
-no_limit_after moment (Some Now) = refl
-no_limit_after moment (Some Forever) = refl
+-- where nothing is due any act but a tick keeps the limits
+abbrev IsTick : Act → Type 0
+IsTick (Hello client incarnation) = ⊥
+IsTick (Arrive key call) = ⊥
+IsTick (Cancel key) = ⊥
+IsTick Tick = Unit {0}
 
-no_limit_of : (moment : ℕ) (call : Option Call) → option_and_then (limit_of moment) call ≡ None
-no_limit_of moment None = refl
-no_limit_of moment (Some call) = no_limit_after moment (wait_of call)
+keeps_limits : (es : List Entry) (moment : ℕ) (does : Act) → (IsTick does → ⊥) → NothingDue es moment → KeepsLimits es moment does
+keeps_limits es moment (Hello client incarnation) no_tick nothing = nothing
+keeps_limits es moment (Arrive key call) no_tick nothing = nothing
+keeps_limits es moment (Cancel key) no_tick nothing = nothing
+keeps_limits es moment Tick no_tick nothing = absurd (no_tick tt)
 
-no_limit_in : (o : Option Entry) → option_and_then limit_in o ≡ None
-no_limit_in None = refl
-no_limit_in (Some e) = no_limit_of e.moment (call_in e.act)
-
-nothing_due : (es : List Entry) (moment : ℕ) → NothingDue es moment
-nothing_due es moment r limit waits is = absurd (none-some limit (sym (no_limit_in (slice_get es r)) ∙ is))
-
-keeps_limits : (es : List Entry) (moment : ℕ) (does : Act) → KeepsLimits es moment does
-keeps_limits es moment (Hello client incarnation) = nothing_due es moment
-keeps_limits es moment (Arrive key call) = nothing_due es moment
-keeps_limits es moment (Cancel key) = nothing_due es moment
-
-keeps_moments : (a : Account) (moment : ℕ) (does : Act) → KeepsTime a moment → KeepsMoments a moment does
-keeps_moments a moment does time = record { keeps_time = time; keeps_limits = keeps_limits a.entries moment does }
+keeps_moments : (a : Account) (moment : ℕ) (does : Act) → (IsTick does → ⊥) → KeepsTime a moment → NothingDue a.entries moment → KeepsMoments a moment does
+keeps_moments a moment does no_tick time nothing = record { keeps_time = time; keeps_limits = keeps_limits a.entries moment does no_tick nothing }
 
 -- ---- numbers
 
@@ -83,6 +71,14 @@ cancel_numbers a key epoch has turn = record {
   of_session = λ other is. subst (λ (k : Key). (k.epoch ≡ a.epoch) × HasIncarnation a.entries k.client k.incarnation) (same_Some _ _ is) (epoch, has);
   counts_up = λ other more is. absurd (let no : ⊥ = cc in no);
   cancels = λ other is. subst (λ (k : Key). WaitsUnder a.entries k ⊎ IsNextNumber a.entries k) (same_cancel _ _ is) turn;
+}
+
+tick_numbers : (a : Account) → KeepsNumbers a Tick
+tick_numbers a = record {
+  raises_incarnation = λ c i is. absurd (let no : ⊥ = cc in no);
+  of_session = λ key is. absurd (none-some key is);
+  counts_up = λ key call is. absurd (let no : ⊥ = cc in no);
+  cancels = λ key is. absurd (let no : ⊥ = cc in no);
 }
 
 -- ---- pairs
@@ -131,25 +127,32 @@ arrival_pairs es moment key call (Some p) (side, opposes, oldest) =
 
 -- ---- each kind of entry
 
-pub hello_follows : (a : Account) (moment client incarnation : ℕ) → KeepsTime a moment → HasOnlyLower a.entries client incarnation → MayFollow a (entry moment (Hello client incarnation) None)
-hello_follows a moment client incarnation time lower = record {
-  moments = keeps_moments a moment (Hello client incarnation) time;
+pub hello_follows : (a : Account) (moment client incarnation : ℕ) → KeepsTime a moment → NothingDue a.entries moment → HasOnlyLower a.entries client incarnation → MayFollow a (entry moment (Hello client incarnation) None)
+hello_follows a moment client incarnation time nothing lower = record {
+  moments = keeps_moments a moment (Hello client incarnation) (λ no. no) time nothing;
   numbers = hello_numbers a client incarnation lower;
   pairs = no_pairs a.entries (entry moment (Hello client incarnation) None) refl refl;
 }
 
-pub arrival_follows : (a : Account) (moment : ℕ) (key : Key) (call : Call) (partner : Option ℕ) → KeepsTime a moment → IsNext a key → MeetsOldest a.entries (side_of call) partner
+pub arrival_follows : (a : Account) (moment : ℕ) (key : Key) (call : Call) (partner : Option ℕ) → KeepsTime a moment → NothingDue a.entries moment → IsNext a key → MeetsOldest a.entries (side_of call) partner
     → MayFollow a (entry moment (Arrive key call) partner)
-arrival_follows a moment key call partner time next meets = record {
-  moments = keeps_moments a moment (Arrive key call) time;
+arrival_follows a moment key call partner time nothing next meets = record {
+  moments = keeps_moments a moment (Arrive key call) (λ no. no) time nothing;
   numbers = arrival_numbers a key call next;
   pairs = arrival_pairs a.entries moment key call partner meets;
 }
 
-pub cancel_follows : (a : Account) (moment : ℕ) (key : Key) → KeepsTime a moment → key.epoch ≡ a.epoch → HasIncarnation a.entries key.client key.incarnation → WaitsUnder a.entries key ⊎ IsNextNumber a.entries key
+pub cancel_follows : (a : Account) (moment : ℕ) (key : Key) → KeepsTime a moment → NothingDue a.entries moment → key.epoch ≡ a.epoch → HasIncarnation a.entries key.client key.incarnation → WaitsUnder a.entries key ⊎ IsNextNumber a.entries key
     → MayFollow a (entry moment (Cancel key) None)
-cancel_follows a moment key time epoch has turn = record {
-  moments = keeps_moments a moment (Cancel key) time;
+cancel_follows a moment key time nothing epoch has turn = record {
+  moments = keeps_moments a moment (Cancel key) (λ no. no) time nothing;
   numbers = cancel_numbers a key epoch has turn;
   pairs = no_pairs a.entries (entry moment (Cancel key) None) refl refl;
+}
+
+pub tick_follows : (a : Account) (moment : ℕ) → KeepsTime a moment → SomethingDue a.entries moment → MayFollow a (entry moment Tick None)
+tick_follows a moment time due = record {
+  moments = record { keeps_time = time; keeps_limits = due };
+  numbers = tick_numbers a;
+  pairs = no_pairs a.entries (entry moment Tick None) refl refl;
 }

@@ -12,7 +12,7 @@ use Rattle.rv_book.specs.declared.account.Act.{Act}
 use Rattle.rv_book.specs.declared.account.Act.TheVariants.{Hello}
 use Rattle.rv_book.specs.declared.account.Entry.{Entry}
 use Rattle.rv_book.specs.declared.state.State.{State}
-use Rattle.rv_book.specs.Legal.{HasWaiting, KeepsTime}
+use Rattle.rv_book.specs.Legal.{HasWaiting, KeepsTime, NothingDue}
 use Rattle.rv_book.specs.Sessions.{HasOnlyLower}
 use Rattle.rv_book.specs.Tables.{AreSessions, Comes, EndsIf, HasSpace, IsReady, IsSound, account_of}
 use Rattle.rv_book.specs.Waiting.{Open, Waiting}
@@ -64,6 +64,7 @@ comes_ready old ready moment does need side comes prepared = record {
   sound = sound_same old ready comes.sound prepared.same;
   time = subst (λ a. KeepsTime a moment) (sym prepared.same.account) comes.time;
   moment_fits = comes.moment_fits;
+  nothing_due = subst (λ (a : Account). NothingDue a.entries moment) (sym prepared.same.account) comes.nothing_due;
   act_fits = comes.act_fits;
 }
 
@@ -89,7 +90,7 @@ module _ (old : State) (moment client incarnation : ℕ) (comes : Comes old mome
     sound = comes.sound;
     moment_fits = comes.moment_fits;
     act_fits = comes.act_fits;
-    follows = hello_follows before moment client incarnation comes.time lower;
+    follows = hello_follows before moment client incarnation comes.time comes.nothing_due lower;
     stops = record {
       no_call = refl;
       none = refl;
@@ -106,19 +107,19 @@ module _ (old : State) (moment client incarnation : ℕ) (comes : Comes old mome
 
   -- nothing of the client waited
   pub sound_idle : HasSpace old 1 → (new : State) → account_of new ≡ with_entry before own_entry → Changes old.sessions new.sessions client (fresh incarnation) → waiting_of old.sessions client ≡ None
-      → new.queues ≡ old.queues → new.waiting ≡ old.waiting → old.waiting ≤ new.account.room → IsSound new
-  sound_idle space new pushed changes none queues waiting room =
+      → new.stations ≡ old.stations → new.waiting ≡ old.waiting → new.due ≡ old.due → old.waiting ≤ new.account.room → IsSound new
+  sound_idle space new pushed changes none stations waiting due room =
       marked_idle old moment (Hello client incarnation) OfClient marks new pushed (greeted new changes)
-      (λ r waits request. none_waits before old.sessions client comes.sound.legal comes.sound.sessions_are none (has_one before.entries client r waits request)) queues waiting space room
+      (λ r waits request. none_waits before old.sessions client comes.sound.legal comes.sound.sessions_are none (has_one before.entries client r waits request)) stations waiting due space room
 
   -- what waited in the client's session, if something did, was ended
   pub sound_renewed : HasSpace old 1 → (waiting : Option ℕ) (mid new : State) (kept : Kept) → waiting ≡ waiting_of old.sessions client → EndsIf old mid waiting kept → mid.account ≡ old.account
-      → account_of new ≡ with_entry (account_of mid) own_entry → OnlySets mid.sessions new.sessions client (fresh incarnation) → new.queues ≡ mid.queues → new.waiting ≡ mid.waiting
-      → old.waiting ≤ new.account.room → IsSound new
-  sound_renewed space None mid new kept waits ends same pushed sets queues waiting room =
+      → account_of new ≡ with_entry (account_of mid) own_entry → OnlySets mid.sessions new.sessions client (fresh incarnation) → new.stations ≡ mid.stations → new.waiting ≡ mid.waiting
+      → new.due ≡ mid.due → old.waiting ≤ new.account.room → IsSound new
+  sound_renewed space None mid new kept waits ends same pushed sets stations waiting due room =
       let changes = set_changes old.sessions new.sessions client (fresh incarnation) (subst (λ (s : State). OnlySets s.sessions new.sessions client (fresh incarnation)) ends sets) in
-      sound_idle space new (pushed ∙ ap (λ (s : State). with_entry (account_of s) own_entry) ends) changes (sym waits) (queues ∙ ap (λ (s : State). s.queues) ends) (waiting ∙ ap (λ (s : State). s.waiting) ends) room
-  sound_renewed space (Some place) mid new kept waits ends same pushed sets queues waiting room =
+      sound_idle space new (pushed ∙ ap (λ (s : State). with_entry (account_of s) own_entry) ends) changes (sym waits) (stations ∙ ap (λ (s : State). s.stations) ends) (waiting ∙ ap (λ (s : State). s.waiting) ends) (due ∙ ap (λ (s : State). s.due) ends) room
+  sound_renewed space (Some place) mid new kept waits ends same pushed sets stations waiting due room =
       let there = (waiting_there before old.sessions client place comes.sound.sessions_are (sym waits)).waits in
       let owed = waiting_owed before.entries place _ there.call there.waits there.arrived in
       let own : ends.duty.client ≡ client = ap (λ (d : Owed). d.client) (same_Some _ _ (sym ends.owed ∙ owed)) in
@@ -133,5 +134,5 @@ module _ (old : State) (moment client incarnation : ℕ) (comes : Comes old mome
             let called : there.waits.is_open.call ≡ there.call = same_Some _ _ (sym there.waits.is_open.arrived ∙ ap (option_and_then call_in) there.arrived) in
             there.waits.no_put (subst IsPut (sym called) put);
       } in
-      marked_ended old moment (Hello client incarnation) OfClient marks new (pushed ∙ ap (λ stored. with_entry stored.account own_entry) same) (greeted new changes) mid place kept there.waits request ends queues waiting
+      marked_ended old moment (Hello client incarnation) OfClient marks new (pushed ∙ ap (λ stored. with_entry stored.account own_entry) same) (greeted new changes) mid place kept there.waits request ends stations waiting due
       (omega (arith, room))

@@ -83,12 +83,12 @@ Met-back es e r h =
 -- ---- stops
 
 -- a request's limit is read where the request stands
-limit_on : (es more : List Entry) (r : ℕ) (act : Act) → act_at es r ≡ Some act → limit_at (es ++ more) r ≡ limit_at es r
+pub limit_on : (es more : List Entry) (r : ℕ) (act : Act) → act_at es r ≡ Some act → limit_at (es ++ more) r ≡ limit_at es r
 limit_on es more r act there =
     let inside : r < length es = reads_within act_read refl es r act there in
     ap (option_and_then limit_in) (get-append_within es more r inside)
 
-pub StoppedAt-on : (es more : List Entry) (r s : ℕ) → StoppedAt es r s → StoppedAt (es ++ more) r s
+unfoldable pub StoppedAt-on : (es more : List Entry) (r s : ℕ) → StoppedAt es r s → StoppedAt (es ++ more) r s
 StoppedAt-on es more r s h = record {
   key = h.key;
   call = h.call;
@@ -103,26 +103,27 @@ StoppedAt-on es more r s h = record {
 pub Stopped-on : (es more : List Entry) (r : ℕ) → Stopped es r → Stopped (es ++ more) r
 Stopped-on es more r h = (h.0, StoppedAt-on es more r h.0 h.1)
 
+-- what stops a request among the first entries stopped it before
+pub StoppedAt-back : (es more : List Entry) (r s : ℕ) → s < length es → StoppedAt (es ++ more) r s → StoppedAt es r s
+StoppedAt-back es more r s inside h =
+    let later : r < s = h.later in
+    let arrived : act_at es r ≡ Some (Arrive h.key h.call) = ap act_read (sym (get-append_within es more r (omega arith))) ∙ h.arrived in
+    record {
+      key = h.key;
+      call = h.call;
+      stopper = h.stopper;
+      arrived = arrived;
+      no_put = h.no_put;
+      later = later;
+      there = sym (get-append_within es more s inside) ∙ h.there;
+      ends = subst (EndsWait h.stopper.act h.stopper.moment h.key) (limit_on es more r (Arrive h.key h.call) arrived) h.ends;
+    }
+
 -- who is stopped with one more entry was stopped before, or by that entry
 pub Stopped-back : (es : List Entry) (e : Entry) (r : ℕ) → Stopped (es ++ e ∷ []) r → Stopped es r ⊎ StoppedAt (es ++ e ∷ []) r (length es)
 Stopped-back es e r h =
     elim (get-append_cases es e h.1.stopper h.0 h.1.there) [
-      | inl stopper ↦ elim (reads_back act_read refl es e r (Arrive h.1.key h.1.call) h.1.arrived) [
-        | inl request ↦ inl (
-          h.0,
-          record {
-            key = h.1.key;
-            call = h.1.call;
-            stopper = h.1.stopper;
-            arrived = request.1;
-            no_put = h.1.no_put;
-            later = h.1.later;
-            there = stopper.1;
-            ends = subst (EndsWait h.1.stopper.act h.1.stopper.moment h.1.key) (limit_on es (e ∷ []) r (Arrive h.1.key h.1.call) request.1) h.1.ends;
-          },
-        )
-        | inr request ↦ let later : r < h.0 = h.1.later in absurd (omega arith)
-      ]
+      | inl stopper ↦ inl (h.0, StoppedAt-back es (e ∷ []) r h.0 stopper.0 h.1)
       | inr stopper ↦ inr (subst (StoppedAt (es ++ e ∷ []) r) stopper.0 h.1)
     ]
 

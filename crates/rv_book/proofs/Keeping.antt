@@ -1,5 +1,6 @@
 -- The account and its tables stay sound, whatever a step does.
 use Rattle.std.proofs.Common.{◌≡◌, inl, inr, ℕ, ◌+◌, ◌≤◌, ◌^◌, List, [], ◌∷◌, ◌++◌, length, Some, refl, sym, ap, subst, ◌∙◌, arith, length-append, nat_cmp}
+use Rattle.std.proofs.lemmas.Bool.{false≢true}
 use Rattle.std.specs.FinMap.{empty, get-empty}
 use Rattle.std.specs.List.{slice_get}
 use Rattle.std.proofs.lemmas.Option.{none-some}
@@ -10,30 +11,35 @@ use Rattle.rv_book.specs.Counting.{NumberOf}
 use Rattle.rv_book.specs.declared.account.Entry.{Entry}
 use Rattle.rv_book.specs.declared.state.State.{State}
 use Rattle.rv_book.specs.Legal.{Legal}
-use Rattle.rv_book.specs.Limits.{FitsAccount, FitsEntry}
-use Rattle.rv_book.specs.Parked.{AreQueues}
+use Rattle.rv_book.specs.Limits.{FitEntries, FitsAccount, FitsEntry}
+use Rattle.rv_due.specs.Deadlines.{by_moment}
+use Rattle.std.specs.FinSet.{contains, contains-empty}
+use Rattle.std.specs.FinSet.{empty as no_deadline}
+use Rattle.rv_book.specs.Elapsing.{AreDeadlines}
+use Rattle.rv_book.specs.Parked.{AreStations}
 use Rattle.rv_book.specs.Tables.{AreSessions, IsSame, IsSound, account_of}
-use Rattle.rv_book.specs.Views.{AllEmpty}
+use Rattle.rv_book.specs.Views.{NobodyWaits}
 use Rattle.rv_book.specs.Waiting.{Waiting}
 use Rattle.rv_book.proofs.Counting.{one_number}
 use Rattle.rv_book.proofs.Owing.{waiting_inside}
 use Rattle.rv_book.proofs.Places.{get-append_cases}
 use Rattle.rv_book.proofs.SessionTable.{no_sessions}
-use Rattle.rv_book.proofs.Waiters.{no_queues, queues_as_before}
+use Rattle.rv_book.proofs.Waiters.{no_stations, stations_as_before}
 
 -- ---- with nothing changed
 
 pub sound_same : (old new : State) → IsSound old → IsSame old new → IsSound new
 sound_same old new sound same =
     let sessions = subst (AreSessions (account_of old)) (sym same.sessions) sound.sessions_are in
-    let queues = queues_as_before (account_of old).entries old.queues new.queues same.queues sound.queues_are in
+    let stations = stations_as_before (account_of old).entries old.stations new.stations same.stations sound.stations_are in
     let counted = subst (NumberOf (Waiting (account_of old).entries)) (sym same.waiting) sound.waiting_is in
     record {
       legal = subst Legal (sym same.account) sound.legal;
       fits = subst FitsAccount (sym same.account) sound.fits;
       sessions_are = subst (λ (a : Account). AreSessions a new.sessions) (sym same.account) sessions;
-      queues_are = subst (λ (a : Account). AreQueues a.entries new.queues) (sym same.account) queues;
+      stations_are = subst (λ (a : Account). AreStations a.entries new.stations) (sym same.account) stations;
       waiting_is = subst (λ (a : Account). NumberOf (Waiting a.entries) new.waiting) (sym same.account) counted;
+      due_are = subst (λ (a : Account). AreDeadlines a.entries new.due) (sym same.account) (subst (AreDeadlines (account_of old).entries) (sym same.due) sound.due_are);
       spare = let room : old.account.room ≤ new.account.room = same.room in let spare : old.waiting ≤ old.account.room = sound.spare in let waiting : new.waiting ≡ old.waiting = same.waiting in omega arith;
     }
 
@@ -45,17 +51,21 @@ pub record Answers (a : Account) (e : Entry) (new : State) : Type 0 where
   pub entry_fits : FitsEntry e
   pub account : account_of new ≡ with_entry a e
   pub sessions_are : AreSessions (with_entry a e) new.sessions
-  pub queues_are : AreQueues (a.entries ++ e ∷ []) new.queues
+  pub stations_are : AreStations (a.entries ++ e ∷ []) new.stations
   pub waiting_is : NumberOf (Waiting (a.entries ++ e ∷ [])) new.waiting
+  pub due_are : AreDeadlines (a.entries ++ e ∷ []) new.due
   pub space : length a.entries + 1 + new.waiting ≤ 100000
   pub spare : new.waiting ≤ new.account.room
+
+pub fit_with : (es : List Entry) (e : Entry) → FitEntries es → FitsEntry e → FitEntries (es ++ e ∷ [])
+fit_with es e fit own = λ r x there. elim (get-append_cases es e x r there) [ inl inside ↦ fit r x inside.1 | inr last ↦ subst FitsEntry last.1 own ]
 
 pub sound_with : (a : Account) (e : Entry) (new : State) → FitsAccount a → Answers a e new → IsSound new
 sound_with a e new fits is =
     let fitting : FitsAccount (with_entry a e) = record {
       epoch = fits.epoch;
       opened = fits.opened;
-      entries = λ r x there. elim (get-append_cases a.entries e x r there) [ inl inside ↦ fits.entries r x inside.1 | inr last ↦ subst FitsEntry last.1 is.entry_fits ];
+      entries = fit_with a.entries e fits.entries is.entry_fits;
       room = λ waiting count.
           let same : waiting ≡ new.waiting = one_number (Waiting (a.entries ++ e ∷ [])) waiting new.waiting count is.waiting_is in
           let space : length a.entries + 1 + new.waiting ≤ 100000 = is.space in
@@ -65,8 +75,9 @@ sound_with a e new fits is =
       legal = subst Legal (sym is.account) is.legal;
       fits = subst FitsAccount (sym is.account) fitting;
       sessions_are = subst (λ (b : Account). AreSessions b new.sessions) (sym is.account) is.sessions_are;
-      queues_are = subst (λ (b : Account). AreQueues b.entries new.queues) (sym is.account) is.queues_are;
+      stations_are = subst (λ (b : Account). AreStations b.entries new.stations) (sym is.account) is.stations_are;
       waiting_is = subst (λ (b : Account). NumberOf (Waiting b.entries) new.waiting) (sym is.account) is.waiting_is;
+      due_are = subst (λ (b : Account). AreDeadlines b.entries new.due) (sym is.account) is.due_are;
       spare = is.spare;
     }
 
@@ -81,8 +92,8 @@ none_waits es none = record {
 }
 
 pub sound_empty : (state : State) → FitsIdentifier (account_of state).epoch → (account_of state).opened ≤ 2 ^ 62 → (account_of state).entries ≡ []
-    → state.sessions ≡ record { epoch = (account_of state).epoch; sessions = empty } → AllEmpty state.queues → state.waiting ≡ 0 → IsSound state
-sound_empty state epoch opened none sessions no_places zero_wait =
+    → state.sessions ≡ record { epoch = (account_of state).epoch; sessions = empty } → NobodyWaits state.stations → state.waiting ≡ 0 → state.due ≡ no_deadline → IsSound state
+sound_empty state epoch opened none sessions no_places zero_wait no_due =
     let a = account_of state in
     let nothing = λ (r : ℕ) (e : Entry) (there : slice_get a.entries r ≡ Some e). none-some e (sym (ap (λ (es : List Entry). slice_get es r) none) ∙ there) in
     let counted = none_waits a.entries none in
@@ -95,7 +106,11 @@ sound_empty state epoch opened none sessions no_places zero_wait =
         room = λ waits count. let nobody_there : waits ≡ 0 = one_number (Waiting a.entries) waits 0 count counted in let short : length a.entries ≡ 0 = ap length none in omega arith;
       };
       sessions_are = no_sessions a state.sessions none (ap (λ (t : Table). t.epoch) sessions) (λ client. ap (λ (t : Table). session_of t client) sessions ∙ get-empty nat_cmp client);
-      queues_are = no_queues a.entries state.queues none no_places;
+      stations_are = no_stations a.entries state.stations none no_places;
       waiting_is = subst (NumberOf (Waiting a.entries)) (sym zero_wait) counted;
+      due_are = record {
+        are = λ limit r there. absurd (false≢true (sym (contains-empty by_moment (limit, r)) ∙ ap (λ s. contains s (limit, r)) (sym no_due) ∙ there));
+        each = λ limit r waits at. let inside = waiting_inside a.entries r waits in let short : length a.entries ≡ 0 = ap length none in absurd (omega (arith, inside));
+      };
       spare = omega arith;
     }

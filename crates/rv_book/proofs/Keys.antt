@@ -1,7 +1,7 @@
 -- Whose session an act belongs to, and what one more entry leaves of hellos and keys.
 use Rattle.rv_book.specs.Account.{call_in, key_in}
 use Rattle.rv_book.specs.declared.account.Act.{Act}
-use Rattle.rv_book.specs.declared.account.Act.TheVariants.{Arrive, Cancel, Hello}
+use Rattle.rv_book.specs.declared.account.Act.TheVariants.{Arrive, Cancel, Hello, Tick}
 use Rattle.rv_text.specs.declared.call.Call.{Call}
 use Rattle.rv_book.specs.declared.account.Entry.{Entry}
 use Rattle.rv_book.specs.Sessions.{LastHello, NamesKey}
@@ -13,11 +13,12 @@ use Rattle.std.proofs.lemmas.Option.{none-some, same_Some}
 abbrev pub key_read : Option Entry → Option Key
 key_read o = option_and_then key_in (act_read o)
 
--- whose session an act belongs to
+-- whose session an act belongs to; a tick is nobody's
 abbrev pub client_of : Act → ℕ
 client_of (Hello client incarnation) = client
 client_of (Arrive key call) = key.client
 client_of (Cancel key) = key.client
+client_of Tick = 0
 
 -- ---- where a call stands, an arrival does; where a key stands, that or a cancel
 
@@ -26,12 +27,14 @@ act_named None key is = absurd (none-some key is)
 act_named (Some (Hello client incarnation)) key is = absurd (none-some key is)
 act_named (Some (Arrive other call)) key is = inl (call, ap (λ k. Some (Arrive k call)) (same_Some _ _ is))
 act_named (Some (Cancel other)) key is = inr (ap (λ k. Some (Cancel k)) (same_Some _ _ is))
+act_named (Some Tick) key is = absurd (none-some key is)
 
 pub act_called : (o : Option Act) (call : Call) → option_and_then call_in o ≡ Some call → (key : Key) × (o ≡ Some (Arrive key call))
 act_called None call is = absurd (none-some call is)
 act_called (Some (Hello client incarnation)) call is = absurd (none-some call is)
 act_called (Some (Arrive key other)) call is = (key, ap (λ c. Some (Arrive key c)) (same_Some _ _ is))
 act_called (Some (Cancel key)) call is = absurd (none-some call is)
+act_called (Some Tick) call is = absurd (none-some call is)
 
 -- where both stand, the arrival has both
 pub act_arrives : (o : Option Act) (key : Key) (call : Call) → option_and_then key_in o ≡ Some key → option_and_then call_in o ≡ Some call → o ≡ Some (Arrive key call)
@@ -39,6 +42,7 @@ act_arrives None key call names calls = absurd (none-some key names)
 act_arrives (Some (Hello client incarnation)) key call names calls = absurd (none-some key names)
 act_arrives (Some (Arrive other more)) key call names calls = ap (λ k. Some (Arrive k more)) (same_Some _ _ names) ∙ ap (λ c. Some (Arrive key c)) (same_Some _ _ calls)
 act_arrives (Some (Cancel other)) key call names calls = absurd (none-some call calls)
+act_arrives (Some Tick) key call names calls = absurd (none-some call calls)
 
 -- ---- one more entry
 
@@ -48,6 +52,9 @@ no_hello key call c i e = cc
 pub cancel_no_hello : (key : Key) (c i : ℕ) → Some (Cancel key) ≡ Some (Hello c i) → ⊥
 cancel_no_hello key c i e = cc
 
+pub tick_no_hello : (c i : ℕ) → Some Tick ≡ Some (Hello c i) → ⊥
+tick_no_hello c i e = cc
+
 pub same_hello : (c i d j : ℕ) → Some (Hello c i) ≡ Some (Hello d j) → c ≡ d
 same_hello c i d j e = cc
 
@@ -56,12 +63,14 @@ pub hello_is_own : (act : Act) (c i : ℕ) → Some act ≡ Some (Hello c i) →
 hello_is_own (Hello d j) c i e = same_hello d j c i e
 hello_is_own (Arrive key call) c i e = absurd (no_hello key call c i e)
 hello_is_own (Cancel key) c i e = absurd (cancel_no_hello key c i e)
+hello_is_own Tick c i e = absurd (tick_no_hello c i e)
 
 -- the key that the entry names is its client's
 pub key_is_own : (act : Act) (key : Key) → key_in act ≡ Some key → client_of act ≡ key.client
 key_is_own (Hello d j) key e = absurd (none-some key e)
 key_is_own (Arrive own call) key e = ap (λ (k : Key). k.client) (same_Some _ _ e)
 key_is_own (Cancel own) key e = ap (λ (k : Key). k.client) (same_Some _ _ e)
+key_is_own Tick key e = absurd (none-some key e)
 
 pub LastHello-on : (es : List Entry) (e : Entry) (c i h : ℕ) → ((j : ℕ) → Some e.act ≡ Some (Hello c j) → ⊥) → LastHello es c i h → LastHello (es ++ e ∷ []) c i h
 LastHello-on es e c i h other last = record {

@@ -9,8 +9,10 @@ pub mod Histories
 pub mod Keys
 pub mod Waits
 pub mod Sides
+pub mod Slots
 pub mod Tabled
 pub mod Withdrawn
+pub mod Exchanging
 pub mod Waiters
 pub mod Owing
 pub mod Following
@@ -18,21 +20,28 @@ pub mod Lines
 pub mod OnePartner
 pub mod Leaving
 pub mod Limits
+pub mod Lasting
+pub mod FirstStops
+pub mod Ticking
 pub mod ReplyLaws
 pub mod Unmet
 pub mod Puts
+pub mod Getting
 pub mod Takes
 pub mod Transfers
+pub mod Swaps
 pub mod Looking
 pub mod Counts
 pub mod Peeks
 pub mod Replying
 pub mod WaitingTable
 pub mod SessionTable
+pub mod TimedOutSessions
 pub mod CancelledSessions
 pub mod Settling
 pub mod Deciding
 pub mod Staying
+pub mod StoppedReplies
 pub mod ToldCancelled
 pub mod Entering
 pub mod OneStep
@@ -41,9 +50,13 @@ pub mod ToldNow
 pub mod Ending
 pub mod Keeping
 pub mod Stepping
+pub mod ArrivedDeadlines
 pub mod Recording
 pub mod Marking
 pub mod Greeting
 pub mod Cancelling
 pub mod Standing
 pub mod Repeating
+mod DeadlineTable
+mod EndingTables
+mod TimingOut

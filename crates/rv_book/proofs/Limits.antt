@@ -20,11 +20,13 @@ pub key_of_act : (does : Act) (key : Key) → FitsAct does → key_in does ≡ S
 key_of_act (act.TheVariants.Hello client incarnation) key fits is = absurd (none-some key is)
 key_of_act (act.TheVariants.Arrive other call) key fits is = subst FitsKey (same_Some _ _ is) fits.0
 key_of_act (act.TheVariants.Cancel other) key fits is = subst FitsKey (same_Some _ _ is) fits
+key_of_act act.TheVariants.Tick key fits is = absurd (none-some key is)
 
 pub call_of_act : (does : Act) (call : Call) → FitsAct does → call_in does ≡ Some call → FitsCall call
 call_of_act (act.TheVariants.Hello client incarnation) call fits is = absurd (none-some call is)
 call_of_act (act.TheVariants.Arrive key other) call fits is = subst FitsCall (same_Some _ _ is) fits.1
 call_of_act (act.TheVariants.Cancel key) call fits is = absurd (none-some call is)
+call_of_act act.TheVariants.Tick call fits is = absurd (none-some call is)
 
 pub act_there : {B : Type 0} (f : Act → Option B) (o : Option Act) (y : B) → option_and_then f o ≡ Some y → (does : Act) × (o ≡ Some does) × (f does ≡ Some y)
 act_there f None y h = absurd (none-some y h)

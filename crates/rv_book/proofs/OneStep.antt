@@ -3,7 +3,7 @@ use Rattle.rv_book.specs.declared.account.Act as act
 use Rattle.rv_text.specs.declared.message.Message.TheVariants.{Cancel, Hello, Request}
 use Rattle.rv_book.specs.Account.{Account, call_in, with_entry}
 use Rattle.rv_book.specs.declared.account.Act.{Act}
-use Rattle.rv_book.specs.Steps.{Adds, EntersOrNoMemory, EpochFullDue, GapDue, NextAt, NoSessionDue, OldIncarnationDue, OldNumberDue, OtherEpochDue, RefuseOr, Refuses, Answers, WhereElse, step_moment, BusyDue, ClientsFullDue, OtherCallDue, Repeats, Replies}
+use Rattle.rv_book.specs.Steps.{Adds, EntersOrNoMemory, EpochFullDue, GapDue, NextAt, NoSessionDue, OldIncarnationDue, OldNumberDue, OtherEpochDue, RefuseOr, Refuses, Answers, Ticks, WhereElse, step_moment, BusyDue, ClientsFullDue, OtherCallDue, Repeats, Replies}
 use Rattle.rv_text.specs.declared.answer.Answer.{Answer}
 use Rattle.rv_text.specs.declared.call.Call.{Call}
 use Rattle.rv_book.specs.declared.account.Entry.{Entry}
@@ -179,9 +179,11 @@ one_next_at a b c moment (Cancel key) x y first second ample enough =
     (λ h k. one_replied a b c moment key (act.TheVariants.Cancel key) x y ample enough (with_answers a b moment (act.TheVariants.Cancel key) key x h) (with_answers a c moment (act.TheVariants.Cancel key) key y k)))))))))
     first second
 
+-- the time-outs of a step lead to one account
+one_ticked : (a b c : Account) (moment : ℕ) → Ticks a moment b → Ticks a moment c → b ≡ c
+one_ticked a b c moment = both_where _ _ _ _ _ (b ≡ c) (one_added a b c moment act.TheVariants.Tick) (λ first second. first ∙ sym second)
+
 pub one_next : OneNext
 one_next a b c now m x y first second ample enough =
-    one_next_at a b c (step_moment a now) m x y
-    (subst (λ (d : Account). NextAt d (step_moment a now) m b x) first.ticks first.steps)
-    (subst (λ (d : Account). NextAt d (step_moment a now) m c y) second.ticks second.steps)
-    ample enough
+    let same = one_ticked a second.ticked first.ticked (step_moment a now) second.ticks first.ticks in
+    one_next_at first.ticked b c (step_moment a now) m x y first.steps (subst (λ (d : Account). NextAt d (step_moment a now) m c y) same second.steps) ample enough

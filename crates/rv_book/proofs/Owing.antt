@@ -147,13 +147,13 @@ module _ (a : Account) (e : Entry) (key : Key) (call : Call) (legal : Legal a) (
       (less.0, (let same : n ≡ less.0 + 1 = less.1 in omega arith), less.2)
 
 module _ (es : List Entry) (e : Entry) (P : ℕ → Type 0) (free : NamesFreePartner es e) (is : Stops es e P) where
-  was_there : (r : ℕ) → Waiting (es ++ e ∷ []) r → Waiting es r × (P r → ⊥)
+  pub was_there : (r : ℕ) → Waiting (es ++ e ∷ []) r → Waiting es r × (P r → ⊥)
   was_there r waits = elim (Waiting-back es e r free waits) [
     | inl was ↦ (was.there, λ own. was.unstopped (is.stops r own))
     | inr new ↦ absurd (none-some new.1.call (sym is.no_call ∙ new.1.arrives))
   ]
 
-  still_there : (r : ℕ) → Waiting es r → (P r → ⊥) → Waiting (es ++ e ∷ []) r
+  pub still_there : (r : ℕ) → Waiting es r → (P r → ⊥) → Waiting (es ++ e ∷ []) r
   still_there r waits other = Waiting-on es e r waits (λ named. none-some r (sym is.none ∙ named)) (λ stopped. other (is.stopped r stopped))
 
   -- it stops nobody who waits

@@ -1,50 +1,42 @@
 -- What a request that is recorded leaves: a sound state, and what the request is told.
-use Rattle.std.proofs.Common.{◌≡◌, inl, inr, ℕ, ◌+◌, ◌≤◌, List, ◌∷◌, [], ◌++◌, length, Option, Some, None, IsSome, is_some, option_map, refl, sym, ap, subst, arith}
+use Rattle.std.proofs.Common.{◌≡◌, inl, inr, ℕ, ◌+◌, ◌≤◌, ◌∷◌, [], ◌++◌, length, Option, Some, None, is_some, option_map, refl, sym, ap, subst, arith}
 use Rattle.rv_text.specs.declared.call.Call.{Call}
 use Rattle.rv_text.specs.declared.message.Key.{Key}
 use Rattle.rv_text.specs.Calls.{side_of, wait_of}
 use Rattle.rv_session.specs.Owed.{Owed}
 use Rattle.rv_session.specs.Table.{OnlySets, Table, waiting_session}
 use Rattle.rv_session.specs.declared.kept.Kept.{Kept}
-use Rattle.rv_dual.specs.Queue.{Queue}
 use Rattle.rv_book.specs.Account.{Account, with_entry}
 use Rattle.rv_book.specs.Arriving.{GoesOn, IsKept, IsNext, IsRecorded, MeetsOldest, WillReply, entry}
-use Rattle.rv_book.specs.Calls.{Lasts, MayMeet, need_by, need_of}
-use Rattle.rv_text.specs.declared.call.Wait.{Wait}
-use Rattle.rv_text.specs.declared.call.Wait.TheVariants.{Forever, Now}
+use Rattle.rv_book.specs.Calls.{MayMeet, need_of}
+use Rattle.rv_book.specs.Elapsing.{AreDeadlines, without_duty}
 use Rattle.rv_book.specs.Counting.{NumberOf}
 use Rattle.rv_book.specs.declared.account.Act.TheVariants.{Arrive}
 use Rattle.rv_book.specs.declared.account.Entry.{Entry}
-use Rattle.rv_book.specs.declared.queues.Arrived.{Arrived}
+use Rattle.rv_book.specs.declared.arrived.Arrived.{Arrived}
 use Rattle.rv_book.specs.declared.state.State.{State}
 use Rattle.rv_book.specs.Legal.{Legal, MayFollow}
+use Rattle.rv_book.specs.Limits.{FitEntries}
 use Rattle.rv_book.specs.Meeting.{ArrivedOn, Meets, OwnDuty, PartnersDuty, ends_waiting, starts_waiting}
-use Rattle.rv_book.specs.Parked.{AreQueues}
-use Rattle.rv_book.specs.Tables.{AreSessions, IsSound, MayRecord, SettlesIf, account_of, partners_reply}
+use Rattle.rv_book.specs.Parked.{AreStations}
+use Rattle.rv_book.specs.Tables.{AreSessions, IsSound, MayRecord, SettlesIf, account_of, partners_reply, with_due}
 use Rattle.rv_book.specs.Waiting.{Waiting}
+use Rattle.rv_book.proofs.ArrivedDeadlines.{due_arrived}
 use Rattle.rv_book.proofs.Following.{arrival_follows}
-use Rattle.rv_book.proofs.Keeping.{sound_with}
+use Rattle.rv_book.proofs.Keeping.{fit_with, sound_with}
+use Rattle.rv_book.proofs.Lasting.{lasting_need, need_positive}
 use Rattle.rv_book.proofs.Legality.{Legal-with_entry}
 use Rattle.rv_book.proofs.Owing.{Waits-after, goes_not_on, goes_on}
 use Rattle.rv_book.proofs.Replying.{recorded, recorded_waits}
 use Rattle.rv_book.proofs.Settling.{sessions_recorded}
 use Rattle.rv_book.proofs.Standing.{is_next}
-use Rattle.rv_book.proofs.Waiters.{meets_partner, queues_after, queues_as_before}
+use Rattle.rv_book.proofs.Waiters.{meets_partner, stations_after, stations_as_before}
+use Rattle.rv_book.specs.Views.{Stations}
 
 -- ---- what an arrival may come to need
 
-need_of_wait : (wait : Option Wait) → IsSome wait → Lasts wait → need_by wait ≡ 2
-need_of_wait None is lasts = absurd (let no : ⊥ = cc in no)
-need_of_wait (Some Now) is lasts = absurd lasts
-need_of_wait (Some Forever) is lasts = refl
-
-need_positive : (wait : Option Wait) → 1 ≤ need_by wait
-need_positive None = omega arith
-need_positive (Some Now) = omega arith
-need_positive (Some Forever) = omega arith
-
 need_covers : (call : Call) (partner : Option ℕ) (duty : Owed) (own : Option Owed) → OwnDuty (side_of call) (wait_of call) partner duty own → 1 + starts_waiting own ≤ need_of call
-need_covers call partner duty None is = let two : need_of call ≡ 2 = need_of_wait (wait_of call) is.2 is.1.1 in omega arith
+need_covers call partner duty None is = let two : need_of call ≡ 2 = lasting_need (wait_of call) is.2 is.1.1 in omega arith
 need_covers call partner duty (Some own) is = let one : 1 ≤ need_of call = need_positive (wait_of call) in omega arith
 
 -- ---- a request that is recorded
@@ -54,34 +46,37 @@ abbrev pub duty_of_new : State → Key → Owed
 duty_of_new old key = record { place = length (account_of old).entries; client = key.client }
 
 -- a request comes to a state in which it may be recorded, and has arrived in its queue
-pub record Arrives (old : State) (moment : ℕ) (key : Key) (call : Call) (queues : List Queue) (arrived : Arrived) : Type 0 where
+pub record Arrives (old : State) (moment : ℕ) (key : Key) (call : Call) (stations : Stations) (arrived : Arrived) : Type 0 where
   pub may : MayRecord old moment key call
-  pub on : ArrivedOn old.queues queues (side_of call) (wait_of call) (duty_of_new old key) arrived
+  pub on : ArrivedOn old.stations stations (side_of call) (wait_of call) (duty_of_new old key) arrived
 
-module _ (old : State) (moment : ℕ) (key : Key) (call : Call) (queues : List Queue) (arrived : Arrived) (is : Arrives old moment key call queues arrived) where
+module _ (old : State) (moment : ℕ) (key : Key) (call : Call) (stations : Stations) (arrived : Arrived) (is : Arrives old moment key call stations arrived) where
   abbrev pub before : Account
   before = account_of old
 
   abbrev pub own_entry : Entry
   own_entry = entry moment (Arrive key call) arrived.partner
 
-  abbrev pub sound : IsSound old
+  abbrev pub sound : IsSound (with_due old is.may.deadlines)
   sound = is.may.comes.sound
 
   pub next : IsNext before key
   next = is_next before old.sessions sound.sessions_are sound.legal key is.may.next
 
   pub meets : MeetsOldest (account_of old).entries (side_of call) arrived.partner
-  meets = meets_partner before.entries old.queues queues (side_of call) (wait_of call) (length before.entries) arrived.partner sound.queues_are is.on.meets
+  meets = meets_partner before.entries old.stations stations (side_of call) (wait_of call) (length before.entries) arrived.partner sound.stations_are is.on.meets
 
   pub follows : MayFollow before own_entry
-  follows = arrival_follows before moment key call arrived.partner is.may.comes.time next meets
+  follows = arrival_follows before moment key call arrived.partner is.may.comes.time is.may.comes.nothing_due next meets
 
   pub legal_after : Legal (with_entry before own_entry)
   legal_after = Legal-with_entry before own_entry sound.legal follows
 
+  pub fit_after : FitEntries (before.entries ++ own_entry ∷ [])
+  fit_after = fit_with before.entries own_entry sound.fits.entries (is.may.comes.moment_fits, is.may.comes.act_fits)
+
   other_is : PartnersDuty before.entries arrived.partner arrived.other
-  other_is = is.on.other before.entries sound.queues_are.parked
+  other_is = is.on.other before.entries sound.stations_are.parked
 
   pub count_after : (k : ℕ) × (old.waiting + starts_waiting arrived.own ≡ k + ends_waiting arrived.other) × NumberOf (Waiting (before.entries ++ own_entry ∷ [])) k
   count_after = Waits-after before own_entry key call sound.legal follows.pairs.names_free_partner refl old.waiting arrived.partner (duty_of_new old key) arrived.own arrived.other sound.waiting_is refl meets is.on.own other_is
@@ -89,17 +84,22 @@ module _ (old : State) (moment : ℕ) (key : Key) (call : Call) (queues : List Q
   pub least : ends_waiting arrived.other ≤ old.waiting + starts_waiting arrived.own
   least = let h = count_after in let k = h.0 in let same : old.waiting + starts_waiting arrived.own ≡ k + ends_waiting arrived.other = h.1 in omega arith
 
-  pub queues_are : AreQueues (before.entries ++ own_entry ∷ []) queues
-  queues_are = queues_after before own_entry old.queues queues key call sound.legal sound.queues_are follows.pairs.names_free_partner refl (duty_of_new old key) arrived refl refl is.on
+  pub stations_are : AreStations (before.entries ++ own_entry ∷ []) stations
+  stations_are = stations_after before own_entry old.stations stations key call sound.legal sound.stations_are follows.pairs.names_free_partner refl (duty_of_new old key) arrived refl refl is.on
+
+  due_are : AreDeadlines (before.entries ++ own_entry ∷ []) (without_duty (before.entries ++ own_entry ∷ []) arrived.own (without_duty (before.entries ++ own_entry ∷ []) arrived.other old.due))
+  due_are =
+      subst (λ due. AreDeadlines (before.entries ++ own_entry ∷ []) (without_duty (before.entries ++ own_entry ∷ []) arrived.own (without_duty (before.entries ++ own_entry ∷ []) arrived.other due))) (sym is.may.due)
+      (due_arrived before own_entry key call sound.legal follows.pairs.names_free_partner refl arrived.partner (duty_of_new old key) arrived.own arrived.other refl refl is.on.own other_is is.may.deadlines sound.due_are)
 
   -- what a call that looks sees, once it has arrived
-  pub sees : (MayMeet call → ⊥) → AreQueues before.entries queues
+  pub sees : (MayMeet call → ⊥) → AreStations before.entries stations
   sees looks = by_partner arrived.partner is.on.meets
     where
-      by_partner : (partner : Option ℕ) → Meets old.queues queues (side_of call) (wait_of call) (length before.entries) partner → AreQueues before.entries queues
+      by_partner : (partner : Option ℕ) → Meets old.stations stations (side_of call) (wait_of call) (length before.entries) partner → AreStations before.entries stations
       by_partner (Some p) first = absurd (looks (ap is_some first.opposes))
       by_partner None (inl waits) = absurd (looks waits.0.0)
-      by_partner None (inr goes) = queues_as_before before.entries old.queues queues goes.2 sound.queues_are
+      by_partner None (inr goes) = stations_as_before before.entries old.stations stations goes.2 sound.stations_are
 
   module _ (kept others : Kept) (will : (GoesOn call arrived.partner → ⊥) → WillReply before call arrived.partner kept) (begun : Table) (begins : OnlySets old.sessions begun key.client (waiting_session key.incarnation key.number (length before.entries)))
       (others_is : others ≡ partners_reply (side_of call) (length before.entries)) where
@@ -119,9 +119,10 @@ module _ (old : State) (moment : ℕ) (key : Key) (call : Call) (queues : List Q
       sessions_are = sessions_recorded before own_entry key call arrived.partner sound.legal legal_after next refl refl meets old.sessions begun mid last others kept sound.sessions_are begins others_is
           arrived.other arrived.own settles ends other_is is.on.own (kept_is arrived.own refl)
 
-      pub sound_after : (new : State) → account_of new ≡ with_entry before own_entry → new.sessions ≡ last → new.queues ≡ queues → new.waiting + ends_waiting arrived.other ≡ old.waiting + starts_waiting arrived.own
+      pub sound_after : (new : State) → account_of new ≡ with_entry before own_entry → new.sessions ≡ last → new.stations ≡ stations
+          → new.due ≡ without_duty (before.entries ++ own_entry ∷ []) arrived.own (without_duty (before.entries ++ own_entry ∷ []) arrived.other old.due) → new.waiting + ends_waiting arrived.other ≡ old.waiting + starts_waiting arrived.own
           → old.account.room ≤ new.account.room + 1 → IsSound new
-      sound_after new pushed same_sessions same_queues counted room =
+      sound_after new pushed same_sessions same_stations same_due counted room =
           let k = count_after.0 in
           let told_count : old.waiting + starts_waiting arrived.own ≡ k + ends_waiting arrived.other = count_after.1 in
           let same : new.waiting ≡ k = omega arith in
@@ -133,8 +134,9 @@ module _ (old : State) (moment : ℕ) (key : Key) (call : Call) (queues : List Q
             entry_fits = (is.may.comes.moment_fits, is.may.comes.act_fits);
             account = pushed;
             sessions_are = subst (AreSessions (with_entry before own_entry)) (sym same_sessions) sessions_are;
-            queues_are = subst (AreQueues (before.entries ++ own_entry ∷ [])) (sym same_queues) queues_are;
+            stations_are = subst (AreStations (before.entries ++ own_entry ∷ [])) (sym same_stations) stations_are;
             waiting_is = subst (NumberOf (Waiting (before.entries ++ own_entry ∷ []))) (sym same) count_after.2;
+            due_are = subst (AreDeadlines (before.entries ++ own_entry ∷ [])) (sym same_due) due_are;
             space = omega arith;
             spare = omega arith;
           })

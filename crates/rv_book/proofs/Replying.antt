@@ -15,6 +15,7 @@ use Rattle.rv_book.proofs.Places.{get-append_end}
 use Rattle.rv_book.proofs.Counts.{counts}
 use Rattle.rv_book.proofs.Peeks.{peeks}
 use Rattle.rv_book.proofs.Puts.{puts}
+use Rattle.rv_book.proofs.Swaps.{swaps}
 use Rattle.rv_book.proofs.Transfers.{transfers}
 use Rattle.rv_book.proofs.Sides.{Waiting-last}
 use Rattle.rv_text.specs.declared.answer.Answer as answer
@@ -29,6 +30,7 @@ pub reply_laws : (call : Call) → ReplyLaws call
 reply_laws (call.TheVariants.Put queue item) = puts queue item
 reply_laws (call.TheVariants.Transfer queue item wait) = transfers queue item wait
 reply_laws (call.TheVariants.Take queue wait) = takes queue wait
+reply_laws (call.TheVariants.Swap exchanger item wait) = swaps exchanger item wait
 reply_laws (call.TheVariants.Count queue) = counts queue
 reply_laws (call.TheVariants.Peek queue) = peeks queue
 

@@ -6,12 +6,13 @@ use Rattle.rv_session.specs.declared.session.Session.{Session}
 use Rattle.rv_session.specs.declared.kept.Kept.{Kept}
 use Rattle.rv_session.specs.Table.{Table, OnlySets, OnlySettles, fresh, session_of}
 use Rattle.rv_book.specs.Account.{Account, act_at, call_at, call_in, key_at, key_in, with_entry}
-use Rattle.rv_book.specs.Tables.{AreSessions, IsSession, IsSessionOf, Stands, last_key}
+use Rattle.rv_book.specs.Tables.{AreSessions, IsSession, IsSessionOf, IsSettledAt, Stands, last_key}
 use Rattle.rv_book.specs.Replies.{CancelledFirst}
+use Rattle.rv_book.specs.declared.account.Act.{Act}
 use Rattle.rv_book.specs.declared.account.Act.TheVariants.{Arrive, Hello}
 use Rattle.rv_text.specs.declared.call.Call.{Call}
 use Rattle.rv_book.specs.declared.account.Entry.{Entry}
-use Rattle.rv_book.specs.Sessions.{HasIncarnation, LastHello, LastNumber}
+use Rattle.rv_book.specs.Sessions.{HasIncarnation, LastHello, LastNumber, SaidHello}
 use Rattle.rv_book.specs.Arriving.{IsKept}
 use Rattle.rv_book.specs.Waiting.{Waiting}
 use Rattle.rv_book.proofs.Sides.{Waiting-on, stopped_by_hello}
@@ -32,10 +33,22 @@ pub record IsAt (es : List Entry) (c i n : ℕ) : Type 0 where
   pub incarnation : HasIncarnation es c i
   pub number : LastNumber es c n
 
+-- the act is no hello of the client and names no key of it
+pub record IsApart (does : Act) (client : ℕ) : Type 0 where
+  pub no_hello : (incarnation : ℕ) → Some does ≡ Some (Hello client incarnation) → ⊥
+  pub no_key : (key : Key) → key_in does ≡ Some key → key.client ≡ client → ⊥
+
+-- an act of another client is apart
+pub other_apart : (does : Act) (client : ℕ) → (client_of does ≡ client → ⊥) → IsApart does client
+other_apart does client other = record {
+  no_hello = λ incarnation own. other (hello_is_own does client incarnation own);
+  no_key = λ key names of_client. other (key_is_own does key names ∙ of_client);
+}
+
 -- the session of another client than the entry's stays
-pub IsAt-on : (es : List Entry) (e : Entry) (c i n : ℕ) → (client_of e.act ≡ c → ⊥) → IsAt es c i n → IsAt (es ++ e ∷ []) c i n
-IsAt-on es e c i n other is =
-    let no_hello_of = λ (j : ℕ) (own : Some e.act ≡ Some (Hello c j)). other (hello_is_own e.act c j own) in
+pub IsAt-on : (es : List Entry) (e : Entry) (c i n : ℕ) → IsApart e.act c → IsAt es c i n → IsAt (es ++ e ∷ []) c i n
+IsAt-on es e c i n apart is =
+    let no_hello_of = apart.no_hello in
     record {
       incarnation = (is.incarnation.0, LastHello-on es e c i is.incarnation.0 no_hello_of is.incarnation.1);
       number = record {
@@ -44,7 +57,7 @@ IsAt-on es e c i n other is =
         hello = LastHello-on es e c is.number.incarnation is.number.h no_hello_of is.number.hello;
         greatest = λ r key later names. elim (NamesKey-back es e c r key names) [
           | inl inside ↦ is.number.greatest r key later inside
-          | inr own ↦ absurd (other (key_is_own e.act key own.1 ∙ names.of_client))
+          | inr own ↦ absurd (apart.no_key key own.1 names.of_client)
         ];
         reached = elim is.number.reached [
           | inl none ↦ inl none
@@ -108,30 +121,34 @@ abbrev pub StillWaits : Account → Entry → ℕ → Type 0
 StillWaits a e client = (r : ℕ) (key : Key) (call : Call) → key.client ≡ client → act_at a.entries r ≡ Some (Arrive key call) → Waiting a.entries r → Waiting (with_entry a e).entries r
 
 -- a number that was cancelled first stays so behind an entry of another client
-CancelledFirst-on : (es : List Entry) (e : Entry) (key : Key) → (client_of e.act ≡ key.client → ⊥) → CancelledFirst es key → CancelledFirst (es ++ e ∷ []) key
-CancelledFirst-on es e key other first = record {
+pub CancelledFirst-on : (es : List Entry) (e : Entry) (key : Key) → IsApart e.act key.client → CancelledFirst es key → CancelledFirst (es ++ e ∷ []) key
+CancelledFirst-on es e key apart first = record {
   place = first.place;
   cancelled = reads_on act_read refl es (e ∷ []) first.place _ first.cancelled;
   not_arrived = λ r call arrived. elim (reads_back act_read refl es e r (Arrive key call) arrived) [
     | inl inside ↦ first.not_arrived r call inside.1
-    | inr own ↦ other (ap client_of (same_Some _ _ own.1))
+    | inr own ↦ apart.no_key key (ap key_in (same_Some _ _ own.1)) refl
   ];
 }
 
-Stands-on : (a : Account) (e : Entry) (client : ℕ) (s : Session) (stands : StateOf) → Legal (with_entry a e) → (client_of e.act ≡ client → ⊥) → StillWaits a e client → Stands a client s stands
-    → Stands (with_entry a e) client s stands
-Stands-on a e client s state.TheVariants.Fresh legal other still is = is
-Stands-on a e client s (state.TheVariants.Waits r) legal other still is = record {
-  call = is.call;
-  arrived = reads_on act_read refl a.entries (e ∷ []) r _ is.arrived;
-  waits = still r _ is.call refl is.arrived is.waits;
-}
-Stands-on a e client s (state.TheVariants.Settled (Some r) k) legal other still is = record {
+-- what was settled at a place stays so
+pub settled_on : (a : Account) (e : Entry) (client : ℕ) (s : Session) (r : ℕ) (k : Kept) → Legal (with_entry a e) → IsSettledAt a client s r k → IsSettledAt (with_entry a e) client s r k
+settled_on a e client s r k legal is = record {
   call = is.call;
   arrived = reads_on act_read refl a.entries (e ∷ []) r _ is.arrived;
   kept_is = IsKept-on a e r is.call k legal (ap (option_and_then call_in) is.arrived) is.kept_is;
 }
-Stands-on a e client s (state.TheVariants.Settled None k) legal other still is = (CancelledFirst-on a.entries e (last_key a client s) other is.0, is.1)
+
+Stands-on : (a : Account) (e : Entry) (client : ℕ) (s : Session) (stands : StateOf) → Legal (with_entry a e) → IsApart e.act client → StillWaits a e client → Stands a client s stands
+    → Stands (with_entry a e) client s stands
+Stands-on a e client s state.TheVariants.Fresh legal apart still is = is
+Stands-on a e client s (state.TheVariants.Waits r) legal apart still is = record {
+  call = is.call;
+  arrived = reads_on act_read refl a.entries (e ∷ []) r _ is.arrived;
+  waits = still r _ is.call refl is.arrived is.waits;
+}
+Stands-on a e client s (state.TheVariants.Settled (Some r) k) legal apart still is = settled_on a e client s r k legal is
+Stands-on a e client s (state.TheVariants.Settled None k) legal apart still is = (CancelledFirst-on a.entries e (last_key a client s) apart is.0, is.1)
 
 -- ---- the table
 
@@ -152,16 +169,20 @@ settled_then_entered old mid new client place k s settled sets = record {
 pub set_changes : (old new : Table) (client : ℕ) (s : Session) → OnlySets old new client s → Changes old new client s
 set_changes old new client s sets = record { epoch = sets.epoch; own = sets.own; others = sets.others }
 
--- the session of a client other than the entry's, of whose requests each that waits still does
-pub session_on : (a : Account) (e : Entry) (client : ℕ) (o : Option Session) → Legal (with_entry a e) → (client_of e.act ≡ client → ⊥) → StillWaits a e client
-    → IsSessionOf a client o → IsSessionOf (with_entry a e) client o
-session_on a e client None legal other still none = λ said. elim (reads_back act_read refl a.entries e said.0 _ said.2) [
+-- a client that said no hello said none with an entry that is apart
+pub SaidHello-back : (a : Account) (e : Entry) (client : ℕ) → IsApart e.act client → (SaidHello a.entries client → ⊥) → SaidHello (with_entry a e).entries client → ⊥
+SaidHello-back a e client apart none said = elim (reads_back act_read refl a.entries e said.0 _ said.2) [
   | inl inside ↦ none (said.0, said.1, inside.1)
-  | inr last ↦ other (hello_is_own e.act client said.1 last.1)
+  | inr last ↦ apart.no_hello said.1 last.1
 ]
-session_on a e client (Some s) legal other still is =
-    let at = IsAt-on a.entries e client s.incarnation s.last other (record { incarnation = is.incarnation; number = is.number }) in
-    record { incarnation = at.incarnation; number = at.number; stands = Stands-on a e client s s.state legal other still is.stands }
+
+-- the session of a client other than the entry's, of whose requests each that waits still does
+pub session_on : (a : Account) (e : Entry) (client : ℕ) (o : Option Session) → Legal (with_entry a e) → IsApart e.act client → StillWaits a e client
+    → IsSessionOf a client o → IsSessionOf (with_entry a e) client o
+session_on a e client None legal apart still none = SaidHello-back a e client apart none
+session_on a e client (Some s) legal apart still is =
+    let at = IsAt-on a.entries e client s.incarnation s.last apart (record { incarnation = is.incarnation; number = is.number }) in
+    record { incarnation = at.incarnation; number = at.number; stands = Stands-on a e client s s.state legal apart still is.stands }
 
 -- after a hello nothing waits but what waited before, of another client
 after_hello : (a : Account) (e : Entry) (client incarnation other : ℕ) → e.act ≡ Hello client incarnation → e.partner ≡ None → (other ≡ client → ⊥) → StillWaits a e other
@@ -181,7 +202,7 @@ sessions_changed a e old new client s are legal of_client still changes own =
       each = λ c. elim (same_or_not c client) [
         | inl same ↦ subst (λ n. IsSessionOf b n (session_of new n)) (sym same) (subst (IsSessionOf b client) (sym changes.own) own)
         | inr apart ↦ subst (IsSessionOf b c) (sym (changes.others c apart))
-            (session_on a e c (session_of old c) legal (λ here. apart (sym here ∙ of_client)) (still c apart) (are.each c))
+            (session_on a e c (session_of old c) legal (other_apart e.act c (λ here. apart (sym here ∙ of_client))) (still c apart) (are.each c))
       ];
     }
 

@@ -25,7 +25,7 @@ use Rattle.rv_book.proofs.Keys.{act_called, client_of}
 use Rattle.rv_book.proofs.Numbers.{same_or_not}
 use Rattle.rv_book.proofs.Places.{get-append_end}
 use Rattle.rv_book.proofs.Replying.{reply_laws}
-use Rattle.rv_book.proofs.SessionTable.{IsAt, IsAt-on, StillWaits, named_at, session_on}
+use Rattle.rv_book.proofs.SessionTable.{IsAt, IsAt-on, StillWaits, named_at, other_apart, session_on}
 use Rattle.rv_book.proofs.Sides.{Waiting-last, Waiting-on, arrival_stops_nobody}
 use Rattle.rv_book.proofs.WaitingTable.{waiting_there, waits_in_table}
 
@@ -152,7 +152,7 @@ module _ (a : Account) (e : Entry) (key : Key) (call : Call) (partner : Option �
       let found = waiting_there a old d.client d.place are (told_waiting a old call partner d before are met) in
       let same : found.session ≡ s = same_Some _ _ (sym found.there ∙ there) in
       let other = λ (own : client_of e.act ≡ d.client). apart a key call partner next d met (sym own ∙ ap client_of says) in
-      let at = IsAt-on a.entries e d.client found.session.incarnation found.session.last other (record { incarnation = found.is.incarnation; number = found.is.number }) in
+      let at = IsAt-on a.entries e d.client found.session.incarnation found.session.last (other_apart e.act d.client other) (record { incarnation = found.is.incarnation; number = found.is.number }) in
       let arrived = reads_on act_read refl a.entries (e ∷ []) d.place _ found.waits.arrived in
       let k = met_kept d met in
       let one : found.waits.call ≡ met.met = same_Some _ _ (sym (ap (option_and_then call_in) found.waits.arrived) ∙ ap (option_and_then call_in) met.arrived) in
@@ -224,7 +224,7 @@ module _ (a : Account) (e : Entry) (key : Key) (call : Call) (partner : Option �
     others_mid : (other : Option Owed) → SettlesIf begun mid other others → PartnersDuty a.entries partner other → (c : ℕ) → (c ≡ key.client → ⊥) → IsSessionOf b c (session_of mid c)
     others_mid None settles duty c differs =
         let same : session_of mid c ≡ session_of old c = ap (λ t. session_of t c) settles ∙ begins.others c differs in
-        subst (IsSessionOf b c) (sym same) (session_on a e c (session_of old c) after (λ here. differs (sym here ∙ ap client_of says)) (nobody_met duty c) (are.each c))
+        subst (IsSessionOf b c) (sym same) (session_on a e c (session_of old c) after (other_apart e.act c (λ here. differs (sym here ∙ ap client_of says))) (nobody_met duty c) (are.each c))
     others_mid (Some d) settles duty c differs =
         let met = partner_met a call partner d meets duty in
         elim (same_or_not c d.client) [
@@ -235,7 +235,7 @@ module _ (a : Account) (e : Entry) (key : Key) (call : Call) (partner : Option �
           | inr others_too ↦
               let same : session_of mid c ≡ session_of old c = settles.sets.others c others_too ∙ begins.others c differs in
               subst (IsSessionOf b c) (sym same)
-              (session_on a e c (session_of old c) after (λ here. differs (sym here ∙ ap client_of says)) (other_met d met c (λ is. others_too (sym is))) (are.each c))
+              (session_on a e c (session_of old c) after (other_apart e.act c (λ here. differs (sym here ∙ ap client_of says))) (other_met d met c (λ is. others_too (sym is))) (are.each c))
         ]
 
     epoch_mid : (other : Option Owed) → SettlesIf begun mid other others → mid.epoch ≡ old.epoch

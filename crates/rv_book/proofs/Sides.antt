@@ -1,17 +1,18 @@
 -- What stands on a side, with one entry more: who was open there before, and whether the entry is.
-use Rattle.std.proofs.Common.{◌≡◌, ◌⊎◌, inl, inr, ℕ, ◌<◌, List, [], ◌∷◌, ◌++◌, length, take, Some, None, refl, sym, ap, subst, ◌∙◌, arith, length-take}
+use Rattle.std.proofs.Common.{◌≡◌, ◌⊎◌, inl, inr, ℕ, ◌<◌, ◌≤◌, List, [], ◌∷◌, ◌++◌, length, take, Option, Some, None, option_and_then, refl, sym, ap, subst, ◌∙◌, arith, length-take}
 use Rattle.rv_book.specs.Account.{Account, act_at, call_at, call_in}
 use Rattle.rv_text.specs.declared.call.Call.{Call}
 use Rattle.rv_book.specs.declared.account.Entry.{Entry}
 use Rattle.rv_text.specs.declared.call.Side.{Side}
 use Rattle.std.proofs.lemmas.Option.{none-some, same_Some}
 use Rattle.rv_text.specs.Calls.{side_of}
-use Rattle.rv_book.specs.Legal.{Legal, NamesFreePartner}
-use Rattle.rv_book.specs.Waiting.{EndsWait, Met, NamesPartner, Open, OpenAt, SideAt, Stopped, StoppedAt, Waiting, limit_at}
-use Rattle.rv_book.proofs.Growing.{NamesPartner-back, Open-back, Open-on, act_read, call_read, partner_read, read_there, reads_back, reads_on, reads_within}
+use Rattle.rv_book.specs.Legal.{IsDueAt, Legal, NamesFreePartner}
+use Rattle.rv_book.specs.Waiting.{EndsWait, HasElapsed, Met, NamesPartner, Open, OpenAt, SideAt, Stopped, StoppedAt, Waiting, limit_at}
+use Rattle.rv_book.proofs.Growing.{NamesPartner-back, Open-back, Open-on, act_read, call_read, limit_on, partner_read, read_there, reads_back, reads_on, reads_within}
 use Rattle.rv_book.specs.Calls.{IsPut, Stays}
-use Rattle.rv_book.specs.declared.account.Act.TheVariants.{Arrive, Cancel, Hello}
+use Rattle.rv_book.specs.declared.account.Act.TheVariants.{Arrive, Cancel, Hello, Tick}
 use Rattle.rv_text.specs.declared.message.Key.{Key}
+use Rattle.rv_book.proofs.Keys.{act_called}
 use Rattle.rv_book.proofs.Places.{get-append_cases, get-append_end}
 
 pub SideAt-on : (es more : List Entry) (side : Side) (r : ℕ) → SideAt es side r → SideAt (es ++ more) side r
@@ -102,6 +103,81 @@ stopped_by_cancel es e key r says stopped =
       call = stopped.call;
       arrived = subst (λ (k : Key). act_at es r ≡ Some (Arrive k stopped.call)) (sym named) arrived;
       no_put = stopped.no_put;
+    }
+
+-- a request other than a put, whose limit is at or below the moment, arrived at r
+pub record IsRequestUntil (es : List Entry) (moment r : ℕ) : Type 0 where
+  pub key : Key
+  pub call : Call
+  pub arrived : act_at es r ≡ Some (Arrive key call)
+  pub no_put : IsPut call → ⊥
+  pub limit : ℕ
+  pub has : limit_at es r ≡ Some limit
+  pub elapsed : limit ≤ moment
+
+-- a tick stops the requests whose limit is at or below its moment
+pub tick_stops : (es : List Entry) (e : Entry) (r : ℕ) → e.act ≡ Tick → IsRequestUntil es e.moment r → StoppedAt (es ++ e ∷ []) r (length es)
+tick_stops es e r says request =
+    let limit : limit_at (es ++ e ∷ []) r ≡ Some request.limit = limit_on es (e ∷ []) r (Arrive request.key request.call) request.arrived ∙ request.has in
+    let over : HasElapsed (limit_at (es ++ e ∷ []) r) e.moment = subst (λ o. HasElapsed o e.moment) (sym limit) request.elapsed in
+    record {
+      key = request.key;
+      call = request.call;
+      stopper = e;
+      arrived = reads_on act_read refl es (e ∷ []) r (Arrive request.key request.call) request.arrived;
+      no_put = request.no_put;
+      later = reads_within act_read refl es r (Arrive request.key request.call) request.arrived;
+      there = get-append_end es e;
+      ends = subst (λ act. EndsWait act e.moment request.key (limit_at (es ++ e ∷ []) r)) (sym says) over;
+    }
+
+elapsed_limit : (limit : Option ℕ) (moment : ℕ) → HasElapsed limit moment → (n : ℕ) × (limit ≡ Some n) × (n ≤ moment)
+elapsed_limit None moment over = absurd over
+elapsed_limit (Some n) moment over = (n, refl, over)
+
+-- and no others
+pub stopped_by_tick : (es : List Entry) (e : Entry) (r : ℕ) → e.act ≡ Tick → StoppedAt (es ++ e ∷ []) r (length es) → IsRequestUntil es e.moment r
+stopped_by_tick es e r says stopped =
+    let own : e ≡ stopped.stopper = same_Some _ _ (sym (get-append_end es e) ∙ stopped.there) in
+    let later : r < length es = stopped.later in
+    let arrived : act_at es r ≡ Some (Arrive stopped.key stopped.call) = elim (reads_back act_read refl es e r (Arrive stopped.key stopped.call) stopped.arrived) [ inl inside ↦ inside.1 | inr last ↦ absurd (omega arith) ] in
+    let ends : EndsWait e.act e.moment stopped.key (limit_at (es ++ e ∷ []) r) = subst (λ (x : Entry). EndsWait x.act x.moment stopped.key (limit_at (es ++ e ∷ []) r)) (sym own) stopped.ends in
+    let over : HasElapsed (limit_at (es ++ e ∷ []) r) e.moment = subst (λ act. EndsWait act e.moment stopped.key (limit_at (es ++ e ∷ []) r)) says ends in
+    let limit = elapsed_limit (limit_at (es ++ e ∷ []) r) e.moment over in
+    record {
+      key = stopped.key;
+      call = stopped.call;
+      arrived = arrived;
+      no_put = stopped.no_put;
+      limit = limit.0;
+      has = sym (limit_on es (e ∷ []) r (Arrive stopped.key stopped.call) arrived) ∙ limit.1;
+      elapsed = limit.2;
+    }
+
+-- who is due is such a request
+pub due_until : (es : List Entry) (moment r : ℕ) → IsDueAt es moment r → IsRequestUntil es moment r
+due_until es moment r due =
+    let opened = due.waits.is_open in
+    let arrives = act_called (act_at es r) opened.call opened.arrived in
+    record {
+      key = arrives.0;
+      call = opened.call;
+      arrived = arrives.1;
+      no_put = due.waits.no_put;
+      limit = due.limit;
+      has = due.has;
+      elapsed = due.elapsed;
+    }
+
+-- and an open one is due
+pub until_due : (es : List Entry) (moment r : ℕ) → Open es r → IsRequestUntil es moment r → IsDueAt es moment r
+until_due es moment r opened request =
+    let same : request.call ≡ opened.call = same_Some _ _ (sym (ap (option_and_then call_in) request.arrived) ∙ opened.arrived) in
+    record {
+      waits = record { is_open = opened; no_put = subst (λ c. IsPut c → ⊥) same request.no_put };
+      limit = request.limit;
+      has = request.has;
+      elapsed = request.elapsed;
     }
 
 -- ---- who stays open, and who was

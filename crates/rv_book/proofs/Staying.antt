@@ -7,7 +7,7 @@ use Rattle.rv_book.specs.declared.verdict.Said as said
 use Rattle.rv_text.specs.declared.message.Message.TheVariants.{Cancel, Hello, Request}
 use Rattle.rv_book.specs.Account.{Account, Extends, act_at, call_in, key_in}
 use Rattle.rv_book.specs.declared.account.Act.{Act}
-use Rattle.rv_book.specs.Steps.{Adds, Answers, EntersOrNoMemory, KeyWaits, NextAt, Refuses, Replies}
+use Rattle.rv_book.specs.Steps.{Adds, Answers, EntersOrNoMemory, KeyWaits, NextAt, Refuses, Replies, Ticks}
 use Rattle.rv_book.specs.Waiting.{Waiting}
 use Rattle.rv_text.specs.declared.answer.Answer.{Answer}
 use Rattle.rv_text.specs.declared.call.Call.{Call}
@@ -16,7 +16,7 @@ use Rattle.rv_book.specs.Replies.{CancelledFirst, HasReply, RepliesAt, RepliesTo
 use Rattle.rv_session.specs.declared.kept.Kept.{Kept}
 use Rattle.rv_text.specs.declared.message.Key.{Key}
 use Rattle.rv_book.specs.Legal.{Legal, before}
-use Rattle.std.proofs.Common.{List, None, Option, Some, [], ap, append-nil, arith, inl, inr, length, option_and_then, option_map, refl, subst, sym, ℕ, ◌++◌, ◌<◌, ◌∙◌, ◌∷◌, ◌≡◌}
+use Rattle.std.proofs.Common.{List, None, Option, Some, [], ap, append_assoc, append-nil, arith, inl, inr, length, option_and_then, option_map, refl, subst, sym, ℕ, ◌++◌, ◌<◌, ◌∙◌, ◌∷◌, ◌≡◌}
 use Rattle.rv_text.specs.declared.message.Message.{Message}
 use Rattle.rv_book.proofs.Growing.{act_read, call_read, reads_on, reads_within}
 use Rattle.rv_text.specs.declared.answer.Refusal.{Refusal}
@@ -82,8 +82,20 @@ step_extends a b moment (Cancel key) x next =
     (RefuseOr-elim _ _ _ (Extends a b) (refused _)
     entered))))))) next
 
+ticks_extend : (a b : Account) (moment : ℕ) → Ticks a moment b → Extends a b
+ticks_extend a b moment (inl ticks) = added_extends a b moment _ ticks.1
+ticks_extend a b moment (inr same) = same_extends a b same.1
+
+extends_on : (a b c : Account) → Extends a b → Extends b c → Extends a c
+extends_on a b c first second = record {
+  epoch = second.epoch ∙ first.epoch;
+  opened = second.opened ∙ first.opened;
+  more = first.more ++ second.more;
+  entries = second.entries ∙ ap (λ es. es ++ second.more) first.entries ∙ append_assoc a.entries first.more second.more;
+}
+
 pub steps_extend : StepsExtend
-steps_extend a b now m x next = step_extends a b _ m x (subst (λ (c : Account). NextAt c _ m b x) next.ticks next.steps)
+steps_extend a b now m x next = extends_on a next.ticked b (ticks_extend a next.ticked _ next.ticks) (step_extends next.ticked b _ m x next.steps)
 
 -- ---- a verdict stays
 
@@ -103,6 +115,10 @@ kept_stays a b (kept.TheVariants.Peeked place) r extends is =
     let item = mapped reply.TheVariants.Peeked (item_at a.entries place) r is in
     let there : item_at b.entries place ≡ Some item.0 = reading_on (λ o. option_and_then item_of (call_read o)) refl a b place item.0 extends item.1 in
     ap (option_map reply.TheVariants.Peeked) (there ∙ sym item.1) ∙ is
+kept_stays a b (kept.TheVariants.Swapped place) r extends is =
+    let item = mapped reply.TheVariants.Swapped (item_at a.entries place) r is in
+    let there : item_at b.entries place ≡ Some item.0 = reading_on (λ o. option_and_then item_of (call_read o)) refl a b place item.0 extends item.1 in
+    ap (option_map reply.TheVariants.Swapped) (there ∙ sym item.1) ∙ is
 kept_stays a b k r extends is = is
 
 pub said_stays : (a b : Account) (s : Said) (x : Answer) → Extends a b → answer_of a.entries s ≡ Some x → answer_of b.entries s ≡ Some x

@@ -1,94 +1,100 @@
--- What a change of one queue is to the table of queues, side by side.
-use Rattle.std.proofs.Common.{◌≡◌, inl, inr, ℕ, zero, suc, ◌<◌, List, [], ◌∷◌, ◌++◌, length, Option, Some, None, refl, sym, ap, subst, ◌∙◌, option_and_then}
+-- What a change of one queue is to all who wait, side by side.
+use Rattle.std.proofs.Common.{◌≡◌, inl, inr, ℕ, zero, suc, List, [], ◌∷◌, ◌++◌, Option, Some, None, refl, sym, ap, subst, ◌∙◌, option_and_then}
 use Rattle.std.specs.List.{slice_get}
-use Rattle.std.specs.Prelude.{IsSome, option_map, slice_set, unwrap_or}
-use Rattle.std.proofs.lemmas.Option.{none-some, same_Some, slice_get-map, slice_get-get_or, unwrap_or-slice_get}
-use Rattle.std.proofs.Math.ListN.{get_or}
-use Rattle.std.proofs.lemmas.List.{get_or-set_same, get_or-set_other}
+use Rattle.std.specs.Prelude.{IsSome, option_map}
+use Rattle.std.proofs.lemmas.Option.{none-some, same_Some, slice_get-map, slice_get-get_or}
 use Rattle.rv_text.specs.declared.call.Side.{Side}
-use Rattle.rv_text.specs.declared.call.Side.TheVariants.{Gives, Looks, Takes}
+use Rattle.rv_text.specs.declared.call.Side.TheVariants.{Exchanges, Gives, Looks, Takes}
 use Rattle.rv_text.specs.declared.call.Wait.{Wait}
 use Rattle.rv_session.specs.Owed.{Owed}
 use Rattle.rv_dual.specs.Offers.{duty_of, place_of, places_of}
 use Rattle.rv_dual.specs.Queue.{IsAbove, Queue, SameLists}
 use Rattle.rv_dual.specs.declared.giver.Offer.{Offer}
 use Rattle.rv_book.specs.declared.account.Entry.{Entry}
-use Rattle.rv_book.specs.declared.queues.Arrived.{Arrived}
+use Rattle.rv_book.specs.declared.arrived.Arrived.{Arrived}
 use Rattle.rv_book.specs.Calls.{Lasts, opposite}
 use Rattle.rv_book.specs.Meeting.{ArrivedOn, FindsNobody, Gave, GaveNobody, GaveTo, LaysDown, MayWait, OwnDuty, StandsBy, Took, TookFrom, TookNothing, offer_by, own_by}
 use Rattle.rv_book.specs.Parked.{AreParked, IsParked, owed_at}
-use Rattle.rv_book.specs.Views.{AllEmpty, AreBelow, SameQueues, empty_queue, queue_at, takers_places, waiting_on}
+use Rattle.rv_book.specs.Views.{AllEmpty, AreBelow, OnlyQueue, SameStations, Stations, exchanger_at, place_of_duty, queue_at, takers_places, waiting_on}
 use Rattle.rv_book.proofs.Numbers.{same_or_not}
 use Rattle.rv_book.proofs.Places.{get-append_cases}
 use Rattle.std.proofs.lemmas.List.{map-append}
 
--- ---- one queue of the table
+-- ---- one queue
 
--- the second table has this queue at the number, and else it is the first
-pub record ChangedAt (old new : List Queue) (queue : ℕ) (q : Queue) : Type 0 where
-  pub here : queue_at new queue ≡ q
-  pub others : (other : ℕ) → (other ≡ queue → ⊥) → queue_at new other ≡ queue_at old other
-
-pub set_at : (queues : List Queue) (queue : ℕ) (q : Queue) → queue < length queues → ChangedAt queues (slice_set queues queue q) queue q
-set_at queues queue q inside = record {
-  here = unwrap_or-slice_get (slice_set queues queue q) queue empty_queue ∙ get_or-set_same queues queue q empty_queue inside;
-  others = λ other apart. unwrap_or-slice_get (slice_set queues queue q) other empty_queue ∙ get_or-set_other queues queue other q empty_queue apart ∙ sym (unwrap_or-slice_get queues other empty_queue);
-}
-
--- the queue that an index gives
-pub indexed : (queues : List Queue) (queue : ℕ) (q d : Queue) → queue < length queues → q ≡ get_or queues queue d → queue_at queues queue ≡ q
-indexed queues queue q d inside is = ap (λ o. unwrap_or o empty_queue) (slice_get-get_or queues queue d inside) ∙ sym is
+-- no other queue changed, and no exchanger
+pub record ChangedAt (old new : Stations) (queue : ℕ) : Type 0 where
+  pub others : OnlyQueue queue old.queues new.queues
+  pub exchangers : new.exchangers ≡ old.exchangers
 
 -- ---- sides
 
-module _ (old new : List Queue) (queue : ℕ) (q : Queue) (changed : ChangedAt old new queue q) where
+module _ (old new : Stations) (queue : ℕ) (changed : ChangedAt old new queue) where
+  abbrev was : Queue
+  was = queue_at old.queues queue
+
+  abbrev is_now : Queue
+  is_now = queue_at new.queues queue
+
   givers_elsewhere : (other : ℕ) → (other ≡ queue → ⊥) → waiting_on new (Gives other) ≡ waiting_on old (Gives other)
   givers_elsewhere other apart = ap (λ (r : Queue). places_of r.givers) (changed.others other apart)
 
   takers_elsewhere : (other : ℕ) → (other ≡ queue → ⊥) → waiting_on new (Takes other) ≡ waiting_on old (Takes other)
   takers_elsewhere other apart = ap (λ (r : Queue). takers_places r.takers) (changed.others other apart)
 
-  givers_same : q.givers ≡ (queue_at old queue).givers → (other : ℕ) → waiting_on new (Gives other) ≡ waiting_on old (Gives other)
+  exchangers_same : (exchanger : ℕ) → waiting_on new (Exchanges exchanger) ≡ waiting_on old (Exchanges exchanger)
+  exchangers_same exchanger = ap (λ l. place_of_duty (exchanger_at l exchanger)) changed.exchangers
+
+  givers_same : is_now.givers ≡ was.givers → (other : ℕ) → waiting_on new (Gives other) ≡ waiting_on old (Gives other)
   givers_same same other = elim (same_or_not other queue) [
-    | inl is ↦ subst (λ n. waiting_on new (Gives n) ≡ waiting_on old (Gives n)) (sym is) (ap (λ (r : Queue). places_of r.givers) changed.here ∙ ap places_of same)
+    | inl is ↦ subst (λ n. waiting_on new (Gives n) ≡ waiting_on old (Gives n)) (sym is) (ap places_of same)
     | inr apart ↦ givers_elsewhere other apart
   ]
 
-  takers_same : q.takers ≡ (queue_at old queue).takers → (other : ℕ) → waiting_on new (Takes other) ≡ waiting_on old (Takes other)
+  takers_same : is_now.takers ≡ was.takers → (other : ℕ) → waiting_on new (Takes other) ≡ waiting_on old (Takes other)
   takers_same same other = elim (same_or_not other queue) [
-    | inl is ↦ subst (λ n. waiting_on new (Takes n) ≡ waiting_on old (Takes n)) (sym is) (ap (λ (r : Queue). takers_places r.takers) changed.here ∙ ap takers_places same)
+    | inl is ↦ subst (λ n. waiting_on new (Takes n) ≡ waiting_on old (Takes n)) (sym is) (ap takers_places same)
     | inr apart ↦ takers_elsewhere other apart
   ]
 
   -- where the givers stay, all sides stay but that of the takers
-  pub takers_change : q.givers ≡ (queue_at old queue).givers → (third : Side) → (third ≡ Takes queue → ⊥) → waiting_on new third ≡ waiting_on old third
+  pub takers_change : is_now.givers ≡ was.givers → (third : Side) → (third ≡ Takes queue → ⊥) → waiting_on new third ≡ waiting_on old third
   takers_change same (Gives other) apart = givers_same same other
   takers_change same (Takes other) apart = takers_elsewhere other (λ is. apart (ap Takes is))
   takers_change same (Looks other) apart = refl
+  takers_change same (Exchanges other) apart = exchangers_same other
 
-  pub givers_change : q.takers ≡ (queue_at old queue).takers → (third : Side) → (third ≡ Gives queue → ⊥) → waiting_on new third ≡ waiting_on old third
+  pub givers_change : is_now.takers ≡ was.takers → (third : Side) → (third ≡ Gives queue → ⊥) → waiting_on new third ≡ waiting_on old third
   givers_change same (Takes other) apart = takers_same same other
   givers_change same (Gives other) apart = givers_elsewhere other (λ is. apart (ap Gives is))
   givers_change same (Looks other) apart = refl
+  givers_change same (Exchanges other) apart = exchangers_same other
 
-  pub nothing_changed : SameLists (queue_at old queue) q → SameQueues old new
-  nothing_changed same other = elim (same_or_not other queue) [
-    | inl is ↦ subst (λ n. SameLists (queue_at old n) (queue_at new n)) (sym is) (subst (SameLists (queue_at old queue)) (sym changed.here) same)
-    | inr apart ↦ record { givers = ap (λ (r : Queue). r.givers) (changed.others other apart); takers = ap (λ (r : Queue). r.takers) (changed.others other apart) }
-  ]
+  pub nothing_changed : SameLists was is_now → SameStations old new
+  nothing_changed same = record {
+    queues = λ other. elim (same_or_not other queue) [
+      | inl is ↦ subst (λ n. SameLists (queue_at old.queues n) (queue_at new.queues n)) (sym is) same
+      | inr apart ↦ record { givers = ap (λ (r : Queue). r.givers) (changed.others other apart); takers = ap (λ (r : Queue). r.takers) (changed.others other apart) }
+    ];
+    exchangers = λ exchanger. ap (λ l. exchanger_at l exchanger) changed.exchangers;
+  }
 
-  pub parked_changed : (es : List Entry) → AreParked es old → (IsParked es (queue_at old queue) → IsParked es q) → AreParked es new
-  parked_changed es parked step other = elim (same_or_not other queue) [
-    | inl is ↦ subst (λ n. IsParked es (queue_at new n)) (sym is) (subst (IsParked es) (sym changed.here) (step (parked queue)))
-    | inr apart ↦ subst (IsParked es) (sym (changed.others other apart)) (parked other)
-  ]
+  pub parked_changed : (es : List Entry) → AreParked es old → (IsParked es was → IsParked es is_now) → AreParked es new
+  parked_changed es parked step = record {
+    queues = λ other. elim (same_or_not other queue) [
+      | inl is ↦ subst (λ n. IsParked es (queue_at new.queues n)) (sym is) (step (parked.queues queue))
+      | inr apart ↦ subst (IsParked es) (sym (changed.others other apart)) (parked.queues other)
+    ];
+    exchangers = λ exchanger duty there. parked.exchangers exchanger duty (ap (λ l. exchanger_at l exchanger) (sym changed.exchangers) ∙ there);
+  }
 
 -- ---- with nothing changed
 
-pub same_waiting : (old new : List Queue) → SameQueues old new → (side : Side) → waiting_on new side ≡ waiting_on old side
-same_waiting old new same (Gives queue) = ap places_of (same queue).givers
-same_waiting old new same (Takes queue) = ap takers_places (same queue).takers
+pub same_waiting : (old new : Stations) → SameStations old new → (side : Side) → waiting_on new side ≡ waiting_on old side
+same_waiting old new same (Gives queue) = ap places_of (same.queues queue).givers
+same_waiting old new same (Takes queue) = ap takers_places (same.queues queue).takers
 same_waiting old new same (Looks queue) = refl
+same_waiting old new same (Exchanges exchanger) = ap place_of_duty (same.exchangers exchanger)
 
 parked_lists : (es : List Entry) (p q : Queue) → SameLists p q → IsParked es p → IsParked es q
 parked_lists es p q same is = record {
@@ -96,14 +102,17 @@ parked_lists es p q same is = record {
   takers = λ i duty at. is.takers i duty (sym (ap (λ (xs : List Owed). slice_get xs i) same.takers) ∙ at);
 }
 
-pub same_parked : (es : List Entry) (old new : List Queue) → SameQueues old new → AreParked es old → AreParked es new
-same_parked es old new same parked queue = parked_lists es (queue_at old queue) (queue_at new queue) (same queue) (parked queue)
+pub same_parked : (es : List Entry) (old new : Stations) → SameStations old new → AreParked es old → AreParked es new
+same_parked es old new same parked = record {
+  queues = λ queue. parked_lists es (queue_at old.queues queue) (queue_at new.queues queue) (same.queues queue) (parked.queues queue);
+  exchangers = λ exchanger duty there. parked.exchangers exchanger duty (sym (same.exchangers exchanger) ∙ there);
+}
 
 -- ---- above all that wait
 
-pub above : (queues : List Queue) (queue place : ℕ) → AreBelow queues place → IsAbove (queue_at queues queue) place
-above queues queue place below =
-    let q = queue_at queues queue in
+pub above : (stations : Stations) (queue place : ℕ) → AreBelow stations place → IsAbove (queue_at stations.queues queue) place
+above stations queue place below =
+    let q = queue_at stations.queues queue in
     record {
       givers = λ k d inside. below (Gives queue) k _ (slice_get-map place_of q.givers k ∙ ap (λ o. option_map place_of o) (slice_get-get_or q.givers k d inside));
       takers = λ k d inside. below (Takes queue) k _ (slice_get-map (λ (duty : Owed). duty.place) q.takers k ∙ ap (λ o. option_map (λ (duty : Owed). duty.place) o) (slice_get-get_or q.takers k d inside));
@@ -117,11 +126,11 @@ takes_only queue other opposes = sym (same_Some _ _ opposes)
 gives_only : (queue : ℕ) (other : Side) → opposite (Takes queue) ≡ Some other → other ≡ Gives queue
 gives_only queue other opposes = sym (same_Some _ _ opposes)
 
-no_takers : (queues : List Queue) (queue : ℕ) → (queue_at queues queue).takers ≡ [] → FindsNobody queues (Gives queue)
-no_takers queues queue none other opposes = subst (λ side. waiting_on queues side ≡ []) (sym (takes_only queue other opposes)) (ap takers_places none)
+no_takers : (stations : Stations) (queue : ℕ) → (queue_at stations.queues queue).takers ≡ [] → FindsNobody stations (Gives queue)
+no_takers stations queue none other opposes = subst (λ side. waiting_on stations side ≡ []) (sym (takes_only queue other opposes)) (ap takers_places none)
 
-no_givers : (queues : List Queue) (queue : ℕ) → (queue_at queues queue).givers ≡ [] → FindsNobody queues (Takes queue)
-no_givers queues queue none other opposes = subst (λ side. waiting_on queues side ≡ []) (sym (gives_only queue other opposes)) (ap places_of none)
+no_givers : (stations : Stations) (queue : ℕ) → (queue_at stations.queues queue).givers ≡ [] → FindsNobody stations (Takes queue)
+no_givers stations queue none other opposes = subst (λ side. waiting_on stations side ≡ []) (sym (gives_only queue other opposes)) (ap places_of none)
 
 some_is_none : {X : Type 0} (x : X) → Some x ≡ None → ⊥
 some_is_none x is = none-some x (sym is)
@@ -138,21 +147,24 @@ place_of_offer_by (Some wait) duty = refl
 first_of : {X : Type 0} (xs ys : List X) (x : X) → xs ≡ x ∷ ys → slice_get xs 0 ≡ Some x
 first_of xs ys x is = ap (λ l. slice_get l 0) is
 
-module _ (old new : List Queue) (queue : ℕ) (q : Queue) (changed : ChangedAt old new queue q) (duty : Owed) where
+module _ (old new : Stations) (queue : ℕ) (changed : ChangedAt old new queue) (duty : Owed) where
   abbrev pub before : Queue
-  before = queue_at old queue
+  before = queue_at old.queues queue
 
-  gave_to : (wait : Option Wait) (result : Arrived) → GaveTo before q duty result → ArrivedOn old new (Gives queue) wait duty result
+  abbrev pub after : Queue
+  after = queue_at new.queues queue
+
+  gave_to : (wait : Option Wait) (result : Arrived) → GaveTo before after duty result → ArrivedOn old new (Gives queue) wait duty result
   gave_to wait result gave = subst (ArrivedOn old new (Gives queue) wait duty) (sym gave.is) (record {
     meets = record {
       other = Takes queue;
       opposes = refl;
-      first = ap takers_places gave.oldest ∙ ap (λ (r : Queue). gave.taker.place ∷ takers_places r.takers) (sym changed.here);
-      others = takers_change old new queue q changed gave.givers;
+      first = ap takers_places gave.oldest;
+      others = takers_change old new queue changed gave.givers;
     };
     own = (refl, λ is. absurd (some_is_none gave.taker.place is));
-    other = λ es parked. sym ((parked queue).takers 0 gave.taker (first_of before.takers q.takers gave.taker gave.oldest));
-    parked = λ es parked owed. parked_changed old new queue q changed es parked (λ was. record {
+    other = λ es parked. sym ((parked.queues queue).takers 0 gave.taker (first_of before.takers after.takers gave.taker gave.oldest));
+    parked = λ es parked owed. parked_changed old new queue changed es parked (λ was. record {
       givers = λ i offer at. was.givers i offer (sym (ap (λ l. slice_get l i) gave.givers) ∙ at);
       takers = λ i other at. was.takers (suc i) other (ap (λ l. slice_get l (suc i)) gave.oldest ∙ at);
     });
@@ -162,7 +174,7 @@ module _ (old new : List Queue) (queue : ℕ) (q : Queue) (changed : ChangedAt o
   own_of None lasts = (refl, λ unmet may. refl)
   own_of (Some wait) lasts = (refl, (refl, lasts), refl)
 
-  pushed_givers : (es : List Entry) (wait : Option Wait) → owed_at es duty.place ≡ option_and_then (λ w. Some duty) wait → q.givers ≡ before.givers ++ offer_by wait duty ∷ [] → q.takers ≡ before.takers → IsParked es before → IsParked es q
+  pushed_givers : (es : List Entry) (wait : Option Wait) → owed_at es duty.place ≡ option_and_then (λ w. Some duty) wait → after.givers ≡ before.givers ++ offer_by wait duty ∷ [] → after.takers ≡ before.takers → IsParked es before → IsParked es after
   pushed_givers es wait owed givers takers was = record {
     givers = λ i offer at. elim (get-append_cases before.givers (offer_by wait duty) offer i (sym (ap (λ l. slice_get l i) givers) ∙ at)) [
       | inl inside ↦ was.givers i offer inside.1
@@ -171,24 +183,24 @@ module _ (old new : List Queue) (queue : ℕ) (q : Queue) (changed : ChangedAt o
     takers = λ i other at. was.takers i other (sym (ap (λ l. slice_get l i) takers) ∙ at);
   }
 
-  lays_down : (wait : Option Wait) (result : Arrived) → Lasts wait → LaysDown before q wait duty result → ArrivedOn old new (Gives queue) wait duty result
+  lays_down : (wait : Option Wait) (result : Arrived) → Lasts wait → LaysDown before after wait duty result → ArrivedOn old new (Gives queue) wait duty result
   lays_down wait result lasts lays = subst (ArrivedOn old new (Gives queue) wait duty) (sym lays.is) (record {
     meets = inl (
       (refl, lasts),
       record {
         nobody = no_takers old queue lays.nobody;
-        last = ap (λ (r : Queue). places_of r.givers) changed.here ∙ ap places_of lays.givers ∙ map-append place_of before.givers (offer_by wait duty ∷ []) ∙ ap (λ p. waiting_on old (Gives queue) ++ p ∷ []) (place_of_offer_by wait duty);
-        others = givers_change old new queue q changed lays.takers;
+        last = ap places_of lays.givers ∙ map-append place_of before.givers (offer_by wait duty ∷ []) ∙ ap (λ p. waiting_on old (Gives queue) ++ p ∷ []) (place_of_offer_by wait duty);
+        others = givers_change old new queue changed lays.takers;
       },
     );
     own = own_of wait lasts;
     other = λ es parked. refl;
-    parked = λ es parked owed. parked_changed old new queue q changed es parked (pushed_givers es wait owed lays.givers lays.takers);
+    parked = λ es parked owed. parked_changed old new queue changed es parked (pushed_givers es wait owed lays.givers lays.takers);
   })
 
-  gave_nobody : (wait : Option Wait) (result : Arrived) → (Lasts wait → ⊥) → GaveNobody before q duty result → ArrivedOn old new (Gives queue) wait duty result
+  gave_nobody : (wait : Option Wait) (result : Arrived) → (Lasts wait → ⊥) → GaveNobody before after duty result → ArrivedOn old new (Gives queue) wait duty result
   gave_nobody wait result goes gave =
-      let same = nothing_changed old new queue q changed gave.same in
+      let same = nothing_changed old new queue changed gave.same in
       subst (ArrivedOn old new (Gives queue) wait duty) (sym gave.is) (record {
         meets = inr ((λ may. goes may.1), no_takers old queue gave.nobody, same);
         own = (refl, λ unmet may. absurd (goes may.1));
@@ -196,30 +208,30 @@ module _ (old new : List Queue) (queue : ℕ) (q : Queue) (changed : ChangedAt o
         parked = λ es parked owed. same_parked es old new same parked;
       })
 
-  pub arrived_gives : (wait : Option Wait) (result : Arrived) → Gave before q wait duty result → ArrivedOn old new (Gives queue) wait duty result
+  pub arrived_gives : (wait : Option Wait) (result : Arrived) → Gave before after wait duty result → ArrivedOn old new (Gives queue) wait duty result
   arrived_gives wait result (inl gave) = gave_to wait result gave
   arrived_gives wait result (inr (inl lays)) = lays_down wait result lays.0 lays.1
   arrived_gives wait result (inr (inr goes)) = gave_nobody wait result goes.0 goes.1
 
   -- ---- an arrival that takes
 
-  took_from : (wait : Option Wait) (result : Arrived) → TookFrom before q duty result → ArrivedOn old new (Takes queue) wait duty result
+  took_from : (wait : Option Wait) (result : Arrived) → TookFrom before after duty result → ArrivedOn old new (Takes queue) wait duty result
   took_from wait result took = subst (ArrivedOn old new (Takes queue) wait duty) (sym took.is) (record {
     meets = record {
       other = Gives queue;
       opposes = refl;
-      first = ap places_of took.oldest ∙ ap (λ (r : Queue). place_of took.offer ∷ places_of r.givers) (sym changed.here);
-      others = givers_change old new queue q changed took.takers;
+      first = ap places_of took.oldest;
+      others = givers_change old new queue changed took.takers;
     };
     own = (refl, λ is. absurd (some_is_none (place_of took.offer) is));
-    other = λ es parked. sym ((parked queue).givers 0 took.offer (first_of before.givers q.givers took.offer took.oldest));
-    parked = λ es parked owed. parked_changed old new queue q changed es parked (λ was. record {
+    other = λ es parked. sym ((parked.queues queue).givers 0 took.offer (first_of before.givers after.givers took.offer took.oldest));
+    parked = λ es parked owed. parked_changed old new queue changed es parked (λ was. record {
       givers = λ i offer at. was.givers (suc i) offer (ap (λ l. slice_get l (suc i)) took.oldest ∙ at);
       takers = λ i other at. was.takers i other (sym (ap (λ l. slice_get l i) took.takers) ∙ at);
     });
   })
 
-  pushed_takers : (es : List Entry) → owed_at es duty.place ≡ Some duty → q.takers ≡ before.takers ++ duty ∷ [] → q.givers ≡ before.givers → IsParked es before → IsParked es q
+  pushed_takers : (es : List Entry) → owed_at es duty.place ≡ Some duty → after.takers ≡ before.takers ++ duty ∷ [] → after.givers ≡ before.givers → IsParked es before → IsParked es after
   pushed_takers es owed takers givers was = record {
     givers = λ i offer at. was.givers i offer (sym (ap (λ l. slice_get l i) givers) ∙ at);
     takers = λ i other at. elim (get-append_cases before.takers duty other i (sym (ap (λ l. slice_get l i) takers) ∙ at)) [
@@ -228,24 +240,24 @@ module _ (old new : List Queue) (queue : ℕ) (q : Queue) (changed : ChangedAt o
     ];
   }
 
-  stands_by : (wait : Wait) (result : Arrived) → Lasts (Some wait) → StandsBy before q duty result → ArrivedOn old new (Takes queue) (Some wait) duty result
+  stands_by : (wait : Wait) (result : Arrived) → Lasts (Some wait) → StandsBy before after duty result → ArrivedOn old new (Takes queue) (Some wait) duty result
   stands_by wait result lasts stands = subst (ArrivedOn old new (Takes queue) (Some wait) duty) (sym stands.is) (record {
     meets = inl (
       (refl, lasts),
       record {
         nobody = no_givers old queue stands.nobody;
-        last = ap (λ (r : Queue). takers_places r.takers) changed.here ∙ ap takers_places stands.takers ∙ map-append (λ (d : Owed). d.place) before.takers (duty ∷ []);
-        others = takers_change old new queue q changed stands.givers;
+        last = ap takers_places stands.takers ∙ map-append (λ (d : Owed). d.place) before.takers (duty ∷ []);
+        others = takers_change old new queue changed stands.givers;
       },
     );
     own = (refl, (refl, lasts), refl);
     other = λ es parked. refl;
-    parked = λ es parked owed. parked_changed old new queue q changed es parked (pushed_takers es owed stands.takers stands.givers);
+    parked = λ es parked owed. parked_changed old new queue changed es parked (pushed_takers es owed stands.takers stands.givers);
   })
 
-  took_nothing : (wait : Option Wait) (result : Arrived) → (Lasts wait → ⊥) → TookNothing before q duty result → ArrivedOn old new (Takes queue) wait duty result
+  took_nothing : (wait : Option Wait) (result : Arrived) → (Lasts wait → ⊥) → TookNothing before after duty result → ArrivedOn old new (Takes queue) wait duty result
   took_nothing wait result goes took =
-      let same = nothing_changed old new queue q changed took.same in
+      let same = nothing_changed old new queue changed took.same in
       subst (ArrivedOn old new (Takes queue) wait duty) (sym took.is) (record {
         meets = inr ((λ may. goes may.1), no_givers old queue took.nobody, same);
         own = (refl, λ unmet may. absurd (goes may.1));
@@ -253,19 +265,19 @@ module _ (old new : List Queue) (queue : ℕ) (q : Queue) (changed : ChangedAt o
         parked = λ es parked owed. same_parked es old new same parked;
       })
 
-  pub arrived_takes : (wait : Wait) (result : Arrived) → Took before q (Some wait) duty result → ArrivedOn old new (Takes queue) (Some wait) duty result
+  pub arrived_takes : (wait : Wait) (result : Arrived) → Took before after (Some wait) duty result → ArrivedOn old new (Takes queue) (Some wait) duty result
   arrived_takes wait result (inl took) = took_from (Some wait) result took
   arrived_takes wait result (inr (inl stands)) = stands_by wait result stands.0 stands.1
   arrived_takes wait result (inr (inr goes)) = took_nothing (Some wait) result goes.0 goes.1
 
 -- ---- an arrival that looks
 
-pub looked_on : (queues : List Queue) (queue : ℕ) (wait : Option Wait) (duty : Owed) (result : Arrived) → result ≡ record { partner = None; own = Some duty; other = None }
-    → ArrivedOn queues queues (Looks queue) wait duty result
-looked_on queues queue wait duty result is =
+pub looked_on : (stations : Stations) (queue : ℕ) (wait : Option Wait) (duty : Owed) (result : Arrived) → result ≡ record { partner = None; own = Some duty; other = None }
+    → ArrivedOn stations stations (Looks queue) wait duty result
+looked_on stations queue wait duty result is =
     let no_wait = λ (may : MayWait (Looks queue) wait). let no : IsSome (opposite (Looks queue)) = may.0 in absurd (cc) in
-    let same : SameQueues queues queues = λ other. record { givers = refl; takers = refl } in
-    subst (ArrivedOn queues queues (Looks queue) wait duty) (sym is) (record {
+    let same : SameStations stations stations = record { queues = λ other. record { givers = refl; takers = refl }; exchangers = λ exchanger. refl } in
+    subst (ArrivedOn stations stations (Looks queue) wait duty) (sym is) (record {
       meets = inr (no_wait, (λ other opposes. absurd (none-some other opposes)), same);
       own = (refl, λ unmet may. absurd (no_wait may));
       other = λ es parked. refl;

@@ -5,38 +5,36 @@ use Rattle.rv_text.specs.declared.answer.Reply as reply
 use Rattle.rv_text.specs.declared.answer.Reply.{Reply}
 use Rattle.rv_text.specs.declared.call.Call.TheVariants.{Take}
 use Rattle.rv_text.specs.declared.call.Side.{Side}
-use Rattle.rv_text.specs.declared.call.Side.TheVariants.{Gives, Looks, Takes}
+use Rattle.rv_text.specs.declared.call.Side.TheVariants.{Exchanges, Gives, Looks, Takes}
 use Rattle.rv_text.specs.declared.call.Wait.{Wait}
-use Rattle.rv_text.specs.declared.call.Wait.TheVariants.{Now, Forever}
 use Rattle.rv_text.specs.Calls.{item_of, side_of}
-use Rattle.rv_text.specs.Limits.{FitsItem, FitsReply}
-use Rattle.rv_text.proofs.Kept.{item_fits}
+use Rattle.rv_text.specs.Limits.{FitsReply}
 use Rattle.rv_book.specs.declared.account.Act.TheVariants.{Arrive}
 use Rattle.rv_book.specs.declared.account.Entry.{Entry}
 use Rattle.rv_session.specs.declared.kept.Kept as kept
 use Rattle.rv_session.specs.declared.kept.Kept.{Kept}
-use Rattle.rv_book.specs.Account.{Account, act_at, call_at, call_in, with_entry}
+use Rattle.rv_book.specs.Account.{Account, call_at, with_entry}
 use Rattle.rv_book.specs.Arriving.{GoesOn, WillReply, entry}
 use Rattle.rv_book.specs.Calls.{opposite}
 use Rattle.rv_book.specs.Legal.{Legal, before}
 use Rattle.rv_book.specs.Limits.{FitsAccount}
-use Rattle.rv_book.specs.Replies.{Gets, Meet, RepliesAt}
+use Rattle.rv_book.specs.Replies.{Gets, RepliesAt}
 use Rattle.rv_book.specs.Verdicts.{item_at}
 use Rattle.rv_book.specs.Waiting.{Met, NamesPartner, Waiting}
-use Rattle.rv_book.proofs.Unmet.{one_unmet, still_unmet, unmet_exists, unmet_fits, unmet_stays, unmet_waits_not}
+use Rattle.rv_book.proofs.Unmet.{kept_told, one_unmet, passes_by, passing_told, still_unmet, told_at_once, unmet_exists, unmet_fits, unmet_stays, unmet_waits_not}
 use Rattle.rv_text.proofs.Kept.{empty_fits}
-use Rattle.rv_book.proofs.Growing.{NamesPartner-on, call_read, partner_read, reads_on}
+use Rattle.rv_book.proofs.Growing.{call_read, partner_read, reads_on}
 use Rattle.rv_book.proofs.CallKinds.{gives_item}
 use Rattle.rv_book.proofs.Legality.{follows_itself}
-use Rattle.rv_book.proofs.Limits.{act_fits, act_there, call_of_act}
-use Rattle.rv_book.proofs.OnePartner.{meets_one, partner_open}
+use Rattle.rv_book.proofs.OnePartner.{partner_open}
 use Rattle.rv_book.proofs.Places.{get-append_end, within}
+use Rattle.rv_book.proofs.Getting.{gets_met, gets_on, given_fits, one_item}
 use Rattle.rv_book.proofs.ReplyLaws.{ReplyLaws}
 use Rattle.rv_book.proofs.Sides.{last_unmet}
 use Rattle.rv_book.proofs.Deciding.{met_or_not}
 use Rattle.rv_book.proofs.Fronts.{read_whole}
 use Rattle.rv_text.specs.declared.call.Call.{Call}
-use Rattle.rv_book.specs.Tables.{partners_reply}
+use Rattle.rv_book.specs.Tables.{kept_at_once, partners_reply}
 use Rattle.rv_book.specs.Arriving.{IsKept}
 
 -- what an unmet take is told that does not wait
@@ -45,15 +43,15 @@ empty = reply.TheVariants.Empty
 
 -- ---- what is kept
 
-pub poll_replies : (a : Account) (queue : ℕ) → WillReply a (Take queue Now) None kept.TheVariants.Empty
-poll_replies a queue moment key before after =
-    let e = entry moment (Arrive key (Take queue Now)) None in
-    record { reply = reply.TheVariants.Empty; is = refl; replies = inr (last_unmet a e before refl, refl) }
-
--- an unmet take that does not go on is one that never waits
-pub take_unmet : (a : Account) (queue : ℕ) (wait : Wait) → (GoesOn (Take queue wait) None → ⊥) → WillReply a (Take queue wait) None kept.TheVariants.Empty
-take_unmet a queue Now ends = poll_replies a queue
-take_unmet a queue Forever ends = absurd (ends (record { unmet = refl; stays = (refl, tt); no_put = λ put. none-some Forever (sym put.1) }))
+-- an unmet take that does not go on is one whose wait does not last
+pub take_unmet : (a : Account) (queue : ℕ) (wait : Wait) → (GoesOn (Take queue wait) None → ⊥) → WillReply a (Take queue wait) None (kept_at_once wait kept.TheVariants.Empty)
+take_unmet a queue wait ends moment key before after =
+    let e = entry moment (Arrive key (Take queue wait)) None in
+    record {
+      reply = told_at_once wait empty;
+      is = kept_told wait (with_entry a e).entries kept.TheVariants.Empty empty refl;
+      replies = inr (last_unmet a e before refl, passing_told wait (with_entry a e).entries (length a.entries) empty (passes_by (Take queue wait) wait refl refl ends));
+    }
 
 takes_meet_givers : (queue : ℕ) (side : Side) → opposite (Takes queue) ≡ Some side → side ≡ Gives queue
 takes_meet_givers queue side opposes = cc
@@ -62,6 +60,7 @@ givers_meet_takers : (side : Side) (queue : ℕ) → opposite side ≡ Some (Tak
 givers_meet_takers (Gives other) queue opposes = cc
 givers_meet_takers (Takes other) queue opposes = absurd (let no : ⊥ = cc in no)
 givers_meet_takers (Looks other) queue opposes = absurd (none-some _ opposes)
+givers_meet_takers (Exchanges other) queue opposes = absurd (let no : ⊥ = cc in no)
 
 pub take_replies : (a : Account) (queue : ℕ) (wait : Wait) (place : ℕ) → WillReply a (Take queue wait) (Some place) (kept.TheVariants.Item place)
 take_replies a queue wait place moment key before after =
@@ -87,25 +86,6 @@ take_replies a queue wait place moment key before after =
 
 -- ---- the reply stays
 
-Meet-on : (es more : List Entry) (r s : ℕ) → Meet es r s → Meet (es ++ more) r s
-Meet-on es more r s (inl names) = inl (NamesPartner-on es more r s names)
-Meet-on es more r s (inr names) = inr (NamesPartner-on es more s r names)
-
-gets_on : (es more : List Entry) (r : ℕ) (item : List ℕ) → Gets es r item → Gets (es ++ more) r item
-gets_on es more r item gets = record {
-  giver = gets.giver;
-  call = gets.call;
-  meet = Meet-on es more gets.giver r gets.meet;
-  arrived = reads_on call_read refl es more gets.giver gets.call gets.arrived;
-  hands_over = gets.hands_over;
-}
-
-gets_met : (es : List Entry) (r : ℕ) (item : List ℕ) → Gets es r item → Met es r
-gets_met es r item gets = elim gets.meet [
-  | inl names ↦ record { later = gets.giver; earlier = r; names = names; part = inr refl }
-  | inr names ↦ record { later = r; earlier = gets.giver; names = names; part = inl refl }
-]
-
 stays : (queue : ℕ) (wait : Wait) (es more : List Entry) (epoch opened r : ℕ) (reply : Reply) → Legal (record { epoch = epoch; opened = opened; entries = es ++ more }) → call_at es r ≡ Some (Take queue wait)
     → RepliesAt es r (Take queue wait) reply → RepliesAt (es ++ more) r (Take queue wait) reply
 stays queue wait es more epoch opened r reply legal arrived (inl gets) = inl (gets.0, gets_on es more r gets.0 gets.1, gets.2)
@@ -116,12 +96,6 @@ stays queue wait es more epoch opened r reply legal arrived (inr unmet) = inr (
 
 -- ---- it is the only one
 
-one_item : (b : Account) (r : ℕ) (x y : List ℕ) → Legal b → Gets b.entries r x → Gets b.entries r y → x ≡ y
-one_item b r x y legal first second =
-    let giver : first.giver ≡ second.giver = meets_one b r first.giver second.giver legal first.meet second.meet in
-    let call : first.call ≡ second.call = same_Some _ _ (sym first.arrived ∙ ap (call_at b.entries) giver ∙ second.arrived) in
-    same_Some _ _ (sym first.hands_over ∙ ap item_of call ∙ second.hands_over)
-
 one : (queue : ℕ) (wait : Wait) (b : Account) (r : ℕ) (x y : Reply) → Legal b → RepliesAt b.entries r (Take queue wait) x → RepliesAt b.entries r (Take queue wait) y → y ≡ x
 one queue wait b r x y legal (inl first) (inl second) = second.2 ∙ ap reply.TheVariants.Item (one_item b r second.0 first.0 legal second.1 first.1) ∙ sym first.2
 one queue wait b r x y legal (inl first) (inr second) = absurd (second.0 (gets_met b.entries r first.0 first.1))
@@ -129,11 +103,6 @@ one queue wait b r x y legal (inr first) (inl second) = absurd (first.0 (gets_me
 one queue wait b r x y legal (inr first) (inr second) = one_unmet wait b.entries r empty x y first.1 second.1
 
 -- ---- it is within the limits
-
-given_fits : (a : Account) (r : ℕ) (item : List ℕ) → FitsAccount a → Gets a.entries r item → FitsItem item
-given_fits a r item fits gets =
-    let does = act_there call_in (act_at a.entries gets.giver) gets.call gets.arrived in
-    item_fits gets.call item (call_of_act does.0 gets.call (act_fits a gets.giver does.0 fits does.1) does.2) gets.hands_over
 
 fits : (queue : ℕ) (wait : Wait) (a : Account) (r : ℕ) (reply : Reply) → FitsAccount a → RepliesAt a.entries r (Take queue wait) reply → FitsReply reply
 fits queue wait a r reply within (inl gets) = subst FitsReply (sym gets.2) (given_fits a r gets.0 within gets.1)

@@ -3,35 +3,34 @@ use Rattle.std.proofs.Common.{◌≡◌, ℕ, List, [], ◌∷◌, length, Some,
 use Rattle.std.specs.Prelude.{IsSome}
 use Rattle.std.specs.List.{slice_get}
 use Rattle.std.proofs.lemmas.Option.{none-some, same_Some}
-use Rattle.rv_dual.specs.Queue.{Queue}
 use Rattle.rv_text.specs.declared.call.Side.{Side}
 use Rattle.rv_text.specs.declared.call.Side.TheVariants.{Gives, Looks}
 use Rattle.rv_book.specs.Calls.{opposite}
 use Rattle.rv_book.specs.Counting.{NumberOf}
 use Rattle.rv_book.specs.declared.account.Entry.{Entry}
-use Rattle.rv_book.specs.Parked.{AreQueues, IsLine}
+use Rattle.rv_book.specs.Parked.{AreStations, IsLine}
 use Rattle.rv_book.specs.Replies.{HasNoItem}
-use Rattle.rv_book.specs.Views.{waiting_on}
+use Rattle.rv_book.specs.Views.{Stations, waiting_on}
 use Rattle.rv_book.specs.Waiting.{IsOldest, OpenAt}
 use Rattle.rv_book.proofs.Counting.{line_number}
 use Rattle.rv_book.proofs.Waiters.{front_is_oldest}
 
-pub seen_number : (es : List Entry) (queues : List Queue) (side : Side) (n : ℕ) → AreQueues es queues → n ≡ length (waiting_on queues side) → NumberOf (OpenAt es side) n
-seen_number es queues side n are is = subst (NumberOf (OpenAt es side)) (sym is) (line_number es side (waiting_on queues side) (are.lines side))
+pub seen_number : (es : List Entry) (stations : Stations) (side : Side) (n : ℕ) → AreStations es stations → n ≡ length (waiting_on stations side) → NumberOf (OpenAt es side) n
+seen_number es stations side n are is = subst (NumberOf (OpenAt es side)) (sym is) (line_number es side (waiting_on stations side) (are.lines side))
 
 first_there : (es : List Entry) (side : Side) (places : List ℕ) (p : ℕ) → IsLine es side places → slice_get places 0 ≡ Some p → IsOldest es side p
 first_there es side [] p line at = absurd (none-some p at)
 first_there es side (first ∷ places) p line at = let same : first ≡ p = same_Some _ _ at in subst (IsOldest es side) same (front_is_oldest es side first places line)
 
-pub seen_first : (es : List Entry) (queues : List Queue) (side : Side) (p : ℕ) → AreQueues es queues → Some p ≡ slice_get (waiting_on queues side) 0 → IsOldest es side p
-seen_first es queues side p are is = first_there es side (waiting_on queues side) p (are.lines side) (sym is)
+pub seen_first : (es : List Entry) (stations : Stations) (side : Side) (p : ℕ) → AreStations es stations → Some p ≡ slice_get (waiting_on stations side) 0 → IsOldest es side p
+seen_first es stations side p are is = first_there es side (waiting_on stations side) p (are.lines side) (sym is)
 
 none_there : (es : List Entry) (side : Side) (places : List ℕ) → IsLine es side places → None ≡ slice_get places 0 → (r : ℕ) → OpenAt es side r → ⊥
 none_there es side [] line at r opened = none-some r (line.each r opened).1
 none_there es side (first ∷ places) line at r opened = none-some first at
 
-pub seen_none : (es : List Entry) (queues : List Queue) (queue : ℕ) → AreQueues es queues → None ≡ slice_get (waiting_on queues (Gives queue)) 0 → HasNoItem es queue
-seen_none es queues queue are is = none_there es (Gives queue) (waiting_on queues (Gives queue)) (are.lines (Gives queue)) is
+pub seen_none : (es : List Entry) (stations : Stations) (queue : ℕ) → AreStations es stations → None ≡ slice_get (waiting_on stations (Gives queue)) 0 → HasNoItem es queue
+seen_none es stations queue are is = none_there es (Gives queue) (waiting_on stations (Gives queue)) (are.lines (Gives queue)) is
 
 pub looks_alone : (queue : ℕ) → IsSome (opposite (Looks queue)) → ⊥
 looks_alone queue meets = let no : ⊥ = cc in no

@@ -4,7 +4,6 @@ use Rattle.rv_text.specs.declared.answer.Reply as reply
 use Rattle.rv_text.specs.declared.answer.Reply.{Reply}
 use Rattle.rv_text.specs.declared.call.Call.TheVariants.{Transfer}
 use Rattle.rv_text.specs.declared.call.Wait.{Wait}
-use Rattle.rv_text.specs.declared.call.Wait.TheVariants.{Now, Forever}
 use Rattle.rv_text.specs.Limits.{FitsReply}
 use Rattle.rv_text.proofs.Kept.{nobody_fits, received_fits}
 use Rattle.rv_book.specs.declared.account.Act.TheVariants.{Arrive}
@@ -21,13 +20,13 @@ use Rattle.rv_book.proofs.Growing.{Met-on, call_read, partner_read}
 use Rattle.rv_book.proofs.Places.{get-append_end}
 use Rattle.rv_book.proofs.ReplyLaws.{ReplyLaws}
 use Rattle.rv_book.proofs.Sides.{last_unmet}
-use Rattle.rv_book.proofs.Unmet.{one_unmet, still_unmet, unmet_exists, unmet_fits, unmet_stays, unmet_waits_not}
+use Rattle.rv_book.proofs.Unmet.{kept_told, one_unmet, passes_by, passing_told, still_unmet, told_at_once, unmet_exists, unmet_fits, unmet_stays, unmet_waits_not}
 use Rattle.rv_text.specs.declared.call.Call.{Call}
 use Rattle.rv_text.specs.declared.call.Side.{Side}
-use Rattle.rv_text.specs.declared.call.Side.TheVariants.{Gives, Takes, Looks}
+use Rattle.rv_text.specs.declared.call.Side.TheVariants.{Gives, Takes, Looks, Exchanges}
 use Rattle.rv_text.specs.Calls.{side_of}
 use Rattle.rv_book.specs.Calls.{opposite}
-use Rattle.rv_book.specs.Tables.{partners_reply}
+use Rattle.rv_book.specs.Tables.{kept_at_once, partners_reply}
 use Rattle.rv_book.specs.Arriving.{IsKept}
 
 -- what an unmet transfer is told that does not wait
@@ -47,15 +46,15 @@ received_replies a queue item wait place moment key before after =
     } in
     record { reply = reply.TheVariants.Received; is = refl; replies = inl (record { later = length a.entries; earlier = place; names = names; part = inl refl }, refl) }
 
-pub nobody_replies : (a : Account) (queue : ℕ) (item : List ℕ) → WillReply a (Transfer queue item Now) None kept.TheVariants.Nobody
-nobody_replies a queue item moment key before after =
-    let e = entry moment (Arrive key (Transfer queue item Now)) None in
-    record { reply = nobody; is = refl; replies = inr (last_unmet a e before refl, refl) }
-
--- an unmet transfer that does not go on is one that never waits
-pub transfer_unmet : (a : Account) (queue : ℕ) (item : List ℕ) (wait : Wait) → (GoesOn (Transfer queue item wait) None → ⊥) → WillReply a (Transfer queue item wait) None kept.TheVariants.Nobody
-transfer_unmet a queue item Now ends = nobody_replies a queue item
-transfer_unmet a queue item Forever ends = absurd (ends (record { unmet = refl; stays = (refl, tt); no_put = λ put. none-some Forever (sym put.1) }))
+-- an unmet transfer that does not go on is one whose wait does not last
+pub transfer_unmet : (a : Account) (queue : ℕ) (item : List ℕ) (wait : Wait) → (GoesOn (Transfer queue item wait) None → ⊥) → WillReply a (Transfer queue item wait) None (kept_at_once wait kept.TheVariants.Nobody)
+transfer_unmet a queue item wait ends moment key before after =
+    let e = entry moment (Arrive key (Transfer queue item wait)) None in
+    record {
+      reply = told_at_once wait nobody;
+      is = kept_told wait (with_entry a e).entries kept.TheVariants.Nobody nobody refl;
+      replies = inr (last_unmet a e before refl, passing_told wait (with_entry a e).entries (length a.entries) nobody (passes_by (Transfer queue item wait) wait refl refl ends));
+    }
 
 -- ---- the laws
 
@@ -95,6 +94,7 @@ takers_meet : (side : Side) (queue : ℕ) → opposite side ≡ Some (Gives queu
 takers_meet (Takes other) queue opposes = cc
 takers_meet (Gives other) queue opposes = absurd (let no : ⊥ = cc in no)
 takers_meet (Looks other) queue opposes = absurd (none-some _ opposes)
+takers_meet (Exchanges other) queue opposes = absurd (let no : ⊥ = cc in no)
 
 met : (queue : ℕ) (item : List ℕ) (wait : Wait) (b : Account) (earlier later : ℕ) (other : Call) → NamesPartner b.entries later earlier → side_of other ≡ Takes queue
     → IsKept b.entries earlier (Transfer queue item wait) (partners_reply (side_of other) later)

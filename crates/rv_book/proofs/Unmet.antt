@@ -1,5 +1,5 @@
 -- What an unmet request is told by its wait: that this stays, is the only thing, and is told unless the request waits.
-use Rattle.std.proofs.Common.{◌≡◌, ◌⊎◌, inl, inr, ℕ, ◌<◌, ◌≤◌, List, ◌++◌, length, take, Some, option_and_then, refl, sym, ap, subst, ◌∙◌, arith}
+use Rattle.std.proofs.Common.{◌≡◌, ◌⊎◌, inl, inr, ℕ, zero, suc, ◌<◌, ◌≤◌, List, ◌++◌, length, take, Some, None, option_and_then, refl, sym, ap, subst, ◌∙◌, arith}
 use Rattle.std.specs.List.{slice_get}
 use Rattle.std.proofs.lemmas.Bool.{cases_lt}
 use Rattle.std.proofs.lemmas.Option.{none-some, same_Some}
@@ -7,22 +7,58 @@ use Rattle.rv_text.specs.declared.answer.Reply as reply
 use Rattle.rv_text.specs.declared.answer.Reply.{Reply}
 use Rattle.rv_text.specs.declared.call.Call.{Call}
 use Rattle.rv_text.specs.declared.call.Wait.{Wait}
-use Rattle.rv_text.specs.declared.call.Wait.TheVariants.{Now, Forever}
+use Rattle.rv_text.specs.declared.call.Wait.TheVariants.{Now, Millis, Forever}
 use Rattle.rv_text.specs.Calls.{wait_of}
 use Rattle.rv_text.specs.Limits.{FitsReply}
-use Rattle.rv_text.proofs.Kept.{cancelled_fits}
-use Rattle.rv_book.specs.declared.account.Act.TheVariants.{Arrive}
+use Rattle.rv_text.proofs.Kept.{cancelled_fits, timed_out_fits}
+use Rattle.rv_book.specs.declared.account.Act.{Act}
+use Rattle.rv_book.specs.declared.account.Act.TheVariants.{Hello, Arrive, Cancel, Tick}
 use Rattle.rv_book.specs.declared.account.Entry.{Entry}
 use Rattle.rv_book.specs.Account.{Account, call_at}
+use Rattle.rv_session.specs.declared.kept.Kept.{Kept}
+use Rattle.rv_book.specs.Arriving.{GoesOn}
+use Rattle.rv_book.specs.Tables.{kept_at_once}
+use Rattle.rv_book.specs.Verdicts.{reply_of}
 use Rattle.rv_book.specs.Calls.{Lasts, MayMeet}
 use Rattle.rv_book.specs.Legal.{Legal}
-use Rattle.rv_book.specs.Replies.{RepliesUnmet}
+use Rattle.rv_book.specs.Replies.{RepliesUnmet, ToldStopped, told_by}
 use Rattle.rv_book.specs.Waiting.{EndsWait, Met, NamesPartner, Open, Stopped, StoppedAt, Waiting, limit_at, limit_in}
-use Rattle.rv_book.proofs.Growing.{Stopped-on, StoppedAt-on, act_read, call_read, partner_read, reads_on, reads_within}
-use Rattle.rv_book.proofs.Deciding.{stopped_or_not}
+use Rattle.rv_book.proofs.Growing.{StoppedAt-on, act_read, call_read, partner_read, reads_on, reads_within}
+use Rattle.rv_book.proofs.Deciding.{lasts_or_not}
+use Rattle.rv_book.proofs.FirstStops.{one_told_stopped, told_on, told_or_not}
 use Rattle.rv_book.proofs.Fronts.{read_front}
 use Rattle.rv_book.proofs.OnePartner.{goes_unnamed, partner_open}
 use Rattle.rv_book.proofs.Places.{get-append_within, get-take, within}
+
+-- ---- by whether the wait lasts
+
+-- what is told at once where a wait doesn't last
+abbrev pub told_at_once : Wait → Reply → Reply
+told_at_once Now at_once = at_once
+told_at_once (Millis n) at_once = reply.TheVariants.TimedOut
+told_at_once Forever at_once = at_once
+
+-- a wait that lasts is told what stopped it first, and one that doesn't what is told at once
+abbrev ByLasting : List Entry → ℕ → Wait → Reply → Reply → Type 0
+ByLasting es r wait at_once told = (Lasts (Some wait) × ToldStopped es r told) ⊎ ((Lasts (Some wait) → ⊥) × (told ≡ told_at_once wait at_once))
+
+by_lasting : (wait : Wait) (es : List Entry) (r : ℕ) (at_once told : Reply) → RepliesUnmet es r wait at_once told → ByLasting es r wait at_once told
+by_lasting Now es r at_once told replies = inr ((λ lasts. lasts), replies)
+by_lasting (Millis zero) es r at_once told replies = inr ((λ lasts. omega arith), replies)
+by_lasting (Millis (suc n)) es r at_once told replies = inl (omega arith, replies)
+by_lasting Forever es r at_once told replies = inl (tt, replies)
+
+pub lasting_told : (wait : Wait) (es : List Entry) (r : ℕ) (at_once told : Reply) → Lasts (Some wait) → ToldStopped es r told → RepliesUnmet es r wait at_once told
+lasting_told Now es r at_once told lasts stopped = absurd lasts
+lasting_told (Millis zero) es r at_once told lasts stopped = absurd (omega arith)
+lasting_told (Millis (suc n)) es r at_once told lasts stopped = stopped
+lasting_told Forever es r at_once told lasts stopped = stopped
+
+pub passing_told : (wait : Wait) (es : List Entry) (r : ℕ) (at_once : Reply) → (Lasts (Some wait) → ⊥) → RepliesUnmet es r wait at_once (told_at_once wait at_once)
+passing_told Now es r at_once passes = refl
+passing_told (Millis zero) es r at_once passes = refl
+passing_told (Millis (suc n)) es r at_once passes = absurd (passes (omega arith))
+passing_told Forever es r at_once passes = absurd (passes tt)
 
 -- ---- who was stopped or never stays is not met later
 
@@ -68,14 +104,16 @@ unnamed_unmet es more r inside unmet unnamed met = elim (cases_lt met.later (len
 
 unnamed_later : (wait : Wait) (es more : List Entry) (epoch opened r p : ℕ) (call : Call) (at_once told : Reply) → Legal (record { epoch = epoch; opened = opened; entries = es ++ more }) → call_at es r ≡ Some call
     → wait_of call ≡ Some wait → RepliesUnmet es r wait at_once told → length es ≤ p → NamesPartner (es ++ more) p r → ⊥
-unnamed_later Now es more epoch opened r p call at_once told legal arrived is replies later names =
+unnamed_later wait es more epoch opened r p call at_once told legal arrived is replies later names =
     let b : Account = record { epoch = epoch; opened = opened; entries = es ++ more } in
-    goes_unnamed b p r call legal (reads_on call_read refl es more r call arrived) (λ stays. subst Lasts is stays.1) names
-unnamed_later Forever es more epoch opened r p call at_once told legal arrived is replies later names =
-    let b : Account = record { epoch = epoch; opened = opened; entries = es ++ more } in
-    let s = replies.0.0 in
-    let inside : s < length es = within es s replies.0.1.stopper replies.0.1.there in
-    stopped_unnamed b p r s legal (omega arith) (StoppedAt-on es more r s replies.0.1) names
+    elim (by_lasting wait es r at_once told replies) [
+      | inr passes ↦ goes_unnamed b p r call legal (reads_on call_read refl es more r call arrived) (λ stays. passes.0 (subst Lasts is stays.1)) names
+      | inl lasts ↦
+          let s = lasts.1.place in
+          let stops = lasts.1.stop.stops in
+          let inside : s < length es = within es s stops.stopper stops.there in
+          stopped_unnamed b p r s legal (omega arith) (StoppedAt-on es more r s stops) names
+    ]
 
 pub still_unmet : (wait : Wait) (es more : List Entry) (epoch opened r : ℕ) (call : Call) (at_once told : Reply) → Legal (record { epoch = epoch; opened = opened; entries = es ++ more }) → call_at es r ≡ Some call
     → wait_of call ≡ Some wait → (Met es r → ⊥) → RepliesUnmet es r wait at_once told → Met (es ++ more) r → ⊥
@@ -85,34 +123,70 @@ still_unmet wait es more epoch opened r call at_once told legal arrived is unmet
 -- ---- what it is told
 
 pub unmet_stays : (wait : Wait) (es more : List Entry) (r : ℕ) (at_once told : Reply) → RepliesUnmet es r wait at_once told → RepliesUnmet (es ++ more) r wait at_once told
-unmet_stays Now es more r at_once told replies = replies
-unmet_stays Forever es more r at_once told replies = (Stopped-on es more r replies.0, replies.1)
+unmet_stays wait es more r at_once told replies = elim (by_lasting wait es r at_once told replies) [
+  | inl lasts ↦ lasting_told wait (es ++ more) r at_once told lasts.0 (told_on es more r told lasts.1)
+  | inr passes ↦ subst (RepliesUnmet (es ++ more) r wait at_once) (sym passes.1) (passing_told wait (es ++ more) r at_once passes.0)
+]
 
 pub one_unmet : (wait : Wait) (es : List Entry) (r : ℕ) (at_once x y : Reply) → RepliesUnmet es r wait at_once x → RepliesUnmet es r wait at_once y → y ≡ x
-one_unmet Now es r at_once x y first second = second ∙ sym first
-one_unmet Forever es r at_once x y first second = second.1 ∙ sym first.1
+one_unmet wait es r at_once x y first second = one_by_lasting (by_lasting wait es r at_once x first) (by_lasting wait es r at_once y second)
+  where
+    one_by_lasting : ByLasting es r wait at_once x → ByLasting es r wait at_once y → y ≡ x
+    one_by_lasting (inl one) (inl two) = one_told_stopped es r x y one.1 two.1
+    one_by_lasting (inl one) (inr two) = absurd (two.0 one.0)
+    one_by_lasting (inr one) (inl two) = absurd (one.0 two.0)
+    one_by_lasting (inr one) (inr two) = two.1 ∙ sym one.1
+
+told_by_fits : (does : Act) → FitsReply (told_by does)
+told_by_fits (Hello client incarnation) = cancelled_fits
+told_by_fits (Arrive key call) = cancelled_fits
+told_by_fits (Cancel key) = cancelled_fits
+told_by_fits Tick = timed_out_fits
+
+at_once_fits : (wait : Wait) (at_once : Reply) → FitsReply at_once → FitsReply (told_at_once wait at_once)
+at_once_fits Now at_once fits = fits
+at_once_fits (Millis n) at_once fits = timed_out_fits
+at_once_fits Forever at_once fits = fits
 
 pub unmet_fits : (wait : Wait) (es : List Entry) (r : ℕ) (at_once told : Reply) → FitsReply at_once → RepliesUnmet es r wait at_once told → FitsReply told
-unmet_fits Now es r at_once told fits is = subst FitsReply (sym is) fits
-unmet_fits Forever es r at_once told fits is = subst FitsReply (sym is.1) cancelled_fits
+unmet_fits wait es r at_once told fits replies = elim (by_lasting wait es r at_once told replies) [
+  | inl lasts ↦ subst FitsReply (sym lasts.1.is) (told_by_fits lasts.1.stop.stops.stopper.act)
+  | inr passes ↦ subst FitsReply (sym passes.1) (at_once_fits wait at_once fits)
+]
 
 -- who waits is told nothing
 pub unmet_waits_not : (wait : Wait) (es : List Entry) (r : ℕ) (call : Call) (at_once told : Reply) → call_at es r ≡ Some call → wait_of call ≡ Some wait → Waiting es r → RepliesUnmet es r wait at_once told → ⊥
-unmet_waits_not Now es r call at_once told arrived is w replies =
+unmet_waits_not wait es r call at_once told arrived is w replies =
     let same : w.is_open.call ≡ call = same_Some _ _ (sym w.is_open.arrived ∙ arrived) in
-    subst Lasts (ap wait_of same ∙ is) w.is_open.stays.1
-unmet_waits_not Forever es r call at_once told arrived is w replies = w.is_open.unstopped replies.0
+    elim (by_lasting wait es r at_once told replies) [
+      | inl lasts ↦ w.is_open.unstopped (lasts.1.place, lasts.1.stop.stops)
+      | inr passes ↦ passes.0 (subst Lasts (ap wait_of same ∙ is) w.is_open.stays.1)
+    ]
+
+waiting_by : (es : List Entry) (r : ℕ) (call : Call) (wait : Wait) → MayMeet call → call_at es r ≡ Some call → wait_of call ≡ Some wait → Lasts (Some wait) → (Met es r → ⊥) → (Stopped es r → ⊥) → Waiting es r
+waiting_by es r call wait meets arrived is lasts unmet unstopped =
+    let opened : Open es r = record { call = call; arrived = arrived; stays = (meets, subst Lasts (sym is) lasts); unmet = unmet; unstopped = unstopped } in
+    record { is_open = opened; no_put = λ put. none-some wait (sym put.1 ∙ is) }
 
 -- who is unmet is told something, or waits
 pub unmet_exists : (wait : Wait) (es : List Entry) (r : ℕ) (call : Call) (at_once : Reply) → MayMeet call → call_at es r ≡ Some call → wait_of call ≡ Some wait → (Met es r → ⊥)
     → ((told : Reply) × RepliesUnmet es r wait at_once told) ⊎ Waiting es r
-unmet_exists Now es r call at_once meets arrived is unmet = inl (at_once, refl)
-unmet_exists Forever es r call at_once meets arrived is unmet = elim (stopped_or_not es r) [
-  | inl stopped ↦ inl (reply.TheVariants.Cancelled, (stopped, refl))
-  | inr unstopped ↦ inr (waiting_by es r call meets arrived is unmet unstopped)
+unmet_exists wait es r call at_once meets arrived is unmet = elim (lasts_or_not (Some wait)) [
+  | inr passes ↦ inl (told_at_once wait at_once, passing_told wait es r at_once passes)
+  | inl lasts ↦ elim (told_or_not es r) [
+    | inl told ↦ inl (told.0, lasting_told wait es r at_once told.0 lasts told.1)
+    | inr unstopped ↦ inr (waiting_by es r call wait meets arrived is lasts unmet unstopped)
+  ]
 ]
-  where
-    waiting_by : (es : List Entry) (r : ℕ) (call : Call) → MayMeet call → call_at es r ≡ Some call → wait_of call ≡ Some Forever → (Met es r → ⊥) → (Stopped es r → ⊥) → Waiting es r
-    waiting_by es r call meets arrived is unmet unstopped =
-        let opened : Open es r = record { call = call; arrived = arrived; stays = (meets, subst Lasts (sym is) tt); unmet = unmet; unstopped = unstopped } in
-        record { is_open = opened; no_put = λ put. none-some Forever (sym put.1 ∙ is) }
+
+-- ---- what is kept for it
+
+-- what is kept at once is what is told at once
+pub kept_told : (wait : Wait) (es : List Entry) (kept : Kept) (at_once : Reply) → reply_of es kept ≡ Some at_once → reply_of es (kept_at_once wait kept) ≡ Some (told_at_once wait at_once)
+kept_told Now es kept at_once is = is
+kept_told (Millis n) es kept at_once is = refl
+kept_told Forever es kept at_once is = is
+
+-- a wait that lasts goes on
+pub passes_by : (call : Call) (wait : Wait) → MayMeet call → wait_of call ≡ Some wait → (GoesOn call None → ⊥) → Lasts (Some wait) → ⊥
+passes_by call wait meets is ends lasts = ends (record { unmet = refl; stays = (meets, subst Lasts (sym is) lasts); no_put = λ put. none-some wait (sym put.1 ∙ is) })

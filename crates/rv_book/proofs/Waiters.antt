@@ -1,4 +1,4 @@
--- The table of queues stays what the account says, side by side: where an entry is none of the side's, where it waits there, where it takes the first, and where it stops one.
+-- Who waits stays what the account says, side by side: where an entry is none of the side's, where it waits there, where it takes the first, and where it stops one.
 use Rattle.std.proofs.Common.{◌≡◌, inl, inr, ℕ, zero, suc, ◌<◌, List, [], ◌∷◌, ◌++◌, length, cond, not, ◌==◌, Bool, true, false, Option, Some, None, refl, sym, ap, subst, ◌∙◌, arith, option_and_then}
 use Rattle.std.specs.List.{filter, slice_get}
 use Rattle.std.proofs.lemmas.Bool.Decides.{nat_tests}
@@ -6,23 +6,22 @@ use Rattle.std.proofs.lemmas.Option.{none-some, same_Some, slice_get-map}
 use Rattle.std.specs.Prelude.{option_map}
 use Rattle.rv_text.specs.declared.call.Call.{Call}
 use Rattle.rv_text.specs.declared.call.Side.{Side}
-use Rattle.rv_text.specs.declared.call.Side.TheVariants.{Gives, Looks, Takes}
+use Rattle.rv_text.specs.declared.call.Side.TheVariants.{Exchanges, Gives, Looks, Takes}
 use Rattle.rv_text.specs.declared.call.Wait.{Wait}
 use Rattle.rv_text.specs.declared.message.Key.{Key}
 use Rattle.rv_text.specs.Calls.{side_of, wait_of}
 use Rattle.rv_session.specs.Owed.{Owed}
 use Rattle.rv_dual.specs.Offers.{place_of, places_of}
-use Rattle.rv_dual.specs.Queue.{Queue}
 use Rattle.rv_book.specs.Account.{Account, act_at, call_at, call_in}
 use Rattle.rv_book.specs.Arriving.{MeetsOldest}
 use Rattle.rv_book.specs.Calls.{Stays}
 use Rattle.rv_book.specs.declared.account.Act.TheVariants.{Arrive}
 use Rattle.rv_book.specs.declared.account.Entry.{Entry}
-use Rattle.rv_book.specs.declared.queues.Arrived.{Arrived}
+use Rattle.rv_book.specs.declared.arrived.Arrived.{Arrived}
 use Rattle.rv_book.specs.Legal.{Legal, NamesFreePartner}
 use Rattle.rv_book.specs.Meeting.{ArrivedOn, FindsNobody, Leaves, MayWait, Meets, MeetsFirst}
-use Rattle.rv_book.specs.Parked.{AreParked, AreQueues, IsLine, owed_at, owed_by, owed_in}
-use Rattle.rv_book.specs.Views.{AllEmpty, AreBelow, SameQueues, takers_places, waiting_on}
+use Rattle.rv_book.specs.Parked.{AreParked, AreStations, IsLine, IsLineOf, owed_at, owed_by, owed_in}
+use Rattle.rv_book.specs.Views.{AreBelow, NobodyWaits, SameStations, Stations, place_of_duty, takers_places, waiting_on}
 use Rattle.rv_book.specs.Waiting.{OpenAt, StoppedAt, IsOldest}
 use Rattle.rv_book.proofs.Deciding.{same_side}
 use Rattle.rv_book.proofs.Growing.{act_read, call_read, partner_read, reads_within}
@@ -123,6 +122,22 @@ rises_on p (first ∷ places) rising =
 passes_not : (n p : ℕ) → not (n == p) ≡ true → n ≡ p → ⊥
 passes_not n p passes same = grind (arith, nat_tests)
 
+-- ---- lines of places with a property
+
+pub line_to : (P Q : ℕ → Type 0) (places : List ℕ) → IsLineOf P places → ((r : ℕ) → P r → Q r) → ((r : ℕ) → Q r → P r) → IsLineOf Q places
+line_to P Q places line to back = record {
+  are = λ i r at. to r (line.are i r at);
+  each = λ r has. line.each r (back r has);
+  rising = line.rising;
+}
+
+pub line_but : (P : ℕ → Type 0) (places : List ℕ) (p : ℕ) → IsLineOf P places → IsLineOf (λ r. P r × (r ≡ p → ⊥)) (filter (λ r. not (r == p)) places)
+line_but P places p line = record {
+  are = λ i r at. let old = filter_get (λ n. not (n == p)) places i r at in (line.are old.0 r old.1, passes_not r p old.2);
+  each = λ r has. let old = line.each r has.0 in get_filter (λ n. not (n == p)) places old.0 r old.1 (differs r p has.1);
+  rising = rises_on p places line.rising;
+}
+
 -- the entry stops the one that stands at p, and no other of the side
 pub line_without : (es : List Entry) (e : Entry) (side : Side) (places : List ℕ) (p : ℕ) → IsLine es side places → NamesFreePartner es e → e.partner ≡ None
     → StoppedAt (es ++ e ∷ []) p (length es) → ((r : ℕ) → OpenAt es side r → StoppedAt (es ++ e ∷ []) r (length es) → r ≡ p) → (OpenAt (es ++ e ∷ []) side (length es) → ⊥)
@@ -166,17 +181,24 @@ owed_on es e r inside = ap (λ o. option_and_then (owed_in r) (act_read o)) (get
 pub open_inside : (es : List Entry) (side : Side) (r : ℕ) → OpenAt es side r → r < length es
 open_inside es side r opened = reads_within call_read refl es r opened.of_side.call opened.of_side.arrived
 
-pub below_account : (es : List Entry) (queues : List Queue) → AreQueues es queues → AreBelow queues (length es)
-below_account es queues are side i r at = open_inside es side r ((are.lines side).are i r at)
+pub below_account : (es : List Entry) (stations : Stations) → AreStations es stations → AreBelow stations (length es)
+below_account es stations are side i r at = open_inside es side r ((are.lines side).are i r at)
 
-pub parked_on : (es : List Entry) (e : Entry) (queues : List Queue) → AreQueues es queues → AreParked (es ++ e ∷ []) queues
-parked_on es e queues are queue = record {
-  givers = λ i offer at. owed_on es e (place_of offer) (below_account es queues are (Gives queue) i (place_of offer) (slice_get-map place_of _ i ∙ ap (option_map place_of) at)) ∙ (are.parked queue).givers i offer at;
-  takers = λ i duty at. owed_on es e duty.place (below_account es queues are (Takes queue) i duty.place (slice_get-map (λ (d : Owed). d.place) _ i ∙ ap (option_map (λ (d : Owed). d.place)) at)) ∙ (are.parked queue).takers i duty at;
+-- the duties of those who wait below an entry stay parked with it
+pub parked_below : (es : List Entry) (e : Entry) (stations : Stations) → AreBelow stations (length es) → AreParked es stations → AreParked (es ++ e ∷ []) stations
+parked_below es e stations below parked = record {
+  queues = λ queue. record {
+    givers = λ i offer at. owed_on es e (place_of offer) (below (Gives queue) i (place_of offer) (slice_get-map place_of _ i ∙ ap (option_map place_of) at)) ∙ (parked.queues queue).givers i offer at;
+    takers = λ i duty at. owed_on es e duty.place (below (Takes queue) i duty.place (slice_get-map (λ (d : Owed). d.place) _ i ∙ ap (option_map (λ (d : Owed). d.place)) at)) ∙ (parked.queues queue).takers i duty at;
+  };
+  exchangers = λ exchanger duty there. owed_on es e duty.place (below (Exchanges exchanger) 0 duty.place (ap (λ o. slice_get (place_of_duty o) 0) there)) ∙ parked.exchangers exchanger duty there;
 }
 
-pub queues_as_before : (es : List Entry) (old new : List Queue) → SameQueues old new → AreQueues es old → AreQueues es new
-queues_as_before es old new same are = record {
+pub parked_on : (es : List Entry) (e : Entry) (stations : Stations) → AreStations es stations → AreParked (es ++ e ∷ []) stations
+parked_on es e stations are = parked_below es e stations (below_account es stations are) are.parked
+
+pub stations_as_before : (es : List Entry) (old new : Stations) → SameStations old new → AreStations es old → AreStations es new
+stations_as_before es old new same are = record {
   lines = λ side. subst (IsLine es side) (sym (same_waiting old new same side)) (are.lines side);
   parked = same_parked es old new same are.parked;
 }
@@ -193,12 +215,12 @@ front_is_oldest es side p places line = record {
     above r less (zero, at) = let same : p ≡ r = same_Some _ _ at in omega arith
     above r less (suc i, at) = let more : p < r = line.rising 0 (suc i) p r (omega arith) refl at in omega arith
 
-nobody_there : (es : List Entry) (queues : List Queue) (side : Side) → AreQueues es queues → FindsNobody queues side → MeetsOldest es side None
-nobody_there es queues side are nobody other r opposes opened =
+nobody_there : (es : List Entry) (stations : Stations) (side : Side) → AreStations es stations → FindsNobody stations side → MeetsOldest es side None
+nobody_there es stations side are nobody other r opposes opened =
     let there = subst (IsLine es other) (nobody other opposes) (are.lines other) in
     none-some r (there.each r opened).1
 
-pub meets_partner : (es : List Entry) (old new : List Queue) (side : Side) (wait : Option Wait) (place : ℕ) (partner : Option ℕ) → AreQueues es old → Meets old new side wait place partner → MeetsOldest es side partner
+pub meets_partner : (es : List Entry) (old new : Stations) (side : Side) (wait : Option Wait) (place : ℕ) (partner : Option ℕ) → AreStations es old → Meets old new side wait place partner → MeetsOldest es side partner
 meets_partner es old new side wait place None are (inl waits) = nobody_there es old side are waits.1.nobody
 meets_partner es old new side wait place None are (inr goes) = nobody_there es old side are goes.1
 meets_partner es old new side wait place (Some p) are meets =
@@ -206,7 +228,7 @@ meets_partner es old new side wait place (Some p) are meets =
 
 -- ---- after an arrival
 
-module _ (a : Account) (e : Entry) (old new : List Queue) (key : Key) (call : Call) (legal : Legal a) (are : AreQueues a.entries old) (free : NamesFreePartner a.entries e)
+module _ (a : Account) (e : Entry) (old new : Stations) (key : Key) (call : Call) (legal : Legal a) (are : AreStations a.entries old) (free : NamesFreePartner a.entries e)
     (arrives : e.act ≡ Arrive key call) where
   unstopped : (r : ℕ) → StoppedAt (a.entries ++ e ∷ []) r (length a.entries) → ⊥
   unstopped r stopped = arrival_stops_nobody a.entries e key call r arrives stopped
@@ -277,9 +299,9 @@ module _ (a : Account) (e : Entry) (old new : List Queue) (key : Key) (call : Ca
       by_wait (Some wait) = refl
 
   -- after an arrival the table has each side's open arrivals
-  pub queues_after : (duty : Owed) (result : Arrived) → duty ≡ record { place = length a.entries; client = key.client } → e.partner ≡ result.partner
-      → ArrivedOn old new (side_of call) (wait_of call) duty result → AreQueues (a.entries ++ e ∷ []) new
-  queues_after duty result is named arrived = record {
+  pub stations_after : (duty : Owed) (result : Arrived) → duty ≡ record { place = length a.entries; client = key.client } → e.partner ≡ result.partner
+      → ArrivedOn old new (side_of call) (wait_of call) duty result → AreStations (a.entries ++ e ∷ []) new
+  stations_after duty result is named arrived = record {
     lines = by_partner result.partner named (subst (λ (d : Owed). Meets old new (side_of call) (wait_of call) d.place result.partner) is arrived.meets);
     parked = arrived.parked (a.entries ++ e ∷ []) (parked_on a.entries e old are) (owed_new duty is);
   }
@@ -294,24 +316,24 @@ pub record Stops (es : List Entry) (e : Entry) (P : ℕ → Type 0) : Type 0 whe
   pub stopped : (r : ℕ) → StoppedAt (es ++ e ∷ []) r (length es) → P r
 
 module _ (es : List Entry) (e : Entry) (P : ℕ → Type 0) (free : NamesFreePartner es e) (is : Stops es e P) where
-  no_arrival : (side : Side) → OpenAt (es ++ e ∷ []) side (length es) → ⊥
+  pub no_arrival : (side : Side) → OpenAt (es ++ e ∷ []) side (length es) → ⊥
   no_arrival side opened =
       none-some opened.of_side.call (sym (ap call_read (get-append_end es e) ∙ is.no_call) ∙ opened.of_side.arrived)
 
   -- it stops nobody who is open
-  pub queues_unmoved : (queues : List Queue) → AreQueues es queues → ((side : Side) (r : ℕ) → OpenAt es side r → P r → ⊥) → AreQueues (es ++ e ∷ []) queues
-  queues_unmoved queues are idle = record {
-    lines = λ side. line_same es e side (waiting_on queues side) (are.lines side) free (record {
+  pub stations_unmoved : (stations : Stations) → AreStations es stations → ((side : Side) (r : ℕ) → OpenAt es side r → P r → ⊥) → AreStations (es ++ e ∷ []) stations
+  stations_unmoved stations are idle = record {
+    lines = λ side. line_same es e side (waiting_on stations side) (are.lines side) free (record {
       unnamed = λ r opened named. none-some r (sym is.none ∙ named);
       unstopped = λ r opened stopped. idle side r opened (is.stopped r stopped);
     }) (no_arrival side);
-    parked = parked_on es e queues are;
+    parked = parked_on es e stations are;
   }
 
   -- the one whom it stops was taken out
-  pub queues_left : (old new : List Queue) (side : Side) (duty : Owed) (result : Option Owed) → AreQueues es old → Leaves old new side duty result → OpenAt es side duty.place → P duty.place
-      → ((other : Side) (r : ℕ) → OpenAt es other r → P r → r ≡ duty.place) → AreQueues (es ++ e ∷ []) new
-  queues_left old new side duty result are leaves opened own only = record {
+  pub stations_left : (old new : Stations) (side : Side) (duty : Owed) (result : Option Owed) → AreStations es old → Leaves old new side duty result → OpenAt es side duty.place → P duty.place
+      → ((other : Side) (r : ℕ) → OpenAt es other r → P r → r ≡ duty.place) → AreStations (es ++ e ∷ []) new
+  stations_left old new side duty result are leaves opened own only = record {
     lines = λ other. elim (same_side other side) [
       | inl same ↦
           subst (λ s. IsLine (es ++ e ∷ []) s (waiting_on new s)) (sym same)
@@ -331,20 +353,24 @@ module _ (es : List Entry) (e : Entry) (P : ℕ → Type 0) (free : NamesFreePar
 
 -- ---- an empty account
 
-pub no_queues : (es : List Entry) (queues : List Queue) → es ≡ [] → AllEmpty queues → AreQueues es queues
-no_queues es queues none empty = record {
+pub no_stations : (es : List Entry) (stations : Stations) → es ≡ [] → NobodyWaits stations → AreStations es stations
+no_stations es stations none empty = record {
   lines = λ side. subst (IsLine es side) (sym (nowhere side)) (record {
     are = λ i r at. absurd (none-some r at);
     each = λ r opened. let inside : r < length es = open_inside es side r opened in let short : length es ≡ 0 = ap length none in absurd (omega arith);
     rising = λ i j p q less at_i at_j. absurd (none-some p at_i);
   });
-  parked = λ queue. record {
-    givers = λ i offer at. absurd (none-some offer (sym (ap (λ l. slice_get l i) (empty queue).givers) ∙ at));
-    takers = λ i duty at. absurd (none-some duty (sym (ap (λ l. slice_get l i) (empty queue).takers) ∙ at));
+  parked = record {
+    queues = λ queue. record {
+      givers = λ i offer at. absurd (none-some offer (sym (ap (λ l. slice_get l i) (empty.queues queue).givers) ∙ at));
+      takers = λ i duty at. absurd (none-some duty (sym (ap (λ l. slice_get l i) (empty.queues queue).takers) ∙ at));
+    };
+    exchangers = λ exchanger duty there. absurd (none-some duty (sym (empty.exchangers exchanger) ∙ there));
   };
 }
   where
-    nowhere : (side : Side) → waiting_on queues side ≡ []
-    nowhere (Gives queue) = ap places_of (empty queue).givers
-    nowhere (Takes queue) = ap takers_places (empty queue).takers
+    nowhere : (side : Side) → waiting_on stations side ≡ []
+    nowhere (Gives queue) = ap places_of (empty.queues queue).givers
+    nowhere (Takes queue) = ap takers_places (empty.queues queue).takers
     nowhere (Looks queue) = refl
+    nowhere (Exchanges exchanger) = ap place_of_duty (empty.exchangers exchanger)

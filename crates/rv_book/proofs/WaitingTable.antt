@@ -35,7 +35,7 @@ same_parts a b c d e f client p q r = cc
 
 -- the place that is told of a session in which this request is the last and waits
 module _ (a : Account) (r : ℕ) (key : Key) (call : Call) (legal : Legal a) (w : Waiting a.entries r) (arrived : act_at a.entries r ≡ Some (Arrive key call)) where
-  settled_not : (s : Session) (at : ℕ) (k : Kept) → last_key a key.client s ≡ key → IsSettledAt a key.client s at k → ⊥
+  pub settled_not : (s : Session) (at : ℕ) (k : Kept) → last_key a key.client s ≡ key → IsSettledAt a key.client s at k → ⊥
   settled_not s at k same is =
       let there : act_at a.entries at ≡ Some (Arrive key is.call) = is.arrived ∙ ap (λ x. Some (Arrive x is.call)) same in
       let place : r ≡ at = arrives_once a r at key call is.call legal arrived there in

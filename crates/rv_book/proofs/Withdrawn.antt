@@ -1,4 +1,4 @@
--- What the table of queues is when a request was taken out of its queue.
+-- What those who wait are when a request was taken out of its queue.
 use Rattle.std.proofs.Common.{◌≡◌, inl, inr, ℕ, zero, suc, List, [], ◌∷◌, cond, map, Bool, true, false, Option, Some, None, refl, sym, ap, subst, ◌∙◌, option_and_then}
 use Rattle.std.specs.List.{Contains, filter, slice_get}
 use Rattle.std.specs.Prelude.{IfNone, IfSome, not, option_map, ◌==◌}
@@ -15,14 +15,12 @@ use Rattle.rv_dual.specs.Withdrawing.{WaitsAt, Withdraws, without_giver, without
 use Rattle.rv_dual.specs.declared.giver.Offer.{Offer}
 use Rattle.rv_dual.specs.declared.giver.Offer.TheVariants.{Put, Waits}
 use Rattle.rv_book.specs.declared.account.Act.{Act}
-use Rattle.rv_book.specs.declared.account.Act.TheVariants.{Arrive, Cancel, Hello}
+use Rattle.rv_book.specs.declared.account.Act.TheVariants.{Arrive, Cancel, Hello, Tick}
 use Rattle.rv_book.specs.declared.account.Entry.{Entry}
 use Rattle.rv_book.specs.Account.{act_at}
-use Rattle.rv_book.specs.Meeting.{Leaves}
-use Rattle.rv_book.specs.Parked.{AreQueues, IsParked, owed_at, owed_by, owed_in}
-use Rattle.rv_book.specs.Views.{queue_at, takers_places}
-use Rattle.rv_book.specs.Waiting.{OpenAt}
-use Rattle.rv_book.proofs.Sides.{one_side}
+use Rattle.rv_book.specs.Meeting.{Leaves, StandsOn}
+use Rattle.rv_book.specs.Parked.{AreParked, IsParked, owed_at, owed_by, owed_in}
+use Rattle.rv_book.specs.Views.{Stations, queue_at, takers_places}
 use Rattle.rv_book.proofs.Tabled.{ChangedAt, givers_change, parked_changed, takers_change}
 
 -- ---- lists of which some are left
@@ -98,6 +96,7 @@ by_act : (place : ℕ) (o : Option Act) (d : Owed) → option_and_then (owed_in 
 by_act place None d is = absurd (none-some d is)
 by_act place (Some (Hello client incarnation)) d is = absurd (none-some d is)
 by_act place (Some (Cancel key)) d is = absurd (none-some d is)
+by_act place (Some Tick) d is = absurd (none-some d is)
 by_act place (Some (Arrive key call)) d is = by_wait place key (wait_of call) d is
 
 -- a duty is owed at its own place
@@ -165,41 +164,44 @@ parked_left es q new place result w parked = record {
       parked.takers old.0 d old.1;
 }
 
--- ---- the table
+-- ---- all who wait
 
-module _ (old new : List Queue) (queue : ℕ) (q : Queue) (changed : ChangedAt old new queue q) (place : ℕ) (result : Option Owed) (w : Withdraws (queue_at old queue) q place result)
-    (es : List Entry) (duty : Owed) (are : AreQueues es old) (owed : owed_at es place ≡ Some duty) where
+module _ (old new : Stations) (queue : ℕ) (changed : ChangedAt old new queue) (place : ℕ) (result : Option Owed) (w : Withdraws (queue_at old.queues queue) (queue_at new.queues queue) place result)
+    (es : List Entry) (duty : Owed) (parked : AreParked es old) (owed : owed_at es place ≡ Some duty) where
   abbrev pub was : Queue
-  was = queue_at old queue
+  was = queue_at old.queues queue
 
-  pub left_givers : OpenAt es (Gives queue) place → Leaves old new (Gives queue) duty result
-  left_givers opened =
+  abbrev pub is_now : Queue
+  is_now = queue_at new.queues queue
+
+  pub left_givers : StandsOn old (Gives queue) place → Leaves old new (Gives queue) duty result
+  left_givers stands =
       let none = λ (i : ℕ) (d : Owed) (at : slice_get was.takers i ≡ Some d).
       differs d.place place (λ is.
-      let there = (are.lines (Takes queue)).are i d.place (slice_get-map (λ (o : Owed). o.place) was.takers i ∙ ap (option_map (λ (o : Owed). o.place)) at) in
-      let sides : Takes queue ≡ Gives queue = one_side es (Takes queue) (Gives queue) place (subst (λ n. OpenAt es (Takes queue) n) is there).of_side opened.of_side in
+      let there = slice_get-map (λ (o : Owed). o.place) was.takers i ∙ ap (option_map (λ (o : Owed). o.place)) at in
+      let sides : Takes queue ≡ Gives queue = stands.only (Takes queue) i (there ∙ ap Some is) in
       absurd (cc)) in
-      let takers : q.takers ≡ was.takers = w.takers ∙ filter_all (λ (d : Owed). not (is_at place d)) was.takers none in
+      let takers : is_now.takers ≡ was.takers = w.takers ∙ filter_all (λ (d : Owed). not (is_at place d)) was.takers none in
       record {
-        is = giver_back es was place duty (are.parked queue) owed q result w (got place_of was.givers place ((are.lines (Gives queue)).each place opened));
-        places = ap (λ (r : Queue). places_of r.givers) changed.here ∙ ap places_of w.givers ∙ givers_left es was place duty (are.parked queue) owed;
-        others = givers_change old new queue q changed takers;
-        parked = λ other parked. parked_changed old new queue q changed other parked (parked_left other was q place result w);
+        is = giver_back es was place duty (parked.queues queue) owed is_now result w (got place_of was.givers place (stands.i, stands.there));
+        places = ap places_of w.givers ∙ givers_left es was place duty (parked.queues queue) owed;
+        others = givers_change old new queue changed takers;
+        parked = λ other before. parked_changed old new queue changed other before (parked_left other was is_now place result w);
       }
 
-  pub left_takers : OpenAt es (Takes queue) place → Leaves old new (Takes queue) duty result
-  left_takers opened =
+  pub left_takers : StandsOn old (Takes queue) place → Leaves old new (Takes queue) duty result
+  left_takers stands =
       let none = λ (i : ℕ) (o : Offer) (at : slice_get was.givers i ≡ Some o). passes o
       (λ is.
-      let there = (are.lines (Gives queue)).are i (place_of o) (slice_get-map place_of was.givers i ∙ ap (option_map place_of) at) in
-      let sides : Gives queue ≡ Takes queue = one_side es (Gives queue) (Takes queue) place (subst (λ n. OpenAt es (Gives queue) n) is there).of_side opened.of_side in
+      let there = slice_get-map place_of was.givers i ∙ ap (option_map place_of) at in
+      let sides : Gives queue ≡ Takes queue = stands.only (Gives queue) i (there ∙ ap Some is) in
       absurd (cc)) in
-      let givers : q.givers ≡ was.givers = w.givers ∙ filter_all (λ (o : Offer). not (waits_at place o)) was.givers none in
+      let givers : is_now.givers ≡ was.givers = w.givers ∙ filter_all (λ (o : Offer). not (waits_at place o)) was.givers none in
       record {
-        is = taker_back es was place duty (are.parked queue) owed q result w (got (λ (d : Owed). d.place) was.takers place ((are.lines (Takes queue)).each place opened));
-        places = ap (λ (r : Queue). takers_places r.takers) changed.here ∙ ap takers_places w.takers ∙ takers_left es was place duty (are.parked queue) owed;
-        others = takers_change old new queue q changed givers;
-        parked = λ other parked. parked_changed old new queue q changed other parked (parked_left other was q place result w);
+        is = taker_back es was place duty (parked.queues queue) owed is_now result w (got (λ (d : Owed). d.place) was.takers place (stands.i, stands.there));
+        places = ap takers_places w.takers ∙ takers_left es was place duty (parked.queues queue) owed;
+        others = takers_change old new queue changed givers;
+        parked = λ other before. parked_changed old new queue changed other before (parked_left other was is_now place result w);
       }
     where
       passes : (o : Offer) → (place_of o ≡ place → ⊥) → not (waits_at place o) ≡ true

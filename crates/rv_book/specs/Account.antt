@@ -5,7 +5,7 @@ use Rattle.rv_text.specs.declared.message.Key.{Key}
 use Rattle.rv_text.specs.declared.call.Call.{Call}
 use Rattle.rv_book.specs.declared.account.Entry.{Entry}
 use Rattle.rv_book.specs.declared.account.Act.{Act}
-use Rattle.rv_book.specs.declared.account.Act.TheVariants.{Hello, Arrive, Cancel}
+use Rattle.rv_book.specs.declared.account.Act.TheVariants.{Hello, Arrive, Cancel, Tick}
 
 pub record Account : Type 0 where
   pub epoch : ℕ
@@ -44,12 +44,14 @@ abbrev pub call_in : Act → Option Call
 call_in (Hello client incarnation) = None
 call_in (Arrive key call) = Some call
 call_in (Cancel key) = None
+call_in Tick = None
 
 -- the key that an act names
 abbrev pub key_in : Act → Option Key
 key_in (Hello client incarnation) = None
 key_in (Arrive key call) = Some key
 key_in (Cancel key) = Some key
+key_in Tick = None
 
 abbrev pub call_at : List Entry → ℕ → Option Call
 call_at entries r = option_and_then call_in (act_at entries r)

@@ -1,20 +1,21 @@
 -- What is said of a call by its side and its wait: whom it meets and how long it stays
--- (Java SE 21, `TransferQueue`).
-use Rattle.std.specs.Prelude.{◌≡◌, ℕ, Option, Some, None, IsSome, option_and_then}
+-- (Java SE 21, `TransferQueue` and `Exchanger`).
+use Rattle.std.specs.Prelude.{◌≡◌, ◌<◌, ◌+◌, ℕ, zero, suc, Option, Some, None, IsSome, option_and_then}
 use Rattle.rv_text.specs.declared.call.Wait.{Wait}
-use Rattle.rv_text.specs.declared.call.Wait.TheVariants.{Now, Forever}
+use Rattle.rv_text.specs.declared.call.Wait.TheVariants.{Now, Millis, Forever}
 use Rattle.rv_text.specs.declared.call.Side.{Side}
-use Rattle.rv_text.specs.declared.call.Side.TheVariants.{Gives, Takes, Looks}
+use Rattle.rv_text.specs.declared.call.Side.TheVariants.{Gives, Takes, Looks, Exchanges}
 use Rattle.rv_text.specs.declared.call.Call.{Call}
 use Rattle.rv_text.specs.Calls.{side_of, wait_of}
 
--- the side whose arrivals an arrival of this side meets
+-- the side whose arrivals an arrival of this side meets: who exchanges meets who exchanges there too
 abbrev pub opposite : Side → Option Side
 opposite (Gives queue) = Some (Takes queue)
 opposite (Takes queue) = Some (Gives queue)
 opposite (Looks queue) = None
+opposite (Exchanges exchanger) = Some (Exchanges exchanger)
 
--- the call may name a partner: it gives or takes
+-- the call may name a partner: it gives, takes or exchanges
 abbrev pub MayMeet : Call → Type 0
 MayMeet call = IsSome (opposite (side_of call))
 
@@ -23,6 +24,7 @@ MayMeet call = IsSome (opposite (side_of call))
 abbrev pub Lasts : Option Wait → Type 0
 Lasts None = Unit {0}
 Lasts (Some Now) = ⊥
+Lasts (Some (Millis n)) = 0 < n
 Lasts (Some Forever) = Unit {0}
 
 -- where no partner is there, the call stays until it is met or stopped
@@ -36,6 +38,7 @@ IsPut call = MayMeet call × (wait_of call ≡ None)
 -- the moment at which a wait that began at a moment has elapsed
 abbrev pub limit_after : ℕ → Wait → Option ℕ
 limit_after moment Now = None
+limit_after moment (Millis n) = Some (moment + n)
 limit_after moment Forever = None
 
 -- the limit of a call that arrived at a moment
@@ -46,6 +49,8 @@ limit_of moment call = option_and_then (limit_after moment) (wait_of call)
 abbrev pub need_by : Option Wait → ℕ
 need_by None = 1
 need_by (Some Now) = 1
+need_by (Some (Millis zero)) = 1
+need_by (Some (Millis (suc n))) = 2
 need_by (Some Forever) = 2
 
 abbrev pub need_of : Call → ℕ

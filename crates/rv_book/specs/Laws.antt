@@ -13,7 +13,7 @@ use Rattle.rv_book.specs.declared.verdict.Verdict.{Verdict}
 use Rattle.rv_book.specs.Account.{Account, Extends}
 use Rattle.rv_book.specs.Legal.{Legal}
 use Rattle.rv_book.specs.Replies.{HasReply}
-use Rattle.rv_book.specs.Steps.{CancelLines, HelloLines, RequestLines, Adds, Answers, Replies, Next}
+use Rattle.rv_book.specs.Steps.{CancelLines, HelloLines, RequestLines, Adds, Answers, Replies, Next, Ticks}
 use Rattle.rv_book.specs.Steps.{step_moment}
 use Rattle.rv_book.specs.Order.{InOrder}
 use Rattle.rv_book.specs.Verdicts.{says}
@@ -32,18 +32,25 @@ pub record CanEnter (a : Account) (moment : ℕ) (key : Key) (call : Call) : Typ
   pub adds : Adds a moment (Arrive key call) after
   pub answers : Answers after key answer
 
--- where no refusal of a request is due, a repeat has its answer, or a legal account with the request's entry
--- and its answer exists
-abbrev pub RequestsCanEnter : Type 0
-RequestsCanEnter = (a : Account) (now : ℕ) (key : Key) (call : Call) → Legal a
-    → RequestLines a key call (λ refusal. Unit {0}) ((x : Answer) × Answers a key x)
-    (CanEnter a (step_moment a now) key call)
+-- in each legal account the time-outs of a step lead to one, which is legal
+abbrev pub TicksCanEnter : Type 0
+TicksCanEnter = (a : Account) (now : ℕ) → Legal a
+    → (b : Account) × Ticks a (step_moment a now) b × Legal b
 
--- where no refusal of a hello is due and it is no repeat, a legal account with its entry exists
+-- after the time-outs of a step, where no refusal of a request is due, a repeat has its answer, or a legal account
+-- with the request's entry and its answer exists
+abbrev pub RequestsCanEnter : Type 0
+RequestsCanEnter = (before a : Account) (now : ℕ) (key : Key) (call : Call) → Legal before
+    → Ticks before (step_moment before now) a
+    → RequestLines a key call (λ refusal. Unit {0}) ((x : Answer) × Answers a key x)
+    (CanEnter a (step_moment before now) key call)
+
+-- after the time-outs of a step, where no refusal of a hello is due and it is no repeat, a legal account with its entry exists
 abbrev pub HellosCanEnter : Type 0
-HellosCanEnter = (a : Account) (now client incarnation : ℕ) → Legal a
+HellosCanEnter = (before a : Account) (now client incarnation : ℕ) → Legal before
+    → Ticks before (step_moment before now) a
     → HelloLines a client incarnation (λ refusal. Unit {0}) (Unit {0})
-    ((b : Account) × Adds a (step_moment a now) (Hello client incarnation) b)
+    ((b : Account) × Adds a (step_moment before now) (Hello client incarnation) b)
 
 -- a legal account with the cancel's entry exists, and with it the reply of its request
 pub record CanCancel (a : Account) (moment : ℕ) (key : Key) : Type 0 where
@@ -51,12 +58,13 @@ pub record CanCancel (a : Account) (moment : ℕ) (key : Key) : Type 0 where
   pub adds : Adds a moment (Cancel key) after
   pub replies : Replies after key (Replied key Cancelled)
 
--- where no refusal of a cancel is due, a settled request has its answer, or a legal account with the cancel's
+-- after the time-outs of a step, where no refusal of a cancel is due, a settled request has its answer, or a legal account with the cancel's
 -- entry exists, after which its request is cancelled
 abbrev pub CancelsCanEnter : Type 0
-CancelsCanEnter = (a : Account) (now : ℕ) (key : Key) → Legal a
-    → CancelLines a key (λ refusal. Unit {0}) (CanCancel a (step_moment a now) key)
-    ((x : Answer) × Replies a key x) (CanCancel a (step_moment a now) key)
+CancelsCanEnter = (before a : Account) (now : ℕ) (key : Key) → Legal before
+    → Ticks before (step_moment before now) a
+    → CancelLines a key (λ refusal. Unit {0}) (CanCancel a (step_moment before now) key)
+    ((x : Answer) × Replies a key x) (CanCancel a (step_moment before now) key)
 
 -- in a legal account the items of each queue leave in their order of arrival
 abbrev pub ItemsLeaveInOrder : Type 0

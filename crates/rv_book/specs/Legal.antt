@@ -6,7 +6,7 @@ use Rattle.rv_text.specs.declared.call.Side.{Side}
 use Rattle.rv_text.specs.Calls.{side_of}
 use Rattle.rv_book.specs.declared.account.Entry.{Entry}
 use Rattle.rv_book.specs.declared.account.Act.{Act}
-use Rattle.rv_book.specs.declared.account.Act.TheVariants.{Hello, Arrive, Cancel}
+use Rattle.rv_book.specs.declared.account.Act.TheVariants.{Hello, Arrive, Cancel, Tick}
 use Rattle.rv_book.specs.Account.{Account, act_at, moment_at, call_in, key_in}
 use Rattle.rv_book.specs.Calls.{MayMeet, opposite}
 use Rattle.rv_book.specs.Sessions.{HasIncarnation, HasOnlyLower, LastNumber, NamesKey}
@@ -19,16 +19,27 @@ pub record KeepsTime (a : Account) (moment : ℕ) : Type 0 where
   pub opened : a.opened ≤ moment
   pub since : (r earlier : ℕ) → moment_at a.entries r ≡ Some earlier → earlier ≤ moment
 
+-- the request that arrived at r waits, and has a limit at or below the moment
+pub record IsDueAt (entries : List Entry) (moment r : ℕ) : Type 0 where
+  pub waits : Waiting entries r
+  pub limit : ℕ
+  pub has : limit_at entries r ≡ Some limit
+  pub elapsed : limit ≤ moment
+
 -- no waiting request has a limit at or below the moment
 abbrev pub NothingDue : List Entry → ℕ → Type 0
-NothingDue entries moment = (r limit : ℕ) → Waiting entries r → limit_at entries r ≡ Some limit
-    → moment < limit
+NothingDue entries moment = (r : ℕ) → ¬ IsDueAt entries moment r
 
--- at an act other than a time-out, no waiting request has a limit at or below its moment
+-- some waiting request has
+abbrev pub SomethingDue : List Entry → ℕ → Type 0
+SomethingDue entries moment = (r : ℕ) × IsDueAt entries moment r
+
+-- at a tick some waiting request has a limit at or below its moment, and at any other act none has
 abbrev pub KeepsLimits : List Entry → ℕ → Act → Type 0
 KeepsLimits entries moment (Hello client incarnation) = NothingDue entries moment
 KeepsLimits entries moment (Arrive key call) = NothingDue entries moment
 KeepsLimits entries moment (Cancel key) = NothingDue entries moment
+KeepsLimits entries moment Tick = SomethingDue entries moment
 
 -- what an entry of this moment and act keeps of the moments
 pub record KeepsMoments (a : Account) (moment : ℕ) (does : Act) : Type 0 where
@@ -84,7 +95,12 @@ pub record KeepsNumbers (a : Account) (does : Act) : Type 0 where
   pub counts_up : CountsUp a.entries does
   pub cancels : CancelsInTurn a.entries does
 
--- ---- pairs (Java SE 21, `TransferQueue`; the fair dual queue of Scherer, Lea and Scott, PPoPP 2006)
+-- ---- pairs and swaps
+--
+-- A pair joins one that gives and one that takes (Java SE 21, `TransferQueue`; the fair dual queue of Scherer,
+-- Lea and Scott, PPoPP 2006). A swap joins two that exchange at one exchanger (Java SE 21, `Exchanger`): each
+-- is there what the other meets, so the earlier one is open when the later comes, and nobody waits where
+-- another does.
 
 -- only a call that may meet names a partner: an earlier place that is in no pair or swap yet
 pub record IsFreePartner (entries : List Entry) (e : Entry) (p : ℕ) : Type 0 where
@@ -97,28 +113,28 @@ pub record IsFreePartner (entries : List Entry) (e : Entry) (p : ℕ) : Type 0 w
 abbrev pub NamesFreePartner : List Entry → Entry → Type 0
 NamesFreePartner entries e = (p : ℕ) → e.partner ≡ Some p → IsFreePartner entries e p
 
--- at p stands an open arrival of the other side of the call's queue
+-- at p stands an open arrival of the other side of the call's queue, or one at its exchanger
 pub record IsOpenOpposite (entries : List Entry) (call : Call) (p : ℕ) : Type 0 where
   pub side : Side
   pub opposes : opposite (side_of call) ≡ Some side
   pub there : OpenAt entries side p
 
--- the partner of a call that gives or takes is an open arrival of the other side of the same queue
+-- the partner of a call is an open arrival of the other side of the same queue, or one at the same exchanger
 abbrev pub PairsOpposites : List Entry → Entry → Type 0
 PairsOpposites entries e = (p : ℕ) (call : Call) → e.partner ≡ Some p → call_in e.act ≡ Some call
     → MayMeet call → IsOpenOpposite entries call p
 
--- no open arrival of the partner's side and queue stands before the partner
+-- no open arrival of the partner's side stands before the partner
 abbrev pub PairsOldest : List Entry → Entry → Type 0
 PairsOldest entries e = (p r : ℕ) (side : Side) → e.partner ≡ Some p → SideAt entries side p → r < p
     → ¬ OpenAt entries side r
 
--- an arrival without a partner finds no open arrival of the other side of its queue
+-- an arrival without a partner finds no open arrival of the other side of its queue, nor one at its exchanger
 abbrev pub PairsWherePossible : List Entry → Entry → Type 0
 PairsWherePossible entries e = (r : ℕ) (call : Call) → e.partner ≡ None → call_in e.act ≡ Some call
     → ¬ IsOpenOpposite entries call r
 
--- what an entry keeps of the pairs
+-- what an entry keeps of the pairs and swaps
 pub record KeepsPairs (entries : List Entry) (e : Entry) : Type 0 where
   pub names_free_partner : NamesFreePartner entries e
   pub pairs_opposites : PairsOpposites entries e

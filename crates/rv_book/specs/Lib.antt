@@ -14,6 +14,8 @@ pub mod Laws
 -- What only private clauses and proofs cite.
 pub mod Views
 pub mod Parked
+pub mod Elapsing
 pub mod Meeting
 pub mod Arriving
 pub mod Tables
+pub mod Ending

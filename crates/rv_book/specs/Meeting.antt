@@ -1,22 +1,21 @@
--- What an arrival does in the table of queues, by its side and its wait.
+-- What an arrival does to those who wait, by its side and its wait.
 use Rattle.std.specs.Prelude.{◌≡◌, ◌≢◌, ◌⊎◌, ◌<◌, ◌==◌, ℕ, List, [], ◌∷◌, ◌++◌, not, Option, Some, None}
-use Rattle.std.specs.Prelude.{IsSome}
-use Rattle.std.specs.Prelude.{option_and_then}
+use Rattle.std.specs.Prelude.{IsSome, option_and_then, slice_get}
 use Rattle.std.specs.List.{filter}
 use Rattle.rv_text.specs.declared.call.Wait.{Wait}
 use Rattle.rv_text.specs.declared.call.Side.{Side}
-use Rattle.rv_text.specs.declared.call.Side.TheVariants.{Gives, Takes, Looks}
+use Rattle.rv_text.specs.declared.call.Side.TheVariants.{Gives, Takes, Looks, Exchanges}
 use Rattle.rv_session.specs.Owed.{Owed}
 use Rattle.rv_dual.specs.Offers.{duty_of, place_of}
 use Rattle.rv_dual.specs.Queue.{Queue, SameLists}
 use Rattle.rv_dual.specs.declared.giver.Offer.{Offer}
 use Rattle.rv_dual.specs.declared.giver.Offer.TheVariants.{Put, Waits}
+use Rattle.rv_swap.specs.Exchange.{NotWaiting, Withdraws}
 use Rattle.rv_book.specs.declared.account.Entry.{Entry}
-use Rattle.rv_book.specs.declared.queues.Arrived.{Arrived}
-use Rattle.rv_book.specs.Parked.{AreParked, AreQueues, owed_at}
-use Rattle.rv_book.specs.Waiting.{OpenAt}
+use Rattle.rv_book.specs.declared.arrived.Arrived.{Arrived}
+use Rattle.rv_book.specs.Parked.{AreParked, owed_at}
 use Rattle.rv_book.specs.Calls.{Lasts, opposite}
-use Rattle.rv_book.specs.Views.{SameQueues, queue_at, waiting_on}
+use Rattle.rv_book.specs.Views.{SameStations, Stations, queue_at, waiting_on}
 
 -- ---- one queue
 
@@ -84,6 +83,37 @@ Took old new wait duty result =
     TookFrom old new duty result
     ⊎ ByWait wait (StandsBy old new duty result) (TookNothing old new duty result)
 
+-- ---- one exchanger
+
+-- it met the request that waited, which left
+pub record SwappedWith (old new : Option Owed) (duty : Owed) (result : Arrived) : Type 0 where
+  pub earlier : Owed
+  pub waited : old ≡ Some earlier
+  pub left : new ≡ None
+  pub is : result ≡ record { partner = Some earlier.place; own = Some duty; other = Some earlier }
+
+-- nobody waits, and it waits from now on
+pub record WaitsAlone (old new : Option Owed) (duty : Owed) (result : Arrived) : Type 0 where
+  pub nobody : old ≡ None
+  pub waits : new ≡ Some duty
+  pub is : result ≡ record { partner = None; own = None; other = None }
+
+-- nobody waits, and it goes
+pub record SwappedNothing (old new : Option Owed) (duty : Owed) (result : Arrived) : Type 0 where
+  pub nobody : old ≡ None
+  pub none_waits : new ≡ None
+  pub is : result ≡ record { partner = None; own = Some duty; other = None }
+
+abbrev pub Exchanged : Option Owed → Option Owed → Wait → Owed → Arrived → Type 0
+Exchanged old new wait duty result =
+    SwappedWith old new duty result
+    ⊎ ByWait (Some wait) (WaitsAlone old new duty result) (SwappedNothing old new duty result)
+
+-- the request that waits leaves, if it arrived at this place, and its duty comes back
+abbrev pub LeftExchanger : Option Owed → Option Owed → ℕ → Option Owed → Type 0
+LeftExchanger old new place None = NotWaiting old place × (new ≡ old)
+LeftExchanger old new place (Some duty) = Withdraws old place new duty
+
 -- ---- what an arrival does
 
 -- such an arrival stays where nobody is there
@@ -91,28 +121,28 @@ abbrev pub MayWait : Side → Option Wait → Type 0
 MayWait side wait = IsSome (opposite side) × Lasts wait
 
 -- it met the first of the other side, which left
-pub record MeetsFirst (old new : List Queue) (side : Side) (place : ℕ) : Type 0 where
+pub record MeetsFirst (old new : Stations) (side : Side) (place : ℕ) : Type 0 where
   pub other : Side
   pub opposes : opposite side ≡ Some other
   pub first : waiting_on old other ≡ place ∷ waiting_on new other
   pub others : (third : Side) → third ≢ other → waiting_on new third ≡ waiting_on old third
 
 -- nobody waits on the side that it meets
-abbrev pub FindsNobody : List Queue → Side → Type 0
-FindsNobody queues side = (other : Side) → opposite side ≡ Some other → waiting_on queues other ≡ []
+abbrev pub FindsNobody : Stations → Side → Type 0
+FindsNobody stations side = (other : Side) → opposite side ≡ Some other → waiting_on stations other ≡ []
 
 -- it waits behind all others of its side
-pub record StartsToWait (old new : List Queue) (side : Side) (place : ℕ) : Type 0 where
+pub record StartsToWait (old new : Stations) (side : Side) (place : ℕ) : Type 0 where
   pub nobody : FindsNobody old side
   pub last : waiting_on new side ≡ waiting_on old side ++ place ∷ []
   pub others : (third : Side) → third ≢ side → waiting_on new third ≡ waiting_on old third
 
 -- what became of all that wait, where the arrival at the place met this partner or nobody
-abbrev pub Meets : List Queue → List Queue → Side → Option Wait → ℕ → Option ℕ → Type 0
+abbrev pub Meets : Stations → Stations → Side → Option Wait → ℕ → Option ℕ → Type 0
 Meets old new side wait place (Some partner) = MeetsFirst old new side partner
 Meets old new side wait place None =
     (MayWait side wait × StartsToWait old new side place)
-    ⊎ ((¬ MayWait side wait) × FindsNobody old side × SameQueues old new)
+    ⊎ ((¬ MayWait side wait) × FindsNobody old side × SameStations old new)
 
 -- its own duty comes back, but where it is a request that waits now
 abbrev pub OwnDuty : Side → Option Wait → Option ℕ → Owed → Option Owed → Type 0
@@ -137,7 +167,7 @@ PartnersDuty entries (Some partner) other = other ≡ owed_at entries partner
 
 -- what the arrival of a request with this duty did; what the parked duties are to the entries holds after it
 -- too, where it holds of those before and of this one
-pub record ArrivedOn (old new : List Queue) (side : Side) (wait : Option Wait) (duty : Owed)
+pub record ArrivedOn (old new : Stations) (side : Side) (wait : Option Wait) (duty : Owed)
     (result : Arrived) : Type 0 where
   pub meets : Meets old new side wait duty.place result.partner
   pub own : OwnDuty side wait result.partner duty result.own
@@ -149,24 +179,31 @@ pub record ArrivedOn (old new : List Queue) (side : Side) (wait : Option Wait) (
 -- ---- what is taken out
 
 -- the request that waits on the side left it, and its duty came back
-pub record Leaves (old new : List Queue) (side : Side) (duty : Owed) (result : Option Owed) : Type 0 where
+pub record Leaves (old new : Stations) (side : Side) (duty : Owed) (result : Option Owed) : Type 0 where
   pub is : result ≡ Some duty
   pub places : waiting_on new side ≡ filter (λ r. not (r == duty.place)) (waiting_on old side)
   pub others : (third : Side) → third ≢ side → waiting_on new third ≡ waiting_on old third
   pub parked : (entries : List Entry) → AreParked entries old → AreParked entries new
 
--- whose duty is parked at the place, by whatever entries the table is true of, left its side
-abbrev pub Withdrew : List Queue → List Queue → Side → ℕ → Option Owed → Type 0
-Withdrew old new side place result = (entries : List Entry) (duty : Owed) → AreQueues entries old
-    → OpenAt entries side place → owed_at entries place ≡ Some duty → Leaves old new side duty result
+-- the place waits on the side, and on no other
+pub record StandsOn (stations : Stations) (side : Side) (place : ℕ) : Type 0 where
+  pub i : ℕ
+  pub there : slice_get (waiting_on stations side) i ≡ Some place
+  pub only : (other : Side) (j : ℕ) → slice_get (waiting_on stations other) j ≡ Some place → other ≡ side
+
+-- whose duty is parked at the place, by whatever entries the duties are those of, left its side
+abbrev pub Withdrew : Stations → Stations → Side → ℕ → Option Owed → Type 0
+Withdrew old new side place result = (entries : List Entry) (duty : Owed) → AreParked entries old
+    → StandsOn old side place → owed_at entries place ≡ Some duty → Leaves old new side duty result
 
 -- ---- room
 
-abbrev pub room_of : List Queue → Side → ℕ
-room_of queues (Gives queue) = (queue_at queues queue).room
-room_of queues (Takes queue) = (queue_at queues queue).room
-room_of queues (Looks queue) = 1
+abbrev pub room_of : Stations → Side → ℕ
+room_of stations (Gives queue) = (queue_at stations.queues queue).room
+room_of stations (Takes queue) = (queue_at stations.queues queue).room
+room_of stations (Looks queue) = 1
+room_of stations (Exchanges exchanger) = 1
 
 -- an arrival of the side that stays has room
-abbrev pub HasRoomOn : List Queue → Side → Type 0
-HasRoomOn queues side = 0 < room_of queues side
+abbrev pub HasRoomOn : Stations → Side → Type 0
+HasRoomOn stations side = 0 < room_of stations side

@@ -1,5 +1,4 @@
--- What the table of queues says of a list of entries: who is open, in which order, and whose duties are
--- parked.
+-- What those who wait are to a list of entries: who is open, in which order, and whose duties are parked.
 use Rattle.std.specs.Prelude.{◌≡◌, ◌<◌, ℕ, List, Option, Some, None, option_and_then, slice_get}
 use Rattle.rv_text.specs.declared.message.Key.{Key}
 use Rattle.rv_text.specs.declared.call.Wait.{Wait}
@@ -10,10 +9,10 @@ use Rattle.rv_dual.specs.Offers.{duty_of, place_of}
 use Rattle.rv_dual.specs.Queue.{Queue}
 use Rattle.rv_dual.specs.declared.giver.Offer.{Offer}
 use Rattle.rv_book.specs.declared.account.Act.{Act}
-use Rattle.rv_book.specs.declared.account.Act.TheVariants.{Hello, Arrive, Cancel}
+use Rattle.rv_book.specs.declared.account.Act.TheVariants.{Hello, Arrive, Cancel, Tick}
 use Rattle.rv_book.specs.declared.account.Entry.{Entry}
 use Rattle.rv_book.specs.Account.{act_at}
-use Rattle.rv_book.specs.Views.{queue_at, waiting_on}
+use Rattle.rv_book.specs.Views.{Stations, exchanger_at, queue_at, waiting_on}
 use Rattle.rv_book.specs.Waiting.{OpenAt}
 
 -- ---- who is owed what
@@ -26,6 +25,7 @@ owed_by place key (Some wait) = Some (record { place = place; client = key.clien
 abbrev pub owed_in : ℕ → Act → Option Owed
 owed_in place (Hello client incarnation) = None
 owed_in place (Cancel key) = None
+owed_in place Tick = None
 owed_in place (Arrive key call) = owed_by place key (wait_of call)
 
 abbrev pub owed_at : List Entry → ℕ → Option Owed
@@ -38,19 +38,25 @@ pub record IsParked (entries : List Entry) (q : Queue) : Type 0 where
   pub takers : (i : ℕ) (duty : Owed) → slice_get q.takers i ≡ Some duty
       → owed_at entries duty.place ≡ Some duty
 
--- and in each queue
-abbrev pub AreParked : List Entry → List Queue → Type 0
-AreParked entries queues = (queue : ℕ) → IsParked entries (queue_at queues queue)
+-- and so in each queue and at each exchanger
+pub record AreParked (entries : List Entry) (stations : Stations) : Type 0 where
+  pub queues : (queue : ℕ) → IsParked entries (queue_at stations.queues queue)
+  pub exchangers : (exchanger : ℕ) (duty : Owed) → exchanger_at stations.exchangers exchanger ≡ Some duty
+      → owed_at entries duty.place ≡ Some duty
 
--- ---- queues
+-- ---- who waits where
 
--- the places are those of a side's open arrivals, the oldest first
-pub record IsLine (entries : List Entry) (side : Side) (places : List ℕ) : Type 0 where
-  pub are : (i r : ℕ) → slice_get places i ≡ Some r → OpenAt entries side r
-  pub each : (r : ℕ) → OpenAt entries side r → (i : ℕ) × (slice_get places i ≡ Some r)
+-- the places are those with a property, the lowest first
+pub record IsLineOf (P : ℕ → Type 0) (places : List ℕ) : Type 0 where
+  pub are : (i r : ℕ) → slice_get places i ≡ Some r → P r
+  pub each : (r : ℕ) → P r → (i : ℕ) × (slice_get places i ≡ Some r)
   pub rising : (i j p q : ℕ) → i < j → slice_get places i ≡ Some p → slice_get places j ≡ Some q → p < q
 
--- the table has each side's open arrivals, and parked with them the duties to settle them
-pub record AreQueues (entries : List Entry) (queues : List Queue) : Type 0 where
-  pub lines : (side : Side) → IsLine entries side (waiting_on queues side)
-  pub parked : AreParked entries queues
+-- the places are those of a side's open arrivals, the oldest first
+abbrev pub IsLine : List Entry → Side → List ℕ → Type 0
+IsLine entries side places = IsLineOf (OpenAt entries side) places
+
+-- each side's open arrivals wait, and parked with them are the duties to settle them
+pub record AreStations (entries : List Entry) (stations : Stations) : Type 0 where
+  pub lines : (side : Side) → IsLine entries side (waiting_on stations side)
+  pub parked : AreParked entries stations

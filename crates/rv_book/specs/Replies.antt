@@ -1,20 +1,22 @@
 -- The reply of a request, as an account tells it: the first case that applies (Java SE 21, `TransferQueue`:
--- `put`, `transfer`, `tryTransfer`, `take` and `poll`). Counts and peeks are of the account before them.
-use Rattle.std.specs.Prelude.{◌≡◌, ◌⊎◌, ℕ, List, Some, take}
+-- `put`, `transfer`, `tryTransfer`, `take` and `poll`; `Exchanger`: `exchange`). Counts and peeks are of the
+-- account before them.
+use Rattle.std.specs.Prelude.{◌≡◌, ◌⊎◌, ◌<◌, ℕ, zero, suc, List, Some, take}
 use Rattle.rv_text.specs.declared.message.Key.{Key}
 use Rattle.rv_text.specs.declared.call.Wait.{Wait}
-use Rattle.rv_text.specs.declared.call.Wait.TheVariants.{Now, Forever}
+use Rattle.rv_text.specs.declared.call.Wait.TheVariants.{Now, Millis, Forever}
 use Rattle.rv_text.specs.declared.call.Side.TheVariants.{Gives, Takes}
 use Rattle.rv_text.specs.declared.call.Call.{Call}
 use Rattle.rv_text.specs.declared.call.Call.TheVariants as call
 use Rattle.rv_text.specs.declared.answer.Reply.{Reply}
 use Rattle.rv_text.specs.declared.answer.Reply.TheVariants as reply
 use Rattle.rv_book.specs.declared.account.Entry.{Entry}
-use Rattle.rv_book.specs.declared.account.Act.TheVariants.{Arrive, Cancel}
+use Rattle.rv_book.specs.declared.account.Act.{Act}
+use Rattle.rv_book.specs.declared.account.Act.TheVariants.{Hello, Arrive, Cancel, Tick}
 use Rattle.rv_book.specs.Account.{act_at, call_at}
 use Rattle.rv_text.specs.Calls.{item_of}
 use Rattle.rv_book.specs.Counting.{NumberOf}
-use Rattle.rv_book.specs.Waiting.{NamesPartner, Met, Stopped, OpenAt, IsOldest}
+use Rattle.rv_book.specs.Waiting.{NamesPartner, Met, StoppedAt, OpenAt, IsOldest}
 
 -- the arrivals at r and at s are in one pair or swap
 abbrev pub Meet : List Entry → ℕ → ℕ → Type 0
@@ -28,11 +30,31 @@ pub record Gets (entries : List Entry) (r : ℕ) (item : List ℕ) : Type 0 wher
   pub arrived : call_at entries giver ≡ Some call
   pub hands_over : item_of call ≡ Some item
 
--- what the unmet request that arrived at r is told, by its wait: at once this reply; or, once it was stopped,
--- that it was cancelled
+-- the first entry that stops the request that arrived at r is the one at s
+pub record FirstStop (entries : List Entry) (r s : ℕ) : Type 0 where
+  pub stops : StoppedAt entries r s
+  pub first : (earlier : ℕ) → earlier < s → ¬ StoppedAt entries r earlier
+
+-- what a request is told that such an act stopped
+abbrev pub told_by : Act → Reply
+told_by (Hello client incarnation) = reply.Cancelled
+told_by (Arrive key call) = reply.Cancelled
+told_by (Cancel key) = reply.Cancelled
+told_by Tick = reply.TimedOut
+
+-- the request that arrived at r was stopped, and is told by what stopped it first
+pub record ToldStopped (entries : List Entry) (r : ℕ) (told : Reply) : Type 0 where
+  pub place : ℕ
+  pub stop : FirstStop entries r place
+  pub is : told ≡ told_by stop.stops.stopper.act
+
+-- what the unmet request that arrived at r is told, by its wait: at once this reply, or that its time is over;
+-- or, once it was stopped, by what stopped it
 abbrev pub RepliesUnmet : List Entry → ℕ → Wait → Reply → Reply → Type 0
 RepliesUnmet entries r Now at_once told = told ≡ at_once
-RepliesUnmet entries r Forever at_once told = Stopped entries r × (told ≡ reply.Cancelled)
+RepliesUnmet entries r (Millis zero) at_once told = told ≡ reply.TimedOut
+RepliesUnmet entries r (Millis (suc n)) at_once told = ToldStopped entries r told
+RepliesUnmet entries r Forever at_once told = ToldStopped entries r told
 
 -- so many items and so many consumers of the queue are open
 pub record Counts (entries : List Entry) (queue items consumers : ℕ) : Type 0 where
@@ -58,6 +80,9 @@ RepliesAt entries r (call.Transfer queue item wait) told =
 RepliesAt entries r (call.Take queue wait) told =
     ((item : List ℕ) × Gets entries r item × (told ≡ reply.Item item))
     ⊎ ((¬ Met entries r) × RepliesUnmet entries r wait reply.Empty told)
+RepliesAt entries r (call.Swap exchanger item wait) told =
+    ((other : List ℕ) × Gets entries r other × (told ≡ reply.Swapped other))
+    ⊎ ((¬ Met entries r) × RepliesUnmet entries r wait reply.TimedOut told)
 RepliesAt entries r (call.Count queue) told = (items consumers : ℕ)
     × Counts (take r entries) queue items consumers × (told ≡ reply.Counted items consumers)
 RepliesAt entries r (call.Peek queue) told =

@@ -22,7 +22,7 @@ use Rattle.rv_book.specs.Calls.{need_of}
 use Rattle.rv_book.specs.Counting.{NumberOf}
 use Rattle.rv_book.specs.Sessions.{HasIncarnation, HasOnlyLower, LastNumber, SaidHello}
 use Rattle.rv_book.specs.Waiting.{Waiting}
-use Rattle.rv_book.specs.Legal.{HasWaiting, Legal, WaitsUnder}
+use Rattle.rv_book.specs.Legal.{HasWaiting, Legal, SomethingDue, WaitsUnder}
 use Rattle.rv_book.specs.Replies.{HasReply}
 
 -- ---- the step's moment
@@ -226,9 +226,10 @@ NextAt a moment (Cancel key) b answer =
     (EntersOrNoMemory a moment (act.TheVariants.Cancel key) b answer
     (Replies b key answer))
 
--- the account after the time-outs of a step: the same, where nothing can be due
+-- the account after the time-outs of a step: where something is due at its moment, with one tick of that moment
+-- more, which ends all that is due; else the same
 abbrev pub Ticks : Account → ℕ → Account → Type 0
-Ticks a moment b = b ≡ a
+Ticks a moment b = WhereElse (SomethingDue a.entries moment) (Adds a moment act.TheVariants.Tick b) (b ≡ a)
 
 -- one step: the account before, the moment that is handed in, the message, the account after and the answer
 pub record Next (a : Account) (now : ℕ) (m : Message) (b : Account) (answer : Answer) : Type 0 where

@@ -3,7 +3,9 @@ use Rattle.std.specs.Prelude.{◌≡◌, ◌⊎◌, ◌≤◌, ◌+◌, ℕ, len
 use Rattle.rv_text.specs.declared.message.Key.{Key}
 use Rattle.rv_text.specs.declared.message.Message.{Message}
 use Rattle.rv_text.specs.declared.call.Side.{Side}
-use Rattle.rv_text.specs.declared.call.Side.TheVariants.{Gives, Takes, Looks}
+use Rattle.rv_text.specs.declared.call.Wait.{Wait}
+use Rattle.rv_text.specs.declared.call.Wait.TheVariants.{Now, Millis, Forever}
+use Rattle.rv_text.specs.declared.call.Side.TheVariants.{Gives, Takes, Looks, Exchanges}
 use Rattle.rv_text.specs.declared.call.Call.{Call}
 use Rattle.rv_text.specs.declared.answer.Answer.{Answer}
 use Rattle.rv_text.specs.declared.answer.Refusal.{Refusal}
@@ -24,20 +26,23 @@ use Rattle.rv_book.specs.Replies.{CancelledFirst}
 use Rattle.rv_book.specs.declared.state.State.{State}
 use Rattle.rv_book.specs.declared.verdict.Said.{Said}
 use Rattle.rv_book.specs.declared.verdict.Said.TheVariants.{Refused}
-use Rattle.rv_book.specs.Account.{Account, act_at, call_at}
+use Rattle.rv_book.specs.declared.account.Entry.{Entry}
+use Rattle.rv_book.specs.Account.{Account, act_at, call_at, with_entry}
 use Rattle.rv_book.specs.Arriving.{IsKept}
-use Rattle.rv_book.specs.Legal.{Legal, KeepsTime}
-use Rattle.rv_book.specs.Limits.{FitsAccount, FitsAct}
+use Rattle.rv_book.specs.Legal.{Legal, KeepsTime, NothingDue}
+use Rattle.rv_book.specs.Limits.{FitEntries, FitsAccount, FitsAct}
 use Rattle.rv_book.specs.Calls.{MayMeet, need_of}
 use Rattle.rv_book.specs.Counting.{NumberOf}
-use Rattle.rv_book.specs.Meeting.{HasRoomOn, Leaves}
-use Rattle.rv_book.specs.Parked.{AreQueues, owed_at}
+use Rattle.rv_book.specs.Meeting.{HasRoomOn, Leaves, StandsOn}
+use Rattle.rv_book.specs.Parked.{AreParked, AreStations, owed_at}
+use Rattle.rv_book.specs.Elapsing.{AreDeadlines, deadline_of, with_deadline, without_deadline}
 use Rattle.rv_book.specs.Sessions.{HasIncarnation, LastNumber, SaidHello}
-use Rattle.rv_book.specs.Steps.{EpochFullDue, NextAt, max_entries, max_moment}
+use Rattle.rv_book.specs.Steps.{EpochFullDue, NextAt, Ticks, max_entries, max_moment, step_moment}
 use Rattle.rv_book.specs.Verdicts.{answer_of}
-use Rattle.rv_book.specs.Views.{SameQueues}
+use Rattle.rv_book.specs.Views.{SameStations}
 use Rattle.rv_session.specs.Owed.{Owed}
-use Rattle.rv_book.specs.Waiting.{Waiting}
+use Rattle.rv_book.specs.Waiting.{Waiting, limit_at}
+use Rattle.rv_due.specs.Deadlines.{Deadlines}
 
 -- ---- sessions
 
@@ -94,54 +99,90 @@ pub record IsSound (state : State) : Type 0 where
   pub legal : Legal (account_of state)
   pub fits : FitsAccount (account_of state)
   pub sessions_are : AreSessions (account_of state) state.sessions
-  pub queues_are : AreQueues (account_of state).entries state.queues
+  pub stations_are : AreStations (account_of state).entries state.stations
   pub waiting_is : NumberOf (Waiting (account_of state).entries) state.waiting
+  pub due_are : AreDeadlines (account_of state).entries state.due
   pub spare : state.waiting ≤ state.account.room
 
--- an act comes to a sound state: at a moment that keeps time, and within the limits
+-- a moment comes to a sound state: it keeps time, and is within its limit
+pub record IsTime (state : State) (moment : ℕ) : Type 0 where
+  pub sound : IsSound state
+  pub time : KeepsTime (account_of state) moment
+  pub fits : moment ≤ max_moment
+
+-- an act comes to a sound state, at a moment at which nothing is due, and within the limits
 pub record Comes (state : State) (moment : ℕ) (does : Act) : Type 0 where
   pub sound : IsSound state
   pub time : KeepsTime (account_of state) moment
   pub moment_fits : moment ≤ max_moment
+  pub nothing_due : NothingDue (account_of state).entries moment
   pub act_fits : FitsAct does
 
--- what an arrival of the side adds to the table of queues has room; a hello adds nothing
+-- an arrival of the side that waits has room there; a hello needs none
 abbrev pub HasRoomFor : State → Option Side → Type 0
 HasRoomFor state None = Unit {0}
-HasRoomFor state (Some side) = HasRoomOn state.queues side
+HasRoomFor state (Some side) = HasRoomOn state.stations side
 
 -- the account and what the tables hold are as they were; their room may have grown
 pub record IsSame (old new : State) : Type 0 where
+  pub due : new.due ≡ old.due
   pub account : account_of new ≡ account_of old
   pub room : old.account.room ≤ new.account.room
   pub sessions : new.sessions ≡ old.sessions
-  pub queues : SameQueues old.queues new.queues
+  pub stations : SameStations old.stations new.stations
   pub waiting : new.waiting ≡ old.waiting
+
+-- the entry was recorded, and the tables are as they were
+pub record IsPushed (old new : State) (e : Entry) : Type 0 where
+  pub entry : account_of new ≡ with_entry (account_of old) e
+  pub room : old.account.room ≤ new.account.room + 1
+  pub sessions : new.sessions ≡ old.sessions
+  pub stations : new.stations ≡ old.stations
+  pub waiting : new.waiting ≡ old.waiting
+  pub due : new.due ≡ old.due
 
 -- the epoch has room for so many entries more, beside one for each request that waits
 abbrev pub HasSpace : State → ℕ → Type 0
 HasSpace state need = length (account_of state).entries + state.waiting + need ≤ max_entries
 
 -- nothing changed but the room: so many entries have their own, each request that waits has too, and so has
--- what an arrival of the side adds to the queues
+-- an arrival of the side that waits
 pub record IsReady (old new : State) (need : ℕ) (side : Option Side) : Type 0 where
   pub same : IsSame old new
   pub room : old.waiting + need ≤ new.account.room
-  pub queue_room : HasRoomFor new side
+  pub side_room : HasRoomFor new side
   pub space : HasSpace old need
 
--- a request that has its session's next number comes to a sound state, and all that it adds has room
+-- the state with other deadlines
+abbrev pub with_due : State → Deadlines → State
+with_due state due = record {
+  account = state.account;
+  sessions = state.sessions;
+  stations = state.stations;
+  waiting = state.waiting;
+  due = due;
+}
+
+-- all that a request adds has room, and if it may wait its deadline is there already
+pub record IsPrepared (old new : State) (moment : ℕ) (call : Call) : Type 0 where
+  pub ready : IsReady old (with_due new old.due) (need_of call) (Some (side_of call))
+  pub due : new.due ≡ with_deadline (deadline_of moment call) (length (account_of old).entries) old.due
+
+-- a request that has its session's next number comes to a state that is sound but for the deadline of the request
+-- itself, and all that it adds has room
 pub record MayRecord (state : State) (moment : ℕ) (key : Key) (call : Call) : Type 0 where
-  pub comes : Comes state moment (Arrive key call)
+  pub deadlines : Deadlines
+  pub comes : Comes (with_due state deadlines) moment (Arrive key call)
+  pub due : state.due ≡ with_deadline (deadline_of moment call) (length (account_of state).entries) deadlines
   pub stands : standing_of state.sessions key ≡ standing.Next
   pub next : HasNext state.sessions key
   pub room : state.waiting + need_of call ≤ state.account.room
-  pub queue_room : HasRoomOn state.queues (side_of call)
+  pub side_room : HasRoomOn state.stations (side_of call)
   pub space : HasSpace state (need_of call)
 
 -- what a call that looks at its queue sees there is what the account says
 abbrev pub Sees : State → Call → Type 0
-Sees state call = ¬ MayMeet call → AreQueues (account_of state).entries state.queues
+Sees state call = ¬ MayMeet call → AreStations (account_of state).entries state.stations
 
 -- ---- who is settled
 
@@ -154,23 +195,44 @@ abbrev pub SettlesIf : Table → Table → Option Owed → Kept → Type 0
 SettlesIf old new None kept = new ≡ old
 SettlesIf old new (Some duty) kept = OnlySettles old new duty.client duty.place kept
 
--- what is kept as the reply of the request that an arrival of the side, at the place, met: who gives hands
--- its own item over, and who takes received the other's
+-- what is kept as the reply of the request that an arrival of the side, at the place, met: who gives or
+-- exchanges hands its own item over, and who takes received the other's
 abbrev pub partners_reply : Side → ℕ → Kept
 partners_reply (Gives queue) place = kept.Item place
 partners_reply (Takes queue) place = kept.Received
 partners_reply (Looks queue) place = kept.Received
+partners_reply (Exchanges exchanger) place = kept.Swapped place
 
--- the request that waited at the place was taken out of its queue and settled with this
+-- a request waits at the place, by the tables: on its side, with the duty to settle it, and in its session
+pub record MayEnd (state : State) (place : ℕ) : Type 0 where
+  pub entries_fit : FitEntries (account_of state).entries
+  pub duty : Owed
+  pub is_at : duty.place ≡ place
+  pub owed : owed_at (account_of state).entries place ≡ Some duty
+  pub due_in : IsDueIn state.sessions duty
+  pub call : Call
+  pub arrived : call_at (account_of state).entries place ≡ Some call
+  pub parked : AreParked (account_of state).entries state.stations
+  pub stands : StandsOn state.stations (side_of call) place
+  pub counted : 1 ≤ state.waiting
+
+-- what is kept as the reply of a request that met nobody and doesn't wait, where this is said of nobody there
+abbrev pub kept_at_once : Wait → Kept → Kept
+kept_at_once Now alone = alone
+kept_at_once (Millis millis) alone = kept.TimedOut
+kept_at_once Forever alone = alone
+
+-- the request that waited at the place left its side and was settled with this
 pub record EndsAt (old new : State) (place : ℕ) (kept : Kept) : Type 0 where
   pub duty : Owed
   pub is_at : duty.place ≡ place
   pub owed : owed_at (account_of old).entries place ≡ Some duty
   pub call : Call
   pub arrived : call_at (account_of old).entries place ≡ Some call
-  pub leaves : Leaves old.queues new.queues (side_of call) duty (Some duty)
+  pub leaves : Leaves old.stations new.stations (side_of call) duty (Some duty)
   pub settles : OnlySettles old.sessions new.sessions duty.client place kept
   pub counted : old.waiting ≡ new.waiting + 1
+  pub due : new.due ≡ without_deadline (limit_at (account_of old).entries place) place old.due
 
 -- the request that waited there was, if one did
 abbrev pub EndsIf : State → State → Option ℕ → Kept → Type 0
@@ -189,6 +251,13 @@ pub record Becomes (a : Account) (moment : ℕ) (m : Message) (b : Account) (sai
   pub answer : Answer
   pub is : answer_of b.entries said ≡ Some answer
   pub step : NextAt a moment m b answer
+
+-- what became of a message that came with this moment: this answer, by the time-outs that were due and one step
+pub record BecomesAfterTicks (a : Account) (now : ℕ) (m : Message) (b : Account) (said : Said) : Type 0 where
+  pub ticked : Account
+  pub ticks : Ticks a (step_moment a now) ticked
+  pub fits : FitsAccount ticked
+  pub becomes : Becomes ticked (step_moment a now) m b said
 
 -- the message was refused so
 abbrev pub IsRefused : Account → ℕ → Message → Account → Refusal → Type 0

@@ -1,5 +1,5 @@
 -- The answer that a verdict stands for, in an account that has the places which the verdict keeps.
-use Rattle.std.specs.Prelude.{◌≡◌, ℕ, List, Option, Some, None, option_map, option_and_then}
+use Rattle.std.specs.Prelude.{◌≡◌, ℕ, List, Option, Some, option_map, option_and_then}
 use Rattle.rv_text.specs.declared.answer.Reply.{Reply}
 use Rattle.rv_text.specs.declared.answer.Reply as reply
 use Rattle.rv_text.specs.declared.answer.Answer.{Answer}
@@ -19,18 +19,20 @@ use Rattle.rv_text.specs.Calls.{item_of}
 abbrev pub item_at : List Entry → ℕ → Option (List ℕ)
 item_at entries place = option_and_then item_of (call_at entries place)
 
--- the reply that is kept; none where no call has such a reply yet
+-- the reply that is kept; none where no item arrived at its place
 abbrev pub reply_of : List Entry → Kept → Option Reply
 reply_of entries kept.TheVariants.Done = Some reply.TheVariants.Done
 reply_of entries (kept.TheVariants.Item place) = option_map reply.TheVariants.Item (item_at entries place)
 reply_of entries kept.TheVariants.Empty = Some reply.TheVariants.Empty
+reply_of entries (kept.TheVariants.Swapped place) =
+    option_map reply.TheVariants.Swapped (item_at entries place)
 reply_of entries kept.TheVariants.Received = Some reply.TheVariants.Received
 reply_of entries kept.TheVariants.Nobody = Some reply.TheVariants.Nobody
 reply_of entries kept.TheVariants.Cancelled = Some reply.TheVariants.Cancelled
+reply_of entries kept.TheVariants.TimedOut = Some reply.TheVariants.TimedOut
 reply_of entries (kept.TheVariants.Counted items consumers) =
     Some (reply.TheVariants.Counted items consumers)
 reply_of entries (kept.TheVariants.Peeked place) = option_map reply.TheVariants.Peeked (item_at entries place)
-reply_of entries _ = None
 
 abbrev pub answer_of : List Entry → Said → Option Answer
 answer_of entries (Welcome epoch client incarnation) =

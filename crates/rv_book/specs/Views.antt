@@ -1,10 +1,12 @@
--- What contracts see of the table of queues: for each side the places that wait on it.
-use Rattle.std.specs.Prelude.{◌≡◌, ◌<◌, ℕ, List, [], Some, map, unwrap_or, slice_get}
+-- What contracts see of who waits: the queues and the exchangers, and for each side the places on it.
+use Rattle.std.specs.Prelude.{◌≡◌, ◌≢◌, ◌<◌, ℕ, List, [], ◌∷◌, Option, Some, None, map, unwrap_or, slice_get}
 use Rattle.rv_text.specs.declared.call.Side.{Side}
-use Rattle.rv_text.specs.declared.call.Side.TheVariants.{Gives, Takes, Looks}
+use Rattle.rv_text.specs.declared.call.Side.TheVariants.{Gives, Takes, Looks, Exchanges}
 use Rattle.rv_session.specs.Owed.{Owed}
 use Rattle.rv_dual.specs.Offers.{places_of}
 use Rattle.rv_dual.specs.Queue.{Queue, SameLists}
+
+-- ---- queues
 
 abbrev pub empty_queue : Queue
 empty_queue = record { givers = []; takers = []; room = 0 }
@@ -17,20 +19,67 @@ queue_at queues queue = unwrap_or (slice_get queues queue) empty_queue
 abbrev pub takers_places : List Owed → List ℕ
 takers_places takers = map (λ (duty : Owed). duty.place) takers
 
--- the places that wait on a side, the oldest first
-abbrev pub waiting_on : List Queue → Side → List ℕ
-waiting_on queues (Gives queue) = places_of (queue_at queues queue).givers
-waiting_on queues (Takes queue) = takers_places (queue_at queues queue).takers
-waiting_on queues (Looks queue) = []
+-- nobody waits in any queue
+abbrev pub AllEmpty : List Queue → Type 0
+AllEmpty queues = (queue : ℕ) → SameLists empty_queue (queue_at queues queue)
 
 -- all that wait stay, in each queue
 abbrev pub SameQueues : List Queue → List Queue → Type 0
 SameQueues old new = (queue : ℕ) → SameLists (queue_at old queue) (queue_at new queue)
 
+-- no other queue changed
+abbrev pub OnlyQueue : ℕ → List Queue → List Queue → Type 0
+OnlyQueue queue old new = (other : ℕ) → other ≢ queue → queue_at new other ≡ queue_at old other
+
+-- ---- exchangers
+
+-- the duty that waits at the exchanger of this number, if one does
+abbrev pub exchanger_at : List (Option Owed) → ℕ → Option Owed
+exchanger_at exchangers exchanger = unwrap_or (slice_get exchangers exchanger) None
+
+-- the place where it arrived
+abbrev pub place_of_duty : Option Owed → List ℕ
+place_of_duty None = []
+place_of_duty (Some duty) = duty.place ∷ []
+
+-- nobody waits at any exchanger
+abbrev pub AllFree : List (Option Owed) → Type 0
+AllFree exchangers = (exchanger : ℕ) → exchanger_at exchangers exchanger ≡ None
+
+-- all that wait stay, at each exchanger
+abbrev pub SameExchangers : List (Option Owed) → List (Option Owed) → Type 0
+SameExchangers old new = (exchanger : ℕ) → exchanger_at new exchanger ≡ exchanger_at old exchanger
+
+-- no other exchanger changed
+abbrev pub OnlyExchanger : ℕ → List (Option Owed) → List (Option Owed) → Type 0
+OnlyExchanger exchanger old new =
+    (other : ℕ) → other ≢ exchanger → exchanger_at new other ≡ exchanger_at old other
+
+-- ---- both
+
+-- where requests wait for each other: the queues, and the exchangers with the duty that waits at each
+pub record Stations : Type 0 where
+  pub queues : List Queue
+  pub exchangers : List (Option Owed)
+
+-- the places that wait on a side, the oldest first
+abbrev pub waiting_on : Stations → Side → List ℕ
+waiting_on stations (Gives queue) = places_of (queue_at stations.queues queue).givers
+waiting_on stations (Takes queue) = takers_places (queue_at stations.queues queue).takers
+waiting_on stations (Looks queue) = []
+waiting_on stations (Exchanges exchanger) = place_of_duty (exchanger_at stations.exchangers exchanger)
+
+-- all that wait stay
+pub record SameStations (old new : Stations) : Type 0 where
+  pub queues : SameQueues old.queues new.queues
+  pub exchangers : SameExchangers old.exchangers new.exchangers
+
 -- nobody waits
-abbrev pub AllEmpty : List Queue → Type 0
-AllEmpty queues = (queue : ℕ) → SameLists empty_queue (queue_at queues queue)
+pub record NobodyWaits (stations : Stations) : Type 0 where
+  pub queues : AllEmpty stations.queues
+  pub exchangers : AllFree stations.exchangers
 
 -- whoever waits, waits at a place below this one
-abbrev pub AreBelow : List Queue → ℕ → Type 0
-AreBelow queues place = (side : Side) (i r : ℕ) → slice_get (waiting_on queues side) i ≡ Some r → r < place
+abbrev pub AreBelow : Stations → ℕ → Type 0
+AreBelow stations place =
+    (side : Side) (i r : ℕ) → slice_get (waiting_on stations side) i ≡ Some r → r < place

@@ -1,13 +1,13 @@
 -- Which arrivals of a list of entries were met, were stopped, and are still open: the nodes of a dual queue
 -- (Scherer, Lea and Scott, PPoPP 2006) that are matched, cancelled, or neither.
-use Rattle.std.specs.Prelude.{◌≡◌, ◌⊎◌, ◌<◌, ℕ, List, Option, Some, option_and_then, slice_get}
+use Rattle.std.specs.Prelude.{◌≡◌, ◌⊎◌, ◌<◌, ◌≤◌, ℕ, List, Option, Some, None, option_and_then, slice_get}
 use Rattle.rv_text.specs.declared.message.Key.{Key}
 use Rattle.rv_text.specs.declared.call.Call.{Call}
 use Rattle.rv_text.specs.declared.call.Side.{Side}
 use Rattle.rv_text.specs.Calls.{side_of}
 use Rattle.rv_book.specs.declared.account.Entry.{Entry}
 use Rattle.rv_book.specs.declared.account.Act.{Act}
-use Rattle.rv_book.specs.declared.account.Act.TheVariants.{Hello, Arrive, Cancel}
+use Rattle.rv_book.specs.declared.account.Act.TheVariants.{Hello, Arrive, Cancel, Tick}
 use Rattle.rv_book.specs.Account.{act_at, partner_at, call_in, call_at}
 use Rattle.rv_book.specs.Calls.{MayMeet, IsPut, Stays, limit_of}
 
@@ -32,11 +32,17 @@ limit_in e = option_and_then (limit_of e.moment) (call_in e.act)
 abbrev pub limit_at : List Entry → ℕ → Option ℕ
 limit_at entries r = option_and_then limit_in (slice_get entries r)
 
+-- the limit, if there is one, has come at the moment
+abbrev pub HasElapsed : Option ℕ → ℕ → Type 0
+HasElapsed None moment = ⊥
+HasElapsed (Some limit) moment = limit ≤ moment
+
 -- an act of a moment ends the wait of the request with this key and this limit
 abbrev pub EndsWait : Act → ℕ → Key → Option ℕ → Type 0
 EndsWait (Hello client incarnation) moment key limit = client ≡ key.client
 EndsWait (Arrive other call) moment key limit = ⊥
 EndsWait (Cancel other) moment key limit = other ≡ key
+EndsWait Tick moment key limit = HasElapsed limit moment
 
 -- the entry at s stops the request that arrived at r; nothing stops a put
 pub record StoppedAt (entries : List Entry) (r s : ℕ) : Type 0 where

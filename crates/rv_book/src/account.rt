@@ -1,10 +1,14 @@
 //! The account of an epoch: what came to the book, in order, and who met whom.
 ghost use Rattle.std.specs.Prelude.{◌≡◌, ◌==◌, [], length, slice_get, OnOk};
 ghost use Rattle.std.specs.Option.{option_copied};
+ghost use Rattle.std.specs.Prelude.{◌≤◌};
+ghost use Rattle.rv_text.specs.Members.{FitsWait};
 ghost use Rattle.rv_book.specs.Account.{with_entry};
+ghost use Rattle.rv_book.specs.Calls.{limit_after};
+ghost use Rattle.rv_book.specs.Steps.{max_moment};
 
 use rv_session::Place;
-use rv_text::{Call, Item, Key, NoMemory};
+use rv_text::{Call, Item, Key, NoMemory, Wait};
 use std::alloc::Global;
 use std::marker::Model;
 
@@ -17,6 +21,8 @@ pub enum Act {
     Arrive { key: Key, call: Call },
     /// A request was cancelled: while it waited, or before it came.
     Cancel { key: Key },
+    /// The wait of each request whose limit had come ended.
+    Tick,
 }
 
 /// One line of an account.
@@ -28,6 +34,19 @@ pub struct Entry {
     pub act: Act,
     /// On the later arrival of a pair, the place of the earlier.
     pub partner: Option<Place>,
+}
+
+// The moment at which a wait that begins at a moment has elapsed, if it ends by itself.
+fn limit_after(moment: u64, wait: Wait) -> Option<u64>
+    requires moment { moment ≤ max_moment }
+    requires wait { FitsWait wait }
+    ensures { result ≡ limit_after moment wait }
+{
+    match wait {
+        Wait::Now => None,
+        Wait::Millis(millis) => Some(moment + millis),
+        Wait::Forever => None,
+    }
 }
 
 /// All entries of an epoch, in the order in which they were recorded: what contracts see of it are
@@ -55,8 +74,10 @@ impl Model for Account {
 impl Account {
     ghost use Rattle.std.specs.Prelude.{option_map};
     ghost use Rattle.rv_book.specs.Account.{call_at};
+    ghost use Rattle.rv_book.specs.Limits.{FitEntries};
+    ghost use Rattle.rv_book.specs.Waiting.{limit_at};
     ghost use Rattle.rv_book.specs.Arriving.{entry};
-    ghost use Rattle.std.specs.Prelude.{◌↔◌, ◌<◌, ◌≤◌, ◌+◌, IsTrue};
+    ghost use Rattle.std.specs.Prelude.{◌↔◌, ◌<◌, ◌+◌, IsTrue};
     ghost use Rattle.rv_book.specs.Steps.{own_moment};
     ghost use Rattle.rv_book.specs.Verdicts.{item_at};
     ghost use Rattle.std.specs.Prelude.{Some, IsSome};
@@ -102,7 +123,7 @@ impl Account {
     {
         match &self.entry(place)?.act {
             Act::Arrive { call, .. } => Some(call),
-            Act::Hello { .. } | Act::Cancel { .. } => None,
+            Act::Hello { .. } | Act::Cancel { .. } | Act::Tick => None,
         }
     }
 
@@ -122,6 +143,18 @@ impl Account {
         ensures { call_at self.now.account.entries place ≡ Some result.now }
     {
         self.call(place).unwrap()
+    }
+
+    // The limit of the request that arrived at a place, if it has one.
+    pub(crate) fn limit(&self, place: Place) -> Option<u64>
+        requires { FitEntries self.now.account.entries }
+        ensures { result ≡ limit_at self.now.account.entries place }
+    {
+        let entry = self.entry(place)?;
+        match &entry.act {
+            Act::Arrive { call, .. } => limit_after(entry.moment, call.wait()?),
+            Act::Hello { .. } | Act::Cancel { .. } | Act::Tick => None,
+        }
     }
 
     // The item that the arrival at a place hands over.

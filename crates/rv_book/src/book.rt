@@ -15,7 +15,7 @@ use std::marker::Model;
 /// The book of an epoch, which contracts see as its [`Account`].
 ///
 /// The account is always legal and within the limits; what the book keeps beside it, one session for
-/// each client and 64 queues of who waits, is what the account says.
+/// each client, 64 queues and 64 exchangers of who waits, is what the account says.
 #[derive(Drop)]
 pub struct Book {
     state: State,
@@ -57,11 +57,15 @@ impl Book {
         Ok(Book { state })
     }
 
-    /// Takes one step with a message that came at a moment in milliseconds: refuses it and leaves the
-    /// account, or records it. It always gives a verdict; where a growth was refused the verdict is
-    /// refusal 11, and nothing changed. A moment before the book's own counts as the book's own.
+    /// Takes one step with a message that came at a moment in milliseconds. First, where some waiting request
+    /// has a limit at or before the moment, one tick times out all such requests; then the message is refused,
+    /// and the account stays as it is then, or it is recorded. It always gives a verdict; where a growth was
+    /// refused the verdict is refusal 11, and nothing changed but by the tick, which takes no memory. A moment
+    /// before the book's own counts as the book's own, one above 2^62 as 2^62.
     ///
-    /// The cost grows with the clients, and not with the entries nor with the items that wait.
+    /// The cost grows with the clients, and not with the entries nor with the items that wait. Where nothing is
+    /// due the least limit alone is looked at; to time out k requests takes k turns, each of which goes over the
+    /// queue of its request.
     pub fn handle(&mut self, now: u64, message: Message) -> Verdict
         requires { FitsMessage message }
         ensures step { IsStep self.old now message self.new result }
@@ -107,6 +111,7 @@ fn reply_of(alloc: Global, account: &Account, kept: Kept) -> Result<Reply, NoMem
         Kept::Done => Ok(Reply::Done),
         Kept::Item(place) => Ok(Reply::Item(account.item(place).copy(alloc)?)),
         Kept::Empty => Ok(Reply::Empty),
+        Kept::Swapped(place) => Ok(Reply::Swapped(account.item(place).copy(alloc)?)),
         Kept::Received => Ok(Reply::Received),
         Kept::Nobody => Ok(Reply::Nobody),
         Kept::Cancelled => Ok(Reply::Cancelled),
@@ -115,6 +120,6 @@ fn reply_of(alloc: Global, account: &Account, kept: Kept) -> Result<Reply, NoMem
             consumers: consumers as u64,
         }),
         Kept::Peeked(place) => Ok(Reply::Peeked(account.item(place).copy(alloc)?)),
-        _ => unreachable!(),
+        Kept::TimedOut => Ok(Reply::TimedOut),
     }
 }

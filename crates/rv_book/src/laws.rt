@@ -1,11 +1,16 @@
 //! Laws of accounts, replies and steps: each function is its contract, over the definitions alone.
 ghost use Rattle.rv_book.specs.Laws.{CancelsCanEnter, HellosCanEnter, OneNext, RepliesStay, RequestsCanEnter};
-ghost use Rattle.rv_book.specs.Laws.{ItemsLeaveInOrder, StepsExtend, VerdictsStay};
+ghost use Rattle.rv_book.specs.Laws.{ItemsLeaveInOrder, StepsExtend, TicksCanEnter, VerdictsStay};
 
 /// A reply that stands in a legal account stands in every legal account that extends it, and the
 /// request has no other reply there.
 pub fn replies_stay()
     ensures { RepliesStay }
+{}
+
+/// In each legal account the time-outs of a step, if any are due, can be recorded.
+pub fn ticks_can_enter()
+    ensures { TicksCanEnter }
 {}
 
 /// Where no refusal of a request is due, a legal account with the request's entry exists, and with it

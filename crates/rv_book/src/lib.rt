@@ -2,10 +2,13 @@
 #![tactic(auto)]
 
 mod account;
+mod arrived;
 mod book;
+mod exchangers;
 pub mod laws;
 mod queues;
 mod state;
+mod stations;
 mod verdict;
 
 pub use account::{Account, Act, Entry};

@@ -1,61 +1,18 @@
 //! The queues: who waits in each, the oldest first.
-ghost use Rattle.std.specs.Prelude.{◌≡◌, ◌<◌, List, None, Some, OnOk, IfOk, length, slice_get};
-ghost use Rattle.rv_session.specs.Owed.{Owed};
-ghost use Rattle.rv_text.specs.Calls.{queue_of, side_of, wait_of};
+ghost use Rattle.std.specs.Prelude.{◌≡◌, ◌<◌, None, Some, OnOk, IfOk, length, slice_get};
 ghost use Rattle.rv_text.specs.Limits.{FitsQueue};
-ghost use Rattle.rv_text.specs.declared.call.Side.TheVariants.{Gives, Takes};
-ghost use Rattle.rv_text.specs.declared.call.Wait.TheVariants.{Now, Forever};
-ghost use Rattle.rv_dual.specs.Offers.{duty_of, place_of};
+ghost use Rattle.rv_dual.specs.Offers.{duty_of, place_of, places_of};
 ghost use Rattle.rv_dual.specs.Queue.{IsAbove};
-ghost use Rattle.rv_book.specs.Meeting.{ArrivedOn, Gave, HasRoomOn, Took, Withdrew};
-ghost use Rattle.rv_book.specs.Views.{AllEmpty, AreBelow, SameQueues, queue_at, waiting_on};
+ghost use Rattle.rv_dual.specs.Withdrawing.{Withdraws};
+ghost use Rattle.rv_book.specs.Meeting.{Gave, Took};
+ghost use Rattle.rv_book.specs.Views.{AllEmpty, OnlyQueue, SameQueues, queue_at};
 
+use crate::arrived::{Arrived, lasts};
 use rv_dual::{Dual, Given, Giver, Pair, Taken, Tried};
-use rv_session::{Duty, Kept, Place};
-use rv_text::{Call, MAX_QUEUE, NoMemory, Side, Wait};
+use rv_session::{Duty, Place};
+use rv_text::{MAX_QUEUE, NoMemory, Wait};
 use std::alloc::Global;
 use std::marker::Model;
-
-/// What became of an arrival in its queue. The duties in it are to be settled.
-pub(crate) struct Arrived {
-    /// The place of the earlier arrival that it met.
-    pub(crate) partner: Option<Place>,
-    /// Its own duty, where it doesn't wait.
-    pub(crate) own: Option<Duty>,
-    /// The duty of the request that it met; a put has none.
-    pub(crate) other: Option<Duty>,
-}
-
-impl Arrived {
-    ghost use Rattle.std.specs.Prelude.{◌≤◌, ◌+◌, ◌^◌, option_map};
-    ghost use Rattle.rv_book.specs.Meeting.{ends_waiting, starts_waiting};
-
-    /// What is told to it now: what is kept as its reply, or nothing where it waits.
-    pub(crate) fn told(&self, kept: Kept) -> Option<Kept>
-        ensures { result ≡ option_map (λ own. kept) self.now.own }
-    {
-        match self.own {
-            Some(_) => Some(kept),
-            None => None,
-        }
-    }
-
-    /// How many requests wait after it, where so many did before.
-    pub(crate) fn count(&self, waiting: usize) -> usize
-        requires most { waiting + starts_waiting self.now.own ≤ 2 ^ 32 }
-        requires least { ends_waiting self.now.other ≤ waiting + starts_waiting self.now.own }
-        ensures { result + ends_waiting self.now.other ≡ waiting + starts_waiting self.now.own }
-    {
-        let started = match self.own {
-            Some(_) => waiting,
-            None => waiting + 1,
-        };
-        match self.other {
-            Some(_) => started - 1,
-            None => started,
-        }
-    }
-}
 
 // A put arrives: its duty comes back, whether a consumer waits or not.
 fn put(queue: &mut Dual, duty: Duty) -> Arrived
@@ -70,17 +27,9 @@ fn put(queue: &mut Dual, duty: Duty) -> Arrived
                 None => duty,
                 Some(_giver) => unreachable!(),
             };
-            Arrived {
-                partner: Some(taker.place()),
-                own: Some(own),
-                other: Some(taker),
-            }
+            Arrived::met(taker.place(), Some(own), Some(taker))
         }
-        Given::Parked => Arrived {
-            partner: None,
-            own: Some(duty),
-            other: None,
-        },
+        Given::Parked => Arrived::alone(Some(duty)),
     }
 }
 
@@ -93,11 +42,7 @@ fn gave(pair: Pair) -> Arrived
     } }
 {
     let (own, taker, _) = pair.part();
-    Arrived {
-        partner: Some(taker.place()),
-        own,
-        other: Some(taker),
-    }
+    Arrived::met(taker.place(), own, Some(taker))
 }
 
 // What became of a taker that met a giver.
@@ -109,70 +54,25 @@ fn took(pair: Pair) -> Arrived
     } }
 {
     let (other, own, place) = pair.part();
-    Arrived {
-        partner: Some(place),
-        own: Some(own),
-        other,
-    }
+    Arrived::met(place, Some(own), other)
 }
 
-// A request that gives arrives, and waits where no consumer is there.
-fn transfer(queue: &mut Dual, duty: Duty) -> Arrived
+// A request that gives arrives: where no consumer is there it waits, or goes.
+fn transfer(queue: &mut Dual, wait: Wait, duty: Duty) -> Arrived
     requires room { 0 < queue.old.room }
     requires above { IsAbove queue.old duty.place }
-    ensures { Gave queue.old queue.new (Some Forever) duty result }
+    ensures { Gave queue.old queue.new (Some wait) duty result }
 {
-    match queue.give(Giver::Waits(duty)) {
-        Given::Met(pair) => gave(pair),
-        Given::Parked => Arrived {
-            partner: None,
-            own: None,
-            other: None,
-        },
-    }
-}
-
-// A request that gives arrives, and goes where no consumer is there.
-fn try_transfer(queue: &mut Dual, duty: Duty) -> Arrived
-    ensures { Gave queue.old queue.new (Some Now) duty result }
-{
-    match queue.try_give(duty) {
-        Tried::Met(pair) => gave(pair),
-        Tried::Alone(duty) => Arrived {
-            partner: None,
-            own: Some(duty),
-            other: None,
-        },
-    }
-}
-
-// Who takes arrives, and waits where no item is there.
-fn take(queue: &mut Dual, duty: Duty) -> Arrived
-    requires room { 0 < queue.old.room }
-    requires above { IsAbove queue.old duty.place }
-    ensures { Took queue.old queue.new (Some Forever) duty result }
-{
-    match queue.take(duty) {
-        Taken::Met(pair) => took(pair),
-        Taken::Parked => Arrived {
-            partner: None,
-            own: None,
-            other: None,
-        },
-    }
-}
-
-// Who takes arrives, and goes where no item is there.
-fn poll(queue: &mut Dual, duty: Duty) -> Arrived
-    ensures { Took queue.old queue.new (Some Now) duty result }
-{
-    match queue.try_take(duty) {
-        Tried::Met(pair) => took(pair),
-        Tried::Alone(duty) => Arrived {
-            partner: None,
-            own: Some(duty),
-            other: None,
-        },
+    if lasts(wait) {
+        match queue.give(Giver::Waits(duty)) {
+            Given::Met(pair) => gave(pair),
+            Given::Parked => Arrived::alone(None),
+        }
+    } else {
+        match queue.try_give(duty) {
+            Tried::Met(pair) => gave(pair),
+            Tried::Alone(duty) => Arrived::alone(Some(duty)),
+        }
     }
 }
 
@@ -184,20 +84,26 @@ fn give(queue: &mut Dual, wait: Option<Wait>, duty: Duty) -> Arrived
 {
     match wait {
         None => put(queue, duty),
-        Some(Wait::Now) => try_transfer(queue, duty),
-        Some(Wait::Forever) => transfer(queue, duty),
+        Some(wait) => transfer(queue, wait, duty),
     }
 }
 
-// Who takes arrives.
+// Who takes arrives: where no item is there it waits, or goes.
 fn receive(queue: &mut Dual, wait: Wait, duty: Duty) -> Arrived
     requires room { 0 < queue.old.room }
     requires above { IsAbove queue.old duty.place }
     ensures { Took queue.old queue.new (Some wait) duty result }
 {
-    match wait {
-        Wait::Now => poll(queue, duty),
-        Wait::Forever => take(queue, duty),
+    if lasts(wait) {
+        match queue.take(duty) {
+            Taken::Met(pair) => took(pair),
+            Taken::Parked => Arrived::alone(None),
+        }
+    } else {
+        match queue.try_take(duty) {
+            Tried::Met(pair) => took(pair),
+            Tried::Alone(duty) => Arrived::alone(Some(duty)),
+        }
     }
 }
 
@@ -242,7 +148,7 @@ impl Queues {
     /// The place of the oldest item of a queue.
     pub(crate) fn front(&self, queue: u64) -> Option<Place>
         requires { FitsQueue queue }
-        ensures { result ≡ slice_get (waiting_on self.now (Gives queue)) 0 }
+        ensures { result ≡ slice_get (places_of (queue_at self.now queue).givers) 0 }
     {
         self.queue(queue).front()
     }
@@ -250,56 +156,52 @@ impl Queues {
     /// How many items and how many consumers wait in a queue.
     pub(crate) fn count(&self, queue: u64) -> (usize, usize)
         requires { FitsQueue queue }
-        ensures items { result.0 ≡ length (waiting_on self.now (Gives queue)) }
-        ensures consumers { result.1 ≡ length (waiting_on self.now (Takes queue)) }
+        ensures items { result.0 ≡ length (queue_at self.now queue).givers }
+        ensures consumers { result.1 ≡ length (queue_at self.now queue).takers }
     {
         let dual = self.queue(queue);
         (dual.items(), dual.consumers())
     }
 
-    /// Makes room for an arrival of this side. Where a growth is refused nothing changes.
-    pub(crate) fn reserve(&mut self, side: Side) -> Result<(), NoMemory>
-        requires { FitsQueue (queue_of side) }
+    /// Makes room for an arrival in a queue. Where a growth is refused nothing changes.
+    pub(crate) fn reserve(&mut self, queue: u64) -> Result<(), NoMemory>
+        requires { FitsQueue queue }
         ensures same { SameQueues self.old self.new }
-        ensures room { OnOk result (HasRoomOn self.new side) }
+        ensures room { OnOk result (0 < (queue_at self.new queue).room) }
     {
-        match side {
-            Side::Gives(queue) | Side::Takes(queue) => self.queues[queue as usize].reserve(),
-            Side::Looks(_) => Ok(()),
-        }
+        self.queues[queue as usize].reserve()
     }
 
-    /// The request of a call arrives with its duty: it meets the oldest of the other side, which leaves its
-    /// queue; or, where nobody is there, waits behind the others of its side, if its wait lasts.
-    pub(crate) fn arrive(&mut self, call: &Call, duty: Duty) -> Arrived
-        requires fits { FitsQueue (queue_of (side_of call.now)) }
-        requires room { HasRoomOn self.old (side_of call.now) }
-        requires above { AreBelow self.old duty.place }
-        ensures { ArrivedOn self.old self.new (side_of call.now) (wait_of call.now) duty result }
+    /// Who gives arrives in a queue: it meets the oldest consumer, which leaves; or, where none is there,
+    /// waits behind the other items, if its wait lasts.
+    pub(crate) fn give(&mut self, queue: u64, wait: Option<Wait>, duty: Duty) -> Arrived
+        requires fits { FitsQueue queue }
+        requires room { 0 < (queue_at self.old queue).room }
+        requires above { IsAbove (queue_at self.old queue) duty.place }
+        ensures gave { Gave (queue_at self.old queue) (queue_at self.new queue) wait duty result }
+        ensures others { OnlyQueue queue self.old self.new }
     {
-        match call.side() {
-            Side::Gives(queue) => give(&mut self.queues[queue as usize], call.wait(), duty),
-            Side::Takes(queue) => match call.wait() {
-                Some(wait) => receive(&mut self.queues[queue as usize], wait, duty),
-                None => unreachable!(),
-            },
-            Side::Looks(_) => Arrived {
-                partner: None,
-                own: Some(duty),
-                other: None,
-            },
-        }
+        give(&mut self.queues[queue as usize], wait, duty)
     }
 
-    /// The request that waits at a place on this side leaves it, and gives its duty back.
-    pub(crate) fn withdraw(&mut self, side: Side, place: Place) -> Option<Duty>
-        requires { FitsQueue (queue_of side) }
-        ensures { Withdrew self.old self.new side place result }
+    /// Who takes arrives in a queue: it meets the oldest item, which leaves; or, where none is there, waits
+    /// behind the other consumers, if its wait lasts.
+    pub(crate) fn receive(&mut self, queue: u64, wait: Wait, duty: Duty) -> Arrived
+        requires fits { FitsQueue queue }
+        requires room { 0 < (queue_at self.old queue).room }
+        requires above { IsAbove (queue_at self.old queue) duty.place }
+        ensures took { Took (queue_at self.old queue) (queue_at self.new queue) (Some wait) duty result }
+        ensures others { OnlyQueue queue self.old self.new }
     {
-        match side {
-            Side::Gives(queue) => self.queues[queue as usize].withdraw(place),
-            Side::Takes(queue) => self.queues[queue as usize].withdraw(place),
-            Side::Looks(_) => None,
-        }
+        receive(&mut self.queues[queue as usize], wait, duty)
+    }
+
+    /// The request that waits at a place in a queue leaves it, and gives its duty back.
+    pub(crate) fn withdraw(&mut self, queue: u64, place: Place) -> Option<Duty>
+        requires { FitsQueue queue }
+        ensures withdrew { Withdraws (queue_at self.old queue) (queue_at self.new queue) place result }
+        ensures others { OnlyQueue queue self.old self.new }
+    {
+        self.queues[queue as usize].withdraw(place)
     }
 }

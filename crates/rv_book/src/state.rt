@@ -1,14 +1,19 @@
 //! The account with the tables that answer for it, and the steps that change them together.
-ghost use Rattle.std.specs.Prelude.{◌≡◌, ◌<◌, ◌≤◌, ◌+◌, [], None, Some, OnOk, OnErr, IfOk, IfErr, IfSome};
-ghost use Rattle.rv_text.specs.Calls.{queue_of};
-ghost use Rattle.rv_text.specs.Limits.{FitsCall, FitsIdentifier, FitsQueue};
-ghost use Rattle.rv_book.specs.Arriving.{GoesOn, IsCancelled, IsRecorded, WillReply, said_of};
+ghost use Rattle.std.specs.Prelude.{◌≡◌, ◌<◌, ◌≤◌, ◌+◌, [], None, Some, OnOk, OnErr, IfOk, IfErr, IfSome, true, false};
+ghost use Rattle.rv_text.specs.Limits.{FitsCall, FitsIdentifier, FitsMessage, FitsSide};
+ghost use Rattle.rv_book.specs.Arriving.{GoesOn, IsCancelled, IsRecorded, WillReply, entry, said_of};
+ghost use Rattle.rv_text.specs.Members.{FitsWait};
+ghost use Rattle.rv_due.specs.Deadlines.{AllAbove};
 ghost use Rattle.rv_book.specs.Calls.{need_of};
-ghost use Rattle.rv_book.specs.Tables.{partners_reply};
+ghost use Rattle.rv_book.specs.Elapsing.{deadline_after, without_deadline, without_duty};
+ghost use Rattle.rv_book.specs.Steps.{Adds, NextAt, Ticks, max_moment, step_moment};
+ghost use Rattle.rv_book.specs.Tables.{kept_at_once, partners_reply};
 
 use crate::account::{Account, Act};
-use crate::queues::{Arrived, Queues};
+use crate::arrived::{Arrived, lasts};
+use crate::stations::Stations;
 use crate::verdict::Said;
+use rv_due::Due;
 use rv_session::{Duty, Greeting, Kept, Place, Sessions, Standing};
 use rv_text::{Call, Key, Message, NoMemory, Refusal, Side, Wait};
 use std::alloc::Global;
@@ -23,9 +28,11 @@ pub const MAX_MOMENT: u64 = 4_611_686_018_427_387_904;
 pub(crate) struct State {
     account: Account,
     sessions: Sessions,
-    queues: Queues,
+    stations: Stations,
     // How many requests wait.
     waiting: usize,
+    // The limits of those that have one, with their places.
+    due: Due,
 }
 
 // How many entries a call may come to need: its own, and one that ends its wait.
@@ -35,8 +42,30 @@ fn needed(call: &Call) -> usize
 {
     match call.wait() {
         None => 1,
-        Some(Wait::Now) => 1,
-        Some(Wait::Forever) => 2,
+        Some(wait) => 1 + usize::from(lasts(wait)),
+    }
+}
+
+// The deadline of a wait that begins at a moment: its limit, if it has one and isn't over at once.
+fn deadline_after(moment: u64, wait: Option<Wait>) -> Option<u64>
+    requires moment { moment ≤ max_moment }
+    requires wait { IfSome wait FitsWait }
+    ensures { result ≡ deadline_after moment wait }
+{
+    match wait? {
+        Wait::Now => None,
+        Wait::Millis(millis) => (millis > 0).then_some(moment + millis),
+        Wait::Forever => None,
+    }
+}
+
+// What is kept as the reply of a request that met nobody and doesn't wait, where nobody being there has this reply.
+fn reply_at_once(wait: Wait, nobody: Kept) -> Kept
+    ensures { result ≡ kept_at_once wait nobody }
+{
+    match wait {
+        Wait::Millis(_) => Kept::TimedOut,
+        Wait::Now | Wait::Forever => nobody,
     }
 }
 
@@ -48,6 +77,7 @@ fn reply_to_partner(side: Side, place: Place) -> Kept
         Side::Gives(_) => Kept::Item(place),
         Side::Takes(_) => Kept::Received,
         Side::Looks(_) => Kept::Received,
+        Side::Exchanges(_) => Kept::Swapped(place),
     }
 }
 
@@ -55,15 +85,13 @@ impl State {
     ghost use Rattle.rv_text.specs.declared.message.Message.TheVariants as message;
     ghost use Rattle.rv_text.specs.declared.message.Message.TheVariants.{Request};
     ghost use Rattle.rv_text.specs.declared.answer.Answer.TheVariants.{Welcome};
-    ghost use Rattle.rv_text.specs.Limits.{FitsMessage};
     ghost use Rattle.rv_book.specs.declared.account.Act.TheVariants.{Hello, Arrive, Cancel};
-    ghost use Rattle.rv_book.specs.Account.{with_entry};
-    ghost use Rattle.rv_book.specs.Arriving.{entry};
-    ghost use Rattle.rv_book.specs.Legal.{KeepsTime};
-    ghost use Rattle.rv_book.specs.Waiting.{Waiting};
-    ghost use Rattle.rv_book.specs.Steps.{Adds, NextAt, max_moment, step_moment};
-    ghost use Rattle.rv_book.specs.Tables.{Becomes, Comes, EndsAt, EndsIf, HasRoomFor, HasSpace, IsDueIn};
-    ghost use Rattle.rv_book.specs.Tables.{IsReady};
+    ghost use Rattle.rv_book.specs.Ending.{EndedOne, IsEnding};
+    ghost use Rattle.rv_book.specs.Legal.{KeepsTime, NothingDue};
+    ghost use Rattle.rv_book.specs.Limits.{FitEntries};
+    ghost use Rattle.rv_book.specs.Waiting.{Waiting, limit_at};
+    ghost use Rattle.rv_book.specs.Tables.{Becomes, BecomesAfterTicks, Comes, EndsAt, EndsIf, HasRoomFor, HasSpace};
+    ghost use Rattle.rv_book.specs.Tables.{IsDueIn, IsPrepared, IsPushed, IsReady, IsTime, MayEnd, with_due};
     ghost use Rattle.rv_book.specs.Tables.{IsRefused, IsRepeat, IsSame, IsSound, MayRecord, NoEntryDue, Sees};
     ghost use Rattle.rv_book.specs.Tables.{SettlesIf, account_of};
     ghost use Rattle.rv_session.specs.Meanings.{HasLast, HasNext, IsNewer};
@@ -84,8 +112,9 @@ impl State {
         Ok(State {
             account: Account::empty(alloc, epoch, opened),
             sessions: Sessions::open(alloc, epoch),
-            queues: Queues::empty(alloc)?,
+            stations: Stations::empty(alloc)?,
             waiting: 0,
+            due: Due::new(alloc),
         })
     }
 
@@ -104,45 +133,36 @@ impl State {
     {
         match call {
             Call::Put { .. } => Kept::Done,
-            Call::Transfer { .. } => match partner {
+            Call::Transfer { wait, .. } => match partner {
                 Some(_) => Kept::Received,
-                None => Kept::Nobody,
+                None => reply_at_once(*wait, Kept::Nobody),
             },
-            Call::Take { .. } => match partner {
+            Call::Take { wait, .. } => match partner {
                 Some(place) => Kept::Item(place),
-                None => Kept::Empty,
+                None => reply_at_once(*wait, Kept::Empty),
+            },
+            Call::Swap { wait, .. } => match partner {
+                Some(place) => Kept::Swapped(place),
+                None => reply_at_once(*wait, Kept::TimedOut),
             },
             Call::Count { queue } => {
-                let (items, consumers) = self.queues.count(*queue);
+                let (items, consumers) = self.stations.count(*queue);
                 Kept::Counted { items, consumers }
             }
-            Call::Peek { queue } => match self.queues.front(*queue) {
+            Call::Peek { queue } => match self.stations.front(*queue) {
                 Some(place) => Kept::Peeked(place),
                 None => Kept::Empty,
             },
         }
     }
 
-    // Makes room in the queues for what an arrival adds to them. Where a growth is refused nothing changes.
-    fn reserve(&mut self, side: Option<Side>) -> Result<(), NoMemory>
-        requires { IfSome side (λ s. FitsQueue (queue_of s)) }
-        ensures account { self.new.account ≡ self.old.account }
-        ensures same { IsSame self.old self.new }
-        ensures room { OnOk result (HasRoomFor self.new side) }
-    {
-        match side {
-            Some(side) => self.queues.reserve(side),
-            None => Ok(()),
-        }
-    }
-
     // Tests the epoch's room for an entry that may need one more later, and makes all growths that the entry
-    // and the queues need. It changes nothing but room; what follows it can't fail, but for a new client's
+    // and its side need. It changes nothing but room; what follows it can't fail, but for a new client's
     // session.
     fn make_room(&mut self, need: usize, side: Option<Side>) -> Result<(), Refusal>
         requires sound { IsSound self.old }
         requires small { need ≤ 2 }
-        requires fits { IfSome side (λ s. FitsQueue (queue_of s)) }
+        requires fits { IfSome side FitsSide }
         ensures same { IsSame self.old self.new }
         ensures ok { OnOk result (IsReady self.old self.new need side) }
         ensures err { IfErr result (NoEntryDue (account_of self.old) need) }
@@ -152,21 +172,55 @@ impl State {
             return Err(Refusal::EpochFull);
         }
         self.account.reserve(more)?;
-        self.reserve(side)?;
+        if let Some(side) = side {
+            self.stations.reserve(side)?;
+        }
         Ok(())
     }
 
-    // Settles the request that a duty is for, if there is one.
+    // Takes the deadline out of the request that arrived at a place, if it has one.
+    fn forget(&mut self, place: Place)
+        requires { FitEntries (account_of self.old).entries }
+        ensures due { self.new.due
+            ≡ without_deadline (limit_at (account_of self.old).entries place) place self.old.due }
+        ensures rest { self.new ≡ with_due self.old self.new.due }
+    {
+        if let Some(limit) = self.account.limit(place) {
+            self.due.remove(limit, place);
+        }
+    }
+
+    // Settles the request that a duty is for, if there is one: it has this reply, and no deadline any more.
     fn settle(&mut self, duty: Option<Duty>, kept: Kept)
-        requires { IfSome duty (IsDueIn self.old.sessions) }
+        requires waits { IfSome duty (IsDueIn self.old.sessions) }
+        requires fit { FitEntries (account_of self.old).entries }
         ensures sessions { SettlesIf self.old.sessions self.new.sessions duty kept }
+        ensures due { self.new.due ≡ without_duty (account_of self.old).entries duty self.old.due }
         ensures account { self.new.account ≡ self.old.account }
-        ensures queues { self.new.queues ≡ self.old.queues }
+        ensures stations { self.new.stations ≡ self.old.stations }
         ensures waiting { self.new.waiting ≡ self.old.waiting }
     {
         if let Some(duty) = duty {
+            self.forget(duty.place());
             self.sessions.settle(duty, kept);
         }
+    }
+
+    // Makes all growths of a request that comes at a moment: of its entries, its queue and, where it may wait for some
+    // time, its deadline. What follows can't fail.
+    fn prepare(&mut self, moment: u64, call: &Call) -> Result<(), Refusal>
+        requires sound { IsSound self.old }
+        requires moment { moment ≤ max_moment }
+        requires fits { FitsCall call.now }
+        ensures ok { OnOk result (IsPrepared self.old self.new moment call.now) }
+        ensures same { OnErr result (IsSame self.old self.new) }
+        ensures err { IfErr result (NoEntryDue (account_of self.old) (need_of call.now)) }
+    {
+        self.make_room(needed(call), Some(call.side()))?;
+        if let Some(limit) = deadline_after(moment, call.wait()) {
+            self.due.add(limit, self.account.len())?;
+        }
+        Ok(())
     }
 
     // Records a request that has its session's next number, for which there is room, and gives its reply;
@@ -179,7 +233,7 @@ impl State {
         let place = self.account.len();
         let others = reply_to_partner(call.side(), place);
         let duty = self.sessions.begin(&key, place);
-        let arrived = self.queues.arrive(&call, duty);
+        let arrived = self.stations.arrive(&call, duty);
         let kept = self.reply_to(&call, arrived.partner);
         let told = arrived.told(kept);
         self.waiting = arrived.count(self.waiting);
@@ -207,8 +261,16 @@ impl State {
         ensures same { OnErr result (account_of self.new ≡ account_of self.old) }
         ensures err { IfErr result (NoEntryDue (account_of self.old) (need_of call)) }
     {
-        self.make_room(needed(&call), Some(call.side()))?;
+        self.prepare(moment, &call)?;
         Ok(self.record(moment, key, call))
+    }
+
+    // Records an entry that names no partner, for which there is room.
+    fn push(&mut self, moment: u64, act: Act)
+        requires { 0 < self.old.account.room }
+        ensures { IsPushed self.old self.new (entry moment act None) }
+    {
+        self.account.push(moment, act, None);
     }
 
     // What a request is told that arrived at a place, if it came with this call: the reply that is kept, or
@@ -250,15 +312,14 @@ impl State {
         }
     }
 
-    // Ends the request that waits at a place: it leaves its queue, and this is kept as its reply.
+    // Ends the request that waits at a place: it leaves its queue and the deadlines, and this is kept as its reply.
     fn end(&mut self, place: Place, kept: Kept)
-        requires sound { IsSound self.old }
-        requires waits { Waiting (account_of self.old).entries place }
+        requires { MayEnd self.old place }
         ensures account { self.new.account ≡ self.old.account }
         ensures ended { EndsAt self.old self.new place kept }
     {
         let side = self.account.call_of(place).side();
-        let duty = self.queues.withdraw(side, place);
+        let duty = self.stations.withdraw(side, place);
         self.settle(duty, kept);
         self.waiting -= 1;
     }
@@ -288,21 +349,8 @@ impl State {
     {
         self.make_room(1, None)?;
         self.sessions.bury(&key);
-        self.push_cancel(moment, key);
+        self.push(moment, Act::Cancel { key });
         Ok(())
-    }
-
-    // Records a cancel, for which there is room.
-    fn push_cancel(&mut self, moment: u64, key: Key)
-        requires { 0 < self.old.account.room }
-        ensures entry { account_of self.new
-            ≡ with_entry (account_of self.old) (entry moment (Cancel key) None) }
-        ensures room { self.old.account.room ≤ self.new.account.room + 1 }
-        ensures sessions { self.new.sessions ≡ self.old.sessions }
-        ensures queues { self.new.queues ≡ self.old.queues }
-        ensures waiting { self.new.waiting ≡ self.old.waiting }
-    {
-        self.account.push(moment, Act::Cancel { key }, None);
     }
 
     // Cancels the request that waits at a place. It takes no memory, and there is always room.
@@ -313,7 +361,7 @@ impl State {
         ensures cancelled { IsCancelled (account_of self.old) (account_of self.new) moment key }
     {
         self.end(place, Kept::Cancelled);
-        self.push_cancel(moment, key);
+        self.push(moment, Act::Cancel { key });
     }
 
     // Answers a cancel: ends the request that waits, tells the reply of a settled one, and settles one that
@@ -354,25 +402,14 @@ impl State {
     {
         self.make_room(1, None)?;
         self.sessions.enter(client, incarnation)?;
-        self.push_hello(moment, client, incarnation);
+        self.push(
+            moment,
+            Act::Hello {
+                client,
+                incarnation,
+            },
+        );
         Ok(())
-    }
-
-    // Records a hello, for which there is room.
-    fn push_hello(&mut self, moment: u64, client: u64, incarnation: u64)
-        requires { 0 < self.old.account.room }
-        ensures entry { account_of self.new
-            ≡ with_entry (account_of self.old) (entry moment (Hello client incarnation) None) }
-        ensures room { self.old.account.room ≤ self.new.account.room + 1 }
-        ensures sessions { self.new.sessions ≡ self.old.sessions }
-        ensures queues { self.new.queues ≡ self.old.queues }
-        ensures waiting { self.new.waiting ≡ self.old.waiting }
-    {
-        let hello = Act::Hello {
-            client,
-            incarnation,
-        };
-        self.account.push(moment, hello, None);
     }
 
     // Records a client's hello of a greater incarnation. The request that waits in its session, if one does,
@@ -396,7 +433,13 @@ impl State {
         self.make_room(1, None)?;
         self.end_if(waiting, Kept::Cancelled);
         self.sessions.enter(client, incarnation).unwrap();
-        self.push_hello(moment, client, incarnation);
+        self.push(
+            moment,
+            Act::Hello {
+                client,
+                incarnation,
+            },
+        );
         Ok(())
     }
 
@@ -428,16 +471,70 @@ impl State {
         self.account.own_moment().max(now.min(MAX_MOMENT))
     }
 
-    /// Takes one step with a message that came at a moment, and says what became of it.
+    // Ends the request with the least limit that is due at a moment, if there is one, and tells whether there was.
+    fn end_next(&mut self, moment: u64) -> bool
+        requires { IsEnding self.old moment }
+        ensures ending { IsEnding self.new moment }
+        ensures account { self.new.account ≡ self.old.account }
+        ensures one { result ≡ true → EndedOne self.old self.new moment }
+        ensures none { result ≡ false → (self.new ≡ self.old) × AllAbove self.old.due moment }
+    {
+        match self.due.pop_until(moment) {
+            Some((_, place)) => {
+                self.end(place, Kept::TimedOut);
+                true
+            }
+            None => false,
+        }
+    }
+
+    // Ends all requests that are due at a moment, one a turn, the least limit first.
+    fn end_due(&mut self, moment: u64)
+        requires { IsEnding self.old moment }
+        ensures ending { IsEnding self.new moment }
+        ensures account { self.new.account ≡ self.old.account }
+        ensures waiting { self.new.waiting ≤ self.old.waiting }
+        ensures all { AllAbove self.new.due moment }
+    {
+        while self.end_next(moment) {}
+    }
+
+    // Times out all requests that are due at a moment, by one tick; where none is, nothing changes. It takes no
+    // memory, and there is always room. Where nothing is due the least limit alone is looked at.
+    fn time_out(&mut self, moment: u64)
+        requires { IsTime self.old moment }
+        ensures time { IsTime self.new moment }
+        ensures nothing_due { NothingDue (account_of self.new).entries moment }
+        ensures ticks { Ticks (account_of self.old) moment (account_of self.new) }
+    {
+        if self.end_next(moment) {
+            self.end_due(moment);
+            self.push(moment, Act::Tick);
+        }
+    }
+
+    /// Takes one step with a message that came at a moment, and says what became of it: first it times out what
+    /// is due, and then the message is looked at.
     pub(crate) fn step(&mut self, now: u64, message: Message) -> Said
         requires sound { IsSound self.old }
         requires fits { FitsMessage message }
         ensures sound { IsSound self.new }
-        ensures step { Becomes (account_of self.old) (step_moment (account_of self.old) now) message
-            (account_of self.new) result }
+        ensures step { BecomesAfterTicks (account_of self.old) now message (account_of self.new) result }
+    {
+        let moment = self.moment_at(now);
+        self.time_out(moment);
+        self.take(moment, message)
+    }
+
+    // Takes the message's own step at a moment at which nothing is due, and says what became of it.
+    fn take(&mut self, moment: u64, message: Message) -> Said
+        requires time { IsTime self.old moment }
+        requires nothing_due { NothingDue (account_of self.old).entries moment }
+        requires fits { FitsMessage message }
+        ensures sound { IsSound self.new }
+        ensures step { Becomes (account_of self.old) moment message (account_of self.new) result }
     {
         let epoch = self.account.epoch();
-        let moment = self.moment_at(now);
         match message {
             Message::Hello {
                 client,

@@ -10,7 +10,7 @@ use Rattle.rv_text.specs.declared.answer.Answer.{Answer}
 use Rattle.rv_text.specs.declared.answer.Answer.TheVariants as answer
 use Rattle.rv_text.specs.Members.{whole, code_numbers}
 use Rattle.rv_text.specs.Rows.{reply_row, code_of, detail_row, answer_row}
-use Rattle.rv_text.specs.Reading.{whole_among, item_among}
+use Rattle.rv_text.specs.Reading.{◌>>=◌, whole_among, item_among}
 use Rattle.rv_text.specs.Reading.{key_among}
 use Rattle.rv_text.specs.Reading.{counted_among, reply_lines, reply_among, telling, refusal_lines, refusal_among, welcome_among, replied_among, waiting_among, refused_among, answer_lines, answer_among, answers}
 use Rattle.rv_text.proofs.Sound.{answer_sound}
@@ -30,6 +30,10 @@ module _ (ms : Members) where
       last_found HasReply (reply.Counted items consumers)
       (word, (whole_found ms (codes "items") items i, (whole_found ms (codes "consumers") consumers c, tt)))))
 
+  item_reply : (tells : List ℕ → Reply) → ((item : List ℕ) → Has ms (codes "item", string item) → HasReply (tells item))
+      → (reply : Reply) → (item_among ms >>= λ item. Some (tells item)) ≡ Some reply → HasReply reply
+  item_reply tells each = step_found HasReply (item_among ms) _ (λ item i. last_found HasReply (tells item) (each item (text_found ms (codes "item") item i)))
+
   reply_found : (reply : Reply) → reply_among ms ≡ Some reply → HasReply reply
   reply_found = among_found ms HasReply (codes "reply") reply_lines (
     (λ word. last_found HasReply reply.Done (word, tt)),
@@ -38,16 +42,19 @@ module _ (ms : Members) where
       (
         (λ word. last_found HasReply reply.Nobody (word, tt)),
         (
-          (λ word. step_found HasReply (item_among ms) _ (λ item i. last_found HasReply (reply.Item item) (word, (text_found ms (codes "item") item i, tt)))),
+          (λ word. item_reply (λ item. reply.Item item) (λ item i. (word, (i, tt)))),
           (
             (λ word. last_found HasReply reply.Empty (word, tt)),
             (
-              (λ word. last_found HasReply reply.Cancelled (word, tt)),
+              (λ word. item_reply (λ item. reply.Swapped item) (λ item i. (word, (i, tt)))),
               (
-                counted_found,
+                (λ word. last_found HasReply reply.TimedOut (word, tt)),
                 (
-                  (λ word. step_found HasReply (item_among ms) _ (λ item i. last_found HasReply (reply.Peeked item) (word, (text_found ms (codes "item") item i, tt)))),
-                  tt,
+                  (λ word. last_found HasReply reply.Cancelled (word, tt)),
+                  (
+                    counted_found,
+                    ((λ word. item_reply (λ item. reply.Peeked item) (λ item i. (word, (i, tt)))), tt),
+                  ),
                 ),
               ),
             ),
@@ -59,6 +66,7 @@ module _ (ms : Members) where
 
   find_reply : (reply : Reply) → HasReply reply → reply_among ms ≡ Some reply
   find_reply (reply.Item item) has = rw (has.0, has.1.0) refl
+  find_reply (reply.Swapped item) has = rw (has.0, has.1.0) refl
   find_reply (reply.Peeked item) has = rw (has.0, has.1.0) refl
   find_reply (reply.Counted items consumers) has = rw (has.0, has.1.0, has.1.1.0) refl
   find_reply _ has = rw has.0 refl

@@ -1,6 +1,6 @@
 -- A call or a message is found exactly where the members of its row are.
-use Rattle.std.proofs.Common.{◌≡◌, ℕ, List, [], ◌++◌, codes}
-use Rattle.std.proofs.Common.{Option, Some, refl}
+use Rattle.std.proofs.Common.{◌≡◌, ℕ, List, codes}
+use Rattle.std.proofs.Common.{Option, Some, None, refl}
 use Rattle.serde_json.specs.Data.{unsigned, number, string, Members}
 use Rattle.rv_text.specs.declared.message.Key.{Key}
 use Rattle.rv_text.specs.declared.message.Message.{Message}
@@ -9,9 +9,9 @@ use Rattle.rv_text.specs.declared.call.Wait.{Wait}
 use Rattle.rv_text.specs.declared.call.Wait.TheVariants as wait
 use Rattle.rv_text.specs.declared.call.Call.{Call}
 use Rattle.rv_text.specs.declared.call.Call.TheVariants as call
-use Rattle.rv_text.specs.Members.{Member}
-use Rattle.rv_text.specs.Rows.{key_row, wait_row, item_row, call_row, message_row}
-use Rattle.rv_text.specs.Reading.{◌>>=◌, whole_among, queue_among, item_among, wait_lines, wait_among}
+use Rattle.rv_text.specs.Members.{wait_value}
+use Rattle.rv_text.specs.Rows.{key_row, call_row, message_row}
+use Rattle.rv_text.specs.Reading.{◌>>=◌, whole_among, queue_among, item_among, wait_lines, wait_word_among, by_number, wait_among}
 use Rattle.rv_text.specs.Reading.{key_among, hello_among, request_among, cancel_among, call_lines, call_among, message_lines, message_among}
 use Rattle.rv_text.specs.Reading.{messages, calls}
 use Rattle.rv_text.proofs.Sound.{call_sound, message_sound}
@@ -35,23 +35,30 @@ module _ (ms : Members) where
   pub find_key : (key : Key) → HasKey key → key_among ms ≡ Some key
   find_key key has = rw (has.0, has.1.0, has.1.1.0, has.1.1.1.0) refl
 
-  wait_found : (w : Wait) → wait_among ms ≡ Some w → HasRow ms (wait_row (Some w))
-  wait_found = among_found ms (λ w. HasRow ms (wait_row (Some w))) (codes "wait") wait_lines (
-    (λ word. last_found (λ w. HasRow ms (wait_row (Some w))) wait.Now (word, tt)),
-    ((λ word. last_found (λ w. HasRow ms (wait_row (Some w))) wait.Forever (word, tt)), tt),
+  -- how long it may wait is told there
+  abbrev HasWait : Wait → Type 0
+  HasWait w = Has ms (codes "wait", wait_value w)
+
+  wait_word_found : (w : Wait) → wait_word_among ms ≡ Some w → HasWait w
+  wait_word_found = among_found ms HasWait (codes "wait") wait_lines (
+    (λ word. last_found HasWait wait.Now word),
+    ((λ word. last_found HasWait wait.Forever word), tt),
   )
+
+  wait_told : (millis : Option ℕ) → whole_among (codes "wait") ms ≡ millis → (w : Wait) → by_number (λ n. wait.Millis n) millis (wait_word_among ms) ≡ Some w → HasWait w
+  wait_told (Some millis) is = last_found HasWait (wait.Millis millis) (whole_found ms (codes "wait") millis is)
+  wait_told None is = wait_word_found
+
+  wait_found : (w : Wait) → wait_among ms ≡ Some w → HasWait w
+  wait_found = wait_told (whole_among (codes "wait") ms) refl
 
   abbrev HasCall : Call → Type 0
   HasCall call = HasRow ms (call_row call)
 
-  -- a wait stands before the rest of a call's members
-  wait_before : (w : Wait) (row : List Member) → wait_among ms ≡ Some w → HasRow ms row → HasRow ms (wait_row (Some w) ++ row)
-  wait_before wait.Now row e rest = ((wait_found wait.Now e).0, rest)
-  wait_before wait.Forever row e rest = ((wait_found wait.Forever e).0, rest)
-
-  find_wait : (w : Wait) (row : List Member) → HasRow ms (wait_row (Some w) ++ row) → (wait_among ms ≡ Some w) × HasRow ms row
-  find_wait wait.Now row has = (rw has.0 refl, has.1)
-  find_wait wait.Forever row has = (rw has.0 refl, has.1)
+  find_wait : (w : Wait) → HasWait w → wait_among ms ≡ Some w
+  find_wait wait.Now has = rw has refl
+  find_wait (wait.Millis millis) has = rw has refl
+  find_wait wait.Forever has = rw has refl
 
   queue_step : (next : ℕ → Option Call) → ((queue : ℕ) → Has ms (codes "queue", number (unsigned queue)) → (call : Call) → next queue ≡ Some call → HasCall call)
       → (call : Call) → (queue_among ms >>= next) ≡ Some call → HasCall call
@@ -61,16 +68,24 @@ module _ (ms : Members) where
       → (call : Call) → (item_among ms >>= next) ≡ Some call → HasCall call
   item_step next each = step_found HasCall (item_among ms) next (λ item i. each item (text_found ms (codes "item") item i))
 
+  wait_step : (next : Wait → Option Call) → ((w : Wait) → HasWait w → (call : Call) → next w ≡ Some call → HasCall call)
+      → (call : Call) → (wait_among ms >>= next) ≡ Some call → HasCall call
+  wait_step next each = step_found HasCall (wait_among ms) next (λ w is. each w (wait_found w is))
+
   call_found : (call : Call) → call_among ms ≡ Some call → HasCall call
   call_found = among_found ms HasCall (codes "call") call_lines (
     (λ word. queue_step _ (λ queue q. item_step _ (λ item i. last_found HasCall (call.Put queue item) (word, (q, (i, tt)))))),
     (
-      (λ word. queue_step _ (λ queue q. item_step _ (λ item i. step_found HasCall (wait_among ms) _ (λ w is. last_found HasCall (call.Transfer queue item w) (word, (q, wait_before w (item_row (Some item)) is (i, tt))))))),
+      (λ word. queue_step _ (λ queue q. item_step _ (λ item i. wait_step _ (λ w is. last_found HasCall (call.Transfer queue item w) (word, (q, (is, (i, tt)))))))),
       (
-        (λ word. queue_step _ (λ queue q. step_found HasCall (wait_among ms) _ (λ w is. last_found HasCall (call.Take queue w) (word, (q, wait_before w [] is tt))))),
+        (λ word. queue_step _ (λ queue q. wait_step _ (λ w is. last_found HasCall (call.Take queue w) (word, (q, (is, tt)))))),
         (
-          (λ word. queue_step _ (λ queue q. last_found HasCall (call.Count queue) (word, (q, tt)))),
-          ((λ word. queue_step _ (λ queue q. last_found HasCall (call.Peek queue) (word, (q, tt)))), tt),
+          (λ word. step_found HasCall (whole_among (codes "exchanger") ms) _ (λ exchanger e. item_step _ (λ item i. wait_step _ (λ w is.
+              last_found HasCall (call.Swap exchanger item w) (word, (whole_found ms (codes "exchanger") exchanger e, (is, (i, tt)))))))),
+          (
+            (λ word. queue_step _ (λ queue q. last_found HasCall (call.Count queue) (word, (q, tt)))),
+            ((λ word. queue_step _ (λ queue q. last_found HasCall (call.Peek queue) (word, (q, tt)))), tt),
+          ),
         ),
       ),
     ),
@@ -79,9 +94,10 @@ module _ (ms : Members) where
   find_call : (call : Call) → HasCall call → call_among ms ≡ Some call
   find_call (call.Put queue item) has = rw (has.0, has.1.0, has.1.1.0) refl
   find_call (call.Transfer queue item w) has =
-      let waits = find_wait w (item_row (Some item)) has.1.1 in
-      rw (has.0, has.1.0, waits.0, waits.1.0) refl
-  find_call (call.Take queue w) has = rw (has.0, has.1.0, (find_wait w [] has.1.1).0) refl
+      rw (has.0, has.1.0, find_wait w has.1.1.0, has.1.1.1.0) refl
+  find_call (call.Take queue w) has = rw (has.0, has.1.0, find_wait w has.1.1.0) refl
+  find_call (call.Swap exchanger item w) has =
+      rw (has.0, has.1.0, find_wait w has.1.1.0, has.1.1.1.0) refl
   find_call (call.Count queue) has = rw (has.0, has.1.0) refl
   find_call (call.Peek queue) has = rw (has.0, has.1.0) refl
 

@@ -4,8 +4,8 @@ use Rattle.rv_text.specs.declared.message.Key.{Key}
 use Rattle.rv_text.specs.declared.message.Message.{Message}
 use Rattle.rv_text.specs.declared.message.Message.TheVariants as message
 use Rattle.rv_text.specs.declared.call.Wait.{Wait}
-use Rattle.rv_text.specs.declared.call.Wait.TheVariants as wait
 use Rattle.rv_text.specs.declared.call.Side.{Side}
+use Rattle.rv_text.specs.declared.call.Side.TheVariants as side
 use Rattle.rv_text.specs.declared.call.Call.{Call}
 use Rattle.rv_text.specs.declared.call.Call.TheVariants as call
 use Rattle.rv_text.specs.declared.answer.Reply.{Reply}
@@ -16,7 +16,7 @@ use Rattle.rv_text.specs.declared.answer.Answer.{Answer}
 use Rattle.rv_text.specs.declared.answer.Answer.TheVariants as answer
 use Rattle.rv_text.specs.Calls.{Nature, nature_of, item_of}
 use Rattle.rv_text.specs.Members.{Member, word, field_of, members_of, Keeps, code_numbers, IsWithin}
-use Rattle.rv_text.specs.Rows.{key_row, wait_row, item_row, nature_row, call_row, message_row, reply_row, code_of, detail_row, answer_row}
+use Rattle.rv_text.specs.Rows.{key_row, side_row, wait_row, item_row, nature_row, call_row, message_row, reply_row, code_of, detail_row, answer_row}
 use Rattle.rv_text.specs.Limits.{FitsKey, FitsMessage, FitsAnswer}
 use Rattle.rv_text.specs.Bodies.{HasUtf8, ReplyHasUtf8, AnswerHasUtf8}
 use Rattle.rv_text.proofs.Objects.{are_distinct}
@@ -45,21 +45,25 @@ request_row key nature = word (codes "kind") (codes "request") ∷ (key_row key 
 
 request_sound : (key : Key) (name : List ℕ) (at : Side) (waits : Option Wait) (gives : Option (List ℕ)) → is_plain_word name ≡ true
     → IsSound (request_row key (record { word = name; side = at; wait = waits; item = gives }))
-request_sound key name at None None plain = record { distinct = refl; plain = rw plain refl; room = omega arith; in_order = refl }
-request_sound key name at None (Some item) plain = record { distinct = refl; plain = rw plain refl; room = omega arith; in_order = refl }
-request_sound key name at (Some wait.Now) None plain = record { distinct = refl; plain = rw plain refl; room = omega arith; in_order = refl }
-request_sound key name at (Some wait.Now) (Some item) plain = record { distinct = refl; plain = rw plain refl; room = omega arith; in_order = refl }
-request_sound key name at (Some wait.Forever) None plain = record { distinct = refl; plain = rw plain refl; room = omega arith; in_order = refl }
-request_sound key name at (Some wait.Forever) (Some item) plain = record { distinct = refl; plain = rw plain refl; room = omega arith; in_order = refl }
+request_sound key name (side.Exchanges exchanger) None None plain = record { distinct = refl; plain = rw plain refl; room = omega arith; in_order = refl }
+request_sound key name _ None None plain = record { distinct = refl; plain = rw plain refl; room = omega arith; in_order = refl }
+request_sound key name (side.Exchanges exchanger) None (Some item) plain = record { distinct = refl; plain = rw plain refl; room = omega arith; in_order = refl }
+request_sound key name _ None (Some item) plain = record { distinct = refl; plain = rw plain refl; room = omega arith; in_order = refl }
+request_sound key name (side.Exchanges exchanger) (Some waits) None plain = record { distinct = refl; plain = rw plain refl; room = omega arith; in_order = refl }
+request_sound key name _ (Some waits) None plain = record { distinct = refl; plain = rw plain refl; room = omega arith; in_order = refl }
+request_sound key name (side.Exchanges exchanger) (Some waits) (Some item) plain = record { distinct = refl; plain = rw plain refl; room = omega arith; in_order = refl }
+request_sound key name _ (Some waits) (Some item) plain = record { distinct = refl; plain = rw plain refl; room = omega arith; in_order = refl }
 
 call_parts_sound : (name : List ℕ) (at : Side) (waits : Option Wait) (gives : Option (List ℕ)) → is_plain_word name ≡ true
     → IsSound (nature_row (record { word = name; side = at; wait = waits; item = gives }))
-call_parts_sound name at None None plain = record { distinct = refl; plain = rw plain refl; room = omega arith; in_order = refl }
-call_parts_sound name at None (Some item) plain = record { distinct = refl; plain = rw plain refl; room = omega arith; in_order = refl }
-call_parts_sound name at (Some wait.Now) None plain = record { distinct = refl; plain = rw plain refl; room = omega arith; in_order = refl }
-call_parts_sound name at (Some wait.Now) (Some item) plain = record { distinct = refl; plain = rw plain refl; room = omega arith; in_order = refl }
-call_parts_sound name at (Some wait.Forever) None plain = record { distinct = refl; plain = rw plain refl; room = omega arith; in_order = refl }
-call_parts_sound name at (Some wait.Forever) (Some item) plain = record { distinct = refl; plain = rw plain refl; room = omega arith; in_order = refl }
+call_parts_sound name (side.Exchanges exchanger) None None plain = record { distinct = refl; plain = rw plain refl; room = omega arith; in_order = refl }
+call_parts_sound name _ None None plain = record { distinct = refl; plain = rw plain refl; room = omega arith; in_order = refl }
+call_parts_sound name (side.Exchanges exchanger) None (Some item) plain = record { distinct = refl; plain = rw plain refl; room = omega arith; in_order = refl }
+call_parts_sound name _ None (Some item) plain = record { distinct = refl; plain = rw plain refl; room = omega arith; in_order = refl }
+call_parts_sound name (side.Exchanges exchanger) (Some waits) None plain = record { distinct = refl; plain = rw plain refl; room = omega arith; in_order = refl }
+call_parts_sound name _ (Some waits) None plain = record { distinct = refl; plain = rw plain refl; room = omega arith; in_order = refl }
+call_parts_sound name (side.Exchanges exchanger) (Some waits) (Some item) plain = record { distinct = refl; plain = rw plain refl; room = omega arith; in_order = refl }
+call_parts_sound name _ (Some waits) (Some item) plain = record { distinct = refl; plain = rw plain refl; room = omega arith; in_order = refl }
 
 pub call_sound : (call : Call) → IsSound (call_row call)
 call_sound call =
@@ -78,13 +82,16 @@ key_within key row fits rest = (fits.0, (fits.1, (fits.2, (fits.3, rest))))
 
 pub message_within : (message : Message) → FitsMessage message → Each IsWithin (message_row message)
 message_within (message.Hello client incarnation) fits = (tt, (fits.0, (fits.1, tt)))
-message_within (message.Request key call) fits = (tt, key_within key (call_row call) fits.0 (each_within (call_row call) fits.1))
+message_within (message.Request key call) fits = (tt, key_within key (call_row call) fits.0 (each_within (call_row call) fits.1.0))
 message_within (message.Cancel key) fits = (tt, key_within key [] fits tt)
+
+side_text : (at : Side) → Each IsText (side_row at)
+side_text (side.Exchanges exchanger) = (tt, tt)
+side_text _ = (tt, tt)
 
 wait_text : (waits : Option Wait) → Each IsText (wait_row waits)
 wait_text None = tt
-wait_text (Some wait.Now) = (tt, tt)
-wait_text (Some wait.Forever) = (tt, tt)
+wait_text (Some waits) = (tt, tt)
 
 item_is_text : (gives : Option (List ℕ)) → IfSome gives IsUtf8 → Each IsText (item_row gives)
 item_is_text None utf8 = tt
@@ -93,7 +100,8 @@ item_is_text (Some bytes) utf8 = (utf8, tt)
 call_text : (call : Call) → IfSome (item_of call) IsUtf8 → Each IsText (call_row call)
 call_text call utf8 =
     let n = nature_of call in
-    (tt, (tt, Each-append IsText (wait_row n.wait) _ (wait_text n.wait) (item_is_text n.item utf8)))
+    let rest = Each-append IsText (wait_row n.wait) (item_row n.item) (wait_text n.wait) (item_is_text n.item utf8) in
+    (tt, Each-append IsText (side_row n.side) (wait_row n.wait ++ item_row n.item) (side_text n.side) rest)
 
 pub message_has_text : (message : Message) → HasUtf8 message → Each IsText (message_row message)
 message_has_text (message.Hello client incarnation) utf8 = (tt, (tt, (tt, tt)))
@@ -128,6 +136,7 @@ answer_within (answer.Refused refusal) fits = (tt, (code_within refusal, each_wi
 
 reply_text : (reply : Reply) → ReplyHasUtf8 reply → Each IsText (reply_row reply)
 reply_text (reply.Item item) utf8 = (tt, (utf8, tt))
+reply_text (reply.Swapped item) utf8 = (tt, (utf8, tt))
 reply_text (reply.Peeked item) utf8 = (tt, (utf8, tt))
 reply_text (reply.Counted items consumers) utf8 = (tt, (tt, (tt, tt)))
 reply_text _ utf8 = (tt, tt)

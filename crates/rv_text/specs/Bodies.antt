@@ -67,6 +67,7 @@ HasUtf8 (message.Cancel key) = Unit {0}
 -- the same of an answer
 abbrev pub ReplyHasUtf8 : Reply → Type 0
 ReplyHasUtf8 (reply.Item item) = IsUtf8 item
+ReplyHasUtf8 (reply.Swapped item) = IsUtf8 item
 ReplyHasUtf8 (reply.Peeked item) = IsUtf8 item
 ReplyHasUtf8 _ = Unit {0}
 

@@ -2,6 +2,7 @@
 -- these.
 use Rattle.std.specs.Prelude.{ℕ, List, codes, Option, Some, None}
 use Rattle.rv_text.specs.declared.call.Wait.{Wait}
+use Rattle.rv_text.specs.declared.call.Wait.TheVariants as wait
 use Rattle.rv_text.specs.declared.call.Side.{Side}
 use Rattle.rv_text.specs.declared.call.Side.TheVariants as side
 use Rattle.rv_text.specs.declared.call.Call.{Call}
@@ -24,6 +25,8 @@ nature_of (call.Transfer queue item wait) =
     record { word = codes "transfer"; side = side.Gives queue; wait = Some wait; item = Some item }
 nature_of (call.Take queue wait) =
     record { word = codes "take"; side = side.Takes queue; wait = Some wait; item = None }
+nature_of (call.Swap exchanger item wait) =
+    record { word = codes "swap"; side = side.Exchanges exchanger; wait = Some wait; item = Some item }
 nature_of (call.Count queue) =
     record { word = codes "count"; side = side.Looks queue; wait = None; item = None }
 nature_of (call.Peek queue) =
@@ -32,14 +35,13 @@ nature_of (call.Peek queue) =
 abbrev pub side_of : Call → Side
 side_of call = (nature_of call).side
 
--- the queue at which it acts
-abbrev pub queue_of : Side → ℕ
-queue_of (side.Gives queue) = queue
-queue_of (side.Takes queue) = queue
-queue_of (side.Looks queue) = queue
-
 abbrev pub wait_of : Call → Option Wait
 wait_of call = (nature_of call).wait
+
+-- which waits a side has: who exchanges, waits at least 0 milliseconds
+abbrev pub MayWait : Side → Option Wait → Type 0
+MayWait (side.Exchanges exchanger) (Some wait.Now) = ⊥
+MayWait _ _ = Unit {0}
 
 abbrev pub item_of : Call → Option (List ℕ)
 item_of call = (nature_of call).item

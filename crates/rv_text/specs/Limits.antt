@@ -3,14 +3,16 @@ use Rattle.std.specs.Prelude.{ℕ}
 use Rattle.rv_text.specs.declared.message.Key.{Key}
 use Rattle.rv_text.specs.declared.message.Message.{Message}
 use Rattle.rv_text.specs.declared.message.Message.TheVariants as message
+use Rattle.rv_text.specs.declared.call.Side.{Side}
 use Rattle.rv_text.specs.declared.call.Call.{Call}
 use Rattle.rv_text.specs.declared.answer.Reply.{Reply}
 use Rattle.rv_text.specs.declared.answer.Refusal.{Refusal}
 use Rattle.rv_text.specs.declared.answer.Answer.{Answer}
 use Rattle.rv_text.specs.declared.answer.Answer.TheVariants as answer
 use Rattle.rv_text.specs.Members as members
-pub use Rattle.rv_text.specs.Members.{FitsItem}
-use Rattle.rv_text.specs.Rows.{call_row, reply_row, detail_row}
+pub use Rattle.rv_text.specs.Members.{FitsItem, FitsWait}
+use Rattle.rv_text.specs.Calls.{side_of, wait_of, MayWait}
+use Rattle.rv_text.specs.Rows.{side_row, call_row, reply_row, detail_row}
 
 abbrev pub FitsIdentifier : ℕ → Type 0
 FitsIdentifier n = members.Keeps members.identifiers n
@@ -28,8 +30,12 @@ FitsKey key =
     FitsIdentifier key.incarnation ×
     FitsIdentifier key.number
 
+-- its queue's or exchanger's number
+abbrev pub FitsSide : Side → Type 0
+FitsSide side = members.AllWithin (side_row side)
+
 abbrev pub FitsCall : Call → Type 0
-FitsCall call = members.AllWithin (call_row call)
+FitsCall call = members.AllWithin (call_row call) × MayWait (side_of call) (wait_of call)
 
 abbrev pub FitsMessage : Message → Type 0
 FitsMessage (message.Hello client incarnation) =

@@ -1,6 +1,8 @@
 -- The kinds of members that a body is made of: the JSON value and the limit of each kind.
-use Rattle.std.specs.Prelude.{ℕ, ◌≤◌, List, [], ◌∷◌, length, map}
+use Rattle.std.specs.Prelude.{ℕ, ◌≤◌, List, [], ◌∷◌, length, map, codes}
 use Rattle.serde_json.specs.Data.{Data, number, unsigned, string, object, Members, no_members, put}
+use Rattle.rv_text.specs.declared.call.Wait.{Wait}
+use Rattle.rv_text.specs.declared.call.Wait.TheVariants as wait
 
 -- ---- limits
 
@@ -30,6 +32,18 @@ last_numbers = up_to max_identifier
 abbrev pub queue_numbers : Limit
 queue_numbers = up_to 63
 
+abbrev pub exchanger_numbers : Limit
+exchanger_numbers = up_to 63
+
+-- the milliseconds of a wait
+abbrev pub wait_numbers : Limit
+wait_numbers = up_to 86400000
+
+abbrev pub FitsWait : Wait → Type 0
+FitsWait wait.Now = Unit {0}
+FitsWait (wait.Millis millis) = Keeps wait_numbers millis
+FitsWait wait.Forever = Unit {0}
+
 -- how many items, or consumers, there are
 abbrev pub counted_numbers : Limit
 counted_numbers = up_to 100000
@@ -52,20 +66,29 @@ pub data Member : Type 0 where
   whole : List ℕ → Limit → ℕ → Member
   -- an item's text
   item_text : List ℕ → List ℕ → Member
+  -- how long a request may wait: a word, or its milliseconds
+  wait_time : List ℕ → Wait → Member
 
 -- its name and its JSON value
 abbrev pub Field : Type 0
 Field = List ℕ × Data
 
+abbrev pub wait_value : Wait → Data
+wait_value wait.Now = string (codes "now")
+wait_value (wait.Millis millis) = number (unsigned millis)
+wait_value wait.Forever = string (codes "forever")
+
 abbrev pub field_of : Member → Field
 field_of (word name bytes) = (name, string bytes)
 field_of (whole name limit n) = (name, number (unsigned n))
 field_of (item_text name bytes) = (name, string bytes)
+field_of (wait_time name waits) = (name, wait_value waits)
 
 abbrev pub IsWithin : Member → Type 0
 IsWithin (word name bytes) = Unit {0}
 IsWithin (whole name limit n) = Keeps limit n
 IsWithin (item_text name bytes) = FitsItem bytes
+IsWithin (wait_time name waits) = FitsWait waits
 
 -- ---- rows of members
 
@@ -75,6 +98,7 @@ limited [] = []
 limited (word name bytes ∷ row) = limited row
 limited (whole name limit n ∷ row) = whole name limit n ∷ limited row
 limited (item_text name bytes ∷ row) = item_text name bytes ∷ limited row
+limited (wait_time name waits ∷ row) = wait_time name waits ∷ limited row
 
 abbrev pub WithinFrom : Member → List Member → Type 0
 WithinFrom member [] = IsWithin member

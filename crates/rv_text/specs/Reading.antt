@@ -109,8 +109,17 @@ item_among = text_among (codes "item")
 abbrev pub wait_lines : List (Line (List ℕ) Wait)
 wait_lines = (codes "now", λ ms. Some wait.Now) ∷ (codes "forever", λ ms. Some wait.Forever) ∷ []
 
+abbrev pub wait_word_among : Members → Option Wait
+wait_word_among members = among (codes "wait") wait_lines members
+
+-- what is found by its number, or else by its word
+abbrev pub by_number : {A : Type 0} → (ℕ → A) → Option ℕ → Option A → Option A
+by_number is (Some n) by_word = Some (is n)
+by_number is None by_word = by_word
+
 abbrev pub wait_among : Members → Option Wait
-wait_among members = among (codes "wait") wait_lines members
+wait_among members =
+    by_number (λ millis. wait.Millis millis) (whole_among (codes "wait") members) (wait_word_among members)
 
 abbrev pub key_among : Members → Option Key
 key_among members = do
@@ -127,11 +136,19 @@ transfer_among members = do
   wait ← wait_among members
   Some (call.Transfer queue item wait)
 
+abbrev pub swap_among : Members → Option Call
+swap_among members = do
+  exchanger ← whole_among (codes "exchanger") members
+  item ← item_among members
+  wait ← wait_among members
+  Some (call.Swap exchanger item wait)
+
 abbrev pub call_lines : List (Line (List ℕ) Call)
 call_lines =
     (codes "put", λ ms. queue_among ms >>= λ queue. item_among ms >>= λ item. Some (call.Put queue item)) ∷
     (codes "transfer", transfer_among) ∷
     (codes "take", λ ms. queue_among ms >>= λ queue. wait_among ms >>= λ wait. Some (call.Take queue wait)) ∷
+    (codes "swap", swap_among) ∷
     (codes "count", λ ms. queue_among ms >>= λ queue. Some (call.Count queue)) ∷
     (codes "peek", λ ms. queue_among ms >>= λ queue. Some (call.Peek queue)) ∷
     []
@@ -176,6 +193,8 @@ reply_lines =
     (codes "nobody", λ ms. Some reply.Nobody) ∷
     (codes "item", λ ms. item_among ms >>= λ item. Some (reply.Item item)) ∷
     (codes "empty", λ ms. Some reply.Empty) ∷
+    (codes "swapped", λ ms. item_among ms >>= λ item. Some (reply.Swapped item)) ∷
+    (codes "timedout", λ ms. Some reply.TimedOut) ∷
     (codes "cancelled", λ ms. Some reply.Cancelled) ∷
     (codes "counted", counted_among) ∷
     (codes "peeked", λ ms. item_among ms >>= λ item. Some (reply.Peeked item)) ∷

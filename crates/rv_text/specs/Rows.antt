@@ -4,8 +4,8 @@ use Rattle.rv_text.specs.declared.message.Key.{Key}
 use Rattle.rv_text.specs.declared.message.Message.{Message}
 use Rattle.rv_text.specs.declared.message.Message.TheVariants as message
 use Rattle.rv_text.specs.declared.call.Wait.{Wait}
-use Rattle.rv_text.specs.declared.call.Wait.TheVariants as wait
 use Rattle.rv_text.specs.declared.call.Side.{Side}
+use Rattle.rv_text.specs.declared.call.Side.TheVariants as side
 use Rattle.rv_text.specs.declared.call.Call.{Call}
 use Rattle.rv_text.specs.declared.answer.Reply.{Reply}
 use Rattle.rv_text.specs.declared.answer.Reply.TheVariants as reply
@@ -13,8 +13,8 @@ use Rattle.rv_text.specs.declared.answer.Refusal.{Refusal}
 use Rattle.rv_text.specs.declared.answer.Refusal.TheVariants as refusal
 use Rattle.rv_text.specs.declared.answer.Answer.{Answer}
 use Rattle.rv_text.specs.declared.answer.Answer.TheVariants as answer
-use Rattle.rv_text.specs.Calls.{Nature, nature_of, queue_of}
-use Rattle.rv_text.specs.Members.{Member, word, whole, item_text}
+use Rattle.rv_text.specs.Calls.{Nature, nature_of}
+use Rattle.rv_text.specs.Members.{Member, word, whole, item_text, wait_time}
 use Rattle.rv_text.specs.Members as members
 
 -- ---- members by name
@@ -41,13 +41,18 @@ key_row key =
     identifier (codes "number") key.number ∷
     []
 
+abbrev at_queue : ℕ → List Member
+at_queue queue = whole (codes "queue") members.queue_numbers queue ∷ []
+
 abbrev pub side_row : Side → List Member
-side_row side = whole (codes "queue") members.queue_numbers (queue_of side) ∷ []
+side_row (side.Gives queue) = at_queue queue
+side_row (side.Takes queue) = at_queue queue
+side_row (side.Looks queue) = at_queue queue
+side_row (side.Exchanges exchanger) = whole (codes "exchanger") members.exchanger_numbers exchanger ∷ []
 
 abbrev pub wait_row : Option Wait → List Member
 wait_row None = []
-wait_row (Some wait.Now) = word (codes "wait") (codes "now") ∷ []
-wait_row (Some wait.Forever) = word (codes "wait") (codes "forever") ∷ []
+wait_row (Some waits) = wait_time (codes "wait") waits ∷ []
 
 abbrev pub item_row : Option (List ℕ) → List Member
 item_row None = []
@@ -79,6 +84,8 @@ reply_row reply.Received = word (codes "reply") (codes "received") ∷ []
 reply_row reply.Nobody = word (codes "reply") (codes "nobody") ∷ []
 reply_row (reply.Item bytes) = word (codes "reply") (codes "item") ∷ item bytes ∷ []
 reply_row reply.Empty = word (codes "reply") (codes "empty") ∷ []
+reply_row (reply.Swapped bytes) = word (codes "reply") (codes "swapped") ∷ item bytes ∷ []
+reply_row reply.TimedOut = word (codes "reply") (codes "timedout") ∷ []
 reply_row reply.Cancelled = word (codes "reply") (codes "cancelled") ∷ []
 reply_row (reply.Counted items consumers) =
     word (codes "reply") (codes "counted") ∷

@@ -22,6 +22,10 @@ pub enum Reply {
     Item(Item),
     /// A take that does not wait, or a peek, found no item.
     Empty,
+    /// A swap got this item, for its own.
+    Swapped(Item),
+    /// The request's wait ended, and it had met nobody.
+    TimedOut,
     /// The request waited and was ended, by a cancel or by its client's hello of a greater incarnation.
     Cancelled,
     /// How many items wait in the queue, those of puts and of transfers, and how many consumers: 0 to
@@ -80,6 +84,7 @@ impl Reply {
         match self {
             Reply::Counted { .. } => 3,
             Reply::Item(_) => 2,
+            Reply::Swapped(_) => 2,
             Reply::Peeked(_) => 2,
             _ => 1,
         }
@@ -91,6 +96,7 @@ impl Reply {
     {
         match self {
             Reply::Item(item) => item.fits(),
+            Reply::Swapped(item) => item.fits(),
             Reply::Peeked(item) => item.fits(),
             Reply::Counted { items, consumers } => {
                 *items <= MAX_COUNTED && *consumers <= MAX_COUNTED

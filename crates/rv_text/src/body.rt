@@ -6,7 +6,8 @@ ghost use Rattle.rv_text.specs.Bodies.{HasBodyLength, Reads, IsNotJson};
 ghost use Rattle.rv_text.specs.Reading.{FindsAmong, Unread, Shape, FindsAlone, FindsIn};
 
 use crate::fault::TextFault;
-use serde_json::{Map, Value};
+use crate::members::Members;
+use serde_json::Value;
 use std::alloc::Global;
 
 /// The most bytes that a body has; the least is 1.
@@ -18,7 +19,7 @@ pub(crate) trait Body: Drop {
     ghost shape: { Shape Self };
 
     /// Reads it, whatever other members stand beside, and whatever the limits.
-    fn read(alloc: Global, members: &Map<String, Value>) -> Result<Self, TextFault>
+    fn read(alloc: Global, members: &Members) -> Result<Self, TextFault>
         ensures { FindsAmong members.now result shape.found };
 
     /// How many members it has.
@@ -41,7 +42,7 @@ pub(crate) fn decode<B: Body>(alloc: Global, bytes: &[u8]) -> Result<B, TextFaul
 
 // The value that is found among the members, where they are no more than its own and within its limits.
 #[tactic(auto, using(crate::proofs::Steps::members_counted))]
-fn read_alone<B: Body>(alloc: Global, members: &Map<String, Value>) -> Result<B, TextFault>
+fn read_alone<B: Body>(alloc: Global, members: &Members) -> Result<B, TextFault>
     ensures alone { FindsAlone B.shape result (members_view members.now.entries) }
     ensures ordered { OnOk result (IsOrdered string_cmp members.now) }
 {

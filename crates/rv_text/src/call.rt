@@ -8,28 +8,57 @@ use std::alloc::Global;
 /// The greatest number of a queue; the least is 0.
 pub const MAX_QUEUE: u64 = 63;
 
+/// The greatest number of an exchanger; the least is 0.
+pub const MAX_EXCHANGER: u64 = 63;
+
+/// The most milliseconds that a wait may have: a day.
+pub const MAX_WAIT: u64 = 86_400_000;
+
 /// How long a request may wait for its partner.
 #[derive(Clone, Copy, Debug, PartialEq, Eq)]
 pub enum Wait {
     /// Not at all, as Java's untimed `poll`.
     Now,
+    /// At most so many milliseconds, 0 to 86,400,000, as Java's timed `poll`.
+    Millis(u64),
     /// Until it is met, cancelled, or its client says hello anew, as Java's `take`.
     Forever,
 }
 
-/// What a request asks of a queue.
+/// What a request asks of a queue or of an exchanger.
 #[derive(Debug, PartialEq, Eq, Drop)]
 pub enum Call {
     /// Appends the item at the queue's tail and never waits (Java's `TransferQueue.put`).
-    Put { queue: u64, item: Item },
+    Put {
+        queue: u64,
+        item: Item,
+    },
     /// Hands the item over to a consumer, and may wait for one (Java's `transfer` and `tryTransfer`).
-    Transfer { queue: u64, item: Item, wait: Wait },
+    Transfer {
+        queue: u64,
+        item: Item,
+        wait: Wait,
+    },
     /// Takes the queue's oldest item, and may wait for one (Java's `take` and `poll`).
-    Take { queue: u64, wait: Wait },
+    Take {
+        queue: u64,
+        wait: Wait,
+    },
+    /// Swaps the item for that of another request, and waits for one at least 0 milliseconds: `Now` is no
+    /// wait of a swap (Java's `Exchanger.exchange`).
+    Swap {
+        exchanger: u64,
+        item: Item,
+        wait: Wait,
+    },
     /// Counts the items and the consumers that are there.
-    Count { queue: u64 },
+    Count {
+        queue: u64,
+    },
     /// Shows the oldest item and removes nothing.
-    Peek { queue: u64 },
+    Peek {
+        queue: u64,
+    },
 }
 
 /// Where a call acts, and on which side of it: whom it may meet.
@@ -41,25 +70,66 @@ pub enum Side {
     Takes(u64),
     /// It looks at this queue, and meets nobody.
     Looks(u64),
+    /// It swaps items at this exchanger, and meets who swaps there too.
+    Exchanges(u64),
+}
+
+impl Wait {
+    ghost use Rattle.rv_text.specs.Limits.{FitsWait};
+
+    // Whether its milliseconds, if it has some, are at most 86,400,000.
+    fn fits(self) -> bool
+        ensures { IsTrue result ↔ FitsWait self }
+    {
+        match self {
+            Wait::Millis(millis) => millis <= MAX_WAIT,
+            Wait::Now | Wait::Forever => true,
+        }
+    }
 }
 
 impl Side {
-    ghost use Rattle.rv_text.specs.Members.{AllWithin};
-    ghost use Rattle.rv_text.specs.Rows.{side_row};
+    ghost use Rattle.rv_text.specs.Calls.{MayWait};
+    ghost use Rattle.rv_text.specs.Limits.{FitsSide};
 
-    // Whether the number of its queue is 0 to 63.
-    fn fits(&self) -> bool
-        ensures { IsTrue result ↔ AllWithin (side_row self.now) }
+    // Whether the number of its queue or exchanger is 0 to 63.
+    fn fits(self) -> bool
+        ensures { IsTrue result ↔ FitsSide self }
     {
         match self {
-            Side::Gives(queue) | Side::Takes(queue) | Side::Looks(queue) => *queue <= MAX_QUEUE,
+            Side::Gives(queue) | Side::Takes(queue) | Side::Looks(queue) => queue <= MAX_QUEUE,
+            Side::Exchanges(exchanger) => exchanger <= MAX_EXCHANGER,
+        }
+    }
+
+    // Whether a call of this side may have this wait.
+    fn may_wait(self, wait: Option<Wait>) -> bool
+        ensures { IsTrue result ↔ MayWait self wait }
+    {
+        match self {
+            Side::Exchanges(_) => wait != Some(Wait::Now),
+            Side::Gives(_) | Side::Takes(_) | Side::Looks(_) => true,
         }
     }
 }
 
 impl Call {
-    ghost use Rattle.rv_text.specs.Calls.{side_of, wait_of, item_of};
+    ghost use Rattle.rv_text.specs.Calls.{nature_of, side_of, wait_of, item_of};
     ghost use Rattle.rv_text.specs.Limits.{FitsCall};
+
+    // The word that names the call in a body.
+    pub(crate) fn word(&self) -> &'static str
+        ensures { result.now ≡ (nature_of self.now).word }
+    {
+        match self {
+            Call::Put { .. } => "put",
+            Call::Transfer { .. } => "transfer",
+            Call::Take { .. } => "take",
+            Call::Swap { .. } => "swap",
+            Call::Count { .. } => "count",
+            Call::Peek { .. } => "peek",
+        }
+    }
 
     /// The call's side.
     pub fn side(&self) -> Side
@@ -69,6 +139,7 @@ impl Call {
             Call::Put { queue, .. } => Side::Gives(*queue),
             Call::Transfer { queue, .. } => Side::Gives(*queue),
             Call::Take { queue, .. } => Side::Takes(*queue),
+            Call::Swap { exchanger, .. } => Side::Exchanges(*exchanger),
             Call::Count { queue } => Side::Looks(*queue),
             Call::Peek { queue } => Side::Looks(*queue),
         }
@@ -81,6 +152,7 @@ impl Call {
         match self {
             Call::Transfer { wait, .. } => Some(*wait),
             Call::Take { wait, .. } => Some(*wait),
+            Call::Swap { wait, .. } => Some(*wait),
             _ => None,
         }
     }
@@ -92,6 +164,7 @@ impl Call {
         match self {
             Call::Put { item, .. } => Some(item),
             Call::Transfer { item, .. } => Some(item),
+            Call::Swap { item, .. } => Some(item),
             _ => None,
         }
     }
@@ -121,15 +194,28 @@ impl Call {
                 queue: *queue,
                 wait: *wait,
             }),
+            Call::Swap {
+                exchanger,
+                item,
+                wait,
+            } => Ok(Call::Swap {
+                exchanger: *exchanger,
+                item: item.copy(alloc)?,
+                wait: *wait,
+            }),
             Call::Count { queue } => Ok(Call::Count { queue: *queue }),
             Call::Peek { queue } => Ok(Call::Peek { queue: *queue }),
         }
     }
 
-    /// Whether the queue is 0 to 63 and the item has at most 512 bytes.
+    /// Whether the queue or exchanger is 0 to 63, the wait at most 86,400,000 milliseconds and, of a swap,
+    /// not `Now`, and the item has at most 512 bytes.
     pub fn fits(&self) -> bool
         ensures { IsTrue result ↔ FitsCall self.now }
     {
-        self.side().fits() && self.item().is_none_or(Item::fits)
+        self.side().fits()
+            && self.wait().is_none_or(Wait::fits)
+            && self.item().is_none_or(Item::fits)
+            && self.side().may_wait(self.wait())
     }
 }

@@ -10,9 +10,10 @@ use crate::answer::Answer;
 use crate::body::{Body, decode};
 use crate::call::Call;
 use crate::fault::TextFault;
-use crate::members::{read_call, read_key, read_refusal, read_reply, read_text, read_whole};
+use crate::members::{
+    Members, read_call, read_key, read_refusal, read_reply, read_text, read_whole,
+};
 use crate::message::Message;
-use serde_json::{Map, Value};
 use std::alloc::Global;
 
 /// The message whose body the bytes are.
@@ -45,7 +46,7 @@ pub fn decode_call(alloc: Global, bytes: &[u8]) -> Result<Call, TextFault>
 impl Body for Message {
     ghost shape = { messages };
 
-    fn read(alloc: Global, members: &Map<String, Value>) -> Result<Message, TextFault> {
+    fn read(alloc: Global, members: &Members) -> Result<Message, TextFault> {
         match read_text(members, "kind")? {
             "hello" => Ok(Message::Hello {
                 client: read_whole(members, "client")?,
@@ -78,7 +79,7 @@ impl Body for Message {
 impl Body for Answer {
     ghost shape = { answers };
 
-    fn read(alloc: Global, members: &Map<String, Value>) -> Result<Answer, TextFault> {
+    fn read(alloc: Global, members: &Members) -> Result<Answer, TextFault> {
         match read_text(members, "kind")? {
             "welcome" => Ok(Answer::Welcome {
                 epoch: read_whole(members, "epoch")?,
@@ -114,7 +115,7 @@ impl Body for Answer {
 impl Body for Call {
     ghost shape = { calls };
 
-    fn read(alloc: Global, members: &Map<String, Value>) -> Result<Call, TextFault> {
+    fn read(alloc: Global, members: &Members) -> Result<Call, TextFault> {
         read_call(alloc, members)
     }
 

@@ -1,16 +1,17 @@
 //! The one text that is written for a message or an answer.
 ghost use Rattle.std.specs.Prelude.{◌≡◌, [], ◌∷◌, Some, OnOk, IfOk, string_bytes};
 ghost use Rattle.serde_json.specs.Data.{string, number, unsigned};
-ghost use Rattle.rv_text.specs.Rows.{key_row, wait_row, item_row, call_row, message_row};
+ghost use Rattle.rv_text.specs.Rows.{key_row, side_row, wait_row, item_row, call_row, message_row};
 ghost use Rattle.rv_text.specs.Rows.{reply_row, detail_row, answer_row};
 ghost use Rattle.rv_text.specs.Reading.{Puts, PutsRow};
 ghost use Rattle.rv_text.specs.Bodies.{HasBodyLength, message_text, answer_text};
 ghost use Rattle.rv_text.specs.Limits.{FitsMessage, FitsAnswer};
 
 use crate::answer::{Answer, Refusal, Reply};
-use crate::call::{Call, Wait};
+use crate::call::{Call, Side, Wait};
 use crate::fault::NoMemory;
 use crate::item::Item;
+use crate::members::Members;
 use crate::message::{Key, Message};
 use serde_json::{Map, Value};
 use std::alloc::Global;
@@ -45,11 +46,7 @@ pub fn encode_message(alloc: Global, message: &Message) -> Result<String, NoMemo
     Value::Object(members).to_string(alloc)
 }
 
-fn put_message(
-    members: &mut Map<String, Value>,
-    alloc: Global,
-    message: &Message,
-) -> Result<(), NoMemory>
+fn put_message(members: &mut Members, alloc: Global, message: &Message) -> Result<(), NoMemory>
     ensures { OnOk result (PutsRow (message_row message.now) members.old members.new) }
 {
     match message {
@@ -73,57 +70,47 @@ fn put_message(
     }
 }
 
-fn put_call(members: &mut Map<String, Value>, alloc: Global, call: &Call) -> Result<(), NoMemory>
+fn put_call(members: &mut Members, alloc: Global, call: &Call) -> Result<(), NoMemory>
     ensures { OnOk result (PutsRow (call_row call.now) members.old members.new) }
 {
-    match call {
-        Call::Put { queue, item } => {
-            put_text(members, alloc, "call", "put")?;
-            put_whole(members, alloc, "queue", *queue)?;
-            put_item(members, alloc, item)
-        }
-        Call::Transfer { queue, item, wait } => {
-            put_text(members, alloc, "call", "transfer")?;
-            put_whole(members, alloc, "queue", *queue)?;
-            put_wait(members, alloc, *wait)?;
-            put_item(members, alloc, item)
-        }
-        Call::Take { queue, wait } => {
-            put_text(members, alloc, "call", "take")?;
-            put_whole(members, alloc, "queue", *queue)?;
-            put_wait(members, alloc, *wait)
-        }
-        Call::Count { queue } => {
-            put_text(members, alloc, "call", "count")?;
-            put_whole(members, alloc, "queue", *queue)
-        }
-        Call::Peek { queue } => {
-            put_text(members, alloc, "call", "peek")?;
-            put_whole(members, alloc, "queue", *queue)
-        }
+    put_text(members, alloc, "call", call.word())?;
+    put_side(members, alloc, call.side())?;
+    put_wait(members, alloc, call.wait())?;
+    match call.item() {
+        Some(item) => put_item(members, alloc, item),
+        None => Ok(()),
     }
 }
 
-fn put_wait(members: &mut Map<String, Value>, alloc: Global, wait: Wait) -> Result<(), NoMemory>
-    ensures { OnOk result (PutsRow (wait_row (Some wait)) members.old members.new) }
+fn put_side(members: &mut Members, alloc: Global, side: Side) -> Result<(), NoMemory>
+    ensures { OnOk result (PutsRow (side_row side) members.old members.new) }
+{
+    match side {
+        Side::Gives(queue) | Side::Takes(queue) | Side::Looks(queue) => {
+            put_whole(members, alloc, "queue", queue)
+        }
+        Side::Exchanges(exchanger) => put_whole(members, alloc, "exchanger", exchanger),
+    }
+}
+
+fn put_wait(members: &mut Members, alloc: Global, wait: Option<Wait>) -> Result<(), NoMemory>
+    ensures { OnOk result (PutsRow (wait_row wait) members.old members.new) }
 {
     match wait {
-        Wait::Now => put_text(members, alloc, "wait", "now"),
-        Wait::Forever => put_text(members, alloc, "wait", "forever"),
+        None => Ok(()),
+        Some(Wait::Now) => put_text(members, alloc, "wait", "now"),
+        Some(Wait::Millis(millis)) => put_whole(members, alloc, "wait", millis),
+        Some(Wait::Forever) => put_text(members, alloc, "wait", "forever"),
     }
 }
 
-fn put_item(members: &mut Map<String, Value>, alloc: Global, item: &Item) -> Result<(), NoMemory>
+fn put_item(members: &mut Members, alloc: Global, item: &Item) -> Result<(), NoMemory>
     ensures { OnOk result (PutsRow (item_row (Some item.now)) members.old members.new) }
 {
     put_text(members, alloc, "item", item.as_str())
 }
 
-fn put_answer(
-    members: &mut Map<String, Value>,
-    alloc: Global,
-    answer: &Answer,
-) -> Result<(), NoMemory>
+fn put_answer(members: &mut Members, alloc: Global, answer: &Answer) -> Result<(), NoMemory>
     ensures { OnOk result (PutsRow (answer_row answer.now) members.old members.new) }
 {
     match answer {
@@ -154,7 +141,7 @@ fn put_answer(
     }
 }
 
-fn put_key(members: &mut Map<String, Value>, alloc: Global, key: &Key) -> Result<(), NoMemory>
+fn put_key(members: &mut Members, alloc: Global, key: &Key) -> Result<(), NoMemory>
     ensures { OnOk result (PutsRow (key_row key.now) members.old members.new) }
 {
     put_whole(members, alloc, "epoch", key.epoch)?;
@@ -163,7 +150,7 @@ fn put_key(members: &mut Map<String, Value>, alloc: Global, key: &Key) -> Result
     put_whole(members, alloc, "number", key.number)
 }
 
-fn put_reply(members: &mut Map<String, Value>, alloc: Global, reply: &Reply) -> Result<(), NoMemory>
+fn put_reply(members: &mut Members, alloc: Global, reply: &Reply) -> Result<(), NoMemory>
     ensures { OnOk result (PutsRow (reply_row reply.now) members.old members.new) }
 {
     match reply {
@@ -175,6 +162,11 @@ fn put_reply(members: &mut Map<String, Value>, alloc: Global, reply: &Reply) -> 
             put_item(members, alloc, item)
         }
         Reply::Empty => put_text(members, alloc, "reply", "empty"),
+        Reply::Swapped(item) => {
+            put_text(members, alloc, "reply", "swapped")?;
+            put_item(members, alloc, item)
+        }
+        Reply::TimedOut => put_text(members, alloc, "reply", "timedout"),
         Reply::Cancelled => put_text(members, alloc, "reply", "cancelled"),
         Reply::Counted { items, consumers } => {
             put_text(members, alloc, "reply", "counted")?;
@@ -189,11 +181,7 @@ fn put_reply(members: &mut Map<String, Value>, alloc: Global, reply: &Reply) -> 
 }
 
 // What a refusal says beside its code.
-fn put_detail(
-    members: &mut Map<String, Value>,
-    alloc: Global,
-    refusal: Refusal,
-) -> Result<(), NoMemory>
+fn put_detail(members: &mut Members, alloc: Global, refusal: Refusal) -> Result<(), NoMemory>
     ensures { OnOk result (PutsRow (detail_row refusal) members.old members.new) }
 {
     match refusal {
@@ -206,23 +194,13 @@ fn put_detail(
     }
 }
 
-fn put_text(
-    members: &mut Map<String, Value>,
-    alloc: Global,
-    name: &str,
-    value: &str,
-) -> Result<(), NoMemory>
+fn put_text(members: &mut Members, alloc: Global, name: &str, value: &str) -> Result<(), NoMemory>
     ensures { OnOk result (Puts ((name.now, string value.now) ∷ []) members.old members.new) }
 {
     serde_json::put(members, alloc, name, Value::try_from_str(alloc, value)?)
 }
 
-fn put_whole(
-    members: &mut Map<String, Value>,
-    alloc: Global,
-    name: &str,
-    value: u64,
-) -> Result<(), NoMemory>
+fn put_whole(members: &mut Members, alloc: Global, name: &str, value: u64) -> Result<(), NoMemory>
     ensures { OnOk result (Puts ((name.now, number (unsigned value)) ∷ []) members.old members.new) }
 {
     serde_json::put(members, alloc, name, Value::from(value))

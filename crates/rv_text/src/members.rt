@@ -3,7 +3,7 @@ ghost use Rattle.std.specs.Prelude.{◌≡◌, option_map};
 ghost use Rattle.serde_json.specs.Find.{get_member};
 ghost use Rattle.serde_json.specs.View.{view, members_view};
 ghost use Rattle.rv_text.specs.Reading.{FindsAmong, FindsSeenAmong, whole_among, text_among};
-ghost use Rattle.rv_text.specs.Reading.{queue_among, item_among, wait_among, key_among, call_among};
+ghost use Rattle.rv_text.specs.Reading.{item_among, wait_among, wait_word_among, key_among, call_among};
 ghost use Rattle.rv_text.specs.Reading.{reply_among, refusal_among};
 
 use crate::answer::{Refusal, Reply};
@@ -14,25 +14,30 @@ use crate::message::Key;
 use serde_json::{Map, Value};
 use std::alloc::Global;
 
-fn member<'v>(members: &'v Map<String, Value>, name: &str) -> Option<&'v Value>
+/// The members of a JSON object, by name.
+pub(crate) type Members = Map<String, Value>;
+
+fn member<'v>(members: &'v Members, name: &str) -> Option<&'v Value>
     ensures { option_map (λ v. view v.now) result
         ≡ get_member name.now (members_view members.now.entries) }
 {
     members.get(name)
 }
 
-pub(crate) fn read_whole(members: &Map<String, Value>, name: &str) -> Result<u64, TextFault>
-    ensures { FindsAmong members.now result (whole_among name.now) }
+// The whole number that stands at the name.
+fn whole(members: &Members, name: &str) -> Option<u64>
+    ensures { result ≡ whole_among name.now (members_view members.now.entries) }
 {
-    member(members, name)
-        .and_then(Value::as_u64)
-        .ok_or(TextFault::NotMessage)
+    member(members, name).and_then(Value::as_u64)
 }
 
-pub(crate) fn read_text<'v>(
-    members: &'v Map<String, Value>,
-    name: &str,
-) -> Result<&'v str, TextFault>
+pub(crate) fn read_whole(members: &Members, name: &str) -> Result<u64, TextFault>
+    ensures { FindsAmong members.now result (whole_among name.now) }
+{
+    whole(members, name).ok_or(TextFault::NotMessage)
+}
+
+pub(crate) fn read_text<'v>(members: &'v Members, name: &str) -> Result<&'v str, TextFault>
     ensures { FindsSeenAmong members.now (λ text. text.now) result (text_among name.now) }
 {
     member(members, name)
@@ -40,21 +45,24 @@ pub(crate) fn read_text<'v>(
         .ok_or(TextFault::NotMessage)
 }
 
-fn read_queue(members: &Map<String, Value>) -> Result<u64, TextFault>
-    ensures { FindsAmong members.now result queue_among }
-{
-    read_whole(members, "queue")
-}
-
-fn read_item(alloc: Global, members: &Map<String, Value>) -> Result<Item, TextFault>
+fn read_item(alloc: Global, members: &Members) -> Result<Item, TextFault>
     ensures { FindsAmong members.now result item_among }
 {
     let text = read_text(members, "item")?;
     Ok(Item::from_text(String::from_str(alloc, text)?))
 }
 
-fn read_wait(members: &Map<String, Value>) -> Result<Wait, TextFault>
+fn read_wait(members: &Members) -> Result<Wait, TextFault>
     ensures { FindsAmong members.now result wait_among }
+{
+    match whole(members, "wait") {
+        Some(millis) => Ok(Wait::Millis(millis)),
+        None => read_wait_word(members),
+    }
+}
+
+fn read_wait_word(members: &Members) -> Result<Wait, TextFault>
+    ensures { FindsAmong members.now result wait_word_among }
 {
     match read_text(members, "wait")? {
         "now" => Ok(Wait::Now),
@@ -63,7 +71,7 @@ fn read_wait(members: &Map<String, Value>) -> Result<Wait, TextFault>
     }
 }
 
-pub(crate) fn read_key(members: &Map<String, Value>) -> Result<Key, TextFault>
+pub(crate) fn read_key(members: &Members) -> Result<Key, TextFault>
     ensures { FindsAmong members.now result key_among }
 {
     Ok(Key {
@@ -74,34 +82,39 @@ pub(crate) fn read_key(members: &Map<String, Value>) -> Result<Key, TextFault>
     })
 }
 
-pub(crate) fn read_call(alloc: Global, members: &Map<String, Value>) -> Result<Call, TextFault>
+pub(crate) fn read_call(alloc: Global, members: &Members) -> Result<Call, TextFault>
     ensures { FindsAmong members.now result call_among }
 {
     match read_text(members, "call")? {
         "put" => Ok(Call::Put {
-            queue: read_queue(members)?,
+            queue: read_whole(members, "queue")?,
             item: read_item(alloc, members)?,
         }),
         "transfer" => Ok(Call::Transfer {
-            queue: read_queue(members)?,
+            queue: read_whole(members, "queue")?,
             item: read_item(alloc, members)?,
             wait: read_wait(members)?,
         }),
         "take" => Ok(Call::Take {
-            queue: read_queue(members)?,
+            queue: read_whole(members, "queue")?,
+            wait: read_wait(members)?,
+        }),
+        "swap" => Ok(Call::Swap {
+            exchanger: read_whole(members, "exchanger")?,
+            item: read_item(alloc, members)?,
             wait: read_wait(members)?,
         }),
         "count" => Ok(Call::Count {
-            queue: read_queue(members)?,
+            queue: read_whole(members, "queue")?,
         }),
         "peek" => Ok(Call::Peek {
-            queue: read_queue(members)?,
+            queue: read_whole(members, "queue")?,
         }),
         _ => Err(TextFault::NotMessage),
     }
 }
 
-pub(crate) fn read_reply(alloc: Global, members: &Map<String, Value>) -> Result<Reply, TextFault>
+pub(crate) fn read_reply(alloc: Global, members: &Members) -> Result<Reply, TextFault>
     ensures { FindsAmong members.now result reply_among }
 {
     match read_text(members, "reply")? {
@@ -110,6 +123,8 @@ pub(crate) fn read_reply(alloc: Global, members: &Map<String, Value>) -> Result<
         "nobody" => Ok(Reply::Nobody),
         "item" => Ok(Reply::Item(read_item(alloc, members)?)),
         "empty" => Ok(Reply::Empty),
+        "swapped" => Ok(Reply::Swapped(read_item(alloc, members)?)),
+        "timedout" => Ok(Reply::TimedOut),
         "cancelled" => Ok(Reply::Cancelled),
         "counted" => Ok(Reply::Counted {
             items: read_whole(members, "items")?,
@@ -120,7 +135,7 @@ pub(crate) fn read_reply(alloc: Global, members: &Map<String, Value>) -> Result<
     }
 }
 
-pub(crate) fn read_refusal(members: &Map<String, Value>) -> Result<Refusal, TextFault>
+pub(crate) fn read_refusal(members: &Members) -> Result<Refusal, TextFault>
     ensures { FindsAmong members.now result refusal_among }
 {
     match read_whole(members, "code")? {

@@ -3,8 +3,7 @@ use crate::{
     Answer, BAD_TEXT_BODY, Call, Item, Key, Message, NO_MEMORY_BODY, Refusal, Reply, Side,
     TextFault, Wait, decode_answer, decode_call, decode_message, encode_answer, encode_message,
 };
-use std::alloc::{AllocError, AllocGlobal, Global};
-use std::process::Abort;
+use std::alloc::Global;
 use std::test::Fail;
 
 const KEY: Key = Key {
@@ -14,27 +13,33 @@ const KEY: Key = Key {
     number: 1,
 };
 
-// The bodies of messages, and behind each what it is.
+// The bodies of messages, and behind each the end of what it is when printed.
 const MESSAGES: &[&str] = &[
     r#"{"client":1,"incarnation":1,"kind":"hello"}"#,
     "Hello { client: 1, incarnation: 1 }",
     r#"{"client":1,"epoch":1,"incarnation":1,"kind":"cancel","number":1}"#,
-    "Cancel",
+    "Cancel { key: Key { epoch: 1, client: 1, incarnation: 1, number: 1 } }",
     r#"{"call":"put","client":1,"epoch":1,"incarnation":1,"item":"a","kind":"request","number":1,"queue":3}"#,
-    r#"Put { queue: 3, item: Item { text: "a" } }"#,
+    r#"call: Put { queue: 3, item: Item { text: "a" } } }"#,
     "{\"call\":\"transfer\",\"client\":1,\"epoch\":1,\"incarnation\":1,\"item\":\"a\",\
         \"kind\":\"request\",\"number\":1,\"queue\":0,\"wait\":\"now\"}",
-    r#"Transfer { queue: 0, item: Item { text: "a" }, wait: Now }"#,
+    r#"call: Transfer { queue: 0, item: Item { text: "a" }, wait: Now } }"#,
     "{\"call\":\"take\",\"client\":1,\"epoch\":1,\"incarnation\":1,\
         \"kind\":\"request\",\"number\":1,\"queue\":3,\"wait\":\"now\"}",
-    "Take { queue: 3, wait: Now }",
+    "call: Take { queue: 3, wait: Now } }",
     "{\"call\":\"take\",\"client\":1,\"epoch\":1,\"incarnation\":1,\
         \"kind\":\"request\",\"number\":1,\"queue\":63,\"wait\":\"forever\"}",
-    "Take { queue: 63, wait: Forever }",
+    "call: Take { queue: 63, wait: Forever } }",
+    "{\"call\":\"take\",\"client\":1,\"epoch\":1,\"incarnation\":1,\
+        \"kind\":\"request\",\"number\":1,\"queue\":3,\"wait\":86400000}",
+    "call: Take { queue: 3, wait: Millis(86400000) } }",
+    "{\"call\":\"swap\",\"client\":1,\"epoch\":1,\"exchanger\":63,\"incarnation\":1,\"item\":\"a\",\
+        \"kind\":\"request\",\"number\":1,\"wait\":5}",
+    r#"call: Swap { exchanger: 63, item: Item { text: "a" }, wait: Millis(5) } }"#,
     r#"{"call":"count","client":1,"epoch":1,"incarnation":1,"kind":"request","number":1,"queue":3}"#,
-    "Count { queue: 3 }",
+    "call: Count { queue: 3 } }",
     r#"{"call":"peek","client":1,"epoch":1,"incarnation":1,"kind":"request","number":1,"queue":3}"#,
-    "Peek { queue: 3 }",
+    "call: Peek { queue: 3 } }",
 ];
 
 #[test]
@@ -47,18 +52,8 @@ fn messages_are_read_and_written(rt: HostRuntime) -> Result<(), Fail> {
         let message = decode_message(alloc, text.as_bytes())?;
         assert!(rt; message.fits(), "{text}");
         assert_eq!(rt; encode_message(alloc, &message)?.as_str(), *text);
-        let found = match &message {
-            Message::Request { key, call } => {
-                assert_eq!(rt; *key, KEY);
-                format!(in alloc; "{call:?}")?
-            }
-            Message::Cancel { key } => {
-                assert_eq!(rt; *key, KEY);
-                String::from_str(alloc, "Cancel")?
-            }
-            other => format!(in alloc; "{other:?}")?,
-        };
-        assert_eq!(rt; found.as_str(), *want);
+        let found = format!(in alloc; "{message:?}")?;
+        assert!(rt; found.ends_with(want), "{found}");
     }
     Ok(())
 }
@@ -71,20 +66,14 @@ const CALLS: &[&str] = &[
     r#"Transfer { queue: 3, item: Item { text: "" }, wait: Forever }"#,
     r#"{"call":"take","queue":0,"wait":"now"}"#,
     "Take { queue: 0, wait: Now }",
+    r#"{"call":"take","queue":0,"wait":0}"#,
+    "Take { queue: 0, wait: Millis(0) }",
+    r#"{"call":"swap","exchanger":0,"item":"a","wait":"forever"}"#,
+    r#"Swap { exchanger: 0, item: Item { text: "a" }, wait: Forever }"#,
     r#"{"call":"count","queue":3}"#,
     "Count { queue: 3 }",
     r#"{"call":"peek","queue":3}"#,
     "Peek { queue: 3 }",
-];
-
-// JSON that is no text of a call.
-const NO_CALLS: &[&str] = &[
-    r#"{"call":"take","queue":3}"#,
-    r#"{"call":"take","queue":3,"wait":0}"#,
-    r#"{"call":"count","queue":64}"#,
-    r#"{"call":"peek","kind":"request","queue":3}"#,
-    r#"{"call":"peek","client":1,"epoch":1,"incarnation":1,"kind":"request","number":1,"queue":3}"#,
-    r#"{"client":1,"incarnation":1,"kind":"hello"}"#,
 ];
 
 #[test]
@@ -97,65 +86,65 @@ fn calls_are_read(rt: HostRuntime) -> Result<(), Fail> {
         let call = decode_call(alloc, text.as_bytes())?;
         assert_eq!(rt; format!(in alloc; "{call:?}")?.as_str(), *want);
     }
-    for text in NO_CALLS {
-        let found = decode_call(alloc, text.as_bytes()).err();
-        assert_eq!(rt; found, Some(TextFault::NotMessage), "{text}");
-    }
     Ok(())
 }
 
-// The bodies of answers, and behind each what it is.
+// The bodies of answers, and behind each the end of what it is when printed.
 const ANSWERS: &[&str] = &[
     r#"{"client":1,"epoch":1,"incarnation":1,"kind":"welcome"}"#,
     "Welcome { epoch: 1, client: 1, incarnation: 1 }",
     r#"{"client":1,"epoch":1,"incarnation":1,"kind":"waiting","number":1}"#,
-    "Waiting",
+    "Waiting { key: Key { epoch: 1, client: 1, incarnation: 1, number: 1 } }",
     r#"{"client":1,"epoch":1,"incarnation":1,"kind":"reply","number":1,"reply":"done"}"#,
-    "Done",
+    "reply: Done }",
     r#"{"client":1,"epoch":1,"incarnation":1,"kind":"reply","number":1,"reply":"received"}"#,
-    "Received",
+    "reply: Received }",
     r#"{"client":1,"epoch":1,"incarnation":1,"kind":"reply","number":1,"reply":"nobody"}"#,
-    "Nobody",
+    "reply: Nobody }",
     r#"{"client":1,"epoch":1,"incarnation":1,"item":"a","kind":"reply","number":1,"reply":"item"}"#,
-    r#"Item(Item { text: "a" })"#,
+    r#"reply: Item(Item { text: "a" }) }"#,
     "{\"client\":1,\"epoch\":1,\"incarnation\":1,\"item\":\"\\u0001\\\"\\\\é\",\"kind\":\"reply\",\
         \"number\":1,\"reply\":\"item\"}",
-    "Item(Item { text: \"\\u{1}\\\"\\\\é\" })",
+    "reply: Item(Item { text: \"\\u{1}\\\"\\\\é\" }) }",
     r#"{"client":1,"epoch":1,"incarnation":1,"kind":"reply","number":1,"reply":"empty"}"#,
-    "Empty",
+    "reply: Empty }",
+    r#"{"client":1,"epoch":1,"incarnation":1,"item":"a","kind":"reply","number":1,"reply":"swapped"}"#,
+    r#"reply: Swapped(Item { text: "a" }) }"#,
+    r#"{"client":1,"epoch":1,"incarnation":1,"kind":"reply","number":1,"reply":"timedout"}"#,
+    "reply: TimedOut }",
     r#"{"client":1,"epoch":1,"incarnation":1,"kind":"reply","number":1,"reply":"cancelled"}"#,
-    "Cancelled",
+    "reply: Cancelled }",
     "{\"client\":1,\"consumers\":0,\"epoch\":1,\"incarnation\":1,\"items\":3,\"kind\":\"reply\",\
         \"number\":1,\"reply\":\"counted\"}",
-    "Counted { items: 3, consumers: 0 }",
+    "reply: Counted { items: 3, consumers: 0 } }",
     r#"{"client":1,"epoch":1,"incarnation":1,"item":"","kind":"reply","number":1,"reply":"peeked"}"#,
-    r#"Peeked(Item { text: "" })"#,
+    r#"reply: Peeked(Item { text: "" }) }"#,
     BAD_TEXT_BODY,
-    "BadText",
+    "Refused(BadText)",
     r#"{"code":1,"kind":"refused"}"#,
-    "BadText",
+    "Refused(BadText)",
     r#"{"code":2,"current":2,"kind":"refused"}"#,
-    "OtherEpoch(2)",
+    "Refused(OtherEpoch(2))",
     r#"{"code":3,"kind":"refused"}"#,
-    "NoSession",
+    "Refused(NoSession)",
     r#"{"code":4,"current":2,"kind":"refused"}"#,
-    "OldIncarnation(2)",
+    "Refused(OldIncarnation(2))",
     r#"{"code":5,"kind":"refused","last":2}"#,
-    "OldNumber(2)",
+    "Refused(OldNumber(2))",
     r#"{"code":6,"kind":"refused"}"#,
-    "OtherCall",
+    "Refused(OtherCall)",
     r#"{"code":7,"kind":"refused","open":2}"#,
-    "Busy(2)",
+    "Refused(Busy(2))",
     r#"{"code":8,"kind":"refused","last":1}"#,
-    "Gap(1)",
+    "Refused(Gap(1))",
     r#"{"code":9,"kind":"refused"}"#,
-    "ClientsFull",
+    "Refused(ClientsFull)",
     r#"{"code":10,"kind":"refused"}"#,
-    "EpochFull",
+    "Refused(EpochFull)",
     r#"{"code":11,"kind":"refused"}"#,
-    "NoMemory",
+    "Refused(NoMemory)",
     NO_MEMORY_BODY,
-    "NoMemory",
+    "Refused(NoMemory)",
 ];
 
 #[test]
@@ -168,93 +157,35 @@ fn answers_are_read_and_written(rt: HostRuntime) -> Result<(), Fail> {
         let answer = decode_answer(alloc, text.as_bytes())?;
         assert!(rt; answer.fits(), "{text}");
         assert_eq!(rt; encode_answer(alloc, &answer)?.as_str(), *text);
-        let found = match &answer {
-            Answer::Replied { key, reply } => {
-                assert!(rt; *key == KEY && reply.fits());
-                format!(in alloc; "{reply:?}")?
-            }
-            Answer::Waiting { key } => {
-                assert_eq!(rt; *key, KEY);
-                String::from_str(alloc, "Waiting")?
-            }
-            Answer::Refused(refusal) => format!(in alloc; "{refusal:?}")?,
-            other => format!(in alloc; "{other:?}")?,
-        };
-        assert_eq!(rt; found.as_str(), *want);
+        let found = format!(in alloc; "{answer:?}")?;
+        assert!(rt; found.ends_with(want), "{found}");
     }
     Ok(())
 }
 
-// What stands before a reply's word and its item's text, a refusal's code, and the end of a hello.
-const REPLY: &[u8] = br#"{"client":1,"epoch":1,"incarnation":1,"kind":"reply","number":1,"reply":"#;
-
-const TAKEN: &[u8] =
-    br#"{"client":1,"epoch":1,"incarnation":1,"kind":"reply","number":1,"reply":"item","item":""#;
-
-const PEEKED: &[u8] =
-    br#"{"client":1,"epoch":1,"incarnation":1,"kind":"reply","number":1,"reply":"peeked","item":""#;
-
-const COUNTED: &[u8] =
-    br#"{"client":1,"epoch":1,"incarnation":1,"kind":"reply","number":1,"reply":"counted","#;
-
-const REFUSED: &[u8] = br#"{"kind":"refused","code":"#;
-
-const HELLO: &[u8] = br#"{"client":1,"incarnation":1,"kind":"hello"#;
-
-// A text: what it begins with, what then stands so many times, and its end.
-type Input = (&'static [u8], &'static [u8], usize, &'static [u8]);
-
-// Bodies of answers.
-const GOOD: &[Input] = &[
-    (b" \t\r\n", REPLY, 1, b" \"done\" } "),
-    (REPLY, b" ", 4017, b"\"done\"}"),
-    (REFUSED, b"", 0, b"8,\"last\":0}"),
-    (REFUSED, b"", 0, b"5,\"last\":9007199254740991}"),
-    (TAKEN, b"x", 512, b"\"}"),
-    (PEEKED, b"x", 512, b"\"}"),
-    (COUNTED, b"", 0, b"\"items\":100000,\"consumers\":100000}"),
-];
-
-// Not JSON.
-const NO_JSON: &[Input] = &[
-    (b"{\"\xff\":1}", b"", 0, b""),
-    (REPLY, b"\"done\"}", 2, b""),
-];
-
-// JSON, or of another length than a body's, and no answer.
-const NO_ANSWERS: &[Input] = &[
-    (b"", b"", 0, b""),
-    (REPLY, b" ", 4018, b"\"done\"}"),
-    (b"", b"?", 4097, b""),
-    (HELLO, b"", 0, b"\"}"),
-    (b"{\"kind\":\"refused\"}", b"", 0, b""),
-    (REFUSED, b"", 0, b"0}"),
-    (REFUSED, b"", 0, b"1.0}"),
-    (REFUSED, b"", 0, b"\"1\"}"),
-    (REFUSED, b"", 0, b"12}"),
-    (REFUSED, b"", 0, b"2}"),
-    (REFUSED, b"", 0, b"2,\"last\":2}"),
-    (REFUSED, b"", 0, b"2,\"current\":2,\"last\":2}"),
-    (REFUSED, b"", 0, b"3,\"current\":2}"),
-    (REFUSED, b"", 0, b"4,\"current\":0}"),
-    (REFUSED, b"", 0, b"7,\"open\":0}"),
-    (REFUSED, b"", 0, b"5,\"last\":9007199254740992}"),
-    (REPLY, b"", 0, b"\"put\"}"),
-    (REPLY, b"", 0, b"\"item\"}"),
-    (REPLY, b"", 0, b"\"peeked\"}"),
-    (REPLY, b"", 0, b"\"done\",\"item\":\"\"}"),
-    (COUNTED, b"", 0, b"\"items\":3}"),
-    (COUNTED, b"", 0, b"\"consumers\":0,\"items\":100001}"),
-    (COUNTED, b"", 0, b"\"consumers\":100001,\"items\":0}"),
-    (TAKEN, b"x", 513, b"\"}"),
-    (PEEKED, b"\\u00e9", 257, b"\"}"),
+// Bytes that are no body of an answer, and why.
+const NO_ANSWERS: &[(&[u8], TextFault)] = &[
+    (b"", TextFault::NotMessage),
+    (&[b'?'; 4096], TextFault::NotJson),
+    (&[b'?'; 4097], TextFault::NotMessage),
+    (b"{\"code\":1,\"kind\":\"refused\xff\"}", TextFault::NotJson),
+    (br#"{"code":1,"kind":"refused"}{}"#, TextFault::NotJson),
+    (br#"{"code":12,"kind":"refused"}"#, TextFault::NotMessage),
+    (
+        br#"{"code":3,"current":2,"kind":"refused"}"#,
+        TextFault::NotMessage,
+    ),
+    (
+        br#"{"client":1,"incarnation":1,"kind":"hello"}"#,
+        TextFault::NotMessage,
+    ),
 ];
 
 #[test]
-fn each_input_has_its_result(rt: HostRuntime) -> Result<(), Fail> {
-    answers_give(&rt, GOOD, None)?;
-    answers_give(&rt, NO_JSON, Some(TextFault::NotJson))?;
-    answers_give(&rt, NO_ANSWERS, Some(TextFault::NotMessage))?;
+fn what_is_no_answer_is_told(rt: HostRuntime) -> Result<(), Fail> {
+    for (bytes, want) in NO_ANSWERS {
+        assert_eq!(rt; decode_answer(rt.alloc(), bytes).err(), Some(*want));
+    }
     for (depth, want) in [(127, TextFault::NotMessage), (128, TextFault::NotJson)] {
         let mut body = "[".repeat(rt.alloc(), depth)?;
         body.push_str("]".repeat(rt.alloc(), depth)?.as_str())?;
@@ -264,53 +195,23 @@ fn each_input_has_its_result(rt: HostRuntime) -> Result<(), Fail> {
     Ok(())
 }
 
-// Asserts what the decoder gives for each of these.
-fn answers_give(
-    rt: &(impl Abort + AllocGlobal),
-    inputs: &[Input],
-    want: Option<TextFault>,
-) -> Result<(), AllocError> {
-    for (front, piece, times, end) in inputs {
-        let mut body = Vec::from_slice(rt.alloc(), front)?;
-        for _ in 0..*times {
-            body.extend_from_slice(piece)?;
-        }
-        body.extend_from_slice(end)?;
-        let found = decode_answer(rt.alloc(), body.as_slice()).err();
-        assert_eq!(rt; found, want, "{front:?} {end:?}");
-    }
-    Ok(())
-}
-
 // Values that no body has, and what a call is.
 #[test]
 fn values_know_their_limits(rt: HostRuntime) -> Result<(), Fail> {
-    let mut text = String::new(rt.alloc());
-    for _ in 0..513 {
-        text.push('x')?;
-    }
-    let item = Item::from_text(text);
-    let call = Call::Transfer {
-        queue: 64,
+    let item = Item::from_text("x".repeat(rt.alloc(), 513)?);
+    let call = Call::Swap {
+        exchanger: 64,
         item: item.copy(rt.alloc())?,
-        wait: Wait::Forever,
+        wait: Wait::Now,
     };
-    assert!(rt; call.is_same(&call) && !call.fits());
-    assert_eq!(rt; call.side(), Side::Gives(64));
-    assert_eq!(rt; call.wait(), Some(Wait::Forever));
+    assert!(rt; call.is_same(&call.copy(rt.alloc())?) && !call.fits());
+    assert_eq!(rt; call.side(), Side::Exchanges(64));
+    assert_eq!(rt; call.wait(), Some(Wait::Now));
     assert_eq!(rt; call.item().map(|item| item.as_str().len()), Some(513));
-    assert!(rt; !Reply::Peeked(item).fits());
+    assert!(rt; !Reply::Swapped(item).fits() && !Refusal::Busy(0).fits());
     let key = Key { epoch: 0, ..KEY };
     assert!(rt; !key.fits() && !Answer::Waiting { key }.fits() && !Message::Cancel { key }.fits());
     assert_eq!(rt; Refusal::Gap(0).code(), 8);
-    for (refusal, want) in [
-        (Refusal::OtherEpoch(0), false),
-        (Refusal::Busy(9_007_199_254_740_992), false),
-        (Refusal::Gap(0), true),
-        (Refusal::OldNumber(9_007_199_254_740_992), false),
-    ] {
-        assert_eq!(rt; refusal.fits(), want);
-    }
     Ok(())
 }
 

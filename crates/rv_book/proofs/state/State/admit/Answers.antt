@@ -21,9 +21,9 @@ pub returns-in_err-enter-clause-sound : goal.returns-in_err-enter-clause-sound
 returns-in_err-enter-clause-sound c =
     let ready = c.make_room.new.self in
     let same = c.in_ok-make_room.ensures.same in
-    let left : State = record { account = ready.account; sessions = c.enter.new.self; queues = ready.queues; waiting = ready.waiting } in
+    let left : State = record { account = ready.account; sessions = c.enter.new.self; stations = ready.stations; waiting = ready.waiting; due = ready.due } in
     sound_same c.args.self.now left c.requires.comes.sound
-    (record { account = same.account; room = same.room; sessions = c.in_err-enter.ensures.err ∙ same.sessions; queues = same.queues; waiting = same.waiting })
+    (record { due = same.due; account = same.account; room = same.room; sessions = c.in_err-enter.ensures.err ∙ same.sessions; stations = same.stations; waiting = same.waiting })
 
 pub returns-in_err-enter-clause-err : goal.returns-in_err-enter-clause-err
 returns-in_err-enter-clause-err c =
@@ -35,16 +35,16 @@ pub returns-clause-sound : goal.returns-clause-sound
 returns-clause-sound c =
     let old = c.args.self.now in
     let ready = c.make_room.new.self in
-    let new = c.push_hello.new.self in
+    let new = c.push.new.self in
     let prepared = c.in_ok-make_room.ensures.ok in
     let comes = comes_ready old ready c.args.moment (Hello c.args.client c.args.incarnation) 1 _ c.requires.comes prepared in
     let unknown = ap (λ t. session_of t c.args.client) prepared.same.sessions ∙ c.requires.unknown in
     let lower = none_lower (account_of ready) ready.sessions comes.sound.sessions_are comes.sound.legal c.args.client c.args.incarnation unknown in
     let entered = set_changes ready.sessions c.enter.new.self c.args.client (fresh c.args.incarnation) c.in_ok-enter.ensures.ok in
-    sound_idle ready c.args.moment c.args.client c.args.incarnation comes lower (space_ready old ready 1 _ prepared) new c.push_hello.ensures.entry
-    (subst (λ t. Changes ready.sessions t c.args.client (fresh c.args.incarnation)) (sym c.push_hello.ensures.sessions) entered)
-    (ap (option_and_then (λ (s : _). waiting_place s.state)) unknown) c.push_hello.ensures.queues c.push_hello.ensures.waiting
-    (omega (arith, c.push_hello.ensures.room, prepared.room, prepared.same.waiting))
+    sound_idle ready c.args.moment c.args.client c.args.incarnation comes lower (space_ready old ready 1 _ prepared) new c.push.ensures.entry
+    (subst (λ t. Changes ready.sessions t c.args.client (fresh c.args.incarnation)) (sym c.push.ensures.sessions) entered)
+    (ap (option_and_then (λ (s : _). waiting_place s.state)) unknown) c.push.ensures.stations c.push.ensures.waiting c.push.ensures.due
+    (omega (arith, c.push.ensures.room, prepared.room, prepared.same.waiting))
 
 pub returns-clause-ok : goal.returns-clause-ok
 returns-clause-ok c =
@@ -53,6 +53,6 @@ returns-clause-ok c =
       entry = e;
       moment_is = refl;
       act_is = refl;
-      follows = c.push_hello.ensures.entry ∙ ap (λ b. with_entry b e) c.in_ok-make_room.ensures.same.account;
+      follows = c.push.ensures.entry ∙ ap (λ b. with_entry b e) c.in_ok-make_room.ensures.same.account;
       legal = (returns-clause-sound c).legal;
     }

@@ -19,11 +19,11 @@ returns-clause-sound c =
     let old = c.args.self.now in
     let ready = c.make_room.new.self in
     let prepared = c.in_ok-make_room.ensures.ok in
-    let pushed = c.push_cancel.ensures in
+    let pushed = c.push.ensures in
     let comes = comes_ready old ready c.args.moment (Cancel c.args.key) 1 _ c.requires.comes prepared in
     let has = subst (λ t. HasNext t c.args.key) (sym prepared.same.sessions) c.requires.next in
     let sets = subst (λ t. OnlySets ready.sessions t c.args.key.client (settled_session c.args.key.incarnation c.args.key.number None kept.Cancelled)) (sym pushed.sessions) c.bury.ensures in
-    buried_sound ready c.args.moment c.args.key comes has c.push_cancel.new.self pushed.entry sets pushed.queues pushed.waiting (space_ready old ready 1 _ prepared)
+    buried_sound ready c.args.moment c.args.key comes has c.push.new.self pushed.entry sets pushed.stations pushed.waiting pushed.due (space_ready old ready 1 _ prepared)
     (omega (arith, pushed.room, prepared.room, prepared.same.waiting))
 
 pub returns-clause-ok : goal.returns-clause-ok
@@ -35,5 +35,5 @@ returns-clause-ok c =
     let comes = comes_ready old ready c.args.moment (Cancel c.args.key) 1 _ c.requires.comes prepared in
     let has = subst (λ t. HasNext t c.args.key) (sym prepared.same.sessions) c.requires.next in
     let done = buried_cancelled ready c.args.moment c.args.key comes has in
-    let after = subst (λ b. IsCancelled (account_of ready) b c.args.moment c.args.key) (sym c.push_cancel.ensures.entry) done in
-    subst (λ a. IsCancelled a (account_of c.push_cancel.new.self) c.args.moment c.args.key) prepared.same.account after
+    let after = subst (λ b. IsCancelled (account_of ready) b c.args.moment c.args.key) (sym c.push.ensures.entry) done in
+    subst (λ a. IsCancelled a (account_of c.push.new.self) c.args.moment c.args.key) prepared.same.account after

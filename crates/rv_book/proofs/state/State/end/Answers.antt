@@ -1,50 +1,47 @@
 -- The request that waited was taken out of its queue, and its session was settled.
-use Rattle.std.proofs.Common.{◌≤◌, List, Option, Some, IfSome, sym, subst, arith}
+use Rattle.std.proofs.Common.{◌≡◌, ◌≤◌, Option, Some, IfSome, sym, subst, ap, ◌∙◌, arith}
+use Rattle.std.proofs.lemmas.Option.{same_Some}
 use Rattle.rv_session.specs.Owed.{Owed}
 use Rattle.rv_session.specs.Table.{OnlySettles}
 use Rattle.rv_text.specs.declared.call.Side.{Side}
 use Rattle.rv_text.specs.Calls.{side_of}
-use Rattle.rv_dual.specs.Queue.{Queue}
-use Rattle.rv_book.specs.Meeting.{Leaves}
+use Rattle.rv_book.specs.Elapsing.{without_deadline, without_duty}
+use Rattle.rv_book.specs.Meeting.{Leaves, StandsOn}
 use Rattle.rv_book.specs.Tables.{IsDueIn, SettlesIf, account_of}
-use Rattle.rv_book.specs.Waiting.{OpenAt}
-use Rattle.rv_book.proofs.Ending.{duty_at}
+use Rattle.rv_book.specs.Waiting.{limit_at}
 use Rattle.rv_book.proofs.state.State.end.Goals as goal
+use Rattle.rv_book.specs.Views.{Stations}
 
-pub settle-requires : goal.settle-requires
-settle-requires c =
+pub settle-requires-clause-waits : goal.settle-requires-clause-waits
+settle-requires-clause-waits c =
     let old = c.args.self.now in
-    let es = (account_of old).entries in
-    let own = duty_at old c.args.place c.call_of.result.now c.requires.sound c.requires.waits c.call_of.ensures in
-    let opened = subst (λ side. OpenAt es side c.args.place) (sym c.side-side.ensures) own.opened in
-    let leaves = c.withdraw-duty.ensures es own.duty c.requires.sound.queues_are opened own.owed in
-    subst (λ (o : Option Owed). IfSome o (IsDueIn old.sessions)) (sym leaves.is) own.due
-
-pub overflow_sub-self : goal.overflow_sub-self
-overflow_sub-self c =
-    let own = duty_at c.args.self.now c.args.place c.call_of.result.now c.requires.sound c.requires.waits c.call_of.ensures in
-    let counted : 1 ≤ c.args.self.now.waiting = own.counted in
-    omega (arith, c.settle.ensures.waiting)
+    let may = c.requires in
+    let call : may.call ≡ c.call_of.result.now = same_Some _ _ (sym may.arrived ∙ c.call_of.ensures) in
+    let stands = subst (λ side. StandsOn old.stations side c.args.place) (ap side_of call ∙ sym c.side-side.ensures) may.stands in
+    let leaves = c.withdraw-duty.ensures (account_of old).entries may.duty may.parked stands may.owed in
+    subst (λ (o : Option Owed). IfSome o (IsDueIn old.sessions)) (sym leaves.is) may.due_in
 
 pub returns-clause-ended : goal.returns-clause-ended
 returns-clause-ended c =
     let old = c.args.self.now in
     let es = (account_of old).entries in
-    let call = c.call_of.result.now in
-    let own = duty_at old c.args.place call c.requires.sound c.requires.waits c.call_of.ensures in
-    let opened = subst (λ side. OpenAt es side c.args.place) (sym c.side-side.ensures) own.opened in
-    let leaves = c.withdraw-duty.ensures es own.duty c.requires.sound.queues_are opened own.owed in
-    let left = subst (λ (side : Side). Leaves old.queues c.withdraw-duty.new.self side own.duty c.withdraw-duty.result) c.side-side.ensures leaves in
+    let may = c.requires in
+    let call : may.call ≡ c.call_of.result.now = same_Some _ _ (sym may.arrived ∙ c.call_of.ensures) in
+    let side = ap side_of call ∙ sym c.side-side.ensures in
+    let stands = subst (λ s. StandsOn old.stations s c.args.place) side may.stands in
+    let leaves = c.withdraw-duty.ensures es may.duty may.parked stands may.owed in
+    let left = subst (λ (s : Side). Leaves old.stations c.withdraw-duty.new.self s may.duty c.withdraw-duty.result) (sym side) leaves in
     let settled = subst (λ (o : Option Owed). SettlesIf old.sessions c.settle.new.self.sessions o c.args.kept) leaves.is c.settle.ensures.sessions in
-    let counted : 1 ≤ old.waiting = own.counted in
+    let counted : 1 ≤ old.waiting = may.counted in
     record {
-      duty = own.duty;
-      is_at = own.is_at;
-      owed = own.owed;
-      call = call;
-      arrived = c.call_of.ensures;
-      leaves = subst (λ (q : List Queue). Leaves old.queues q (side_of call) own.duty (Some own.duty)) (sym c.settle.ensures.queues)
-          (subst (λ (o : Option Owed). Leaves old.queues c.withdraw-duty.new.self (side_of call) own.duty o) leaves.is left);
-      settles = subst (λ n. OnlySettles old.sessions c.settle.new.self.sessions own.duty.client n c.args.kept) own.is_at settled;
+      duty = may.duty;
+      is_at = may.is_at;
+      owed = may.owed;
+      call = may.call;
+      arrived = may.arrived;
+      leaves = subst (λ (q : Stations). Leaves old.stations q (side_of may.call) may.duty (Some may.duty)) (sym c.settle.ensures.stations)
+          (subst (λ (o : Option Owed). Leaves old.stations c.withdraw-duty.new.self (side_of may.call) may.duty o) leaves.is left);
+      settles = subst (λ n. OnlySettles old.sessions c.settle.new.self.sessions may.duty.client n c.args.kept) may.is_at settled;
       counted = omega (arith, c.settle.ensures.waiting);
+      due = c.settle.ensures.due ∙ ap (λ o. without_duty es o old.due) leaves.is ∙ ap (λ n. without_deadline (limit_at es n) n old.due) may.is_at;
     }

@@ -6,6 +6,6 @@ use Rattle.rv_book.proofs.state.State.open.Goals as goal
 
 pub returns-clause-sound : goal.returns-clause-sound
 returns-clause-sound c =
-    let state : State = record { account = c.empty.result; sessions = c.open.result; queues = c.in_ok-empty.field-0; waiting = 0 } in
+    let state : State = record { account = c.empty.result; sessions = c.open.result; stations = c.in_ok-empty.field-0; waiting = 0; due = c.new.result } in
     let epoch : c.empty.result.account.epoch ≡ c.args.epoch = c.empty.ensures.epoch in
-    sound_empty state (rw epoch c.requires.epoch) (rw c.empty.ensures.opened c.requires.opened) c.empty.ensures.entries (rw epoch c.open.ensures) c.in_ok-empty.ensures refl
+    sound_empty state (rw epoch c.requires.epoch) (rw c.empty.ensures.opened c.requires.opened) c.empty.ensures.entries (rw epoch c.open.ensures) c.in_ok-empty.ensures refl c.new.ensures

@@ -23,7 +23,7 @@ returns-clause-sound c =
     let old = c.args.self.now in
     let ready = c.make_room.new.self in
     let mid = c.end_if.new.self in
-    let new = c.push_hello.new.self in
+    let new = c.push.new.self in
     let client = c.args.client in
     let incarnation = c.args.incarnation in
     let prepared = c.in_ok-make_room.ensures.ok in
@@ -32,9 +32,9 @@ returns-clause-sound c =
     let there = ap (λ t. session_of t client) prepared.same.sessions ∙ newer.there in
     let lower = newer_lower (account_of ready) ready.sessions comes.sound.sessions_are comes.sound.legal client incarnation newer.session there newer.lower in
     let waits = newer.waits ∙ sym (ap (λ t. waiting_of t client) prepared.same.sessions) in
-    let sets = subst (λ t. OnlySets mid.sessions t client (fresh incarnation)) (sym c.push_hello.ensures.sessions) (ok_gives c.enter.result _ (c.enter.ensures.known (still_known ready mid c.args.waiting Cancelled client newer.session c.end_if.ensures.ended there)) c.enter.ensures.ok) in
+    let sets = subst (λ t. OnlySets mid.sessions t client (fresh incarnation)) (sym c.push.ensures.sessions) (ok_gives c.enter.result _ (c.enter.ensures.known (still_known ready mid c.args.waiting Cancelled client newer.session c.end_if.ensures.ended there)) c.enter.ensures.ok) in
     sound_renewed ready c.args.moment client incarnation comes lower (space_ready old ready 1 _ prepared) c.args.waiting mid new Cancelled waits c.end_if.ensures.ended c.end_if.ensures.account
-    c.push_hello.ensures.entry sets c.push_hello.ensures.queues c.push_hello.ensures.waiting (omega (arith, c.push_hello.ensures.room, prepared.room, prepared.same.waiting, ap (λ stored. stored.room) c.end_if.ensures.account))
+    c.push.ensures.entry sets c.push.ensures.stations c.push.ensures.waiting c.push.ensures.due (omega (arith, c.push.ensures.room, prepared.room, prepared.same.waiting, ap (λ stored. stored.room) c.end_if.ensures.account))
 
 pub returns-clause-ok : goal.returns-clause-ok
 returns-clause-ok c =
@@ -43,6 +43,6 @@ returns-clause-ok c =
       entry = e;
       moment_is = refl;
       act_is = refl;
-      follows = c.push_hello.ensures.entry ∙ ap (λ stored. with_entry stored.account e) c.end_if.ensures.account ∙ ap (λ b. with_entry b e) c.in_ok-make_room.ensures.same.account;
+      follows = c.push.ensures.entry ∙ ap (λ stored. with_entry stored.account e) c.end_if.ensures.account ∙ ap (λ b. with_entry b e) c.in_ok-make_room.ensures.same.account;
       legal = (returns-clause-sound c).legal;
     }

@@ -1,7 +1,7 @@
 -- What is kept is the reply, whomever the call met.
 use Rattle.std.proofs.Common.{◌∙◌, Option, None, sym, subst}
 use Rattle.rv_text.specs.declared.call.Call.{Call}
-use Rattle.rv_text.specs.declared.call.Call.TheVariants.{Take, Transfer}
+use Rattle.rv_text.specs.declared.call.Call.TheVariants.{Swap, Take, Transfer}
 use Rattle.rv_text.specs.declared.call.Side.TheVariants.{Gives, Takes}
 use Rattle.rv_session.specs.declared.kept.Kept.{Kept}
 use Rattle.rv_session.specs.declared.kept.Kept as kept
@@ -10,6 +10,7 @@ use Rattle.rv_book.specs.Tables.{Sees, account_of}
 use Rattle.rv_book.proofs.Counts.{count_replies}
 use Rattle.rv_book.proofs.Peeks.{peek_finds_none, peek_replies}
 use Rattle.rv_book.proofs.Puts.{put_replies}
+use Rattle.rv_book.proofs.Swaps.{swap_replies, swap_unmet}
 use Rattle.rv_book.proofs.Takes.{take_replies, take_unmet}
 use Rattle.rv_book.proofs.ToldNow.{looks_alone, seen_first, seen_none, seen_number}
 use Rattle.rv_book.proofs.Transfers.{received_replies, transfer_unmet}
@@ -32,8 +33,9 @@ returns-in-None c = λ sees ends.
     let a = account_of c.args.self.now in
     let own = Transfer c.in-Transfer.queue c.in-Transfer.item c.in-Transfer.wait in
     let unmet = subst (λ (call : Call). GoesOn call None → ⊥) c.in-Transfer.is (subst (λ (partner : Option _). GoesOn c.args.call.now partner → ⊥) c.in-None.is ends) in
-    subst (λ (call : Call). WillReply a call c.args.partner kept.TheVariants.Nobody) (sym c.in-Transfer.is)
-    (subst (λ (partner : Option _). WillReply a own partner kept.TheVariants.Nobody) (sym c.in-None.is) (transfer_unmet a c.in-Transfer.queue c.in-Transfer.item c.in-Transfer.wait unmet))
+    let told = subst (WillReply a own None) (sym c.reply_at_once.ensures) (transfer_unmet a c.in-Transfer.queue c.in-Transfer.item c.in-Transfer.wait unmet) in
+    subst (λ (call : Call). WillReply a call c.args.partner c.reply_at_once.result) (sym c.in-Transfer.is)
+    (subst (λ (partner : Option _). WillReply a own partner c.reply_at_once.result) (sym c.in-None.is) told)
 
 pub returns-in-Some-partner : goal.returns-in-Some-partner
 returns-in-Some-partner c = λ sees ends.
@@ -46,8 +48,27 @@ pub returns-in-None-partner : goal.returns-in-None-partner
 returns-in-None-partner c = λ sees ends.
     let a = account_of c.args.self.now in
     let unmet = subst (λ (call : Call). GoesOn call None → ⊥) c.in-Take.is (subst (λ (partner : Option _). GoesOn c.args.call.now partner → ⊥) c.in-None-partner.is ends) in
-    subst (λ (call : Call). WillReply a call c.args.partner kept.TheVariants.Empty) (sym c.in-Take.is)
-    (subst (λ (partner : Option _). WillReply a (Take c.in-Take.queue c.in-Take.wait) partner kept.TheVariants.Empty) (sym c.in-None-partner.is) (take_unmet a c.in-Take.queue c.in-Take.wait unmet))
+    let own = Take c.in-Take.queue c.in-Take.wait in
+    let told = subst (WillReply a own None) (sym c.reply_at_once-in-None-partner.ensures) (take_unmet a c.in-Take.queue c.in-Take.wait unmet) in
+    subst (λ (call : Call). WillReply a call c.args.partner c.reply_at_once-in-None-partner.result) (sym c.in-Take.is)
+    (subst (λ (partner : Option _). WillReply a own partner c.reply_at_once-in-None-partner.result) (sym c.in-None-partner.is) told)
+
+pub returns-in-Some-partner-2 : goal.returns-in-Some-partner-2
+returns-in-Some-partner-2 c = λ sees ends.
+    let a = account_of c.args.self.now in
+    let own = Swap c.in-Swap.exchanger c.in-Swap.item c.in-Swap.wait in
+    let place = c.in-Some-partner-2.place in
+    subst (λ (call : Call). WillReply a call c.args.partner (kept.TheVariants.Swapped place)) (sym c.in-Swap.is)
+    (subst (λ (partner : Option _). WillReply a own partner (kept.TheVariants.Swapped place)) (sym c.in-Some-partner-2.is) (swap_replies c.in-Swap.exchanger c.in-Swap.item c.in-Swap.wait a place))
+
+pub returns-in-None-partner-2 : goal.returns-in-None-partner-2
+returns-in-None-partner-2 c = λ sees ends.
+    let a = account_of c.args.self.now in
+    let own = Swap c.in-Swap.exchanger c.in-Swap.item c.in-Swap.wait in
+    let unmet = subst (λ (call : Call). GoesOn call None → ⊥) c.in-Swap.is (subst (λ (partner : Option _). GoesOn c.args.call.now partner → ⊥) c.in-None-partner-2.is ends) in
+    let told = subst (WillReply a own None) (sym c.reply_at_once-in-None-partner-2.ensures) (swap_unmet c.in-Swap.exchanger c.in-Swap.item c.in-Swap.wait a unmet) in
+    subst (λ (call : Call). WillReply a call c.args.partner c.reply_at_once-in-None-partner-2.result) (sym c.in-Swap.is)
+    (subst (λ (partner : Option _). WillReply a own partner c.reply_at_once-in-None-partner-2.result) (sym c.in-None-partner-2.is) told)
 
 pub returns-in-Count : goal.returns-in-Count
 returns-in-Count c = λ sees ends.
@@ -57,7 +78,7 @@ returns-in-Count c = λ sees ends.
     let are = (subst (Sees state) c.in-Count.is sees) (looks_alone queue) in
     let counted = c.count-items.ensures in
     subst (λ (call : Call). WillReply a call c.args.partner (kept.TheVariants.Counted c.count-items.result.0 c.count-items.result.1)) (sym c.in-Count.is)
-    (count_replies a queue c.count-items.result.0 c.count-items.result.1 c.args.partner (seen_number a.entries state.queues (Gives queue) _ are counted.items) (seen_number a.entries state.queues (Takes queue) _ are counted.consumers))
+    (count_replies a queue c.count-items.result.0 c.count-items.result.1 c.args.partner (seen_number a.entries state.stations (Gives queue) _ are counted.items) (seen_number a.entries state.stations (Takes queue) _ are counted.consumers))
 
 pub returns-in-Some-front : goal.returns-in-Some-front
 returns-in-Some-front c = λ sees ends.
@@ -67,7 +88,7 @@ returns-in-Some-front c = λ sees ends.
     let place = c.in-Some-front.place in
     let are = (subst (Sees state) c.in-Peek.is sees) (looks_alone queue) in
     subst (λ (call : Call). WillReply a call c.args.partner (kept.TheVariants.Peeked place)) (sym c.in-Peek.is)
-    (peek_replies a queue place c.args.partner (seen_first a.entries state.queues (Gives queue) place are (sym c.in-Some-front.is ∙ c.front.ensures)))
+    (peek_replies a queue place c.args.partner (seen_first a.entries state.stations (Gives queue) place are (sym c.in-Some-front.is ∙ c.front.ensures)))
 
 pub returns-in-None-front : goal.returns-in-None-front
 returns-in-None-front c = λ sees ends.
@@ -76,4 +97,4 @@ returns-in-None-front c = λ sees ends.
     let queue = c.in-Peek.queue in
     let are = (subst (Sees state) c.in-Peek.is sees) (looks_alone queue) in
     subst (λ (call : Call). WillReply a call c.args.partner kept.TheVariants.Empty) (sym c.in-Peek.is)
-    (peek_finds_none a queue c.args.partner (seen_none a.entries state.queues queue are (sym c.in-None-front.is ∙ c.front.ensures)))
+    (peek_finds_none a queue c.args.partner (seen_none a.entries state.stations queue are (sym c.in-None-front.is ∙ c.front.ensures)))

@@ -1,19 +1,17 @@
--- The step of a hello or a request is the step of the message.
-use Rattle.std.proofs.Common.{Some, sym, ap, subst}
-use Rattle.rv_text.specs.declared.message.Message.{Message}
-use Rattle.rv_text.specs.declared.message.Message.TheVariants.{Hello}
-use Rattle.rv_text.specs.declared.answer.Answer.TheVariants.{Welcome}
-use Rattle.rv_book.specs.Steps.{NextAt, step_moment}
+-- First what is due is timed out, and then the message takes its own step.
+use Rattle.std.proofs.Common.{subst}
+use Rattle.rv_book.specs.Steps.{Ticks}
+use Rattle.rv_book.specs.Tables.{Becomes, account_of}
 use Rattle.rv_book.proofs.state.State.step.Goals as goal
 
-pub returns-in-Ok-clause-step : goal.returns-in-Ok-clause-step
-returns-in-Ok-clause-step c =
-    let a = c.args.self.now.account.account in
-    let welcome = Welcome a.epoch c.in-Hello.client c.in-Hello.incarnation in
-    let b = c.greet.new.self.account.account in
-    let step = subst (λ moment. NextAt a moment (Hello c.in-Hello.client c.in-Hello.incarnation) b welcome) c.moment_at-moment.ensures.exact c.in-Ok.ensures.ok in
+pub returns-clause-step : goal.returns-clause-step
+returns-clause-step c =
+    let a = account_of c.args.self.now in
+    let mid = account_of c.time_out.new.self in
+    let exact = c.moment_at-moment.ensures.exact in
     record {
-      answer = welcome;
-      is = ap (λ epoch. Some (Welcome epoch c.in-Hello.client c.in-Hello.incarnation)) c.epoch-epoch.ensures;
-      step = subst (λ (m : Message). NextAt a (step_moment a c.args.now) m b welcome) (sym c.in-Hello.is) step;
+      ticked = mid;
+      ticks = subst (λ moment. Ticks a moment mid) exact c.time_out.ensures.ticks;
+      fits = c.time_out.ensures.time.sound.fits;
+      becomes = subst (λ moment. Becomes mid moment c.args.message (account_of c.take.new.self) c.take.result) exact c.take.ensures.step;
     }

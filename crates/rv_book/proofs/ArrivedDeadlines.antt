@@ -1,0 +1,138 @@
+-- After an arrival the deadlines are those of all that wait: with its own, if it waits for some time, and without that of the
+-- request that it met.
+use Rattle.std.proofs.Common.{◌≡◌, ◌⊎◌, inl, inr, ℕ, zero, suc, ◌<◌, List, [], ◌∷◌, ◌++◌, length, Option, Some, None, IsSome, is_some, option_and_then, refl, sym, ap, subst, ◌∙◌, arith}
+use Rattle.std.proofs.lemmas.Option.{none-some, same_Some}
+use Rattle.rv_due.specs.Deadlines.{Deadlines}
+use Rattle.rv_text.specs.declared.call.Call.{Call}
+use Rattle.rv_text.specs.declared.call.Wait.{Wait}
+use Rattle.rv_text.specs.declared.call.Wait.TheVariants.{Forever, Millis, Now}
+use Rattle.rv_text.specs.declared.message.Key.{Key}
+use Rattle.rv_text.specs.Calls.{side_of, wait_of}
+use Rattle.rv_session.specs.Owed.{Owed}
+use Rattle.rv_book.specs.Account.{Account, call_in}
+use Rattle.rv_book.specs.Arriving.{GoesOn}
+use Rattle.rv_book.specs.Calls.{IsPut, Lasts, Stays, limit_after, limit_of}
+use Rattle.rv_book.specs.Elapsing.{AreDeadlines, deadline_after, deadline_of, with_deadline, without_duty}
+use Rattle.rv_book.specs.Legal.{Legal, NamesFreePartner}
+use Rattle.rv_book.specs.Meeting.{OwnDuty, PartnersDuty}
+use Rattle.rv_book.specs.Waiting.{Waiting, limit_at, limit_in}
+use Rattle.rv_book.specs.declared.account.Act.TheVariants.{Arrive}
+use Rattle.rv_book.specs.declared.account.Entry.{Entry}
+use Rattle.rv_book.proofs.DeadlineTable.{ButDuty, due_on, due_same, due_with, due_without_duty, limit_waits}
+use Rattle.rv_book.proofs.Lasting.{lasting_deadline}
+use Rattle.rv_book.proofs.Owing.{goes_not_on, goes_on, unowed_waits_not, waiting_inside}
+use Rattle.rv_book.proofs.Places.{get-append_end}
+use Rattle.rv_book.proofs.Sides.{IsNewRequest, Waiting-back, Waiting-last, Waiting-on, arrival_stops_nobody, waiting_is_open}
+use Rattle.rv_book.proofs.Waiters.{met_last}
+use Rattle.rv_book.proofs.Withdrawn.{owed_place}
+
+-- a deadline is the wait's limit
+deadline_is_limit : (moment : ℕ) (wait : Option Wait) (limit : ℕ) → deadline_after moment wait ≡ Some limit → option_and_then (limit_after moment) wait ≡ Some limit
+deadline_is_limit moment None limit is = absurd (none-some limit is)
+deadline_is_limit moment (Some Now) limit is = absurd (none-some limit is)
+deadline_is_limit moment (Some (Millis zero)) limit is = absurd (none-some limit is)
+deadline_is_limit moment (Some (Millis (suc n))) limit is = is
+deadline_is_limit moment (Some Forever) limit is = absurd (none-some limit is)
+
+-- ---- a property but for a duty's place
+
+but_has : (P : ℕ → Type 0) (duty : Option Owed) (r : ℕ) → ButDuty P duty r → P r
+but_has P None r but = but
+but_has P (Some d) r but = but.0
+
+module _ (a : Account) (e : Entry) (key : Key) (call : Call) (legal : Legal a) (free : NamesFreePartner a.entries e) (arrives : e.act ≡ Arrive key call) where
+  abbrev after : List Entry
+  after = a.entries ++ e ∷ []
+
+  abbrev place : ℕ
+  place = length a.entries
+
+  -- a request that waited; or the arrival itself, if it has a deadline
+  abbrev Either : ℕ → Type 0
+  Either r = Waiting a.entries r ⊎ ((r ≡ place) × IsSome (deadline_of e.moment call))
+
+  own_limit : limit_at after place ≡ limit_of e.moment call
+  own_limit = ap (option_and_then limit_in) (get-append_end a.entries e) ∙ ap (λ does. option_and_then (limit_of e.moment) (call_in does)) arrives
+
+  has_limit : (limit : ℕ) → deadline_of e.moment call ≡ Some limit → limit_at after place ≡ Some limit
+  has_limit limit is = own_limit ∙ deadline_is_limit e.moment (wait_of call) limit is
+
+  -- ---- the request that it met
+
+  unnamed : (partner : Option ℕ) (other : Option Owed) (r : ℕ) → e.partner ≡ partner → PartnersDuty a.entries partner other → ButDuty Either other r → Waiting a.entries r → e.partner ≡ Some r → ⊥
+  unnamed None other r names is but waits named = none-some r (sym names ∙ named)
+  unnamed (Some p) None r names is but waits named =
+      let same : p ≡ r = same_Some _ _ (sym names ∙ named) in
+      unowed_waits_not a.entries p (sym is) (subst (Waiting a.entries) (sym same) waits)
+  unnamed (Some p) (Some d) r names is but waits named =
+      let same : p ≡ r = same_Some _ _ (sym names ∙ named) in
+      but.1 (sym same ∙ sym (owed_place a.entries p d (sym is)))
+
+  but_other : (partner : Option ℕ) (other : Option Owed) (r : ℕ) → e.partner ≡ partner → PartnersDuty a.entries partner other → Either r → (e.partner ≡ Some r → ⊥) → ButDuty Either other r
+  but_other partner None r names is either apart = either
+  but_other None (Some d) r names is either apart = absurd (none-some d (sym is))
+  but_other (Some p) (Some d) r names is either apart = (either, λ here. apart (names ∙ ap Some (sym (here ∙ owed_place a.entries p d (sym is)))))
+
+  -- a request that waits at its place met nobody
+  goes : (partner : Option ℕ) (new : IsNewRequest e) → e.partner ≡ partner → Waiting after place → GoesOn call partner
+  goes None new names waits =
+      let same : new.call ≡ call = same_Some _ _ (sym new.arrives ∙ ap call_in arrives) in
+      record { unmet = refl; stays = subst Stays same new.stays; no_put = subst (λ c. IsPut c → ⊥) same new.no_put }
+  goes (Some p) new names waits = absurd (met_last a.entries e _ p free names (waiting_is_open after place waits))
+
+  module _ (partner : Option ℕ) (duty : Owed) (own other : Option Owed) (names : e.partner ≡ partner) (at : duty.place ≡ place) (own_is : OwnDuty (side_of call) (wait_of call) partner duty own)
+      (other_is : PartnersDuty a.entries partner other) where
+    -- ---- who is left waits
+
+    new_waits : (mine : Option Owed) → mine ≡ own → ButDuty (ButDuty Either other) mine place → Waiting after place
+    new_waits None same but =
+        let is = goes_on call partner duty own own_is (sym same) in
+        Waiting-last a e legal (names ∙ is.unmet) (record { call = call; arrives = ap call_in arrives; stays = is.stays; no_put = is.no_put })
+    new_waits (Some d) same but =
+        let mine : OwnDuty (side_of call) (wait_of call) partner duty (Some d) = subst (OwnDuty (side_of call) (wait_of call) partner duty) (sym same) own_is in
+        absurd (but.1 (sym at ∙ ap (λ (x : Owed). x.place) (sym mine.0)))
+
+    left_waits : (r : ℕ) → ButDuty (ButDuty Either other) own r → Waiting after r
+    left_waits r but =
+        let left = but_has (ButDuty Either other) own r but in
+        elim (but_has Either other r left) [
+          | inl waits ↦ Waiting-on a.entries e r waits (unnamed partner other r names other_is left waits) (arrival_stops_nobody a.entries e key call r arrives)
+          | inr last ↦ subst (Waiting after) (sym last.0) (new_waits own refl (subst (ButDuty (ButDuty Either other) own) last.0 but))
+        ]
+
+    -- ---- and who waits is left
+
+    old_left : (mine : Option Owed) (r : ℕ) → mine ≡ own → Waiting a.entries r → ButDuty Either other r → ButDuty (ButDuty Either other) mine r
+    old_left None r same waits left = left
+    old_left (Some d) r same waits left =
+        let mine : OwnDuty (side_of call) (wait_of call) partner duty (Some d) = subst (OwnDuty (side_of call) (wait_of call) partner duty) (sym same) own_is in (
+          left,
+          λ here.
+              let is : r ≡ place = here ∙ ap (λ (x : Owed). x.place) mine.0 ∙ at in
+              let inside : r < place = waiting_inside a.entries r waits in
+              omega arith,
+        )
+
+    new_left : (mine : Option Owed) → mine ≡ own → GoesOn call partner → ButDuty Either other place → ButDuty (ButDuty Either other) mine place
+    new_left None same on left = left
+    new_left (Some d) same on left = absurd (goes_not_on call partner duty d own own_is (sym same) on)
+
+    waits_left : (limit r : ℕ) → Waiting after r → limit_at after r ≡ Some limit → ButDuty (ButDuty Either other) own r
+    waits_left limit r waits has = elim (Waiting-back a.entries e r free waits) [
+      | inl was ↦ old_left own r refl was.there (but_other partner other r names other_is (inl was.there) was.unnamed)
+      | inr new ↦
+          let on = goes partner new.1 names (subst (Waiting after) new.0 waits) in
+          let lasts : Lasts (wait_of call) = on.stays.1 in
+          let deadline : deadline_of e.moment call ≡ Some limit = lasting_deadline e.moment (wait_of call) lasts ∙ sym own_limit ∙ ap (limit_at after) (sym new.0) ∙ has in
+          let nobody = λ (named : e.partner ≡ Some place). none-some place (sym on.unmet ∙ sym names ∙ named) in
+          subst (ButDuty (ButDuty Either other) own) (sym new.0) (new_left own refl on (but_other partner other place names other_is (inr (refl, ap is_some deadline)) nobody))
+    ]
+
+    -- the deadlines after the arrival, from those before it
+    pub due_arrived : (due : Deadlines) → AreDeadlines a.entries due → AreDeadlines after (without_duty after own (without_duty after other (with_deadline (deadline_of e.moment call) place due)))
+    due_arrived due are =
+        let same = due_on a.entries (e ∷ []) (Waiting a.entries) due are (limit_waits a.entries (e ∷ [])) in
+        let more = due_with after (Waiting a.entries) due place same (deadline_of e.moment call) has_limit in
+        let less = due_without_duty after Either (with_deadline (deadline_of e.moment call) place due) other more in
+        let least = due_without_duty after (ButDuty Either other) (without_duty after other (with_deadline (deadline_of e.moment call) place due)) own less in
+        due_same after (ButDuty (ButDuty Either other) own) (Waiting after) _ least left_waits waits_left

@@ -1,0 +1,155 @@
+-- What a change of one exchanger is to all who wait, side by side.
+use Rattle.std.proofs.Common.{◌≡◌, arith, inl, inr, ℕ, zero, suc, List, [], ◌∷◌, ◌++◌, cond, not, ◌==◌, false, Option, Some, None, refl, sym, ap, subst, ◌∙◌}
+use Rattle.std.specs.List.{filter, slice_get}
+use Rattle.std.proofs.lemmas.Option.{none-some, same_Some}
+use Rattle.rv_text.specs.declared.call.Side.{Side}
+use Rattle.rv_text.specs.declared.call.Side.TheVariants.{Exchanges, Gives, Looks, Takes}
+use Rattle.rv_text.specs.declared.call.Wait.{Wait}
+use Rattle.rv_session.specs.Owed.{Owed}
+use Rattle.rv_dual.specs.Offers.{places_of}
+use Rattle.rv_dual.specs.Queue.{SameLists}
+use Rattle.rv_book.specs.declared.account.Entry.{Entry}
+use Rattle.rv_book.specs.declared.arrived.Arrived.{Arrived}
+use Rattle.rv_book.specs.Calls.{Lasts}
+use Rattle.rv_book.specs.Meeting.{ArrivedOn, Exchanged, FindsNobody, Leaves, LeftExchanger, StandsOn, SwappedNothing, SwappedWith, WaitsAlone}
+use Rattle.rv_book.specs.Parked.{AreParked, IsParked, owed_at}
+use Rattle.rv_book.specs.Views.{AllFree, OnlyExchanger, SameStations, Stations, exchanger_at, place_of_duty, queue_at, takers_places, waiting_on}
+use Rattle.rv_book.proofs.Numbers.{same_or_not}
+use Rattle.rv_book.proofs.Withdrawn.{owed_place}
+use Rattle.std.proofs.lemmas.Bool.Decides.{nat_tests}
+
+-- ---- one exchanger
+
+-- no other exchanger changed, and no queue
+pub record ExchangerChanged (old new : Stations) (exchanger : ℕ) : Type 0 where
+  pub others : OnlyExchanger exchanger old.exchangers new.exchangers
+  pub queues : new.queues ≡ old.queues
+
+some_is_none : {X : Type 0} (x : X) → Some x ≡ None → ⊥
+some_is_none x is = none-some x (sym is)
+
+module _ (old new : Stations) (exchanger : ℕ) (changed : ExchangerChanged old new exchanger) where
+  abbrev before : Option Owed
+  before = exchanger_at old.exchangers exchanger
+
+  abbrev after : Option Owed
+  after = exchanger_at new.exchangers exchanger
+
+  -- all sides stay but that of the exchanger
+  pub others_stay : (third : Side) → (third ≡ Exchanges exchanger → ⊥) → waiting_on new third ≡ waiting_on old third
+  others_stay (Gives queue) apart = ap (λ l. places_of (queue_at l queue).givers) changed.queues
+  others_stay (Takes queue) apart = ap (λ l. takers_places (queue_at l queue).takers) changed.queues
+  others_stay (Looks queue) apart = refl
+  others_stay (Exchanges other) apart = ap place_of_duty (changed.others other (λ is. apart (ap Exchanges is)))
+
+  -- who is parked, where what is parked at the exchanger is
+  parked_at : (es : List Entry) → AreParked es old → ((duty : Owed) → after ≡ Some duty → owed_at es duty.place ≡ Some duty) → AreParked es new
+  parked_at es parked here = record {
+    queues = λ queue. subst (λ l. IsParked es (queue_at l queue)) (sym changed.queues) (parked.queues queue);
+    exchangers = λ other duty there. elim (same_or_not other exchanger) [
+      | inl is ↦ here duty (ap (exchanger_at new.exchangers) (sym is) ∙ there)
+      | inr apart ↦ parked.exchangers other duty (sym (changed.others other apart) ∙ there)
+    ];
+  }
+
+  nothing_changed : after ≡ before → SameStations old new
+  nothing_changed same = record {
+    queues = λ queue. subst (λ l. SameLists (queue_at old.queues queue) (queue_at l queue)) (sym changed.queues) (record { givers = refl; takers = refl });
+    exchangers = λ other. elim (same_or_not other exchanger) [
+      | inl is ↦ subst (λ n. exchanger_at new.exchangers n ≡ exchanger_at old.exchangers n) (sym is) same
+      | inr apart ↦ changed.others other apart
+    ];
+  }
+
+  nobody_there : before ≡ None → FindsNobody old (Exchanges exchanger)
+  nobody_there none other opposes = subst (λ side. waiting_on old side ≡ []) (same_Some _ _ opposes) (ap place_of_duty none)
+
+  -- ---- an arrival
+
+  swapped : (wait : Wait) (duty : Owed) (result : Arrived) → SwappedWith before after duty result → ArrivedOn old new (Exchanges exchanger) (Some wait) duty result
+  swapped wait duty result swap = subst (ArrivedOn old new (Exchanges exchanger) (Some wait) duty) (sym swap.is) (record {
+    meets = record {
+      other = Exchanges exchanger;
+      opposes = refl;
+      first = ap place_of_duty swap.waited ∙ ap (λ o. swap.earlier.place ∷ place_of_duty o) (sym swap.left);
+      others = others_stay;
+    };
+    own = (refl, λ is. absurd (some_is_none swap.earlier.place is));
+    other = λ es parked. sym (parked.exchangers exchanger swap.earlier swap.waited);
+    parked = λ es parked owed. parked_at es parked (λ duty there. absurd (none-some duty (sym swap.left ∙ there)));
+  })
+
+  waits_alone : (wait : Wait) (duty : Owed) (result : Arrived) → Lasts (Some wait) → WaitsAlone before after duty result → ArrivedOn old new (Exchanges exchanger) (Some wait) duty result
+  waits_alone wait duty result lasts waits = subst (ArrivedOn old new (Exchanges exchanger) (Some wait) duty) (sym waits.is) (record {
+    meets = inl (
+      (refl, lasts),
+      record {
+        nobody = nobody_there waits.nobody;
+        last = ap place_of_duty waits.waits ∙ ap (λ o. place_of_duty o ++ duty.place ∷ []) (sym waits.nobody);
+        others = others_stay;
+      },
+    );
+    own = (refl, (refl, lasts), refl);
+    other = λ es parked. refl;
+    parked = λ es parked owed. parked_at es parked (λ other there. subst (λ (d : Owed). owed_at es d.place ≡ Some d) (same_Some _ _ (sym waits.waits ∙ there)) owed);
+  })
+
+  swapped_nothing : (wait : Wait) (duty : Owed) (result : Arrived) → (Lasts (Some wait) → ⊥) → SwappedNothing before after duty result → ArrivedOn old new (Exchanges exchanger) (Some wait) duty result
+  swapped_nothing wait duty result goes nothing =
+      let same : after ≡ before = nothing.none_waits ∙ sym nothing.nobody in
+      subst (ArrivedOn old new (Exchanges exchanger) (Some wait) duty) (sym nothing.is) (record {
+        meets = inr ((λ may. goes may.1), nobody_there nothing.nobody, nothing_changed same);
+        own = (refl, λ unmet may. absurd (goes may.1));
+        other = λ es parked. refl;
+        parked = λ es parked owed. parked_at es parked (λ other there. absurd (none-some other (sym nothing.none_waits ∙ there)));
+      })
+
+  pub arrived_exchanges : (wait : Wait) (duty : Owed) (result : Arrived) → Exchanged before after wait duty result → ArrivedOn old new (Exchanges exchanger) (Some wait) duty result
+  arrived_exchanges wait duty result (inl swap) = swapped wait duty result swap
+  arrived_exchanges wait duty result (inr (inl waits)) = waits_alone wait duty result waits.0 waits.1
+  arrived_exchanges wait duty result (inr (inr goes)) = swapped_nothing wait duty result goes.0 goes.1
+
+  -- ---- a request that leaves
+
+  left_free : (place : ℕ) (es : List Entry) (duty : Owed) (result : Option Owed) → LeftExchanger before after place result → (earlier : Owed) → before ≡ Some earlier → earlier.place ≡ place
+      → AreParked es old → owed_at es place ≡ Some duty → (result ≡ Some duty) × (after ≡ None)
+  left_free place es duty None left earlier waited there parked owed = absurd (left.0 earlier waited there)
+  left_free place es duty (Some back) left earlier waited there parked owed =
+      let own : owed_at es back.place ≡ Some back = parked.exchangers exchanger back left.waited in
+      (sym (sym (ap (owed_at es) left.own) ∙ own) ∙ owed, left.left)
+
+  pub left_exchanger : (place : ℕ) (es : List Entry) (duty : Owed) (result : Option Owed) → LeftExchanger before after place result → AreParked es old → StandsOn old (Exchanges exchanger) place
+      → owed_at es place ≡ Some duty → Leaves old new (Exchanges exchanger) duty result
+  left_exchanger place es duty result left parked stands owed =
+      let earlier = who_waits before stands.i place stands.there in
+      let gone = left_free place es duty result left earlier.0 earlier.1 earlier.2 parked owed in
+      let same : duty.place ≡ earlier.0.place = owed_place es place duty owed ∙ sym earlier.2 in
+      record {
+        is = gone.0;
+        places = ap place_of_duty gone.1 ∙ sym (ap (λ l. filter (λ r. not (r == duty.place)) l) (ap place_of_duty earlier.1) ∙ none_left earlier.0.place duty.place (sym same));
+        others = others_stay;
+        parked = λ other was. parked_at other was (λ d there. absurd (none-some d (sym gone.1 ∙ there)));
+      }
+    where
+      who_waits : (o : Option Owed) (i place : ℕ) → slice_get (place_of_duty o) i ≡ Some place → (earlier : Owed) × (o ≡ Some earlier) × (earlier.place ≡ place)
+      who_waits None i place at = absurd (none-some place at)
+      who_waits (Some earlier) zero place at = (earlier, refl, same_Some _ _ at)
+      who_waits (Some earlier) (suc i) place at = absurd (none-some place at)
+
+      none_left : (p q : ℕ) → p ≡ q → filter (λ r. not (r == q)) (p ∷ []) ≡ []
+      none_left p q same = ap (λ b. cond b (p ∷ []) []) (equal p q same)
+        where
+          equal : (p q : ℕ) → p ≡ q → not (p == q) ≡ false
+          equal p q same = grind (arith, nat_tests)
+
+-- ---- free exchangers
+
+pub none_free : AllFree []
+none_free exchanger = refl
+
+-- an exchanger more at which nobody waits
+pub append_free : (exchangers : List (Option Owed)) (at : Option Owed) → at ≡ None → AllFree exchangers → AllFree (exchangers ++ at ∷ [])
+append_free [] at none all zero = none
+append_free [] at none all (suc exchanger) = refl
+append_free (first ∷ exchangers) at none all zero = all zero
+append_free (first ∷ exchangers) at none all (suc exchanger) = append_free exchangers at none (λ other. all (suc other)) exchanger

@@ -1,0 +1,45 @@
+-- Who gets an item from whom it meets: it stays so, it is one item, and it is within the limits.
+use Rattle.std.proofs.Common.{◌≡◌, inl, inr, ℕ, List, ◌++◌, refl, sym, ap, ◌∙◌}
+use Rattle.std.proofs.lemmas.Option.{same_Some}
+use Rattle.rv_text.specs.Calls.{item_of}
+use Rattle.rv_text.specs.Limits.{FitsItem}
+use Rattle.rv_text.proofs.Kept.{item_fits}
+use Rattle.rv_book.specs.declared.account.Entry.{Entry}
+use Rattle.rv_book.specs.Account.{Account, act_at, call_at, call_in}
+use Rattle.rv_book.specs.Legal.{Legal}
+use Rattle.rv_book.specs.Limits.{FitsAccount}
+use Rattle.rv_book.specs.Replies.{Gets, Meet}
+use Rattle.rv_book.specs.Waiting.{Met}
+use Rattle.rv_book.proofs.Growing.{NamesPartner-on, call_read, reads_on}
+use Rattle.rv_book.proofs.Limits.{act_fits, act_there, call_of_act}
+use Rattle.rv_book.proofs.OnePartner.{meets_one}
+
+Meet-on : (es more : List Entry) (r s : ℕ) → Meet es r s → Meet (es ++ more) r s
+Meet-on es more r s (inl names) = inl (NamesPartner-on es more r s names)
+Meet-on es more r s (inr names) = inr (NamesPartner-on es more s r names)
+
+pub gets_on : (es more : List Entry) (r : ℕ) (item : List ℕ) → Gets es r item → Gets (es ++ more) r item
+gets_on es more r item gets = record {
+  giver = gets.giver;
+  call = gets.call;
+  meet = Meet-on es more gets.giver r gets.meet;
+  arrived = reads_on call_read refl es more gets.giver gets.call gets.arrived;
+  hands_over = gets.hands_over;
+}
+
+pub gets_met : (es : List Entry) (r : ℕ) (item : List ℕ) → Gets es r item → Met es r
+gets_met es r item gets = elim gets.meet [
+  | inl names ↦ record { later = gets.giver; earlier = r; names = names; part = inr refl }
+  | inr names ↦ record { later = r; earlier = gets.giver; names = names; part = inl refl }
+]
+
+pub one_item : (b : Account) (r : ℕ) (x y : List ℕ) → Legal b → Gets b.entries r x → Gets b.entries r y → x ≡ y
+one_item b r x y legal first second =
+    let giver : first.giver ≡ second.giver = meets_one b r first.giver second.giver legal first.meet second.meet in
+    let call : first.call ≡ second.call = same_Some _ _ (sym first.arrived ∙ ap (call_at b.entries) giver ∙ second.arrived) in
+    same_Some _ _ (sym first.hands_over ∙ ap item_of call ∙ second.hands_over)
+
+pub given_fits : (a : Account) (r : ℕ) (item : List ℕ) → FitsAccount a → Gets a.entries r item → FitsItem item
+given_fits a r item fits gets =
+    let does = act_there call_in (act_at a.entries gets.giver) gets.call gets.arrived in
+    item_fits gets.call item (call_of_act does.0 gets.call (act_fits a gets.giver does.0 fits does.1) does.2) gets.hands_over

@@ -1,0 +1,55 @@
+-- What is said of a wait by whether it lasts: how many entries it may need, its limit and its deadline.
+use Rattle.std.proofs.Common.{◌≡◌, ℕ, zero, suc, ◌<◌, ◌≤◌, ◌+◌, Option, Some, None, option_and_then, refl, arith}
+use Rattle.std.specs.Prelude.{IsSome}
+use Rattle.std.proofs.lemmas.Option.{none-some, same_Some}
+use Rattle.rv_text.specs.declared.call.Wait.{Wait}
+use Rattle.rv_text.specs.declared.call.Wait.TheVariants.{Now, Millis, Forever}
+use Rattle.rv_book.specs.Calls.{Lasts, limit_after, need_by}
+use Rattle.rv_book.specs.Elapsing.{deadline_after}
+
+-- ---- what it may need
+
+pub lasting_need : (wait : Option Wait) → IsSome wait → Lasts wait → need_by wait ≡ 2
+lasting_need None is lasts = absurd (let no : ⊥ = cc in no)
+lasting_need (Some Now) is lasts = absurd lasts
+lasting_need (Some (Millis zero)) is lasts = absurd (omega arith)
+lasting_need (Some (Millis (suc n))) is lasts = refl
+lasting_need (Some Forever) is lasts = refl
+
+pub passing_need : (wait : Option Wait) → (Lasts wait → ⊥) → need_by wait ≡ 1
+passing_need None passes = refl
+passing_need (Some Now) passes = refl
+passing_need (Some (Millis zero)) passes = refl
+passing_need (Some (Millis (suc n))) passes = absurd (passes (omega arith))
+passing_need (Some Forever) passes = absurd (passes tt)
+
+pub need_positive : (wait : Option Wait) → 1 ≤ need_by wait
+need_positive None = omega arith
+need_positive (Some Now) = omega arith
+need_positive (Some (Millis zero)) = omega arith
+need_positive (Some (Millis (suc n))) = omega arith
+need_positive (Some Forever) = omega arith
+
+-- ---- its limit
+
+-- the limit of a wait that lasts is ahead
+pub limit_ahead : (moment : ℕ) (wait : Option Wait) (limit : ℕ) → Lasts wait → option_and_then (limit_after moment) wait ≡ Some limit → moment < limit
+limit_ahead moment None limit lasts is = absurd (none-some limit is)
+limit_ahead moment (Some Now) limit lasts is = absurd (none-some limit is)
+limit_ahead moment (Some (Millis n)) limit lasts is = let same : moment + n ≡ limit = same_Some _ _ is in omega arith
+limit_ahead moment (Some Forever) limit lasts is = absurd (none-some limit is)
+
+-- a wait that lasts has its limit as its deadline, and one that doesn't has none
+pub lasting_deadline : (moment : ℕ) (wait : Option Wait) → Lasts wait → deadline_after moment wait ≡ option_and_then (limit_after moment) wait
+lasting_deadline moment None lasts = refl
+lasting_deadline moment (Some Now) lasts = refl
+lasting_deadline moment (Some (Millis zero)) lasts = absurd (omega arith)
+lasting_deadline moment (Some (Millis (suc n))) lasts = refl
+lasting_deadline moment (Some Forever) lasts = refl
+
+pub passing_deadline : (moment : ℕ) (wait : Option Wait) → (Lasts wait → ⊥) → deadline_after moment wait ≡ None
+passing_deadline moment None passes = refl
+passing_deadline moment (Some Now) passes = refl
+passing_deadline moment (Some (Millis zero)) passes = refl
+passing_deadline moment (Some (Millis (suc n))) passes = absurd (passes (omega arith))
+passing_deadline moment (Some Forever) passes = refl

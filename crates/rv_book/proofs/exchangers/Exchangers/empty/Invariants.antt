@@ -1,0 +1,10 @@
+-- So many exchangers were made, and nobody waits at any.
+use Rattle.std.proofs.Common.{◌≡◌, length}
+use Rattle.rv_book.specs.Views.{AllFree}
+use Rattle.rv_book.proofs.exchangers.Exchangers.empty.Given as goal
+
+abbrev pub invariant-loop : goal.invariant-loop
+invariant-loop l = record {
+  count : length l.exchangers.items ≡ l.counter;
+  free : AllFree l.exchangers.items;
+}

@@ -1,0 +1,49 @@
+-- What the arrival did in its queue or at its exchanger is what it did to all who wait.
+use Rattle.std.proofs.Common.{◌∙◌, refl, sym, subst}
+use Rattle.rv_text.specs.declared.call.Side.TheVariants.{Exchanges, Gives, Takes}
+use Rattle.rv_text.specs.Calls.{side_of, wait_of}
+use Rattle.rv_book.specs.Meeting.{ArrivedOn}
+use Rattle.rv_book.specs.Views.{AreBelow, Stations}
+use Rattle.rv_book.proofs.Exchanging.{arrived_exchanges}
+use Rattle.rv_book.proofs.Tabled.{above, arrived_gives, arrived_takes}
+use Rattle.rv_book.proofs.stations.Stations.arrive.Goals as goal
+
+pub give-requires-clause-above : goal.give-requires-clause-above
+give-requires-clause-above c =
+    let old : Stations = record { queues = c.self.inside.queues; exchangers = c.self.inside.exchangers } in
+    above old c.in-Gives.queue c.args.duty.place (subst (λ (s : Stations). AreBelow s c.args.duty.place) (sym c.self.view_is) c.requires.above)
+
+pub receive-requires-clause-above : goal.receive-requires-clause-above
+receive-requires-clause-above c =
+    let old : Stations = record { queues = c.self.inside.queues; exchangers = c.self.inside.exchangers } in
+    above old c.in-Takes.queue c.args.duty.place (subst (λ (s : Stations). AreBelow s c.args.duty.place) (sym c.self.view_is) c.requires.above)
+
+pub returns-in-Gives : goal.returns-in-Gives
+returns-in-Gives c =
+    let old : Stations = record { queues = c.self.inside.queues; exchangers = c.self.inside.exchangers } in
+    let new : Stations = record { queues = c.give.new.self; exchangers = c.self.inside.exchangers } in
+    let queue = c.in-Gives.queue in
+    let arrived = arrived_gives old new queue (record { others = c.give.ensures.others; exchangers = refl }) c.args.duty c.wait.result c.give.result c.give.ensures.gave in
+    subst (λ (s : Stations). ArrivedOn s new (side_of c.args.call.now) (wait_of c.args.call.now) c.args.duty c.give.result) c.self.view_is
+    (subst (λ s. ArrivedOn old new s (wait_of c.args.call.now) c.args.duty c.give.result) (sym (sym c.side.ensures ∙ c.in-Gives.is))
+    (subst (λ w. ArrivedOn old new (Gives queue) w c.args.duty c.give.result) c.wait.ensures arrived))
+
+pub returns-in-Some : goal.returns-in-Some
+returns-in-Some c =
+    let old : Stations = record { queues = c.self.inside.queues; exchangers = c.self.inside.exchangers } in
+    let new : Stations = record { queues = c.receive.new.self; exchangers = c.self.inside.exchangers } in
+    let queue = c.in-Takes.queue in
+    let arrived = arrived_takes old new queue (record { others = c.receive.ensures.others; exchangers = refl }) c.args.duty c.in-Some.wait c.receive.result c.receive.ensures.took in
+    subst (λ (s : Stations). ArrivedOn s new (side_of c.args.call.now) (wait_of c.args.call.now) c.args.duty c.receive.result) c.self.view_is
+    (subst (λ s. ArrivedOn old new s (wait_of c.args.call.now) c.args.duty c.receive.result) (sym (sym c.side.ensures ∙ c.in-Takes.is))
+    (subst (λ w. ArrivedOn old new (Takes queue) w c.args.duty c.receive.result) (sym c.in-Some.is ∙ c.wait-in-Takes.ensures) arrived))
+
+pub returns-in-Some-wait : goal.returns-in-Some-wait
+returns-in-Some-wait c =
+    let old : Stations = record { queues = c.self.inside.queues; exchangers = c.self.inside.exchangers } in
+    let new : Stations = record { queues = c.self.inside.queues; exchangers = c.exchange.new.self } in
+    let exchanger = c.in-Exchanges.exchanger in
+    let arrived = arrived_exchanges old new exchanger (record { others = c.exchange.ensures.others; queues = refl }) c.in-Some-wait.wait c.args.duty c.exchange.result c.exchange.ensures.exchanged in
+    subst (λ (s : Stations). ArrivedOn s new (side_of c.args.call.now) (wait_of c.args.call.now) c.args.duty c.exchange.result) c.self.view_is
+    (subst (λ s. ArrivedOn old new s (wait_of c.args.call.now) c.args.duty c.exchange.result) (sym (sym c.side.ensures ∙ c.in-Exchanges.is))
+    (subst (λ w. ArrivedOn old new (Exchanges exchanger) w c.args.duty c.exchange.result) (sym c.in-Some-wait.is ∙ c.wait-in-Exchanges.ensures) arrived))

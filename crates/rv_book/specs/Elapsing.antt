@@ -1,0 +1,46 @@
+-- What the table of deadlines says of a list of entries.
+use Rattle.std.specs.Prelude.{◌≡◌, ◌+◌, ℕ, suc, zero, List, Option, Some, None, true}
+use Rattle.std.specs.FinSet.{contains, insert, remove}
+use Rattle.rv_text.specs.declared.call.Wait.{Wait}
+use Rattle.rv_text.specs.declared.call.Wait.TheVariants.{Now, Millis, Forever}
+use Rattle.rv_text.specs.declared.call.Call.{Call}
+use Rattle.rv_text.specs.Calls.{wait_of}
+use Rattle.rv_due.specs.Deadlines.{Deadlines}
+use Rattle.rv_session.specs.Owed.{Owed}
+use Rattle.rv_book.specs.declared.account.Entry.{Entry}
+use Rattle.rv_book.specs.Waiting.{limit_at, Waiting}
+
+-- the deadlines are those of the requests with a property, each with its limit
+pub record AreDeadlinesOf (entries : List Entry) (P : ℕ → Type 0) (due : Deadlines) : Type 0 where
+  pub are : (limit r : ℕ) → contains due (limit, r) ≡ true → P r × (limit_at entries r ≡ Some limit)
+  pub each : (limit r : ℕ) → P r → limit_at entries r ≡ Some limit → contains due (limit, r) ≡ true
+
+-- they are those of the requests that wait
+abbrev pub AreDeadlines : List Entry → Deadlines → Type 0
+AreDeadlines entries due = AreDeadlinesOf entries (Waiting entries) due
+
+-- the deadlines with that of a request at a place, if it has a limit
+abbrev pub with_deadline : Option ℕ → ℕ → Deadlines → Deadlines
+with_deadline None place due = due
+with_deadline (Some limit) place due = insert due (limit, place)
+
+-- and without it
+abbrev pub without_deadline : Option ℕ → ℕ → Deadlines → Deadlines
+without_deadline None place due = due
+without_deadline (Some limit) place due = remove due (limit, place)
+
+-- the deadlines without that of the request of a duty, if there is one
+abbrev pub without_duty : List Entry → Option Owed → Deadlines → Deadlines
+without_duty entries None due = due
+without_duty entries (Some duty) due = without_deadline (limit_at entries duty.place) duty.place due
+
+-- the deadline of a wait that begins at a moment: its limit, if it has one and isn't over at once
+abbrev pub deadline_after : ℕ → Option Wait → Option ℕ
+deadline_after moment None = None
+deadline_after moment (Some Now) = None
+deadline_after moment (Some (Millis zero)) = None
+deadline_after moment (Some (Millis (suc n))) = Some (moment + suc n)
+deadline_after moment (Some Forever) = None
+
+abbrev pub deadline_of : ℕ → Call → Option ℕ
+deadline_of moment call = deadline_after moment (wait_of call)

@@ -1,0 +1,94 @@
+//! The exchangers: who waits at each.
+ghost use Rattle.std.specs.Prelude.{◌≡◌, Some, IfOk};
+ghost use Rattle.rv_text.specs.Limits.{FitsSide};
+ghost use Rattle.rv_text.specs.declared.call.Side.TheVariants.{Exchanges};
+ghost use Rattle.rv_book.specs.Meeting.{Exchanged, LeftExchanger};
+ghost use Rattle.rv_book.specs.Views.{AllFree, OnlyExchanger, exchanger_at};
+
+use crate::arrived::{Arrived, lasts};
+use rv_session::{Duty, Place};
+use rv_swap::{Swap, Tried};
+use rv_text::{MAX_EXCHANGER, NoMemory, Wait};
+use std::alloc::Global;
+use std::marker::Model;
+
+// What became of a request that met the earlier one.
+fn swapped(earlier: Duty, later: Duty) -> Arrived
+    ensures { result ≡ record {
+      partner = Some earlier.place;
+      own = Some later;
+      other = Some earlier;
+    } }
+{
+    Arrived::met(earlier.place(), Some(later), Some(earlier))
+}
+
+// A request arrives at an exchanger: where nobody is there it waits, or goes.
+fn exchange(exchanger: &mut Swap, wait: Wait, duty: Duty) -> Arrived
+    ensures { Exchanged exchanger.old exchanger.new wait duty result }
+{
+    if lasts(wait) {
+        match exchanger.arrive(duty) {
+            rv_swap::Arrived::Met(earlier, later) => swapped(earlier, later),
+            rv_swap::Arrived::Parked => Arrived::alone(None),
+        }
+    } else {
+        match exchanger.try_arrive(duty) {
+            Tried::Met(earlier, later) => swapped(earlier, later),
+            Tried::Alone(duty) => Arrived::alone(Some(duty)),
+        }
+    }
+}
+
+/// All exchangers, by their numbers.
+#[derive(Drop)]
+pub(crate) struct Exchangers {
+    exchangers: Vec<Swap>,
+}
+
+impl Model for Exchangers {
+    ghost use Rattle.rv_session.specs.Owed.{Owed};
+    ghost use Rattle.std.specs.Prelude.{◌≡◌, List, Option, length};
+
+    ghost Value = { List (Option Owed) };
+
+    ghost view = { λ e. e.exchangers.items };
+
+    ghost invariant = { λ e. length e.exchangers.items ≡ 64 };
+}
+
+impl Exchangers {
+    /// 64 exchangers at which nobody waits.
+    pub(crate) fn empty(alloc: Global) -> Result<Exchangers, NoMemory>
+        ensures { IfOk result AllFree }
+    {
+        let count = MAX_EXCHANGER as usize + 1;
+        let mut exchangers = Vec::new(alloc);
+        for _ in 0..count {
+            exchangers.push(Swap::new())?;
+        }
+        Ok(Exchangers { exchangers })
+    }
+
+    /// A request arrives at an exchanger: it meets the one that waits there, which leaves; or, where none
+    /// does, waits itself, if its wait lasts.
+    pub(crate) fn exchange(&mut self, exchanger: u64, wait: Wait, duty: Duty) -> Arrived
+        requires { FitsSide (Exchanges exchanger) }
+        ensures exchanged { Exchanged (exchanger_at self.old exchanger) (exchanger_at self.new exchanger) wait
+            duty result }
+        ensures others { OnlyExchanger exchanger self.old self.new }
+    {
+        exchange(&mut self.exchangers[exchanger as usize], wait, duty)
+    }
+
+    /// The request that waits at an exchanger leaves it, if it arrived at this place, and gives its duty
+    /// back.
+    pub(crate) fn withdraw(&mut self, exchanger: u64, place: Place) -> Option<Duty>
+        requires { FitsSide (Exchanges exchanger) }
+        ensures left { LeftExchanger (exchanger_at self.old exchanger) (exchanger_at self.new exchanger) place
+            result }
+        ensures others { OnlyExchanger exchanger self.old self.new }
+    {
+        self.exchangers[exchanger as usize].withdraw(place)
+    }
+}
