@@ -5,3 +5,5 @@ pub mod Epochs
 pub mod OneReply
 pub mod Turning
 pub mod Soundness
+pub mod Roomy
+pub mod Fitting

@@ -111,7 +111,8 @@ pub record ReceivedMeansAssigned (w : World) : Type 0 where
 
 -- the replies of a request that met nobody
 abbrev pub IsNo : Reply → Type 0
-IsNo told = (told ≡ reply.Cancelled) ⊎ ((told ≡ reply.Nobody) ⊎ (told ≡ reply.Empty))
+IsNo told =
+    (told ≡ reply.Cancelled) ⊎ ((told ≡ reply.TimedOut) ⊎ ((told ≡ reply.Nobody) ⊎ (told ≡ reply.Empty)))
 
 -- no pair and no swap of the world has the arrival of this key
 abbrev pub MeetsNobody : World → Key → Type 0
