@@ -7,3 +7,5 @@ pub mod Turning
 pub mod Soundness
 pub mod Roomy
 pub mod Fitting
+pub mod Partners
+pub mod TheHeadline
