@@ -1,30 +1,28 @@
 -- The headline holds after every list of events: it follows from what is sound.
-use Rattle.std.proofs.Common.{◌≡◌, ◌⊎◌, inl, inr, ℕ, List, Option, Some, None, option_and_then, refl, sym, ap, subst, ◌∙◌}
-use Rattle.std.proofs.lemmas.Option.{none-some, same_Some}
+use Rattle.std.proofs.Common.{◌≡◌, inl, inr, ℕ, List, Some, option_and_then, sym, ap, subst, ◌∙◌}
+use Rattle.std.proofs.lemmas.Option.{same_Some}
 use Rattle.rv_text.specs.declared.message.Key.{Key}
 use Rattle.rv_text.specs.declared.call.Call.{Call}
 use Rattle.rv_text.specs.declared.call.Side.{Side}
 use Rattle.rv_text.specs.declared.call.Side.TheVariants.{Gives, Takes, Exchanges}
 use Rattle.rv_text.specs.declared.answer.Reply.{Reply}
 use Rattle.rv_text.specs.declared.answer.Reply.TheVariants as reply
-use Rattle.rv_text.specs.Calls.{item_of, side_of}
-use Rattle.rv_book.specs.declared.account.Act.TheVariants.{Arrive}
+use Rattle.rv_text.specs.Calls.{side_of}
 use Rattle.rv_book.specs.Account.{Account, act_at, call_at, call_in}
 use Rattle.rv_book.specs.Calls.{opposite}
 use Rattle.rv_book.specs.Legal.{Legal}
 use Rattle.rv_book.specs.Replies.{Gets, HasReply, Meet, RepliesToArrival}
-use Rattle.rv_book.specs.Waiting.{Met}
 use Rattle.rv_book.proofs.CallKinds.{exchanges_item, gives_item}
 use Rattle.rv_book.proofs.Keys.{act_called}
 use Rattle.rv_book.proofs.Leaving.{items_leave_in_order}
 use Rattle.rv_book.proofs.OnePartner.{arrives_once}
-use Rattle.rv_world.specs.World.{World, accounts, first_world}
-use Rattle.rv_world.specs.Headline.{ArrivesAt, Headline, IsAnswered, IsAssigned, IsExchanged, IsGiven, IsReplyOf, IsSwap, NeverHandedOver, OrderOfArrival, ReceivedMeansAssigned, TrueExchange}
+use Rattle.rv_world.specs.World.{World, first_world}
+use Rattle.rv_world.specs.Headline.{Headline, IsAnswered, IsAssigned, IsGiven, IsReplyOf, NeverHandedOver, OrderOfArrival, ReceivedMeansAssigned, TrueExchange}
 use Rattle.rv_world.specs.Laws.{HeadlineHolds}
 use Rattle.rv_world.specs.Sound.{IsSound}
 use Rattle.rv_world.proofs.Growth.{runs_grow}
 use Rattle.rv_world.proofs.OneReply.{still_answered}
-use Rattle.rv_world.proofs.Partners.{Partner, arrival_epoch, exchanger_told, item_got, meet_back, meet_met, no_means_unmet, one_met, pair_meets, pair_of, partner_of, received_met, swapped_got, taker_told}
+use Rattle.rv_world.proofs.Partners.{arrival_epoch, exchanger_told, item_got, meet_back, meet_met, no_means_unmet, one_met, pair_meets, pair_of, partner_of, received_met, swapped_got, taker_told}
 use Rattle.rv_world.proofs.Soundness.{first_sound, runs_sound}
 
 -- ---- a reply that is answered, as its account tells it

@@ -138,8 +138,8 @@ abbrev pub IsSwap : List Entry → ℕ → ℕ → Type 0
 IsSwap entries r s = (exchanger : ℕ) × SideAt entries (Exchanges exchanger) r
     × SideAt entries (Exchanges exchanger) s × Meet entries r s
 
--- of the account of its epoch exactly one swap has the arrival of this key; the other was asked with the item,
--- and its reply is the item that was asked under this key
+-- of the account of its epoch exactly one swap has the arrival of this key; the other was asked with the
+-- item, and its reply is the item that was asked under this key
 pub record IsExchanged (w : World) (key : Key) (item : List ℕ) : Type 0 where
   pub account : Account
   pub is_of : IsAccountOf w key.epoch account
