@@ -99,6 +99,19 @@ pair_meets es g t pair = elim pair.2.names [ inl names ↦ inl names.1 | inr nam
 pub one_met : (a : Account) (r s t : ℕ) → Legal a → Meet a.entries r s → Meet a.entries r t → s ≡ t
 one_met a r s t legal first second = meets_one a r s t legal (meet_back a.entries r s first) (meet_back a.entries r t second)
 
+-- whoever hands its item over to an arrival is of the opposite side
+pub giver_opposes : (a : Account) (r : ℕ) (own : Call) (item : List ℕ) → Legal a → call_at a.entries r ≡ Some own → (gets : Gets a.entries r item) → opposite (side_of own) ≡ Some (side_of gets.call)
+giver_opposes a r own item legal arrived gets = by_partner (partner_of a r own legal arrived (meet_met a.entries r gets.giver meets))
+  where
+    meets : Meet a.entries r gets.giver
+    meets = meet_back a.entries gets.giver r gets.meet
+
+    by_partner : Partner a.entries r own → opposite (side_of own) ≡ Some (side_of gets.call)
+    by_partner partner =
+        let place : partner.place ≡ gets.giver = one_met a r partner.place gets.giver legal partner.meet meets in
+        let same : partner.other ≡ gets.call = same_Some _ _ (sym partner.arrived ∙ ap (call_at a.entries) place ∙ gets.arrived) in
+        subst (λ c. opposite (side_of own) ≡ Some (side_of c)) same partner.opposes
+
 -- ---- replies
 
 -- the reply of a request that met nobody
