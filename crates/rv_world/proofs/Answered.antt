@@ -177,22 +177,22 @@ became_at a b moment (Request key call) x next =
     let asks : AsksFor m key = inl (call, refl) in
     key_lines (Refuses a b x) _ _ (Became a moment m b x) a key (refused_became a b moment m x)
     (λ epoch. RefuseOr-elim _ _ _ (Became a moment m b x) (λ refusal due. refused_became a b moment m x refusal)
-        (λ again. stays_became a b moment m x again.account (λ other told. answers_tell m a key other x told asks epoch again.answers)))
+    (λ again. stays_became a b moment m x again.account (λ other told. answers_tell m a key other x told asks epoch again.answers)))
     (λ epoch. room_became a b moment m x _ (need_of call) (λ room. room)
-        (λ added answers other told. answers_tell m b key other x told asks (epoch ∙ sym (added_epoch a b moment _ added)) answers)) next
+    (λ added answers other told. answers_tell m b key other x told asks (epoch ∙ sym (added_epoch a b moment _ added)) answers)) next
 became_at a b moment (Cancel key) x next =
     let m : Message = Cancel key in
     let asks : AsksFor m key = inr refl in
     let own = λ (added : Adds a moment (act.Cancel key) b) (epoch : key.epoch ≡ a.epoch). epoch ∙ sym (added_epoch a b moment (act.Cancel key) added) in
     key_lines (Refuses a b x) _ _ (Became a moment m b x) a key (refused_became a b moment m x)
     (λ epoch. WhereElse-elim _ _ _ (Became a moment m b x)
-        (λ waits ends. record {
-          account = inr (record { adds = ends.0; room = inl waits });
-          told = λ other told is. replies_tell m b key other x told asks (own ends.0 epoch) (subst (Replies b key) (sym ends.1) (ended_tells a b moment key ends.0 waits)) is;
-        })
-        (λ again. stays_became a b moment m x again.account (λ other told. answers_tell m a key other x told asks epoch again.answers)))
+    (λ waits ends. record {
+      account = inr (record { adds = ends.0; room = inl waits });
+      told = λ other told is. replies_tell m b key other x told asks (own ends.0 epoch) (subst (Replies b key) (sym ends.1) (ended_tells a b moment key ends.0 waits)) is;
+    })
+    (λ again. stays_became a b moment m x again.account (λ other told. answers_tell m a key other x told asks epoch again.answers)))
     (λ epoch. room_became a b moment m x _ 1 (λ room. inr room)
-        (λ added replies other told. replies_tell m b key other x told asks (own added epoch) replies)) next
+    (λ added replies other told. replies_tell m b key other x told asks (own added epoch) replies)) next
 
 -- ---- the time-outs before it
 

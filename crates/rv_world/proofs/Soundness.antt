@@ -276,7 +276,7 @@ reached_sound w present moment m said told sound there next is_told grows =
     let asked : IsAskedFor w m = sound.accounted.messages m there in
     let one = sound.no_two_replies in
     let rises = rises_push w.earlier present (rises_front w.earlier w.present sound.epochs_rise)
-        (λ a in_earlier. subst (λ n. a.epoch < n) (sym extends.epoch) (below_last w.earlier w.present a sound.epochs_rise in_earlier)) in
+    (λ a in_earlier. subst (λ n. a.epoch < n) (sym extends.epoch) (below_last w.earlier w.present a sound.epochs_rise in_earlier)) in
     let was_present : Contains (accounts w) w.present = Contains-push w.earlier w.present in
     let own : IsLegalIn u present = record {
       legal = next_legal w.present present moment m said (sound.legal_accounts.legal w.present was_present) next;

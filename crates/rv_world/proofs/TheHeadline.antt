@@ -22,7 +22,7 @@ use Rattle.rv_world.specs.Laws.{HeadlineHolds}
 use Rattle.rv_world.specs.Sound.{IsSound}
 use Rattle.rv_world.proofs.Growth.{runs_grow}
 use Rattle.rv_world.proofs.OneReply.{still_answered}
-use Rattle.rv_world.proofs.Partners.{Partner, arrival_epoch, exchanger_told, giver_opposes, item_got, meet_back, meet_met, no_means_unmet, one_met, pair_meets, pair_of, partner_of, received_met, swapped_got, taker_told}
+use Rattle.rv_world.proofs.Partners.{Partner, arrival_epoch, exchanger_told, giver_opposes, item_got, meet_back, no_means_unmet, one_met, pair_meets, pair_of, partner_of, received_met, swapped_got, taker_told}
 use Rattle.rv_world.proofs.Soundness.{first_sound, runs_sound}
 
 -- ---- a reply that is answered, as its account tells it
