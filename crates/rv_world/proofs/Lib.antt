@@ -5,7 +5,6 @@ pub mod Epochs
 pub mod OneReply
 pub mod Turning
 pub mod Soundness
-pub mod Roomy
 pub mod Fitting
 pub mod Partners
 pub mod TheHeadline
