@@ -185,7 +185,15 @@ ticked_itself : (a : Account) → IsTicked a a
 ticked_itself a = record { legal = λ legal. legal; epoch = refl; arrives = λ r key call arrived. arrived }
 
 ticked : (a t : Account) (moment : ℕ) → Ticks a moment t → IsTicked a t
-ticked a t moment same = subst (IsTicked a) (sym same) (ticked_itself a)
+ticked a t moment (inl ticks) = record {
+  legal = λ legal. ticks.1.legal;
+  epoch = added_epoch a t moment act.Tick ticks.1;
+  arrives = λ r key call arrived. elim (added_arrives a t moment act.Tick r key call ticks.1 arrived) [ inl before ↦ before | inr tick ↦ absurd (no_arrival key call tick) ];
+}
+  where
+    no_arrival : (key : Key) (call : Call) → act.Tick ≡ act.Arrive key call → ⊥
+    no_arrival key call is = cc
+ticked a t moment (inr same) = subst (IsTicked a) (sym same.1) (ticked_itself a)
 
 -- ---- one step
 

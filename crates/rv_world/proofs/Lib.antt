@@ -14,3 +14,5 @@ pub mod ByEpoch
 pub mod Fitting
 pub mod Keeping
 pub mod EventLists
+pub mod Partners
+pub mod TheHeadline

@@ -23,10 +23,10 @@ use Rattle.rv_world.specs.declared.event.Event.TheVariants as event
 use Rattle.rv_world.specs.declared.packet.Packet.{Packet}
 use Rattle.rv_world.specs.declared.seen.Seen.{Seen}
 use Rattle.rv_world.specs.World.{World, accounts, empty_account, first_world, process_of, IsHeld, WasAsked}
-use Rattle.rv_world.specs.Events.{Becomes, ComesTo, IsNewest, IsTold, OnlyTurns, ReachesServer, Steps, Turns, sender, sends, starting}
-use Rattle.rv_world.specs.Headline.{HasEachKeyOnce, IsAnswered, LegalAccounts, OnlyGrows}
+use Rattle.rv_world.specs.Events.{Becomes, ComesTo, IsNewest, IsTold, OnlyTurns, Steps, Turns, sender, sends, starting}
+use Rattle.rv_world.specs.Headline.{HasEachKeyOnce, IsAnswered, OnlyGrows}
 use Rattle.rv_world.specs.Runs.{Runs}
-use Rattle.rv_world.specs.Sound.{IsAskedFor, IsLastStart, IsOwed, IsProcessOf, IsSound, IsUnasked}
+use Rattle.rv_world.specs.Sound.{IsAskedFor, IsOwed, IsProcessOf, IsSound, IsUnasked}
 use Rattle.rv_world.proofs.Answered.{IsTold as ToldTo, next_arrives, next_legal, next_told}
 use Rattle.rv_world.proofs.Epochs.{IsLegalIn, below_last, empty_legal, legal_accounts, rises_front, rises_none, rises_push, still_legal}
 use Rattle.rv_world.proofs.Growth.{step_grows}

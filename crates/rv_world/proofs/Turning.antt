@@ -1,5 +1,5 @@
 -- The clients' processes: what an event says of one leaves those of the others as they are.
-use Rattle.std.proofs.Common.{◌≡◌, inl, inr, ℕ, Option, Some, None, refl, sym, subst, ◌∙◌}
+use Rattle.std.proofs.Common.{◌≡◌, inl, inr, ℕ, Option, Some, None, sym, subst, ◌∙◌}
 use Rattle.std.specs.Prelude.{◌≢◌, List, nat_eq, option_and_then}
 use Rattle.std.specs.Map.{lookup}
 use Rattle.std.specs.List.{Contains}

@@ -3,6 +3,7 @@ use Rattle.std.specs.Prelude.{◌≡◌, ◌⊎◌, ◌++◌, ℕ, List, Some, s
 use Rattle.std.specs.List.{Contains}
 use Rattle.rv_text.specs.declared.message.Key.{Key}
 use Rattle.rv_text.specs.declared.call.Call.{Call}
+use Rattle.rv_text.specs.declared.call.Side.TheVariants.{Exchanges}
 use Rattle.rv_text.specs.Calls.{item_of}
 use Rattle.rv_text.specs.declared.answer.Answer.TheVariants as answers
 use Rattle.rv_text.specs.declared.answer.Reply.{Reply}
@@ -12,8 +13,8 @@ use Rattle.rv_book.specs.declared.account.Act.TheVariants.{Arrive}
 use Rattle.rv_book.specs.Account.{Account, Extends, act_at}
 use Rattle.rv_book.specs.Legal.{Legal}
 use Rattle.rv_book.specs.Order.{InOrder, PairAt}
-use Rattle.rv_book.specs.Replies.{HasReply}
-use Rattle.rv_book.specs.Waiting.{Met}
+use Rattle.rv_book.specs.Replies.{HasReply, Meet}
+use Rattle.rv_book.specs.Waiting.{Met, SideAt}
 use Rattle.rv_world.specs.declared.event.Event.{Event}
 use Rattle.rv_world.specs.World.{World, accounts, IsAccountOf, WasAsked, IsHeld}
 use Rattle.rv_world.specs.Runs.{Runs}
@@ -111,7 +112,8 @@ pub record ReceivedMeansAssigned (w : World) : Type 0 where
 
 -- the replies of a request that met nobody
 abbrev pub IsNo : Reply → Type 0
-IsNo told = (told ≡ reply.Cancelled) ⊎ ((told ≡ reply.Nobody) ⊎ (told ≡ reply.Empty))
+IsNo told =
+    (told ≡ reply.Cancelled) ⊎ ((told ≡ reply.TimedOut) ⊎ ((told ≡ reply.Nobody) ⊎ (told ≡ reply.Empty)))
 
 -- no pair and no swap of the world has the arrival of this key
 abbrev pub MeetsNobody : World → Key → Type 0
@@ -128,6 +130,39 @@ NeverHandedOver w = (key : Key) (told : Reply) (events : List Event) (v : World)
 -- items leave each queue of each account in the order of their arrival
 abbrev pub OrderOfArrival : World → Type 0
 OrderOfArrival w = (a : Account) → Contains (accounts w) a → InOrder a.entries
+
+-- ---- 6: true exchange
+
+-- the arrivals at r and s are a swap of an exchanger
+abbrev pub IsSwap : List Entry → ℕ → ℕ → Type 0
+IsSwap entries r s = (exchanger : ℕ) × SideAt entries (Exchanges exchanger) r
+    × SideAt entries (Exchanges exchanger) s × Meet entries r s
+
+-- of the account of its epoch exactly one swap has the arrival of this key; the other was asked with the
+-- item, and its reply is the item that was asked under this key
+pub record IsExchanged (w : World) (key : Key) (item : List ℕ) : Type 0 where
+  pub account : Account
+  pub is_of : IsAccountOf w key.epoch account
+  pub own : ℕ
+  pub other : ℕ
+  pub swap : IsSwap account.entries own other
+  pub call : Call
+  pub arrived : ArrivesAt account.entries key own call
+  pub asked : WasAsked w key call
+  pub own_item : List ℕ
+  pub hands_over : item_of call ≡ Some own_item
+  pub other_key : Key
+  pub other_call : Call
+  pub other_arrived : ArrivesAt account.entries other_key other other_call
+  pub other_asked : WasAsked w other_key other_call
+  pub other_hands_over : item_of other_call ≡ Some item
+  pub other_told : HasReply account.entries other_key (reply.Swapped own_item)
+  pub only : (r s : ℕ) (same : Call) → IsSwap account.entries r s → ArrivesAt account.entries key r same
+      → (r ≡ own) × (s ≡ other)
+
+-- who is answered that it swapped got the item of its one partner, which got its own
+abbrev pub TrueExchange : World → Type 0
+TrueExchange w = (key : Key) (item : List ℕ) → IsAnswered w key (reply.Swapped item) → IsExchanged w key item
 
 -- ---- 7: only growth
 
@@ -149,7 +184,7 @@ pub record OnlyGrows (w v : World) : Type 0 where
   pub answers : GoesOn w.to_client v.to_client
   pub accounts_extended : (a : Account) → Contains (accounts w) a → IsExtended v a
 
--- ---- the parts together, as far as this world's calls go
+-- ---- the parts together
 
 pub record Headline (w : World) : Type 0 where
   pub no_two_replies : NoTwoReplies w
@@ -157,4 +192,5 @@ pub record Headline (w : World) : Type 0 where
   pub received_means_assigned : ReceivedMeansAssigned w
   pub never_handed_over : NeverHandedOver w
   pub order_of_arrival : OrderOfArrival w
+  pub true_exchange : TrueExchange w
   pub only_growth : (events : List Event) (v : World) → Runs w events v → OnlyGrows w v

@@ -1,5 +1,4 @@
 -- Which events keep the limits of their numbers and calls.
-use Rattle.std.specs.Prelude.{ℕ}
 use Rattle.rv_text.specs.Limits.{FitsIdentifier, FitsCall}
 use Rattle.rv_world.specs.declared.event.Event.{Event}
 use Rattle.rv_world.specs.declared.event.Event.TheVariants as event

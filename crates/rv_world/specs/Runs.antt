@@ -1,5 +1,5 @@
 -- Lists of events.
-use Rattle.std.specs.Prelude.{◌≡◌, ◌⊎◌, ℕ, List, [], ◌∷◌, Some, Result, Ok, Err, slice_get, take}
+use Rattle.std.specs.Prelude.{◌≡◌, ◌⊎◌, ℕ, List, [], ◌∷◌, Some, slice_get, take}
 use Rattle.rv_world.specs.declared.event.Event.{Event}
 use Rattle.rv_world.specs.declared.seen.Seen.{Seen}
 use Rattle.rv_world.specs.declared.seen.WorldRefusal.{WorldRefusal}

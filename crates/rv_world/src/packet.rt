@@ -55,7 +55,9 @@ fn copy_reply(alloc: Global, reply: &Reply) -> Result<Reply, NoMemory>
         Reply::Nobody => Ok(Reply::Nobody),
         Reply::Item(item) => Ok(Reply::Item(item.copy(alloc)?)),
         Reply::Empty => Ok(Reply::Empty),
+        Reply::Swapped(item) => Ok(Reply::Swapped(item.copy(alloc)?)),
         Reply::Cancelled => Ok(Reply::Cancelled),
+        Reply::TimedOut => Ok(Reply::TimedOut),
         Reply::Counted { items, consumers } => Ok(Reply::Counted {
             items: *items,
             consumers: *consumers,

@@ -1,0 +1,227 @@
+-- Who was met, by whom, and what that says of replies, in a legal account.
+use Rattle.std.proofs.Common.{◌≡◌, inl, inr, ℕ, zero, suc, List, Some, option_and_then, refl, sym, ap, subst, ◌∙◌}
+use Rattle.std.specs.List.{slice_get}
+use Rattle.std.proofs.lemmas.Option.{none-some, same_Some}
+use Rattle.rv_text.specs.declared.message.Key.{Key}
+use Rattle.rv_text.specs.declared.call.Call.{Call}
+use Rattle.rv_text.specs.declared.call.Call.TheVariants as call
+use Rattle.rv_text.specs.declared.call.Side.{Side}
+use Rattle.rv_text.specs.declared.call.Side.TheVariants.{Gives, Takes, Looks, Exchanges}
+use Rattle.rv_text.specs.declared.call.Wait.{Wait}
+use Rattle.rv_text.specs.declared.call.Wait.TheVariants.{Now, Millis, Forever}
+use Rattle.rv_text.specs.declared.answer.Reply.{Reply}
+use Rattle.rv_text.specs.declared.answer.Reply.TheVariants as reply
+use Rattle.rv_text.specs.Calls.{side_of}
+use Rattle.rv_book.specs.declared.account.Act.{Act}
+use Rattle.rv_book.specs.declared.account.Act.TheVariants.{Arrive, Cancel, Hello, Tick}
+use Rattle.rv_book.specs.declared.account.Entry.{Entry}
+use Rattle.rv_book.specs.Account.{Account, call_at, call_in, key_in}
+use Rattle.rv_book.specs.Calls.{opposite}
+use Rattle.rv_book.specs.Legal.{Legal}
+use Rattle.rv_book.specs.Replies.{Gets, HasReply, Meet, RepliesAt, RepliesUnmet, ToldStopped, told_by}
+use Rattle.rv_book.specs.Waiting.{Met, NamesPartner}
+use Rattle.rv_book.proofs.Fronts.{read_whole}
+use Rattle.rv_book.proofs.Growing.{act_read, call_read, read_there}
+use Rattle.rv_book.proofs.OnePartner.{arrives_once, meets_one, partner_open}
+use Rattle.rv_world.specs.Headline.{ArrivesAt, IsNo, IsPair}
+
+-- ---- partners
+
+opposite_back : (s t : Side) → opposite s ≡ Some t → opposite t ≡ Some s
+opposite_back (Gives queue) t is = subst (λ u. opposite u ≡ Some (Gives queue)) (same_Some _ _ is) refl
+opposite_back (Takes queue) t is = subst (λ u. opposite u ≡ Some (Takes queue)) (same_Some _ _ is) refl
+opposite_back (Looks queue) t is = absurd (none-some t is)
+opposite_back (Exchanges exchanger) t is = subst (λ u. opposite u ≡ Some (Exchanges exchanger)) (same_Some _ _ is) refl
+
+-- whom an arrival met
+pub record Partner (entries : List Entry) (r : ℕ) (own : Call) : Type 0 where
+  pub place : ℕ
+  pub other : Call
+  pub arrived : call_at entries place ≡ Some other
+  pub opposes : opposite (side_of own) ≡ Some (side_of other)
+  pub meet : Meet entries r place
+
+partner_named : (a : Account) (r q : ℕ) (own : Call) → Legal a → call_at a.entries r ≡ Some own → NamesPartner a.entries r q → Partner a.entries r own
+partner_named a r q own legal arrived names =
+    let opened = partner_open a r q legal names in
+    let at = opened.there.of_side in
+    let whole = read_whole call_read refl a.entries r q at.call at.arrived in
+    let same : names.call ≡ own = same_Some _ _ (sym names.arrived ∙ arrived) in
+    record {
+      place = q;
+      other = at.call;
+      arrived = whole.1;
+      opposes = subst (λ c. opposite (side_of c) ≡ Some (side_of at.call)) same (opened.opposes ∙ ap Some (sym at.is));
+      meet = inl names;
+    }
+
+partner_naming : (a : Account) (r p : ℕ) (own : Call) → Legal a → call_at a.entries r ≡ Some own → NamesPartner a.entries p r → Partner a.entries r own
+partner_naming a r p own legal arrived names =
+    let opened = partner_open a p r legal names in
+    let at = opened.there.of_side in
+    let whole = read_whole call_read refl a.entries p r at.call at.arrived in
+    let same : at.call ≡ own = same_Some _ _ (sym whole.1 ∙ arrived) in
+    record {
+      place = p;
+      other = names.call;
+      arrived = names.arrived;
+      opposes = opposite_back (side_of names.call) (side_of own) (opened.opposes ∙ ap Some (sym at.is) ∙ ap (λ c. Some (side_of c)) same);
+      meet = inr names;
+    }
+
+pub partner_of : (a : Account) (r : ℕ) (own : Call) → Legal a → call_at a.entries r ≡ Some own → Met a.entries r → Partner a.entries r own
+partner_of a r own legal arrived met = elim met.part [
+  | inl later ↦ partner_named a r met.earlier own legal arrived (subst (λ p. NamesPartner a.entries p met.earlier) (sym later) met.names)
+  | inr earlier ↦ partner_naming a r met.later own legal arrived (subst (NamesPartner a.entries met.later) (sym earlier) met.names)
+]
+
+pub meet_back : (es : List Entry) (r s : ℕ) → Meet es r s → Meet es s r
+meet_back es r s (inl names) = inr names
+meet_back es r s (inr names) = inl names
+
+pub meet_met : (es : List Entry) (r s : ℕ) → Meet es r s → Met es r
+meet_met es r s (inl names) = record { later = r; earlier = s; names = names; part = inl refl }
+meet_met es r s (inr names) = record { later = s; earlier = r; names = names; part = inr refl }
+
+-- ---- pairs
+
+pub pair_of : (es : List Entry) (g t queue : ℕ) (gives takes : Call) → call_at es g ≡ Some gives → side_of gives ≡ Gives queue → call_at es t ≡ Some takes → side_of takes ≡ Takes queue
+    → Meet es g t → IsPair es g t
+pair_of es g t queue gives takes arrived side also other (inl names) =
+    (queue, g, record { gives = record { call = gives; arrived = arrived; is = side }; takes = record { call = takes; arrived = also; is = other }; names = inl (refl, names) })
+pair_of es g t queue gives takes arrived side also other (inr names) =
+    (queue, t, record { gives = record { call = gives; arrived = arrived; is = side }; takes = record { call = takes; arrived = also; is = other }; names = inr (refl, names) })
+
+pub pair_meets : (es : List Entry) (g t : ℕ) → IsPair es g t → Meet es g t
+pair_meets es g t pair = elim pair.2.names [ inl names ↦ inl names.1 | inr names ↦ inr names.1 ]
+
+-- whom an arrival met is one
+pub one_met : (a : Account) (r s t : ℕ) → Legal a → Meet a.entries r s → Meet a.entries r t → s ≡ t
+one_met a r s t legal first second = meets_one a r s t legal (meet_back a.entries r s first) (meet_back a.entries r t second)
+
+-- whoever hands its item over to an arrival is of the opposite side
+pub giver_opposes : (a : Account) (r : ℕ) (own : Call) (item : List ℕ) → Legal a → call_at a.entries r ≡ Some own → (gets : Gets a.entries r item) → opposite (side_of own) ≡ Some (side_of gets.call)
+giver_opposes a r own item legal arrived gets = by_partner (partner_of a r own legal arrived (meet_met a.entries r gets.giver meets))
+  where
+    meets : Meet a.entries r gets.giver
+    meets = meet_back a.entries gets.giver r gets.meet
+
+    by_partner : Partner a.entries r own → opposite (side_of own) ≡ Some (side_of gets.call)
+    by_partner partner =
+        let place : partner.place ≡ gets.giver = one_met a r partner.place gets.giver legal partner.meet meets in
+        let same : partner.other ≡ gets.call = same_Some _ _ (sym partner.arrived ∙ ap (call_at a.entries) place ∙ gets.arrived) in
+        subst (λ c. opposite (side_of own) ≡ Some (side_of c)) same partner.opposes
+
+-- ---- replies
+
+-- the reply of a request that met nobody
+abbrev pub SaysNo : Reply → Type 0
+SaysNo reply.Cancelled = Unit {0}
+SaysNo reply.TimedOut = Unit {0}
+SaysNo reply.Nobody = Unit {0}
+SaysNo reply.Empty = Unit {0}
+SaysNo _ = ⊥
+
+pub says_no : (told : Reply) → IsNo told → SaysNo told
+says_no told (inl is) = subst SaysNo (sym is) tt
+says_no told (inr (inl is)) = subst SaysNo (sym is) tt
+says_no told (inr (inr (inl is))) = subst SaysNo (sym is) tt
+says_no told (inr (inr (inr is))) = subst SaysNo (sym is) tt
+
+stopper_says_no : (act : Act) → SaysNo (told_by act)
+stopper_says_no (Hello client incarnation) = tt
+stopper_says_no (Arrive key own) = tt
+stopper_says_no (Cancel key) = tt
+stopper_says_no Tick = tt
+
+stopped_says_no : (es : List Entry) (r : ℕ) (told : Reply) → ToldStopped es r told → SaysNo told
+stopped_says_no es r told stopped = subst SaysNo (sym stopped.is) (stopper_says_no stopped.stop.stops.stopper.act)
+
+unmet_says_no : (wait : Wait) (es : List Entry) (r : ℕ) (at_once told : Reply) → SaysNo at_once → RepliesUnmet es r wait at_once told → SaysNo told
+unmet_says_no Now es r at_once told says is = subst SaysNo (sym is) says
+unmet_says_no (Millis zero) es r at_once told says is = subst SaysNo (sym is) tt
+unmet_says_no (Millis (suc n)) es r at_once told says stopped = stopped_says_no es r told stopped
+unmet_says_no Forever es r at_once told says stopped = stopped_says_no es r told stopped
+
+no_unmet : (a : Account) (r : ℕ) (own : Call) (told : Reply) → Legal a → call_at a.entries r ≡ Some own → RepliesAt a.entries r own told → SaysNo told → Met a.entries r → ⊥
+no_unmet a r (call.Put queue item) told legal arrived is says met = subst SaysNo is says
+no_unmet a r (call.Transfer queue item wait) told legal arrived (inl got) says met = subst SaysNo got.1 says
+no_unmet a r (call.Transfer queue item wait) told legal arrived (inr unmet) says met = unmet.0 met
+no_unmet a r (call.Take queue wait) told legal arrived (inl got) says met = subst SaysNo got.2 says
+no_unmet a r (call.Take queue wait) told legal arrived (inr unmet) says met = unmet.0 met
+no_unmet a r (call.Swap exchanger item wait) told legal arrived (inl got) says met = subst SaysNo got.2 says
+no_unmet a r (call.Swap exchanger item wait) told legal arrived (inr unmet) says met = unmet.0 met
+no_unmet a r (call.Count queue) told legal arrived is says met = none-some _ (partner_of a r (call.Count queue) legal arrived met).opposes
+no_unmet a r (call.Peek queue) told legal arrived is says met = none-some _ (partner_of a r (call.Peek queue) legal arrived met).opposes
+
+-- a request that is told a no was not met
+pub no_means_unmet : (a : Account) (key : Key) (told : Reply) → Legal a → HasReply a.entries key told → IsNo told → (r : ℕ) (own : Call) → ArrivesAt a.entries key r own → Met a.entries r → ⊥
+no_means_unmet a key told legal (inl has) says r own arrived met =
+    let place : r ≡ has.place = arrives_once a r has.place key own has.call legal arrived has.arrived in
+    no_unmet a has.place has.call told legal (ap (option_and_then call_in) has.arrived) has.replies (says_no told says) (subst (Met a.entries) place met)
+no_means_unmet a key told legal (inr first) says r own arrived met = first.0.not_arrived r own arrived
+
+-- who received met a taker
+pub received_met : (es : List Entry) (r : ℕ) (own : Call) → RepliesAt es r own reply.Received → Met es r × ((queue : ℕ) × (side_of own ≡ Gives queue))
+received_met es r (call.Put queue item) is = absurd (let no : ⊥ = cc in no)
+received_met es r (call.Transfer queue item wait) (inl got) = (got.0, (queue, refl))
+received_met es r (call.Transfer queue item wait) (inr unmet) = absurd (unmet_says_no wait es r reply.Nobody reply.Received tt unmet.1)
+received_met es r (call.Take queue wait) (inl got) = absurd (let is = got.2 in let no : ⊥ = cc in no)
+received_met es r (call.Take queue wait) (inr unmet) = absurd (unmet_says_no wait es r reply.Empty reply.Received tt unmet.1)
+received_met es r (call.Swap exchanger item wait) (inl got) = absurd (let is = got.2 in let no : ⊥ = cc in no)
+received_met es r (call.Swap exchanger item wait) (inr unmet) = absurd (unmet_says_no wait es r reply.TimedOut reply.Received tt unmet.1)
+received_met es r (call.Count queue) got = absurd (let is = got.3 in let no : ⊥ = cc in no)
+received_met es r (call.Peek queue) (inl got) = absurd (let is = got.2 in let no : ⊥ = cc in no)
+received_met es r (call.Peek queue) (inr none) = absurd (let is = none.1 in let no : ⊥ = cc in no)
+
+-- who is told an item got it from whom it met
+pub item_got : (es : List Entry) (r : ℕ) (own : Call) (item : List ℕ) → RepliesAt es r own (reply.Item item) → Gets es r item × ((queue : ℕ) × (side_of own ≡ Takes queue))
+item_got es r (call.Put queue bytes) item is = absurd (let no : ⊥ = cc in no)
+item_got es r (call.Transfer queue bytes wait) item (inl got) = absurd (let is = got.1 in let no : ⊥ = cc in no)
+item_got es r (call.Transfer queue bytes wait) item (inr unmet) = absurd (unmet_says_no wait es r reply.Nobody (reply.Item item) tt unmet.1)
+item_got es r (call.Take queue wait) item (inl got) = let same : got.0 ≡ item = let is = got.2 in cc in (subst (Gets es r) same got.1, (queue, refl))
+item_got es r (call.Take queue wait) item (inr unmet) = absurd (unmet_says_no wait es r reply.Empty (reply.Item item) tt unmet.1)
+item_got es r (call.Swap exchanger bytes wait) item (inl got) = absurd (let is = got.2 in let no : ⊥ = cc in no)
+item_got es r (call.Swap exchanger bytes wait) item (inr unmet) = absurd (unmet_says_no wait es r reply.TimedOut (reply.Item item) tt unmet.1)
+item_got es r (call.Count queue) item got = absurd (let is = got.3 in let no : ⊥ = cc in no)
+item_got es r (call.Peek queue) item (inl got) = absurd (let is = got.2 in let no : ⊥ = cc in no)
+item_got es r (call.Peek queue) item (inr none) = absurd (let is = none.1 in let no : ⊥ = cc in no)
+
+-- and who is told that it swapped
+pub swapped_got : (es : List Entry) (r : ℕ) (own : Call) (item : List ℕ) → RepliesAt es r own (reply.Swapped item) → Gets es r item × ((exchanger : ℕ) × (side_of own ≡ Exchanges exchanger))
+swapped_got es r (call.Put queue bytes) item is = absurd (let no : ⊥ = cc in no)
+swapped_got es r (call.Transfer queue bytes wait) item (inl got) = absurd (let is = got.1 in let no : ⊥ = cc in no)
+swapped_got es r (call.Transfer queue bytes wait) item (inr unmet) = absurd (unmet_says_no wait es r reply.Nobody (reply.Swapped item) tt unmet.1)
+swapped_got es r (call.Take queue wait) item (inl got) = absurd (let is = got.2 in let no : ⊥ = cc in no)
+swapped_got es r (call.Take queue wait) item (inr unmet) = absurd (unmet_says_no wait es r reply.Empty (reply.Swapped item) tt unmet.1)
+swapped_got es r (call.Swap exchanger bytes wait) item (inl got) = let same : got.0 ≡ item = let is = got.2 in cc in (subst (Gets es r) same got.1, (exchanger, refl))
+swapped_got es r (call.Swap exchanger bytes wait) item (inr unmet) = absurd (unmet_says_no wait es r reply.TimedOut (reply.Swapped item) tt unmet.1)
+swapped_got es r (call.Count queue) item got = absurd (let is = got.3 in let no : ⊥ = cc in no)
+swapped_got es r (call.Peek queue) item (inl got) = absurd (let is = got.2 in let no : ⊥ = cc in no)
+swapped_got es r (call.Peek queue) item (inr none) = absurd (let is = none.1 in let no : ⊥ = cc in no)
+
+-- what who takes, or who exchanges, gets is its reply
+pub taker_told : (es : List Entry) (r : ℕ) (own : Call) (item : List ℕ) (queue : ℕ) → side_of own ≡ Takes queue → Gets es r item → RepliesAt es r own (reply.Item item)
+taker_told es r (call.Put other bytes) item queue is gets = absurd (let no : ⊥ = cc in no)
+taker_told es r (call.Transfer other bytes wait) item queue is gets = absurd (let no : ⊥ = cc in no)
+taker_told es r (call.Take other wait) item queue is gets = inl (item, gets, refl)
+taker_told es r (call.Swap other bytes wait) item queue is gets = absurd (let no : ⊥ = cc in no)
+taker_told es r (call.Count other) item queue is gets = absurd (let no : ⊥ = cc in no)
+taker_told es r (call.Peek other) item queue is gets = absurd (let no : ⊥ = cc in no)
+
+pub exchanger_told : (es : List Entry) (r : ℕ) (own : Call) (item : List ℕ) (exchanger : ℕ) → side_of own ≡ Exchanges exchanger → Gets es r item → RepliesAt es r own (reply.Swapped item)
+exchanger_told es r (call.Put other bytes) item exchanger is gets = absurd (let no : ⊥ = cc in no)
+exchanger_told es r (call.Transfer other bytes wait) item exchanger is gets = absurd (let no : ⊥ = cc in no)
+exchanger_told es r (call.Take other wait) item exchanger is gets = absurd (let no : ⊥ = cc in no)
+exchanger_told es r (call.Swap other bytes wait) item exchanger is gets = inl (item, gets, refl)
+exchanger_told es r (call.Count other) item exchanger is gets = absurd (let no : ⊥ = cc in no)
+exchanger_told es r (call.Peek other) item exchanger is gets = absurd (let no : ⊥ = cc in no)
+
+-- ---- keys
+
+-- a key that arrived is of its account's epoch
+pub arrival_epoch : (a : Account) (key : Key) (r : ℕ) (own : Call) → Legal a → ArrivesAt a.entries key r own → key.epoch ≡ a.epoch
+arrival_epoch a key r own legal arrived =
+    let there = read_there act_read refl (slice_get a.entries r) (Arrive key own) arrived in
+    let says : key_in there.0.act ≡ Some key = ap (option_and_then key_in) there.2 in
+    ((legal r there.0 there.1).numbers.of_session key says).0

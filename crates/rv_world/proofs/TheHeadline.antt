@@ -1,0 +1,195 @@
+-- The headline holds after every list of events: it follows from what is sound.
+use Rattle.std.proofs.Common.{◌≡◌, inl, inr, ℕ, List, Some, option_and_then, sym, ap, subst, ◌∙◌}
+use Rattle.std.proofs.lemmas.Option.{same_Some}
+use Rattle.rv_text.specs.declared.message.Key.{Key}
+use Rattle.rv_text.specs.declared.call.Call.{Call}
+use Rattle.rv_text.specs.declared.call.Side.{Side}
+use Rattle.rv_text.specs.declared.call.Side.TheVariants.{Gives, Takes, Exchanges}
+use Rattle.rv_text.specs.declared.answer.Reply.{Reply}
+use Rattle.rv_text.specs.declared.answer.Reply.TheVariants as reply
+use Rattle.rv_text.specs.Calls.{side_of}
+use Rattle.rv_book.specs.Account.{Account, act_at, call_at, call_in}
+use Rattle.rv_book.specs.Calls.{opposite}
+use Rattle.rv_book.specs.Legal.{Legal}
+use Rattle.rv_book.specs.Replies.{Gets, HasReply, Meet, RepliesAt}
+use Rattle.rv_book.proofs.CallKinds.{exchanges_item, gives_item}
+use Rattle.rv_book.proofs.Keys.{act_called}
+use Rattle.rv_book.proofs.Leaving.{items_leave_in_order}
+use Rattle.rv_book.proofs.OnePartner.{arrives_once}
+use Rattle.rv_world.specs.World.{World, IsAccountOf, WasAsked, first_world}
+use Rattle.rv_world.specs.Headline.{ArrivesAt, Headline, IsExchanged, IsAnswered, IsAssigned, IsGiven, IsReplyOf, NeverHandedOver, OrderOfArrival, ReceivedMeansAssigned, TrueExchange}
+use Rattle.rv_world.specs.Laws.{HeadlineHolds}
+use Rattle.rv_world.specs.Sound.{IsSound}
+use Rattle.rv_world.proofs.Growth.{runs_grow}
+use Rattle.rv_world.proofs.OneReply.{still_answered}
+use Rattle.rv_world.proofs.Partners.{Partner, arrival_epoch, exchanger_told, giver_opposes, item_got, meet_back, no_means_unmet, one_met, pair_meets, pair_of, partner_of, received_met, swapped_got, taker_told}
+use Rattle.rv_world.proofs.Soundness.{first_sound, runs_sound}
+
+-- ---- a reply that is answered, as its account tells it
+
+-- what follows from the arrival of the request, in its account, follows from the answer
+told_leads : (w : World) (key : Key) (told : Reply) (G : Type 0) → IsSound w → IsAnswered w key told → (told ≡ reply.Cancelled → ⊥)
+    → ((a : Account) (r : ℕ) (own : Call) → IsAccountOf w key.epoch a → Legal a → ArrivesAt a.entries key r own → RepliesAt a.entries r own told → G) → G
+told_leads w key told G sound answered not_cancelled leads = by_reply (sound.no_two_replies.answered_is key told answered)
+  where
+    by_arrival : (a : Account) → IsAccountOf w key.epoch a → HasReply a.entries key told → G
+    by_arrival a is_of (inl has) = leads a has.place has.call is_of (sound.legal_accounts.legal a is_of.is_there) has.arrived has.replies
+    by_arrival a is_of (inr first) = absurd (not_cancelled first.1)
+
+    by_reply : IsReplyOf w key told → G
+    by_reply is = by_arrival is.account is.is_of is.has
+
+-- ---- received means assigned
+
+takes_of : (own other : Side) (queue : ℕ) → own ≡ Gives queue → opposite own ≡ Some other → other ≡ Takes queue
+takes_of own other queue is opposes = sym (same_Some _ _ (subst (λ s. opposite s ≡ Some other) is opposes))
+
+gives_of : (own other : Side) (queue : ℕ) → own ≡ Takes queue → opposite own ≡ Some other → other ≡ Gives queue
+gives_of own other queue is opposes = sym (same_Some _ _ (subst (λ s. opposite s ≡ Some other) is opposes))
+
+exchanges_of : (own other : Side) (exchanger : ℕ) → own ≡ Exchanges exchanger → opposite own ≡ Some other → other ≡ Exchanges exchanger
+exchanges_of own other exchanger is opposes = sym (same_Some _ _ (subst (λ s. opposite s ≡ Some other) is opposes))
+
+module _ (w : World) (key : Key) (sound : IsSound w) (a : Account) (r : ℕ) (own : Call) (is_of : IsAccountOf w key.epoch a) (legal : Legal a) (arrived : ArrivesAt a.entries key r own) where
+  called : call_at a.entries r ≡ Some own
+  called = ap (option_and_then call_in) arrived
+
+  asked : WasAsked w key own
+  asked = sound.legal_accounts.arrivals_asked a r key own is_of.is_there arrived
+
+  -- the key arrived nowhere else
+  arrived_there : (p : ℕ) (again : Call) → ArrivesAt a.entries key p again → p ≡ r
+  arrived_there p again also = arrives_once a p r key again own legal also arrived
+
+  received_assigned : RepliesAt a.entries r own reply.Received → IsAssigned w key
+  received_assigned replies =
+      let met = received_met a.entries r own replies in
+      assigned met.1.0 met.1.1 (partner_of a r own legal called met.0)
+    where
+      assigned : (queue : ℕ) → side_of own ≡ Gives queue → Partner a.entries r own → IsAssigned w key
+      assigned queue gives partner =
+          let takes = takes_of (side_of own) (side_of partner.other) queue gives partner.opposes in
+          let item = gives_item own queue gives in
+          let taker = act_called (act_at a.entries partner.place) partner.other partner.arrived in
+          let gets : Gets a.entries partner.place item.0 = record { giver = r; call = own; meet = partner.meet; arrived = called; hands_over = item.1 } in
+          record {
+            account = a;
+            is_of = is_of;
+            giver = r;
+            taker = partner.place;
+            pair = pair_of a.entries r partner.place queue own partner.other called gives partner.arrived takes partner.meet;
+            call = own;
+            arrived = arrived;
+            asked = asked;
+            item = item.0;
+            hands_over = item.1;
+            taker_key = taker.0;
+            taker_call = partner.other;
+            taker_arrived = taker.1;
+            taker_told = inl (record { place = partner.place; call = partner.other; arrived = taker.1; replies = taker_told a.entries partner.place partner.other item.0 queue takes gets });
+            only = λ g t again pair also.
+                let place : g ≡ r = arrived_there g again also in
+                (place, one_met a r t partner.place legal (subst (λ p. Meet a.entries p t) place (pair_meets a.entries g t pair)) partner.meet);
+          }
+
+  item_given : (item : List ℕ) → RepliesAt a.entries r own (reply.Item item) → IsGiven w key item
+  item_given item replies = let got = item_got a.entries r own item replies in given got.1.0 got.1.1 got.0
+    where
+      given : (queue : ℕ) → side_of own ≡ Takes queue → Gets a.entries r item → IsGiven w key item
+      given queue takes gets =
+          let gives = gives_of (side_of own) (side_of gets.call) queue takes (giver_opposes a r own item legal called gets) in
+          let giver = act_called (act_at a.entries gets.giver) gets.call gets.arrived in
+          record {
+            account = a;
+            is_of = is_of;
+            giver = gets.giver;
+            taker = r;
+            pair = pair_of a.entries gets.giver r queue gets.call own gets.arrived gives called takes gets.meet;
+            call = own;
+            arrived = arrived;
+            giver_key = giver.0;
+            giver_call = gets.call;
+            giver_arrived = giver.1;
+            hands_over = gets.hands_over;
+            only = λ g t again pair also.
+                let place : t ≡ r = arrived_there t again also in
+                let meets : Meet a.entries r g = meet_back a.entries g r (subst (λ p. Meet a.entries g p) place (pair_meets a.entries g t pair)) in
+                (one_met a r g gets.giver legal meets (meet_back a.entries gets.giver r gets.meet), place);
+          }
+
+  swapped_exchanged : (item : List ℕ) → RepliesAt a.entries r own (reply.Swapped item) → IsExchanged w key item
+  swapped_exchanged item replies = let got = swapped_got a.entries r own item replies in exchanged got.1.0 got.1.1 got.0
+    where
+      exchanged : (exchanger : ℕ) → side_of own ≡ Exchanges exchanger → Gets a.entries r item → IsExchanged w key item
+      exchanged exchanger side gets =
+          let meets : Meet a.entries r gets.giver = meet_back a.entries gets.giver r gets.meet in
+          let exchanges = exchanges_of (side_of own) (side_of gets.call) exchanger side (giver_opposes a r own item legal called gets) in
+          let own_item = exchanges_item own exchanger side in
+          let other = act_called (act_at a.entries gets.giver) gets.call gets.arrived in
+          let back : Gets a.entries gets.giver own_item.0 = record { giver = r; call = own; meet = meets; arrived = called; hands_over = own_item.1 } in
+          record {
+            account = a;
+            is_of = is_of;
+            own = r;
+            other = gets.giver;
+            swap = (exchanger, record { call = own; arrived = called; is = side }, record { call = gets.call; arrived = gets.arrived; is = exchanges }, meets);
+            call = own;
+            arrived = arrived;
+            asked = asked;
+            own_item = own_item.0;
+            hands_over = own_item.1;
+            other_key = other.0;
+            other_call = gets.call;
+            other_arrived = other.1;
+            other_asked = sound.legal_accounts.arrivals_asked a gets.giver other.0 gets.call is_of.is_there other.1;
+            other_hands_over = gets.hands_over;
+            other_told = inl (record { place = gets.giver; call = gets.call; arrived = other.1; replies = exchanger_told a.entries gets.giver gets.call own_item.0 exchanger exchanges back });
+            only = λ p s again swap also.
+                let place : p ≡ r = arrived_there p again also in
+                (place, one_met a r s gets.giver legal (subst (λ q. Meet a.entries q s) place swap.3) meets);
+          }
+
+pub received_means_assigned : (w : World) → IsSound w → ReceivedMeansAssigned w
+received_means_assigned w sound = record {
+  received = λ key answered. told_leads w key reply.Received (IsAssigned w key) sound answered (λ is. let no : ⊥ = cc in no) (received_assigned w key sound);
+  items = λ key item answered. told_leads w key (reply.Item item) (IsGiven w key item) sound answered (λ is. let no : ⊥ = cc in no)
+      (λ a r own is_of legal arrived. item_given w key sound a r own is_of legal arrived item);
+}
+
+-- ---- never handed over
+
+pub never_handed_over : (w : World) → IsSound w → NeverHandedOver w
+never_handed_over w sound key told events v answered is_no runs a r own there arrived =
+    let after = runs_sound w events v sound runs in
+    let is = after.no_two_replies.answered_is key told (still_answered w v key told (runs_grow w events v runs) answered) in
+    let legal = after.legal_accounts.legal a there in
+    let same : is.account ≡ a = after.legal_accounts.one_each is.account a is.is_of.is_there there (is.is_of.epoch_is ∙ arrival_epoch a key r own legal arrived) in
+    no_means_unmet a key told legal (subst (λ (b : Account). HasReply b.entries key told) same is.has) is_no r own arrived
+
+-- ---- order of arrival
+
+pub order_of_arrival : (w : World) → IsSound w → OrderOfArrival w
+order_of_arrival w sound a there = items_leave_in_order a (sound.legal_accounts.legal a there)
+
+-- ---- true exchange
+
+pub true_exchange : (w : World) → IsSound w → TrueExchange w
+true_exchange w sound key item answered =
+    told_leads w key (reply.Swapped item) (IsExchanged w key item) sound answered (λ is. let no : ⊥ = cc in no)
+    (λ a r own is_of legal arrived. swapped_exchanged w key sound a r own is_of legal arrived item)
+
+-- ---- together
+
+pub sound_headline : (w : World) → IsSound w → Headline w
+sound_headline w sound = record {
+  no_two_replies = sound.no_two_replies;
+  legal_accounts = sound.legal_accounts;
+  received_means_assigned = received_means_assigned w sound;
+  never_handed_over = never_handed_over w sound;
+  order_of_arrival = order_of_arrival w sound;
+  true_exchange = true_exchange w sound;
+  only_growth = λ events v runs. runs_grow w events v runs;
+}
+
+pub headline_holds : HeadlineHolds
+headline_holds epoch events w runs = sound_headline w (runs_sound (first_world epoch) events w (first_sound epoch) runs)
