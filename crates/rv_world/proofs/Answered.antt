@@ -14,9 +14,10 @@ use Rattle.rv_book.specs.declared.account.Act.{Act}
 use Rattle.rv_book.specs.declared.account.Act.TheVariants as act
 use Rattle.rv_book.specs.declared.account.Entry.{Entry}
 use Rattle.rv_book.specs.Account.{Account, act_at, call_in, with_entry}
+use Rattle.rv_book.specs.Calls.{need_of}
 use Rattle.rv_book.specs.Legal.{Legal, WaitsUnder}
 use Rattle.rv_book.specs.Replies.{HasReply}
-use Rattle.rv_book.specs.Steps.{Adds, Answers, EntersOrNoMemory, KeyLines, Next, NextAt, OtherEpochDue, Refuses, Replies, Ticks, step_moment}
+use Rattle.rv_book.specs.Steps.{Adds, Answers, EntersOrNoMemory, EpochFullDue, KeyLines, Next, NextAt, RefuseOr, Refuses, Replies, Ticks, step_moment}
 use Rattle.rv_book.proofs.Growing.{act_read, reads_back}
 use Rattle.rv_book.proofs.Legality.{follows_itself}
 use Rattle.rv_book.proofs.Lines.{RefuseOr-elim, WhereElse-elim}
@@ -61,9 +62,24 @@ pub record IsTold (m : Message) (b : Account) (key : Key) (told : Reply) : Type 
   pub epoch : key.epoch ≡ b.epoch
   pub has : HasReply b.entries key told
 
+-- the account has room for so many entries more
+abbrev pub HasRoom : Account → ℕ → Type 0
+HasRoom a need = (refusal : Refusal) → ¬ EpochFullDue a need refusal
+
+-- for all that the message may come to need; the cancel of a request that waits needs nothing further
+abbrev pub HasRoomFor : Account → Message → Type 0
+HasRoomFor a (Hello client incarnation) = HasRoom a 1
+HasRoomFor a (Request key call) = HasRoom a (need_of call)
+HasRoomFor a (Cancel key) = WaitsUnder a.entries key ⊎ HasRoom a 1
+
+-- the message has its own entry, for which there was room
+pub record IsEntered (a : Account) (moment : ℕ) (m : Message) (b : Account) : Type 0 where
+  pub adds : Adds a moment (act_of m) b
+  pub room : HasRoomFor a m
+
 -- what a step leaves: the account as it was or with the message's own entry, and what it tells
 pub record Became (a : Account) (moment : ℕ) (m : Message) (b : Account) (x : Answer) : Type 0 where
-  pub account : (b ≡ a) ⊎ Adds a moment (act_of m) b
+  pub account : (b ≡ a) ⊎ IsEntered a moment m b
   pub told : (key : Key) (told : Reply) → x ≡ Replied key told → IsTold m b key told
 
 one_reply : (own key : Key) (is told : Reply) → Replied own is ≡ Replied key told → (own ≡ key) × (is ≡ told)
@@ -123,10 +139,16 @@ module _ (a b : Account) (moment : ℕ) (m : Message) (x : Answer) where
     told = λ key reply is. subst (λ (c : Account). IsTold m c key reply) (sym same) (told key reply is);
   }
 
-  entered_became : (T : Type 0) → (Adds a moment (act_of m) b → T → (key : Key) (told : Reply) → x ≡ Replied key told → IsTold m b key told)
+  entered_became : (T : Type 0) → HasRoomFor a m → (Adds a moment (act_of m) b → T → (key : Key) (told : Reply) → x ≡ Replied key told → IsTold m b key told)
       → EntersOrNoMemory a moment (act_of m) b x T → Became a moment m b x
-  entered_became T told (inl refuses) = refused_became _ refuses
-  entered_became T told (inr entered) = record { account = inr entered.0; told = told entered.0 entered.1 }
+  entered_became T room told (inl refuses) = refused_became _ refuses
+  entered_became T room told (inr entered) = record { account = inr (record { adds = entered.0; room = room }); told = told entered.0 entered.1 }
+
+  -- where there is room for what the message needs
+  room_became : (T : Type 0) (need : ℕ) → (HasRoom a need → HasRoomFor a m) → (Adds a moment (act_of m) b → T → (key : Key) (told : Reply) → x ≡ Replied key told → IsTold m b key told)
+      → RefuseOr (EpochFullDue a need) (Refuses a b x) (EntersOrNoMemory a moment (act_of m) b x T) → Became a moment m b x
+  room_became T need room told (inl refused) = refused_became refused.refusal refused.refuses_it
+  room_became T need room told (inr enters) = entered_became T (room enters.0) told enters.1
 
 -- a cancel has no partner
 cancel_alone : (a : Account) (e : Entry) (key : Key) → Legal (with_entry a e) → e.act ≡ act.Cancel key → (partner : Option ℕ) → e.partner ≡ partner → e.partner ≡ None
@@ -143,22 +165,21 @@ ended_tells a b moment key added waits =
     let alone = cancel_alone a e key (subst Legal added.follows added.legal) says e.partner refl in
     subst (λ (c : Account). Replies c key (Replied key reply.Cancelled)) (sym added.follows) (waiting_replies a e key says alone waits)
 
-became_at : (a b : Account) (moment : ℕ) (m : Message) (x : Answer) → NextAt a moment m b x → Became a moment m b x
+pub became_at : (a b : Account) (moment : ℕ) (m : Message) (x : Answer) → NextAt a moment m b x → Became a moment m b x
 became_at a b moment (Hello client incarnation) x next =
     let m : Message = Hello client incarnation in
     RefuseOr-elim _ _ _ (Became a moment m b x) (λ refusal due. refused_became a b moment m x refusal)
     (WhereElse-elim _ _ _ (Became a moment m b x) (λ has again. stays_became a b moment m x again.0 (welcome_tells m a a.epoch client incarnation x again.1))
     (RefuseOr-elim _ _ _ (Became a moment m b x) (λ refusal due. refused_became a b moment m x refusal)
-    (RefuseOr-elim _ _ _ (Became a moment m b x) (λ refusal due. refused_became a b moment m x refusal)
-    (entered_became a b moment m x _ (λ added. welcome_tells m b a.epoch client incarnation x))))) next
+    (room_became a b moment m x _ 1 (λ room. room) (λ added. welcome_tells m b a.epoch client incarnation x)))) next
 became_at a b moment (Request key call) x next =
     let m : Message = Request key call in
     let asks : AsksFor m key = inl (call, refl) in
     key_lines (Refuses a b x) _ _ (Became a moment m b x) a key (refused_became a b moment m x)
     (λ epoch. RefuseOr-elim _ _ _ (Became a moment m b x) (λ refusal due. refused_became a b moment m x refusal)
     (λ again. stays_became a b moment m x again.account (λ other told. answers_tell m a key other x told asks epoch again.answers)))
-    (λ epoch. RefuseOr-elim _ _ _ (Became a moment m b x) (λ refusal due. refused_became a b moment m x refusal)
-    (entered_became a b moment m x _ (λ added answers other told. answers_tell m b key other x told asks (epoch ∙ sym (added_epoch a b moment _ added)) answers))) next
+    (λ epoch. room_became a b moment m x _ (need_of call) (λ room. room)
+    (λ added answers other told. answers_tell m b key other x told asks (epoch ∙ sym (added_epoch a b moment _ added)) answers)) next
 became_at a b moment (Cancel key) x next =
     let m : Message = Cancel key in
     let asks : AsksFor m key = inr refl in
@@ -166,12 +187,12 @@ became_at a b moment (Cancel key) x next =
     key_lines (Refuses a b x) _ _ (Became a moment m b x) a key (refused_became a b moment m x)
     (λ epoch. WhereElse-elim _ _ _ (Became a moment m b x)
     (λ waits ends. record {
-      account = inr ends.0;
+      account = inr (record { adds = ends.0; room = inl waits });
       told = λ other told is. replies_tell m b key other x told asks (own ends.0 epoch) (subst (Replies b key) (sym ends.1) (ended_tells a b moment key ends.0 waits)) is;
     })
     (λ again. stays_became a b moment m x again.account (λ other told. answers_tell m a key other x told asks epoch again.answers)))
-    (λ epoch. RefuseOr-elim _ _ _ (Became a moment m b x) (λ refusal due. refused_became a b moment m x refusal)
-    (entered_became a b moment m x _ (λ added replies other told. replies_tell m b key other x told asks (own added epoch) replies))) next
+    (λ epoch. room_became a b moment m x _ 1 (λ room. inr room)
+    (λ added replies other told. replies_tell m b key other x told asks (own added epoch) replies)) next
 
 -- ---- the time-outs before it
 
@@ -202,7 +223,7 @@ next_legal a b now m x legal next =
     let before = ticked a next.ticked (step_moment a now) next.ticks in
     elim (became_at next.ticked b (step_moment a now) m x next.steps).account [
       | inl same ↦ subst Legal (sym same) (before.legal legal)
-      | inr added ↦ added.legal
+      | inr entered ↦ entered.adds.legal
     ]
 
 pub next_told : (a b : Account) (now : ℕ) (m : Message) (key : Key) (told : Reply) → Next a now m b (Replied key told) → IsTold m b key told
@@ -216,7 +237,7 @@ next_arrives a b now m x r key call next arrived =
     let before = ticked a t (step_moment a now) next.ticks in
     elim (became_at t b (step_moment a now) m x next.steps).account [
       | inl same ↦ inl (before.arrives r key call (subst (λ (c : Account). act_at c.entries r ≡ Some (act.Arrive key call)) same arrived))
-      | inr added ↦ elim (added_arrives t b (step_moment a now) (act_of m) r key call added arrived) [
+      | inr entered ↦ elim (added_arrives t b (step_moment a now) (act_of m) r key call entered.adds arrived) [
         | inl there ↦ inl (before.arrives r key call there)
         | inr new ↦ inr (arrival_of m key call new)
       ]

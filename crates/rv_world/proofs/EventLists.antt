@@ -22,10 +22,3 @@ runs_on w events i e v u shows less is runs steps =
     let front : take (i + 1) events ≡ take i events ++ e ∷ [] =
     ap (λ (n : ℕ). take n events) next ∙ take-suc events i e less ∙ ap (λ (x : Event). take i events ++ x ∷ []) (sym is) in
     subst (λ (l : List Event). Runs w l u) (sym front) (runs_push w (take i events) e v u shows runs steps)
-
--- every run from the first world keeps the headline
-pub run_replies : (epoch : ℕ) (events : List Event) (v : World) → Runs (first_world epoch) events v → NoTwoReplies v
-run_replies epoch events v runs = (runs_sound (first_world epoch) events v (first_sound epoch) runs).no_two_replies
-
-pub run_legal : (epoch : ℕ) (events : List Event) (v : World) → Runs (first_world epoch) events v → LegalAccounts v
-run_legal epoch events v runs = (runs_sound (first_world epoch) events v (first_sound epoch) runs).legal_accounts

@@ -16,3 +16,4 @@ pub mod Keeping
 pub mod EventLists
 pub mod Partners
 pub mod TheHeadline
+pub mod Roomy

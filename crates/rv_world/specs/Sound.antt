@@ -5,10 +5,10 @@ use Rattle.rv_text.specs.declared.message.Key.{Key}
 use Rattle.rv_text.specs.declared.message.Message.{Message}
 use Rattle.rv_text.specs.declared.message.Message.TheVariants as message
 use Rattle.rv_text.specs.declared.call.Call.{Call}
-use Rattle.rv_text.specs.declared.answer.Answer.TheVariants as answers
 use Rattle.rv_text.specs.declared.answer.Reply.{Reply}
-use Rattle.rv_text.specs.Limits.{FitsCall, FitsIdentifier, FitsKey, FitsMessage}
+use Rattle.rv_text.specs.Limits.{FitsAnswer, FitsCall, FitsIdentifier, FitsKey, FitsMessage}
 use Rattle.rv_book.specs.Account.{Account}
+use Rattle.rv_book.specs.Limits.{FitsAccount}
 use Rattle.rv_client.specs.Process.{Process, New, Idle, Outstanding, Starting, Asking}
 use Rattle.rv_world.specs.declared.packet.Packet.{Packet}
 use Rattle.rv_world.specs.World.{World, accounts, process_of, WasAsked, IsHeld}
@@ -22,14 +22,11 @@ FitsProcess (Idle None) = Unit {0}
 FitsProcess (Idle (Some next)) = FitsKey next
 FitsProcess (Outstanding asking) = FitsKey asking.key × FitsCall asking.call
 
--- all that is delivered to the server keeps its limits, and whatever a process may say; a welcome names an epoch
--- within its own
+-- all that a delivery or a process hands on keeps its limits
 pub record AllFits (w : World) : Type 0 where
-  pub epochs : (a : Account) → Contains (accounts w) a → FitsIdentifier a.epoch
+  pub accounts_fit : (a : Account) → Contains (accounts w) a → FitsAccount a
   pub messages : (m : Message) → Contains w.to_server m → FitsMessage m
-  pub welcomes : (to epoch client incarnation : ℕ)
-      → Contains w.to_client (record { client = to; answer = answers.Welcome epoch client incarnation })
-      → FitsIdentifier epoch
+  pub answers : (p : Packet) → Contains w.to_client p → FitsAnswer p.answer
   pub processes : (client : ℕ) (process : Process) → process_of w client ≡ Some process
       → FitsProcess process
 

@@ -1,7 +1,7 @@
 //! Lists of events.
 ghost use Rattle.std.specs.Prelude.{IfErr, IfOk};
 ghost use Rattle.std.specs.List.{All};
-ghost use Rattle.rv_world.specs.Headline.{LegalAccounts, NoTwoReplies};
+ghost use Rattle.rv_world.specs.Headline.{Headline};
 ghost use Rattle.rv_world.specs.Limits.{FitsEvent};
 ghost use Rattle.rv_world.specs.Runs.{Runs, StopsIn};
 ghost use Rattle.rv_world.specs.World.{first_world};
@@ -16,8 +16,7 @@ use std::alloc::Global;
 pub fn run(alloc: Global, events: &[Event]) -> Result<World, (usize, WorldRefusal)>
     requires { All FitsEvent events.now }
     ensures runs { IfOk result (Runs (first_world 1) events.now) }
-    ensures no_two_replies { IfOk result NoTwoReplies }
-    ensures legal_accounts { IfOk result LegalAccounts }
+    ensures headline { IfOk result Headline }
     ensures stops { IfErr result (StopsIn events.now) }
 {
     let mut world = match World::open(alloc, 1) {

@@ -44,7 +44,7 @@ impl Model for World {
 impl World {
     ghost use Rattle.rv_world.specs.Limits.{FitsEvent};
     ghost use Rattle.rv_world.specs.Events.{Comes};
-    ghost use Rattle.rv_world.specs.Headline.{LegalAccounts, NoTwoReplies, OnlyGrows};
+    ghost use Rattle.rv_world.specs.Headline.{Headline, OnlyGrows};
 
     /// The world that begins in an epoch, 1 to 2^53 - 1: a server with an empty account, opened at moment 0,
     /// and nothing else. It fails only where memory was refused.
@@ -61,8 +61,7 @@ impl World {
     pub fn step(&mut self, alloc: Global, event: &Event) -> Result<Seen, WorldRefusal>
         requires { FitsEvent event.now }
         ensures comes { Comes self.old event.now self.new result }
-        ensures no_two_replies { NoTwoReplies self.new }
-        ensures legal_accounts { LegalAccounts self.new }
+        ensures headline { Headline self.new }
         ensures only_growth { OnlyGrows self.old self.new }
     {
         self.state.step(alloc, event)

@@ -4,6 +4,7 @@ use Rattle.rv_world.specs.World.{World}
 use Rattle.rv_world.specs.Headline.{OnlyGrows}
 use Rattle.rv_world.specs.Parts.{world_of}
 use Rattle.rv_world.proofs.Keeping.{comes_sound, comes_fits, comes_grows}
+use Rattle.rv_world.proofs.TheHeadline.{sound_headline}
 use Rattle.rv_world.proofs.world.World.step.Goals as goal
 
 pub invariant_of-self : goal.invariant_of-self
@@ -15,13 +16,9 @@ invariant_of-self c =
       newest = c.step.ensures.newest;
     }
 
-pub returns-clause-no_two_replies : goal.returns-clause-no_two_replies
-returns-clause-no_two_replies c =
-    (comes_sound (world_of c.self.inside.state) c.args.event.now _ c.step.result c.self.invariant.sound c.step.ensures.comes).no_two_replies
-
-pub returns-clause-legal_accounts : goal.returns-clause-legal_accounts
-returns-clause-legal_accounts c =
-    (comes_sound (world_of c.self.inside.state) c.args.event.now _ c.step.result c.self.invariant.sound c.step.ensures.comes).legal_accounts
+pub returns-clause-headline : goal.returns-clause-headline
+returns-clause-headline c =
+    sound_headline (world_of c.step.new.self) (comes_sound (world_of c.self.inside.state) c.args.event.now _ c.step.result c.self.invariant.sound c.step.ensures.comes)
 
 pub returns-clause-only_growth : goal.returns-clause-only_growth
 returns-clause-only_growth c =
