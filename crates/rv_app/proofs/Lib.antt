@@ -5,3 +5,5 @@ pub mod Commands
 pub mod Cutting
 pub mod Forms
 pub mod Progress
+pub mod Playing
+pub mod Results

@@ -71,7 +71,7 @@ pub record Progress (contents : Option (List ℕ)) (a : Account) (input : List �
   pub count : sent + length gathered ≡ length (printed bodies)
   pub small : sent + length gathered + 4097 * length rest ≤ 4097 * length input
 
-Appends-nothing : (contents : Option (List ℕ)) (gathered : List ℕ) → gathered ≡ [] → Appends contents (append_known contents gathered) []
+pub Appends-nothing : (contents : Option (List ℕ)) (gathered : List ℕ) → gathered ≡ [] → Appends contents (append_known contents gathered) []
 Appends-nothing None gathered none = tt
 Appends-nothing (Some xs) gathered none = ap (λ g. xs ++ g) none
 

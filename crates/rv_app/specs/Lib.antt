@@ -7,4 +7,6 @@ pub mod Lines
 pub mod Number
 pub mod Outcomes
 pub mod Output
+pub mod Plays
 pub mod Run
+pub mod Told

@@ -40,10 +40,7 @@ fn start(fields: &[u8]) -> Option<Event>
     ensures { IfSome result FitsEvent }
 {
     let (client, incarnation) = cut_at(b' ', fields)?;
-    Some(Event::Start(
-        read_identifier(client)?,
-        read_identifier(incarnation)?,
-    ))
+    Some(Event::Start(read_identifier(client)?, read_identifier(incarnation)?))
 }
 
 // The fields of `begin`: a client and the text of a call.

@@ -1,4 +1,11 @@
 //! Acts out the events of a whole input, and prints one result for each line.
+ghost use Rattle.std.specs.Prelude.{◌≡◌, ◌≤◌, [], length, Err, IfErr, OnOk};
+ghost use Rattle.rv_frame.specs.Sink.{FailsWithSink};
+ghost use Rattle.rv_app.specs.Output.{gathered, taken_in};
+ghost use Rattle.rv_app.specs.Outcomes.{FailedReading, FoundTooLong, max_input};
+ghost use Rattle.rv_app.specs.Plays.{LackedMemory, Played, PrintsAll, StopsPlaying, StoppedWriting};
+ghost use Rattle.rv_app.specs.declared.run.RunFault.TheVariants.{NoMemory, ReadFault, TooLong, WriteFault};
+
 use crate::input::read_input;
 use crate::line::first_line;
 use crate::output::Output;
@@ -20,7 +27,25 @@ pub fn play_run<R: Read, W: Write>(
     alloc: Global,
     source: &mut Source<R>,
     sink: &mut Sink<W>,
-) -> Result<(), RunFault> {
+) -> Result<(), RunFault>
+    // All lines of an input that keeps the limit have a result.
+    ensures played { OnOk result
+        (Played R.remaining W.contents source.old source.new sink.old sink.new) }
+
+    // Exactly the first `sent` bytes of such an output went out, and not all.
+    ensures stopped_writing { (fault : _) → result ≡ Err (RunFault.WriteFault fault) →
+        StoppedWriting R.remaining W.contents source.old source.new sink.old sink.new fault.sent }
+
+    // The results of some first lines went out, or nothing.
+    ensures lacked_memory { result ≡ Err RunFault.NoMemory →
+        LackedMemory R.remaining W.contents source.old source.new sink.old sink.new }
+
+    // The other faults write nothing.
+    ensures failed_reading { result ≡ Err RunFault.ReadFault →
+        FailedReading source.new sink.old sink.new }
+    ensures found_too_long { result ≡ Err RunFault.TooLong →
+        FoundTooLong R.remaining source.old source.new sink.old sink.new }
+{
     let input = read_input(alloc, source)?;
     let mut world = World::open(alloc, 1)?;
     let mut output = Output::new(alloc)?;
@@ -34,7 +59,13 @@ fn play_lines<W: Write>(
     input: &[u8],
     output: &mut Output,
     sink: &mut Sink<W>,
-) -> Result<(), RunFault> {
+) -> Result<(), RunFault>
+    requires within { length input.now ≤ max_input }
+    requires nothing_gathered { gathered output.old ≡ [] }
+    requires nothing_sent { taken_in output.old ≡ 0 }
+    ensures all { OnOk result (PrintsAll W.contents input.now sink.old sink.new) }
+    ensures part { IfErr result (StopsPlaying W.contents input.now sink.old sink.new) }
+{
     let mut rest = input;
     while let Some((line, after)) = first_line(rest) {
         let Ok(text) = play_line(alloc, world, line) else {

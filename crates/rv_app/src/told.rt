@@ -1,4 +1,10 @@
 //! The line that tells what came of a line of a play.
+ghost use Rattle.std.specs.Prelude.{◌≤◌, IfOk, string_bytes};
+ghost use Rattle.rv_text.specs.Bodies.{HasBodyLength};
+ghost use Rattle.rv_world.specs.Limits.{FitsEvent};
+ghost use Rattle.rv_world.specs.declared.seen.Seen.TheVariants as sees;
+ghost use Rattle.rv_app.specs.Told.{IsShort, SettlesBy, TellsSent, WasSent};
+
 use crate::event::read_event;
 use crate::line::LineFault;
 use rv_text::{NoMemory, encode_answer};
@@ -7,7 +13,9 @@ use std::alloc::{AllocError, Global};
 
 /// Takes the event that a line says, and tells what came of it. It fails only where memory for the line's
 /// reading or for the text was refused.
-pub(crate) fn play_line(alloc: Global, world: &mut World, line: &[u8]) -> Result<String, NoMemory> {
+pub(crate) fn play_line(alloc: Global, world: &mut World, line: &[u8]) -> Result<String, NoMemory>
+    ensures { IfOk result (λ text. IsShort (string_bytes text)) }
+{
     match read_event(alloc, line) {
         Ok(event) => play_event(alloc, world, &event),
         Err(LineFault::Bad) => String::from_str(alloc, "bad line"),
@@ -16,7 +24,10 @@ pub(crate) fn play_line(alloc: Global, world: &mut World, line: &[u8]) -> Result
 }
 
 // Takes an event, and tells what came of it.
-fn play_event(alloc: Global, world: &mut World, event: &Event) -> Result<String, NoMemory> {
+fn play_event(alloc: Global, world: &mut World, event: &Event) -> Result<String, NoMemory>
+    requires { FitsEvent event.now }
+    ensures { IfOk result (λ text. IsShort (string_bytes text)) }
+{
     match world.step(alloc, event) {
         Ok(seen) => seen_text(alloc, world, event, seen),
         Err(refusal) => format!(in alloc; "refused {}", number_of(refusal)),
@@ -24,12 +35,10 @@ fn play_event(alloc: Global, world: &mut World, event: &Event) -> Result<String,
 }
 
 // What was seen of an event that was just taken.
-fn seen_text(
-    alloc: Global,
-    world: &World,
-    event: &Event,
-    seen: Seen,
-) -> Result<String, NoMemory> {
+fn seen_text(alloc: Global, world: &World, event: &Event, seen: Seen) -> Result<String, NoMemory>
+    requires { TellsSent world.now event.now seen }
+    ensures { IfOk result (λ text. IsShort (string_bytes text)) }
+{
     match seen {
         Seen::Sent(packet) => format!(in alloc; "sent {packet}"),
         Seen::Answered(packet) => answered_text(alloc, world, packet),
@@ -45,13 +54,19 @@ fn seen_text(
 }
 
 // That the server sent this packet.
-fn answered_text(alloc: Global, world: &World, packet: usize) -> Result<String, NoMemory> {
+fn answered_text(alloc: Global, world: &World, packet: usize) -> Result<String, NoMemory>
+    requires { WasSent world.now packet }
+    ensures { IfOk result (λ text. IsShort (string_bytes text)) }
+{
     let body = packet_body(alloc, world, packet)?;
     format!(in alloc; "answered {packet} {body}")
 }
 
 // That a request has the reply which came to its client.
-fn settled_text(alloc: Global, world: &World, event: &Event) -> Result<String, NoMemory> {
+fn settled_text(alloc: Global, world: &World, event: &Event) -> Result<String, NoMemory>
+    requires { SettlesBy world.now event.now }
+    ensures { IfOk result (λ text. IsShort (string_bytes text)) }
+{
     let body = match event {
         Event::ToClient(packet) => packet_body(alloc, world, *packet)?,
         _ => unreachable!(),
@@ -60,7 +75,10 @@ fn settled_text(alloc: Global, world: &World, event: &Event) -> Result<String, N
 }
 
 // The body of an answer that was sent.
-fn packet_body(alloc: Global, world: &World, packet: usize) -> Result<String, NoMemory> {
+fn packet_body(alloc: Global, world: &World, packet: usize) -> Result<String, NoMemory>
+    requires { WasSent world.now packet }
+    ensures { IfOk result (λ body. HasBodyLength (string_bytes body)) }
+{
     match world.answer_packet(packet) {
         Some(answer) => encode_answer(alloc, answer),
         None => unreachable!(),
@@ -68,7 +86,9 @@ fn packet_body(alloc: Global, world: &World, packet: usize) -> Result<String, No
 }
 
 // The number of a refusal, as a play prints it.
-fn number_of(refusal: WorldRefusal) -> u8 {
+fn number_of(refusal: WorldRefusal) -> u8
+    ensures { result ≤ 7 }
+{
     match refusal {
         WorldRefusal::NoSuchPacket => 1,
         WorldRefusal::NotIdle => 2,

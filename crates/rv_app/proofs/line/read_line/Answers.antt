@@ -13,7 +13,6 @@ use Rattle.rv_app.proofs.line.read_line.Goals as goal
 refused : (decoded : Result Message TextFault) (fault : TextFault) (message : Message) → decoded ≡ Err fault → (fault ≡ NoMemory → ⊥) → (decoded ≡ Ok message) ⊎ (decoded ≡ Err NoMemory) → ⊥
 refused decoded fault message is other found = elim found [ inl ok ↦ (cc) | inr none ↦ other (cc) ]
 
-
 -- a fault that makes a line bad is no want of memory
 no_memory_is_not_bad : (text : TextFault) → text ≡ NoMemory → line_fault text ≡ line.Bad → ⊥
 no_memory_is_not_bad NotJson same bad = (cc)
