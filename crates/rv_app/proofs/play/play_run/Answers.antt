@@ -1,0 +1,33 @@
+-- What went out where a play stops, by the bytes that were read.
+use Rattle.std.proofs.Common.{◌≡◌, inr, ℕ, List, Option, Some, None, IfSome, IfErr, Result, Err, subst}
+use Rattle.rv_frame.specs.Source.{source_remaining}
+use Rattle.rv_app.specs.declared.run.RunFault.{RunFault}
+use Rattle.rv_app.specs.Plays.{PrintsFront, PrintsSome, StopsPlaying}
+use Rattle.rv_app.proofs.play.play_run.Goals as goal
+
+-- what holds of the bytes that were read holds of those that the source had
+read_bytes : (o : Option (List ℕ)) (items : List ℕ) (P : List ℕ → Type 0) → IfSome o (λ bytes. items ≡ bytes) → P items → IfSome o P
+read_bytes None items P same has = tt
+read_bytes (Some bytes) items P same has = subst P same has
+
+pub returns-clause-stopped_writing : goal.returns-clause-stopped_writing
+returns-clause-stopped_writing g c fault is =
+    let sink = c.args.sink.now in
+    let new = c.play_lines.new.sink in
+    let part = subst (λ r. IfErr r (StopsPlaying g.W.Write.contents c.deref.result.now sink new)) is c.play_lines.ensures.part in
+    record {
+      whole_input = c.in_ok-input.ensures.all;
+      front_of_output = read_bytes (source_remaining g.R.Read.remaining c.args.source.now) c.in_ok-input.input.items (λ input. PrintsFront g.W.Write.contents input sink new fault.sent)
+          c.in_ok-input.ensures.bytes (subst (λ input. PrintsFront g.W.Write.contents input sink new fault.sent) c.deref.ensures.value part);
+    }
+
+pub returns-clause-lacked_memory : goal.returns-clause-lacked_memory
+returns-clause-lacked_memory g c is =
+    let sink = c.args.sink.now in
+    let new = c.play_lines.new.sink in
+    let part = subst (λ r. IfErr r (StopsPlaying g.W.Write.contents c.deref.result.now sink new)) is c.play_lines.ensures.part in
+    inr (record {
+      whole_input = c.in_ok-input.ensures.all;
+      some_output = read_bytes (source_remaining g.R.Read.remaining c.args.source.now) c.in_ok-input.input.items (λ input. PrintsSome g.W.Write.contents input sink new)
+          c.in_ok-input.ensures.bytes (subst (λ input. PrintsSome g.W.Write.contents input sink new) c.deref.ensures.value part);
+    })
