@@ -24,7 +24,7 @@ pub(crate) enum Rule {
     /// An arrival has its session's next number, and none of its session's waits; a cancel too, or it names
     /// the request that waits there.
     N3,
-    /// Only a call that gives or takes names a partner: an earlier place that met nobody yet.
+    /// Only a call that gives, takes or swaps names a partner: an earlier place that met nobody yet.
     P1,
     /// A partner is an open arrival of the other side of the same queue.
     P2,
@@ -32,6 +32,10 @@ pub(crate) enum Rule {
     P3,
     /// An arrival without a partner finds no open arrival of the other side of its queue.
     P4,
+    /// A partner in a swap is an open arrival at the same exchanger.
+    S1,
+    /// A swap without a partner finds no open arrival at its exchanger.
+    S2,
 }
 
 /// The first place at which a rule is broken, and the first rule that is broken there; `None` where
@@ -190,7 +194,17 @@ fn opposite(side: Side) -> Option<Side> {
     match side {
         Side::Gives(queue) => Some(Side::Takes(queue)),
         Side::Takes(queue) => Some(Side::Gives(queue)),
+        Side::Exchanges(exchanger) => Some(Side::Exchanges(exchanger)),
         Side::Looks(_) => None,
+    }
+}
+
+// The name that a rule on pairs has where this side meets: at an exchanger it is one on swaps.
+fn named(rule: Rule, side: Side) -> Rule {
+    match side {
+        Side::Exchanges(_) if rule == Rule::P2 => Rule::S1,
+        Side::Exchanges(_) if rule == Rule::P4 => Rule::S2,
+        _ => rule,
     }
 }
 
@@ -257,9 +271,9 @@ fn broken_by_partner(
     };
     let oldest = (0..place).find(|arrival| is_open(account, side, *arrival, place));
     match partner {
-        None => oldest.map(|_| Rule::P4),
+        None => oldest.map(|_| named(Rule::P4, side)),
         Some(p) if place <= p || met(account, p, place) => Some(Rule::P1),
-        Some(p) if !is_open(account, side, p, place) => Some(Rule::P2),
+        Some(p) if !is_open(account, side, p, place) => Some(named(Rule::P2, side)),
         Some(p) if oldest != Some(p) => Some(Rule::P3),
         Some(_) => None,
     }

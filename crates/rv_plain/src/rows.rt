@@ -13,7 +13,11 @@ fn is_left(account: &Account, before: usize) -> bool {
     let is_tick = |place| account
         .entry(place)
         .is_some_and(|entry| entry.act == Act::Tick);
-    account.len() == before || account.len() == before + 1 && is_tick(before)
+    match account.len().checked_sub(before) {
+        Some(0) => true,
+        Some(1) => is_tick(before),
+        _ => false,
+    }
 }
 
 // Sends the line, again where a growth was refused, which left the account.

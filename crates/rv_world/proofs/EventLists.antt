@@ -1,14 +1,12 @@
 -- Lists of events, one event after the other.
-use Rattle.std.proofs.Common.{◌≡◌, ◌<◌, ◌≤◌, ℕ, suc, ◌+◌, List, [], ◌∷◌, ◌++◌, length, inl, inr, take, Some, refl, sym, ap, subst, ◌∙◌, arith}
+use Rattle.std.proofs.Common.{◌≡◌, ◌<◌, ℕ, suc, ◌+◌, List, [], ◌∷◌, ◌++◌, length, take, refl, sym, ap, subst, ◌∙◌, arith}
 use Rattle.std.proofs.Math.Seq.{take-suc}
 use Rattle.std.proofs.Math.ListN.{get_or}
 use Rattle.rv_world.specs.declared.event.Event.{Event}
 use Rattle.rv_world.specs.declared.seen.Seen.{Seen}
-use Rattle.rv_world.specs.World.{World, first_world}
+use Rattle.rv_world.specs.World.{World}
 use Rattle.rv_world.specs.Events.{Steps}
 use Rattle.rv_world.specs.Runs.{Runs}
-use Rattle.rv_world.specs.Headline.{LegalAccounts, NoTwoReplies}
-use Rattle.rv_world.proofs.Soundness.{first_sound, runs_sound}
 
 -- one event more
 runs_push : (w : World) (events : List Event) (e : Event) (v u : World) (shows : Seen) → Runs w events v → Steps v e u shows → Runs w (events ++ e ∷ []) u

@@ -1,16 +1,14 @@
 -- What a process makes of an answer, and what the world then is.
-use Rattle.std.proofs.Common.{◌≡◌, ℕ, List, [], ◌∷◌, ◌++◌, Option, Some, None, option_map, refl, sym, ap, subst, ◌∙◌}
+use Rattle.std.proofs.Common.{◌≡◌, ℕ, List, [], ◌∷◌, ◌++◌, Option, Some, None, option_map, sym, ap, ◌∙◌}
 use Rattle.rv_text.specs.declared.message.Key.{Key}
 use Rattle.rv_text.specs.declared.answer.Answer.{Answer}
 use Rattle.rv_text.specs.declared.answer.Reply.{Reply}
 use Rattle.rv_client.specs.Process.{Process, New, Idle, Outstanding, Hears}
 use Rattle.rv_client.specs.Process.{Outcome, Welcomed, TurnedAway, Settled, EpochEnded, Replaced, Ignored}
 use Rattle.rv_world.specs.declared.process.Told.{Told}
-use Rattle.rv_world.specs.declared.seen.Seen.{Seen}
-use Rattle.rv_world.specs.declared.packet.Packet.{Packet}
-use Rattle.rv_world.specs.World.{World, process_of}
+use Rattle.rv_world.specs.World.{World}
 use Rattle.rv_world.specs.Events.{OnlyTurns, Turns, Becomes, IsHeard}
-use Rattle.rv_world.specs.Processes.{process_in, Leaves, LeavesBy, HearsAs}
+use Rattle.rv_world.specs.Processes.{process_in, LeavesBy, HearsAs}
 use Rattle.rv_world.specs.Table.{Table, running_of, with_process}
 use Rattle.rv_world.proofs.TableWrites.{only_turns, runs_stands, turned_back}
 

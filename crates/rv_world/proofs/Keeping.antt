@@ -1,5 +1,5 @@
 -- What comes of an event keeps a world sound and within its limits, and only adds to it.
-use Rattle.std.proofs.Common.{◌≡◌, Result, Ok, Err, sym, subst}
+use Rattle.std.proofs.Common.{Result, Ok, Err, sym, subst}
 use Rattle.rv_world.specs.declared.event.Event.{Event}
 use Rattle.rv_world.specs.declared.seen.Seen.{Seen}
 use Rattle.rv_world.specs.declared.seen.WorldRefusal.{WorldRefusal}

@@ -1,12 +1,12 @@
 -- Events that are refused for want of memory.
-use Rattle.std.proofs.Common.{◌≡◌, inl, inr, ℕ, Result, Ok, Err, IsErrAnd, arith}
+use Rattle.std.proofs.Common.{◌≡◌, inr, ℕ, Result, Ok, Err, IsErrAnd, arith}
 use Rattle.rv_world.specs.declared.event.Event.{Event}
 use Rattle.rv_world.specs.declared.event.Event.TheVariants as event
 use Rattle.rv_world.specs.declared.seen.Seen.{Seen}
 use Rattle.rv_world.specs.declared.seen.WorldRefusal.{WorldRefusal}
 use Rattle.rv_world.specs.declared.seen.WorldRefusal.TheVariants as refuses
 use Rattle.rv_world.specs.World.{World}
-use Rattle.rv_world.specs.Events.{Due, Comes, IsNewest, WasStarted}
+use Rattle.rv_world.specs.Events.{Due, Comes, IsNewest}
 
 -- where nothing else is due and nothing changed, that is what comes of the event
 pub lacks_memory : (w v : World) (e : Event) (result : Result Seen WorldRefusal) → ((other : WorldRefusal) → ¬ Due w e other)

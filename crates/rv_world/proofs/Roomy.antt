@@ -15,7 +15,7 @@ use Rattle.rv_text.specs.Calls.{wait_of}
 use Rattle.rv_book.specs.declared.account.Act.{Act}
 use Rattle.rv_book.specs.declared.account.Act.TheVariants as act
 use Rattle.rv_book.specs.declared.account.Entry.{Entry}
-use Rattle.rv_book.specs.Account.{Account, call_in, moment_at, with_entry}
+use Rattle.rv_book.specs.Account.{Account, call_in, with_entry}
 use Rattle.rv_book.specs.Calls.{IsPut, Stays, need_of}
 use Rattle.rv_book.specs.Counting.{NumberOf}
 use Rattle.rv_book.specs.Legal.{Legal}

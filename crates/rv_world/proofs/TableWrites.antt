@@ -12,7 +12,7 @@ use Rattle.rv_client.specs.Process.{Process, Asking}
 use Rattle.rv_world.specs.Processes.{asking}
 use Rattle.rv_world.specs.World.{World}
 use Rattle.rv_world.specs.Events.{OnlyTurns}
-use Rattle.rv_world.specs.Table.{Table, running_of, newest_of, with_process, Stands}
+use Rattle.rv_world.specs.Table.{Table, running_of, with_process, Stands}
 
 -- ---- lists
 

@@ -1,7 +1,6 @@
 -- What went out where a play stops, by the bytes that were read.
-use Rattle.std.proofs.Common.{◌≡◌, inr, ℕ, List, Option, Some, None, IfSome, IfErr, Result, Err, subst}
+use Rattle.std.proofs.Common.{◌≡◌, inr, ℕ, List, Option, Some, None, IfSome, IfErr, subst}
 use Rattle.rv_frame.specs.Source.{source_remaining}
-use Rattle.rv_app.specs.declared.run.RunFault.{RunFault}
 use Rattle.rv_app.specs.Plays.{PrintsFront, PrintsSome, StopsPlaying}
 use Rattle.rv_app.proofs.play.play_run.Goals as goal
 

@@ -1,6 +1,5 @@
 -- The text is short.
-use Rattle.std.proofs.Common.{◌≡◌, ◌++◌, codes, lit≤, arith, string_bytes}
-use Rattle.std.specs.Fmt.{decimal}
+use Rattle.std.proofs.Common.{codes, lit≤, arith, string_bytes}
 use Rattle.std.proofs.lemmas.Result.{IfOk-weaker}
 use Rattle.rv_app.proofs.Results.{number_is_short}
 use Rattle.rv_app.proofs.told.play_event.Goals as goal

@@ -1,6 +1,6 @@
 -- What is taken out is put back as a request.
-use Rattle.std.proofs.Common.{◌≡◌, ap, sym, subst, ◌∙◌, Option, Some, None}
-use Rattle.rv_client.specs.Process.{Process, Asking, Outstanding}
+use Rattle.std.proofs.Common.{◌≡◌, ap, sym, subst, ◌∙◌, Some, None}
+use Rattle.rv_client.specs.Process.{Asking, Outstanding}
 use Rattle.rv_world.specs.Processes.{asking}
 use Rattle.rv_world.specs.Table.{Table, Stands, with_process}
 use Rattle.rv_world.proofs.TableWrites.{turned_stands, turned_twice, runs_stands, same_asking}

@@ -1,7 +1,6 @@
 -- A write at the client that the look-up finds.
-use Rattle.std.proofs.Common.{ap, sym, subst, ◌∙◌, ℕ, List, Option, option_map, nat_eq}
+use Rattle.std.proofs.Common.{ap, sym, subst, ◌∙◌, ℕ, List, Option, option_map}
 use Rattle.std.specs.Prelude.{option_and_then}
-use Rattle.std.specs.Map.{set_value}
 use Rattle.rv_world.specs.Processes.{process_in}
 use Rattle.rv_world.specs.Table.{Table, running_of, with_process, Stands}
 use Rattle.rv_world.specs.declared.clients.Client.{Client}

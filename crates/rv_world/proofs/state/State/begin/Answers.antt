@@ -1,13 +1,13 @@
 -- A call that is begun.
-use Rattle.std.proofs.Common.{◌≡◌, refl, ap, ◌∙◌, ◌++◌, ◌∷◌, [], List, Some, length}
+use Rattle.std.proofs.Common.{refl, ap, ◌∙◌, List, Some, length}
 use Rattle.rv_text.specs.declared.call.Call.{Call}
 use Rattle.rv_text.specs.declared.message.Key.{Key}
 use Rattle.rv_text.specs.declared.message.Message.{Message}
-use Rattle.rv_client.specs.Process.{Asking, Idle, Outstanding, request_of}
+use Rattle.rv_client.specs.Process.{Outstanding, request_of}
 use Rattle.rv_world.specs.declared.seen.Seen.TheVariants as sees
 use Rattle.rv_world.specs.Processes.{asking}
 use Rattle.rv_world.specs.Table.{Table, with_process}
-use Rattle.rv_world.specs.Parts.{started_by, world_of}
+use Rattle.rv_world.specs.Parts.{started_by}
 use Rattle.rv_world.proofs.TableWrites.{same_world, only_turns, runs_stands}
 use Rattle.rv_world.proofs.Starting.{sent_after, sent_quiet, newest_after}
 use Rattle.rv_world.proofs.state.State.begin.Goals as goal

@@ -1,11 +1,9 @@
 -- An answer that a process hears.
-use Rattle.std.proofs.Common.{◌≡◌, refl, sym, ap, subst, ◌∙◌, ◌++◌, ◌∷◌, [], List, Option, Some, None, option_map}
+use Rattle.std.proofs.Common.{◌≡◌, refl, sym, ap, subst, ◌∙◌, List, Option, None, option_map}
 use Rattle.std.proofs.lemmas.Option.{same_Some}
 use Rattle.rv_text.specs.declared.message.Key.{Key}
 use Rattle.rv_text.specs.declared.answer.Reply.{Reply}
 use Rattle.rv_client.specs.Process.{Process}
-use Rattle.rv_world.specs.Events.{IsHeard}
-use Rattle.rv_world.specs.World.{World}
 use Rattle.rv_world.specs.Parts.{world_of}
 use Rattle.rv_world.specs.Processes.{process_in, HearsAs}
 use Rattle.rv_world.specs.Table.{Table, Stands, with_process}

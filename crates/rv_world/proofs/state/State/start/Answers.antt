@@ -1,12 +1,12 @@
 -- A client that starts.
-use Rattle.std.proofs.Common.{◌≡◌, refl, sym, ap, subst, ◌∙◌, ℕ, List, ◌∷◌, ◌++◌, [], length, Some}
+use Rattle.std.proofs.Common.{refl, sym, ap, subst, ◌∙◌, ℕ, List, length, Some}
 use Rattle.rv_text.specs.declared.message.Message.{Message}
 use Rattle.rv_world.specs.declared.event.Event.TheVariants as event
 use Rattle.rv_world.specs.declared.seen.Seen.TheVariants as sees
 use Rattle.rv_client.specs.Process.{New, hello_of}
 use Rattle.rv_world.specs.Events.{starting}
 use Rattle.rv_world.specs.Table.{Table, AreNewest}
-use Rattle.rv_world.specs.Parts.{hello_in, started_by, world_of}
+use Rattle.rv_world.specs.Parts.{started_by, world_of}
 use Rattle.rv_world.proofs.Refused.{lacks_memory, start_due}
 use Rattle.rv_world.proofs.TableWrites.{same_world}
 use Rattle.rv_world.proofs.Starting.{sent_after, sent_hello, entered_newest}

@@ -1,6 +1,5 @@
 -- Nobody is started.
 use Rattle.std.proofs.Common.{ℕ, sym, subst, List}
-use Rattle.rv_text.specs.declared.message.Message.{Message}
 use Rattle.rv_world.specs.Table.{AreNewest}
 use Rattle.rv_world.specs.Parts.{started_by}
 use Rattle.rv_world.proofs.state.State.to_client.Goals as goal

@@ -1,5 +1,5 @@
 -- The account of an epoch is the present one or that of an earlier book.
-use Rattle.std.proofs.Common.{◌≡◌, ◌≢◌, ◌<◌, ℕ, List, Option, None, Bor, sym, ap, subst, ◌∙◌}
+use Rattle.std.proofs.Common.{◌≡◌, ◌≢◌, ◌<◌, ℕ, List, sym, ap, subst, ◌∙◌}
 use Rattle.std.specs.Prelude.{IfNone}
 use Rattle.std.proofs.lemmas.Option.{slice_get_within, get_or_from_slice_get}
 use Rattle.rv_book.specs.Account.{Account}
