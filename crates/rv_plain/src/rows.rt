@@ -181,7 +181,7 @@ fn a_tick_ends_all_that_is_due(rt: HostRuntime) -> Result<(), Fail> {
     let far = 4_611_686_018_427_387_904;
     let d = take(2, 1).waits_for(1);
     let sent = [one, two, d.at(u64::MAX), d.at(u64::MAX), a.at(0)];
-    records(&rt, 0, &sent, &[one, two, d.at(far), a.at(far)])?;
+    records(&rt, 0, &sent, &[one, two, d.at(far), a.at(far).meeting(2)])?;
     Ok(())
 }
 
