@@ -15,8 +15,7 @@ use std::marker::Model;
 /// The book of an epoch, which contracts see as its [`Account`].
 ///
 /// The account is always legal and within the limits; what the book keeps beside it, one session for
-/// each client, 64 queues and 64 exchangers of who waits, their number and the limits of their waits, is what
-/// the account says.
+/// each client, 64 queues and 64 exchangers of who waits, and their limits, is what the account says.
 #[derive(Drop)]
 pub struct Book {
     state: State,

@@ -25,8 +25,7 @@ pub fn cancels_can_enter()
     ensures { CancelsCanEnter }
 {}
 
-/// After the time-outs of a step, where no refusal of a hello is due and the hello is no repeat, a legal
-/// account with its entry exists.
+/// After the time-outs of a step a hello that is no repeat can enter, where no refusal of it is due.
 pub fn hellos_can_enter()
     ensures { HellosCanEnter }
 {}

@@ -60,8 +60,7 @@ fn deadline_after(moment: u64, wait: Option<Wait>) -> Option<u64>
     }
 }
 
-// What is kept as the reply of a request that met nobody and doesn't wait, where this is said of nobody
-// there.
+// What is kept as the reply of a request that met nobody and goes, where this is said of nobody there.
 fn reply_at_once(wait: Wait, nobody: Kept) -> Kept
     ensures { result ≡ kept_at_once wait nobody }
 {
@@ -158,9 +157,8 @@ impl State {
         }
     }
 
-    // Tests the epoch's room for an entry that may need one more later, and makes all growths that the entry
-    // and its side need. It changes nothing but room; what follows it can't fail, but for a deadline that is
-    // added and a new client's session.
+    // Tests the epoch's room, and makes all growths that an entry and its side need. It changes room alone; what
+    // follows it can't fail, but for a deadline that is added and a new client's session.
     fn make_room(&mut self, need: usize, side: Option<Side>) -> Result<(), Refusal>
         requires sound { IsSound self.old }
         requires small { need ≤ 2 }
