@@ -157,8 +157,8 @@ impl State {
         }
     }
 
-    // Tests the epoch's room, and makes all growths that an entry and its side need. It changes room alone; what
-    // follows it can't fail, but for a deadline that is added and a new client's session.
+    // Tests the epoch's room, and makes all growths that an entry and its side need. It changes room alone;
+    // what follows it can't fail, but for a deadline that is added and a new client's session.
     fn make_room(&mut self, need: usize, side: Option<Side>) -> Result<(), Refusal>
         requires sound { IsSound self.old }
         requires small { need ≤ 2 }
