@@ -14,6 +14,3 @@ pub use fault::LinkFault;
 pub use hello::{Greeted, New};
 pub use link::ask;
 pub use request::{Heard, Idle, Outstanding, Resting};
-
-#[cfg(test)]
-mod tests;

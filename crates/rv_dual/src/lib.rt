@@ -12,6 +12,3 @@ pub use dual::Dual;
 pub use giver::{Giver, Offer};
 pub use pair::{Given, Pair, Taken, Tried};
 pub use waiter::Waiter;
-
-#[cfg(test)]
-mod tests;

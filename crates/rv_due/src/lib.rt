@@ -6,6 +6,3 @@ mod due;
 mod list;
 
 pub use due::{Due, NoMemory, Place};
-
-#[cfg(test)]
-mod tests;

@@ -8,3 +8,5 @@ mod audit;
 mod line;
 #[cfg(test)]
 mod rows;
+#[cfg(test)]
+mod worlds;

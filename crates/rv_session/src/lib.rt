@@ -13,6 +13,3 @@ pub use kept::{Kept, Place};
 pub use session::{Session, State};
 pub use sessions::{MAX_CLIENTS, Sessions};
 pub use standing::{Greeting, Standing};
-
-#[cfg(test)]
-mod tests;

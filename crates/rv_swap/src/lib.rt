@@ -5,6 +5,3 @@ mod swap;
 mod waiting;
 
 pub use swap::{Arrived, Swap, Tried};
-
-#[cfg(test)]
-mod tests;

@@ -20,6 +20,3 @@ pub use encode::{BAD_TEXT_BODY, NO_MEMORY_BODY, encode_answer, encode_message};
 pub use fault::{NoMemory, TextFault};
 pub use item::Item;
 pub use message::{Key, MAX_IDENTIFIER, Message};
-
-#[cfg(test)]
-mod tests;

@@ -17,6 +17,3 @@ pub use packet::Packet;
 pub use runs::run;
 pub use seen::{Seen, WorldRefusal};
 pub use world::World;
-
-#[cfg(test)]
-mod tests;

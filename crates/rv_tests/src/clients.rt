@@ -2,7 +2,7 @@
 ghost use Rattle.std.specs.Prelude.{◌≡◌, IfOk, Some};
 ghost use Rattle.rv_text.specs.Limits.{FitsCall, FitsMessage};
 
-use crate::{Called, Greeted, Heard, Idle, LinkFault, New, ask, call, laws};
+use rv_client::{Called, Greeted, Heard, Idle, LinkFault, New, ask, call, laws};
 use rv_frame::testing::{Stop, TestReader, TestWriter};
 use rv_frame::{Sink, Source};
 use rv_text::{Answer, Call, Item, Key, Message, Refusal, Reply, Wait};

@@ -1,5 +1,5 @@
 //! The texts of the format byte for byte, and what each answer's body gives.
-use crate::{
+use rv_text::{
     Answer, BAD_TEXT_BODY, Call, Item, Key, Message, NO_MEMORY_BODY, Refusal, Reply, Side,
     TextFault, Wait, decode_answer, decode_call, decode_message, encode_answer, encode_message,
 };

@@ -2,7 +2,7 @@
 ghost use Rattle.std.specs.Prelude.{◌<◌, IfOk};
 ghost use Rattle.rv_frame.specs.Cut.{Cut};
 
-use super::{FrameFault, Frames, laws};
+use rv_frame::{FrameFault, Frames, laws};
 use std::alloc::Global;
 
 /// Feeds the bytes in pieces of this size, the last one as long as it comes: the frames are those of the

@@ -1,6 +1,6 @@
 //! What no clause says: that calls succeed on devices that work, and how often a device is asked.
-use super::testing::{Stop, TestReader, TestWriter};
-use super::{ReadFault, Sink, Source, WriteFault};
+use rv_frame::testing::{Stop, TestReader, TestWriter};
+use rv_frame::{ReadFault, Sink, Source, WriteFault};
 use std::alloc::Global;
 use std::io::{ErrorKind, Read, Write};
 use std::process::Abort;

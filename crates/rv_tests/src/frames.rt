@@ -1,9 +1,9 @@
 //! Frames out of known bytes, in all cuts, and what is written of a frame.
 ghost use Rattle.rv_frame.specs.Cut.{IsBody};
 
-use super::testing::{Stop, TestWriter};
-use super::uses::frames_of_pieces;
-use super::{FrameFault, Frames, NoMemory, Sink, WriteFault, write_frame};
+use crate::pieces::frames_of_pieces;
+use rv_frame::testing::{Stop, TestWriter};
+use rv_frame::{FrameFault, Frames, NoMemory, Sink, WriteFault, write_frame};
 use std::alloc::Global;
 use std::io::ErrorKind;
 use std::process::Abort;

@@ -2,7 +2,7 @@
 use Rattle.std.proofs.Common.{◌≡◌, ◌∙◌, ◌+◌, ◌-◌, ◌++◌, ap, arith, drop, List, ℕ, rules, subst, sym, take, []}
 use Rattle.std.proofs.Math.Seq.{take-add}
 use Rattle.rv_frame.specs.Cut.{Cut}
-use Rattle.rv_frame.proofs.uses.frames_of_pieces.Goals as goal
+use Rattle.rv_tests.proofs.pieces.frames_of_pieces.Goals as goal
 
 pub loop-fed-preserved : goal.loop-fed-preserved
 loop-fed-preserved c =

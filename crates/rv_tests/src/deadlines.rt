@@ -1,5 +1,5 @@
 //! The life of a few deadlines.
-use crate::Due;
+use rv_due::Due;
 use std::test::Fail;
 
 #[test]

@@ -1,5 +1,5 @@
 //! The life of a session, and a table with as many clients as it can have.
-use crate::{Greeting, Kept, MAX_CLIENTS, Sessions, Standing};
+use rv_session::{Greeting, Kept, MAX_CLIENTS, Sessions, Standing};
 use rv_text::{Key, NoMemory, Refusal};
 use std::test::Fail;
 

@@ -3,7 +3,7 @@ ghost use Rattle.std.specs.Prelude.{◌≡◌, ◌<◌, ℕ, [], IfOk, OnOk};
 ghost use Rattle.rv_dual.specs.Offers.{offer_of, place_of};
 ghost use Rattle.rv_dual.specs.Queue.{IsAbove};
 
-use crate::{Dual, Given, Giver, Pair, Taken, Tried};
+use rv_dual::{Dual, Given, Giver, Pair, Taken, Tried};
 use rv_session::{Duty, Greeting, Place, Sessions, Standing};
 use rv_text::Key;
 use std::alloc::Global;
@@ -67,7 +67,7 @@ fn tried(tried: Tried) -> Result<Places, Place> {
 }
 
 // A giver waits, where there is room and no consumer waits, and then there is room for one more.
-#[tactic(auto, using(crate::proofs::Above::above_parked_giver))]
+#[tactic(auto, using(rv_dual::proofs::Above::above_parked_giver))]
 fn park(queue: &mut Dual, giver: Giver) -> Result<(), Fail>
     requires room { 0 < queue.old.room }
     requires nobody { queue.old.takers ≡ [] }
@@ -85,7 +85,7 @@ fn park(queue: &mut Dual, giver: Giver) -> Result<(), Fail>
 }
 
 // A taker waits, where there is room and no item waits, and then there is room for one more.
-#[tactic(auto, using(crate::proofs::Above::above_parked_taker))]
+#[tactic(auto, using(rv_dual::proofs::Above::above_parked_taker))]
 fn wait(queue: &mut Dual, duty: Duty) -> Result<(), Fail>
     requires room { 0 < queue.old.room }
     requires nobody { queue.old.givers ≡ [] }

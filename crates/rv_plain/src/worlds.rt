@@ -1,5 +1,5 @@
 //! Worlds that are acted out, with the results that are known of them.
-use crate::{Event, Seen, World, WorldRefusal, run};
+use rv_world::{Event, Seen, World, WorldRefusal, run};
 use rv_text::{Answer, Call, Item, Key, Refusal, Reply, Wait};
 use std::alloc::{AllocError, Global};
 use std::process::Abort;

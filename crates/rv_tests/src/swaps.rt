@@ -1,5 +1,5 @@
 //! The duties of two clients at one exchanger.
-use crate::{Arrived, Swap, Tried};
+use rv_swap::{Arrived, Swap, Tried};
 use rv_session::{Duty, Greeting, Sessions, Standing};
 use rv_text::Key;
 use std::test::Fail;
