@@ -1,4 +1,5 @@
--- The results of a play, as far as they are told of here: that they are short, and that their answers were sent.
+-- The results of a play, as far as they are told of here: that they are short, and that their answers were
+-- sent.
 use Rattle.std.specs.Prelude.{ℕ, ◌<◌, IsSome, List, length, slice_get}
 use Rattle.rv_world.specs.declared.event.Event.{Event}
 use Rattle.rv_world.specs.declared.event.Event.TheVariants as event

@@ -22,9 +22,9 @@ impl Model for Idle {
 }
 
 /// A client with a request that it has begun. It can be neither copied nor dropped: only
-/// [`Idle::begin`] makes one, a final answer ends it, and [`abandon`](Outstanding::abandon) gives it up. It is
-/// laid aside by [`park`](Outstanding::park), until [`Resting::wake`].
-/// Contracts see the request's key and call.
+/// [`Idle::begin`] makes one, a final answer ends it, and [`abandon`](Outstanding::abandon) gives it up. It
+/// is laid aside by [`park`](Outstanding::park), until [`Resting::wake`]. Contracts see the request's key and
+/// call.
 ///
 /// It says its [`message`](Outstanding::message) as often as it likes, which is always the same request, or
 /// its [`cancel_message`](Outstanding::cancel_message).

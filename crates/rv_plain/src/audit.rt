@@ -227,8 +227,8 @@ fn met(account: &Account, arrival: Place, place: Place) -> bool {
     })
 }
 
-// Whether the entry at a later place stops the arrival, which has this key: a hello of its client, a cancel of it,
-// or a tick at or behind its limit.
+// Whether the entry at a later place stops the arrival, which has this key: a hello of its client, a cancel
+// of it, or a tick at or behind its limit.
 fn stops(account: &Account, arrival: Place, of: &Key, later: Place) -> bool {
     match account.entry(later) {
         Some(entry) => match &entry.act {

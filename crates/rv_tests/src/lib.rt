@@ -1,5 +1,5 @@
-//! Each call of the crates below the book once with ample memory, and what no clause says of them: texts byte for byte,
-//! devices that fail, frames in all cuts, and the short life of a session, a queue, an exchanger and a client.
+//! What no clause says of the crates below the book: texts byte for byte, frames in all cuts, devices that fail, what is
+//! read and written for a request; and each call once with ample memory, if the program makes none of it.
 #![tactic(auto)]
 
 #[cfg(test)]
@@ -9,14 +9,8 @@ mod deadlines;
 #[cfg(test)]
 mod devices;
 #[cfg(test)]
-mod duals;
-#[cfg(test)]
 mod frames;
 #[cfg(test)]
 mod pieces;
-#[cfg(test)]
-mod sessions;
-#[cfg(test)]
-mod swaps;
 #[cfg(test)]
 mod texts;

@@ -1,17 +1,10 @@
 //! The texts of the format byte for byte, and what each answer's body gives.
 use rv_text::{
-    Answer, BAD_TEXT_BODY, Call, Item, Key, Message, NO_MEMORY_BODY, Refusal, Reply, Side,
-    TextFault, Wait, decode_answer, decode_call, decode_message, encode_answer, encode_message,
+    BAD_TEXT_BODY, NO_MEMORY_BODY, TextFault, decode_answer, decode_call, decode_message,
+    encode_answer, encode_message,
 };
 use std::alloc::Global;
 use std::test::Fail;
-
-const KEY: Key = Key {
-    epoch: 1,
-    client: 1,
-    incarnation: 1,
-    number: 1,
-};
 
 // The bodies of messages, and behind each the end of what it is when printed.
 const MESSAGES: &[&str] = &[
@@ -192,26 +185,6 @@ fn what_is_no_answer_is_told(rt: HostRuntime) -> Result<(), Fail> {
         let found = decode_answer(rt.alloc(), body.as_bytes()).err();
         assert_eq!(rt; found, Some(want));
     }
-    Ok(())
-}
-
-// Values that no body has, and what a call is.
-#[test]
-fn values_know_their_limits(rt: HostRuntime) -> Result<(), Fail> {
-    let item = Item::from_text("x".repeat(rt.alloc(), 513)?);
-    let call = Call::Swap {
-        exchanger: 64,
-        item: item.copy(rt.alloc())?,
-        wait: Wait::Now,
-    };
-    assert!(rt; call.is_same(&call.copy(rt.alloc())?) && !call.fits());
-    assert_eq!(rt; call.side(), Side::Exchanges(64));
-    assert_eq!(rt; call.wait(), Some(Wait::Now));
-    assert_eq!(rt; call.item().map(|item| item.as_str().len()), Some(513));
-    assert!(rt; !Reply::Swapped(item).fits() && !Refusal::Busy(0).fits());
-    let key = Key { epoch: 0, ..KEY };
-    assert!(rt; !key.fits() && !Answer::Waiting { key }.fits() && !Message::Cancel { key }.fits());
-    assert_eq!(rt; Refusal::Gap(0).code(), 8);
     Ok(())
 }
 

@@ -66,7 +66,8 @@ impl State {
     pub(crate) fn open(alloc: Global, epoch: u64) -> Result<State, NoMemory>
         requires { FitsIdentifier epoch }
         ensures world { IfOk result (λ state. world_of state ≡ first_world epoch) }
-        ensures newest { IfOk result (λ state. AreNewest state.clients.newest (started_by state.to_server.items)) }
+        ensures newest { IfOk result (λ state.
+            AreNewest state.clients.newest (started_by state.to_server.items)) }
     {
         Ok(State {
             earlier: Vec::new(alloc),
