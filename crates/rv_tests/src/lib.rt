@@ -1,5 +1,6 @@
-//! What no clause says of the crates below the book: texts byte for byte, frames in all cuts, devices that fail, what is
-//! read and written for a request; and each call once with ample memory, if the program makes none of it.
+//! What no clause says of the crates below the program: texts byte for byte, frames in all cuts, devices that
+//! fail, what is read and written for a request, and the entries of a book after worked rows; and once, with
+//! ample memory, each call that the program doesn't make.
 #![tactic(auto)]
 
 #[cfg(test)]
@@ -11,6 +12,12 @@ mod devices;
 #[cfg(test)]
 mod frames;
 #[cfg(test)]
+mod line;
+#[cfg(test)]
 mod pieces;
 #[cfg(test)]
+mod rows;
+#[cfg(test)]
 mod texts;
+#[cfg(test)]
+mod worlds;

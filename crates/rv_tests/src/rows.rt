@@ -1,6 +1,5 @@
 //! Worked rows, and the entries that a book has after each, also where a growth is refused. With ample memory
 //! none is; under `rt try --test --fail-alloc N` the Nth is, and what it stopped is asked again.
-use crate::audit::first_fault;
 use crate::line::{Line, cancel, count, hello, peek, put, take, tick, transfer};
 use rv_book::{Account, Act, Book};
 use rv_text::{Answer, NoMemory, Refusal};
@@ -49,7 +48,6 @@ fn records(
         let entry = line.entry(alloc).or_else(|_| line.entry(alloc))?;
         assert!(rt; book.account().entry(place) == Some(&entry), "at {place}");
     }
-    assert_eq!(rt; first_fault(book.account()), None);
     Ok(())
 }
 
