@@ -16,7 +16,9 @@ use Rattle.rv_book.specs.declared.state.State.{State}
 use Rattle.rv_book.specs.Legal.{MayFollow}
 use Rattle.rv_book.specs.Tables.{Comes, EndsAt, HasSpace, IsSound, account_of}
 use Rattle.rv_book.specs.Waiting.{Open, Waiting}
+use Rattle.rv_book.proofs.FewClients.{few_still}
 use Rattle.rv_book.proofs.Following.{cancel_follows}
+use Rattle.rv_book.proofs.Keys.{cancel_no_hello}
 use Rattle.rv_book.proofs.Marking.{Marks, legal_after, marked_ended, marked_idle}
 use Rattle.rv_book.proofs.OnePartner.{arrives_once}
 use Rattle.rv_book.proofs.Owing.{waiting_owed}
@@ -46,6 +48,7 @@ module _ (old : State) (moment : ℕ) (key : Key) (comes : Comes old moment (Can
     sound = comes.sound;
     moment_fits = comes.moment_fits;
     act_fits = comes.act_fits;
+    clients = few_still before.entries own_entry (λ c i own. absurd (cancel_no_hello key c i own)) comes.sound.fits.clients;
     follows = follows;
     stops = record {
       no_call = refl;

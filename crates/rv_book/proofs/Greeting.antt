@@ -1,6 +1,7 @@
 -- What a hello that is recorded leaves: a sound state.
 use Rattle.std.proofs.Common.{◌≡◌, inl, inr, ℕ, ◌≤◌, List, length, Option, Some, None, IfSome, IsSome, is_some, refl, sym, ap, subst, ◌∙◌, arith, option_and_then}
 use Rattle.std.proofs.lemmas.Option.{same_Some}
+use Rattle.rv_text.specs.declared.answer.Refusal.{Refusal}
 use Rattle.rv_text.specs.declared.call.Side.{Side}
 use Rattle.rv_session.specs.Owed.{Owed}
 use Rattle.rv_session.specs.Table.{OnlySets, OnlySettles, fresh, session_of, waiting_of}
@@ -14,8 +15,10 @@ use Rattle.rv_book.specs.declared.account.Entry.{Entry}
 use Rattle.rv_book.specs.declared.state.State.{State}
 use Rattle.rv_book.specs.Legal.{HasWaiting, KeepsTime, NothingDue}
 use Rattle.rv_book.specs.Sessions.{HasOnlyLower}
+use Rattle.rv_book.specs.Steps.{ClientsFullDue}
 use Rattle.rv_book.specs.Tables.{AreSessions, Comes, EndsIf, HasSpace, IsReady, IsSound, account_of}
 use Rattle.rv_book.specs.Waiting.{Open, Waiting}
+use Rattle.rv_book.proofs.FewClients.{few_with}
 use Rattle.rv_book.proofs.Following.{hello_follows}
 use Rattle.rv_book.proofs.Keeping.{sound_same}
 use Rattle.rv_session.specs.declared.session.Session.{Session}
@@ -75,7 +78,8 @@ space_ready old ready need side prepared =
 
 -- ---- a hello that is recorded
 
-module _ (old : State) (moment client incarnation : ℕ) (comes : Comes old moment (Hello client incarnation)) (lower : HasOnlyLower (account_of old).entries client incarnation) where
+module _ (old : State) (moment client incarnation : ℕ) (comes : Comes old moment (Hello client incarnation)) (lower : HasOnlyLower (account_of old).entries client incarnation)
+    (room_for : (refusal : Refusal) → ClientsFullDue (account_of old) client refusal → ⊥) where
   abbrev pub before : Account
   before = account_of old
 
@@ -90,6 +94,7 @@ module _ (old : State) (moment client incarnation : ℕ) (comes : Comes old mome
     sound = comes.sound;
     moment_fits = comes.moment_fits;
     act_fits = comes.act_fits;
+    clients = few_with before own_entry client incarnation refl room_for comes.sound.fits.clients;
     follows = hello_follows before moment client incarnation comes.time comes.nothing_due lower;
     stops = record {
       no_call = refl;

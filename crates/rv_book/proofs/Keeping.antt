@@ -21,6 +21,7 @@ use Rattle.rv_book.specs.Tables.{AreSessions, IsSame, IsSound, account_of}
 use Rattle.rv_book.specs.Views.{NobodyWaits}
 use Rattle.rv_book.specs.Waiting.{Waiting}
 use Rattle.rv_book.proofs.Counting.{one_number}
+use Rattle.rv_book.proofs.FewClients.{FewClients, few_none}
 use Rattle.rv_book.proofs.Owing.{waiting_inside}
 use Rattle.rv_book.proofs.Places.{get-append_cases}
 use Rattle.rv_book.proofs.SessionTable.{no_sessions}
@@ -54,6 +55,7 @@ pub record Answers (a : Account) (e : Entry) (new : State) : Type 0 where
   pub stations_are : AreStations (a.entries ++ e ∷ []) new.stations
   pub waiting_is : NumberOf (Waiting (a.entries ++ e ∷ [])) new.waiting
   pub due_are : AreDeadlines (a.entries ++ e ∷ []) new.due
+  pub clients : FewClients (a.entries ++ e ∷ [])
   pub space : length a.entries + 1 + new.waiting ≤ 100000
   pub spare : new.waiting ≤ new.account.room
 
@@ -70,6 +72,7 @@ sound_with a e new fits is =
           let same : waiting ≡ new.waiting = one_number (Waiting (a.entries ++ e ∷ [])) waiting new.waiting count is.waiting_is in
           let space : length a.entries + 1 + new.waiting ≤ 100000 = is.space in
           omega (arith, length-append a.entries (e ∷ []));
+      clients = is.clients;
     } in
     record {
       legal = subst Legal (sym is.account) is.legal;
@@ -104,6 +107,7 @@ sound_empty state epoch opened none sessions no_places zero_wait no_due =
         opened = opened;
         entries = λ r e there. absurd (nothing r e there);
         room = λ waits count. let nobody_there : waits ≡ 0 = one_number (Waiting a.entries) waits 0 count counted in let short : length a.entries ≡ 0 = ap length none in omega arith;
+        clients = few_none a.entries none;
       };
       sessions_are = no_sessions a state.sessions none (ap (λ (t : Table). t.epoch) sessions) (λ client. ap (λ (t : Table). session_of t client) sessions ∙ get-empty nat_cmp client);
       stations_are = no_stations a.entries state.stations none no_places;

@@ -40,6 +40,7 @@ pub mod TimedOutSessions
 pub mod CancelledSessions
 pub mod Settling
 pub mod Deciding
+pub mod FewClients
 pub mod Staying
 pub mod StoppedReplies
 pub mod ToldCancelled

@@ -18,6 +18,7 @@ use Rattle.rv_book.specs.Steps.{max_moment}
 use Rattle.rv_book.specs.Tables.{AreSessions, EndsAt, HasSpace, IsSound, account_of}
 use Rattle.rv_book.specs.Waiting.{Open, OpenAt, Waiting, limit_at}
 use Rattle.rv_book.proofs.DeadlineTable.{But, due_on, due_same, due_without, limit_waits}
+use Rattle.rv_book.proofs.FewClients.{FewClients}
 use Rattle.rv_book.proofs.Keeping.{sound_with}
 use Rattle.rv_book.proofs.Legality.{Legal-with_entry}
 use Rattle.rv_book.proofs.Owing.{number_less, number_same, still_there, was_there}
@@ -29,6 +30,7 @@ pub record Marks (old : State) (moment : ℕ) (does : Act) (P : ℕ → Type 0) 
   pub sound : IsSound old
   pub moment_fits : moment ≤ max_moment
   pub act_fits : FitsAct does
+  pub clients : FewClients ((account_of old).entries ++ entry moment does None ∷ [])
   pub follows : MayFollow (account_of old) (entry moment does None)
   pub stops : Stops (account_of old).entries (entry moment does None) P
   pub requests : (r : ℕ) → P r → Open (account_of old).entries r → Waiting (account_of old).entries r
@@ -66,6 +68,7 @@ module _ (old : State) (moment : ℕ) (does : Act) (P : ℕ → Type 0) (is : Ma
       stations_are = stations_are;
       waiting_is = count;
       due_are = due_are;
+      clients = is.clients;
       space = space;
       spare = room;
     })

@@ -22,8 +22,10 @@ use Rattle.rv_book.specs.Parked.{AreStations}
 use Rattle.rv_book.specs.Tables.{AreSessions, IsSound, MayRecord, SettlesIf, account_of, partners_reply, with_due}
 use Rattle.rv_book.specs.Waiting.{Waiting}
 use Rattle.rv_book.proofs.ArrivedDeadlines.{due_arrived}
+use Rattle.rv_book.proofs.FewClients.{few_still}
 use Rattle.rv_book.proofs.Following.{arrival_follows}
 use Rattle.rv_book.proofs.Keeping.{fit_with, sound_with}
+use Rattle.rv_book.proofs.Keys.{no_hello}
 use Rattle.rv_book.proofs.Lasting.{lasting_need, need_positive}
 use Rattle.rv_book.proofs.Legality.{Legal-with_entry}
 use Rattle.rv_book.proofs.Owing.{Waits-after, goes_not_on, goes_on}
@@ -137,6 +139,7 @@ module _ (old : State) (moment : ℕ) (key : Key) (call : Call) (stations : Stat
             stations_are = subst (AreStations (before.entries ++ own_entry ∷ [])) (sym same_stations) stations_are;
             waiting_is = subst (NumberOf (Waiting (before.entries ++ own_entry ∷ []))) (sym same) count_after.2;
             due_are = subst (AreDeadlines (before.entries ++ own_entry ∷ [])) (sym same_due) due_are;
+            clients = few_still before.entries own_entry (λ c i own. absurd (no_hello key call c i own)) sound.fits.clients;
             space = omega arith;
             spare = omega arith;
           })

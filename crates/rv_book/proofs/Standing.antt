@@ -8,6 +8,8 @@ use Rattle.rv_session.specs.declared.session.State.{State as StateOf}
 use Rattle.rv_session.specs.declared.kept.Kept.{Kept}
 use Rattle.rv_session.specs.declared.kept.Kept as kept
 use Rattle.rv_book.specs.Replies.{CancelledFirst}
+use Rattle.rv_session.specs.declared.standing.Greeting.TheVariants as greeting
+use Rattle.rv_session.specs.Standings.{MayEnter, greeting_for}
 use Rattle.rv_session.specs.Table.{Table, session_of, session_count}
 use Rattle.rv_book.proofs.Lines.{line_other_epoch, line_no_session, line_old_incarnation, line_old_number, line_last, line_gap, line_busy}
 use Rattle.rv_session.specs.Meanings.{HasNext, HasLast, RefusalMeans}
@@ -21,12 +23,29 @@ use Rattle.rv_book.specs.Legal.{Legal}
 use Rattle.rv_book.specs.Arriving.{IsKept, IsNext}
 use Rattle.std.specs.Prelude.{IsSome}
 use Rattle.rv_text.specs.declared.message.Key.{Key}
-use Rattle.std.proofs.Common.{None, Option, Some, ap, arith, inl, inr, refl, subst, sym, ℕ, ◌<◌, ◌∙◌, ◌≡◌, ◌≤◌, ◌⊎◌}
+use Rattle.std.proofs.Common.{Bool, None, Option, Some, ap, arith, cond, false, inl, inr, nat_lt, refl, subst, sym, true, ℕ, ◌<◌, ◌∙◌, ◌≡◌, ◌≤◌, ◌⊎◌}
+use Rattle.std.proofs.lemmas.Bool.{ltb-true}
+use Rattle.std.proofs.lemmas.Option.{none-some}
 use Rattle.rv_text.specs.declared.answer.Refusal.{Refusal}
 use Rattle.rv_book.proofs.Histories.{hellos_at_most}
 use Rattle.rv_book.proofs.WaitingTable.{has_waiting, known, none_waits, same_parts, unknown}
 use Rattle.rv_book.specs.Waiting.{Waiting}
 use Rattle.rv_book.proofs.Counting.{one_number}
+
+-- ---- a new client
+
+new_room : (b : Bool) (count : ℕ) → nat_lt count 1024 ≡ b → (cond b greeting.Unknown greeting.Full ≡ greeting.Unknown) ⊎ (cond b greeting.Unknown greeting.Full ≡ greeting.Newer None) → count < 1024
+new_room true count is may = ltb-true count 1024 is
+new_room false count is (inl may) = absurd (let no : ⊥ = cc in no)
+new_room false count is (inr may) = absurd (let no : ⊥ = cc in no)
+
+may_count : (o : Option Session) (count incarnation : ℕ) → o ≡ None → (greeting_for o count incarnation ≡ greeting.Unknown) ⊎ (greeting_for o count incarnation ≡ greeting.Newer None) → count < 1024
+may_count None count incarnation none may = new_room (nat_lt count 1024) count refl may
+may_count (Some s) count incarnation none may = absurd (none-some s (sym none))
+
+-- where the table lets a new client enter, it has room
+pub may_new : (t : Table) (client incarnation : ℕ) → session_of t client ≡ None → MayEnter t client incarnation → session_count t < 1024
+may_new t client incarnation none may = may_count (session_of t client) (session_count t) incarnation none may
 
 -- ---- keys
 

@@ -25,9 +25,10 @@ use Rattle.rv_book.specs.Waiting.{OpenAt, SideAt, Waiting, limit_at}
 use Rattle.rv_book.proofs.DeadlineTable.{taken_out}
 use Rattle.rv_book.proofs.Ending.{stands_on}
 use Rattle.rv_book.proofs.EndingTables.{due_at_first, due_at_last, due_turn, number_at_first, number_at_last, number_turn, stations_at_first, stations_at_last, stations_turn}
+use Rattle.rv_book.proofs.FewClients.{few_still}
 use Rattle.rv_book.proofs.Following.{tick_follows}
 use Rattle.rv_book.proofs.Keeping.{sound_with}
-use Rattle.rv_book.proofs.Keys.{act_called}
+use Rattle.rv_book.proofs.Keys.{act_called, tick_no_hello}
 use Rattle.rv_book.proofs.Legality.{Legal-with_entry}
 use Rattle.rv_book.proofs.Owing.{some_has, waiting_owed}
 use Rattle.rv_book.proofs.Sides.{IsRequestUntil, stopped_by_tick, tick_stops, waiting_is_open}
@@ -185,6 +186,7 @@ module _ (old mid : State) (moment : ℕ) (is : IsTime old moment) (ending : IsE
           stations_are = subst (AreStations (before.entries ++ own_entry ∷ [])) (sym stations) (stations_at_last before.entries own_entry moment mid.due above free stops mid.stations ending.stations_are);
           waiting_is = subst (NumberOf (Waiting (before.entries ++ own_entry ∷ []))) (sym waiting) (number_at_last before.entries own_entry moment mid.due above free stops mid.waiting ending.waiting_is);
           due_are = subst (AreDeadlines (before.entries ++ own_entry ∷ [])) (sym due) (due_at_last before.entries own_entry moment mid.due above free stops ending.due_are);
+          clients = few_still before.entries own_entry (λ c i own. absurd (tick_no_hello c i own)) ending.fits.clients;
           space = omega arith;
           spare = omega arith;
         });

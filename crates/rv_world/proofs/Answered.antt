@@ -17,7 +17,7 @@ use Rattle.rv_book.specs.Account.{Account, act_at, call_in, with_entry}
 use Rattle.rv_book.specs.Calls.{need_of}
 use Rattle.rv_book.specs.Legal.{Legal, WaitsUnder}
 use Rattle.rv_book.specs.Replies.{HasReply}
-use Rattle.rv_book.specs.Steps.{Adds, Answers, EntersOrNoMemory, EpochFullDue, KeyLines, Next, NextAt, RefuseOr, Refuses, Replies, Ticks, step_moment}
+use Rattle.rv_book.specs.Steps.{Adds, Answers, ClientsFullDue, EntersOrNoMemory, EpochFullDue, KeyLines, Next, NextAt, RefuseOr, Refuses, Replies, Ticks, step_moment}
 use Rattle.rv_book.proofs.Growing.{act_read, reads_back}
 use Rattle.rv_book.proofs.Legality.{follows_itself}
 use Rattle.rv_book.proofs.Lines.{RefuseOr-elim, WhereElse-elim}
@@ -66,9 +66,9 @@ pub record IsTold (m : Message) (b : Account) (key : Key) (told : Reply) : Type 
 abbrev pub HasRoom : Account → ℕ → Type 0
 HasRoom a need = (refusal : Refusal) → ¬ EpochFullDue a need refusal
 
--- for all that the message may come to need; the cancel of a request that waits needs nothing further
+-- for all that the message may come to need, and for the client of a hello; the cancel of a request that waits needs nothing further
 abbrev pub HasRoomFor : Account → Message → Type 0
-HasRoomFor a (Hello client incarnation) = HasRoom a 1
+HasRoomFor a (Hello client incarnation) = HasRoom a 1 × ((refusal : Refusal) → ¬ ClientsFullDue a client refusal)
 HasRoomFor a (Request key call) = HasRoom a (need_of call)
 HasRoomFor a (Cancel key) = WaitsUnder a.entries key ⊎ HasRoom a 1
 
@@ -165,13 +165,21 @@ ended_tells a b moment key added waits =
     let alone = cancel_alone a e key (subst Legal added.follows added.legal) says e.partner refl in
     subst (λ (c : Account). Replies c key (Replied key reply.Cancelled)) (sym added.follows) (waiting_replies a e key says alone waits)
 
+-- where there is room for the client of a hello
+hello_became : (a b : Account) (moment client incarnation : ℕ) (x : Answer)
+    → RefuseOr (ClientsFullDue a client) (Refuses a b x) (RefuseOr (EpochFullDue a 1) (Refuses a b x) (EntersOrNoMemory a moment (act.Hello client incarnation) b x (x ≡ Welcome a.epoch client incarnation)))
+    → Became a moment (Hello client incarnation) b x
+hello_became a b moment client incarnation x (inl refused) = refused_became a b moment (Hello client incarnation) x refused.refusal refused.refuses_it
+hello_became a b moment client incarnation x (inr enters) =
+    let m : Message = Hello client incarnation in
+    room_became a b moment m x _ 1 (λ room. (room, enters.0)) (λ added. welcome_tells m b a.epoch client incarnation x) enters.1
+
 pub became_at : (a b : Account) (moment : ℕ) (m : Message) (x : Answer) → NextAt a moment m b x → Became a moment m b x
 became_at a b moment (Hello client incarnation) x next =
     let m : Message = Hello client incarnation in
     RefuseOr-elim _ _ _ (Became a moment m b x) (λ refusal due. refused_became a b moment m x refusal)
     (WhereElse-elim _ _ _ (Became a moment m b x) (λ has again. stays_became a b moment m x again.0 (welcome_tells m a a.epoch client incarnation x again.1))
-    (RefuseOr-elim _ _ _ (Became a moment m b x) (λ refusal due. refused_became a b moment m x refusal)
-    (room_became a b moment m x _ 1 (λ room. room) (λ added. welcome_tells m b a.epoch client incarnation x)))) next
+    (hello_became a b moment client incarnation x)) next
 became_at a b moment (Request key call) x next =
     let m : Message = Request key call in
     let asks : AsksFor m key = inl (call, refl) in

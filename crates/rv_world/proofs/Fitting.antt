@@ -13,6 +13,7 @@ use Rattle.rv_text.specs.Limits.{FitsAnswer, FitsIdentifier, FitsKey, FitsMessag
 use Rattle.rv_book.specs.Limits.{FitsAccount}
 use Rattle.rv_book.specs.Waiting.{Waiting}
 use Rattle.rv_book.proofs.Counting.{number_below}
+use Rattle.rv_book.proofs.FewClients.{few_none}
 use Rattle.rv_book.proofs.Numbers.{same_or_not}
 use Rattle.rv_client.specs.Process.{Process, New, Idle, Outstanding, Starting, cancel_of, first_key, hello_of, key_after, max_number, request_of}
 use Rattle.rv_client.specs.Process.{Hears, Outcome, Welcomed, TurnedAway, Settled, EpochEnded, Replaced, Ignored}
@@ -115,6 +116,7 @@ empty_fits epoch fits = record {
   opened = omega arith;
   entries = λ r e there. absurd (none-some e there);
   room = λ n count. let none : n ≤ 0 = number_below (Waiting []) n 0 (waiting_below []) count in omega arith;
+  clients = few_none [] refl;
 }
 
 nothing_there : {X : Type 0} (x : X) → Contains [] x → ⊥

@@ -1,4 +1,4 @@
--- An account stays within its limits by a step of the book: one entry more has room, and so has each request that waits.
+-- An account stays within its limits by a step of the book: one entry more has room, and so have each request that waits and the client of a hello.
 use Rattle.std.proofs.Common.{◌≡◌, ◌⊎◌, inl, inr, ℕ, ◌+◌, ◌-◌, ◌<◌, ◌≤◌, List, [], ◌∷◌, ◌++◌, length, Option, Some, None, refl, sym, ap, subst, ◌∙◌, arith, length-append}
 use Rattle.std.specs.Prelude.{IsSome, option_map, unwrap_or}
 use Rattle.std.specs.List.{slice_get}
@@ -24,8 +24,10 @@ use Rattle.rv_book.specs.Steps.{Adds, Next, Ticks, max_moment, own_moment, step_
 use Rattle.rv_book.specs.Waiting.{StoppedAt, Waiting}
 use Rattle.rv_book.proofs.Counting.{number_at_most, number_drop, number_push}
 use Rattle.rv_book.proofs.Deciding.{find_waiting, waits_or_not}
+use Rattle.rv_book.proofs.FewClients.{FewClients, few_still, few_with}
 use Rattle.rv_book.proofs.Fitting.{step_fits}
 use Rattle.rv_book.proofs.Growing.{call_read, reads_within}
+use Rattle.rv_book.proofs.Keys.{cancel_no_hello, no_hello, tick_no_hello}
 use Rattle.rv_book.proofs.Lasting.{lasting_need, need_positive}
 use Rattle.rv_book.proofs.Legality.{follows_itself}
 use Rattle.rv_book.proofs.Places.{get-append_cases}
@@ -70,13 +72,14 @@ module _ (a : Account) (e : Entry) (n m : ℕ) (legal : Legal (with_entry a e)) 
 
 -- ---- within the limits
 
--- with one entry more that fits, behind which there is room
-fits_with : (a : Account) (e : Entry) → FitsAccount a → FitsEntry e → ((m : ℕ) → NumberOf (Waiting (a.entries ++ e ∷ [])) m → length a.entries + 1 + m ≤ 100000) → FitsAccount (with_entry a e)
-fits_with a e fits entry_fits room = record {
+-- with one entry more that fits, behind which there is room and are not too many clients
+fits_with : (a : Account) (e : Entry) → FitsAccount a → FitsEntry e → FewClients (a.entries ++ e ∷ []) → ((m : ℕ) → NumberOf (Waiting (a.entries ++ e ∷ [])) m → length a.entries + 1 + m ≤ 100000) → FitsAccount (with_entry a e)
+fits_with a e fits entry_fits few room = record {
   epoch = fits.epoch;
   opened = fits.opened;
   entries = λ r x there. elim (get-append_cases a.entries e x r there) [ inl inside ↦ fits.entries r x inside.1 | inr last ↦ subst FitsEntry last.1 entry_fits ];
   room = λ m count. let space : length a.entries + 1 + m ≤ 100000 = room m count in omega (arith, length-append a.entries (e ∷ []));
+  clients = few;
 }
 
 -- there is room for what is needed
@@ -138,10 +141,15 @@ arrival_room a e call legal says room m after =
 
 message_room : (a : Account) (e : Entry) (m : Message) → FitsAccount a → Legal (with_entry a e) → e.act ≡ act_of m → HasRoomFor a m
     → (n : ℕ) → NumberOf (Waiting (a.entries ++ e ∷ [])) n → length a.entries + 1 + n ≤ 100000
-message_room a e (Hello client incarnation) fits legal says room = calm_room a e legal (ap call_in says) room
+message_room a e (Hello client incarnation) fits legal says room = calm_room a e legal (ap call_in says) room.0
 message_room a e (Request key call) fits legal says room = arrival_room a e call legal (ap call_in says) room
 message_room a e (Cancel key) fits legal says (inl waits) = stop_room a e fits legal (ap call_in says) waits.place waits.waits (cancel_stops a.entries e key waits.place says (is_under a.entries key waits))
 message_room a e (Cancel key) fits legal says (inr room) = calm_room a e legal (ap call_in says) room
+
+message_few : (a : Account) (e : Entry) (m : Message) → FitsAccount a → e.act ≡ act_of m → HasRoomFor a m → FewClients (a.entries ++ e ∷ [])
+message_few a e (Hello client incarnation) fits says room = few_with a e client incarnation (ap Some says) room.1 fits.clients
+message_few a e (Request key call) fits says room = few_still a.entries e (λ c i own. absurd (no_hello key call c i (ap Some (sym says) ∙ own))) fits.clients
+message_few a e (Cancel key) fits says room = few_still a.entries e (λ c i own. absurd (cancel_no_hello key c i (ap Some (sym says) ∙ own))) fits.clients
 
 act_fits : (m : Message) → FitsMessage m → FitsAct (act_of m)
 act_fits (Hello client incarnation) fits = fits
@@ -158,11 +166,11 @@ own_moment_fits a fits = by_last (slice_get a.entries (length a.entries - 1)) re
 step_moment_fits : (a : Account) (now : ℕ) → FitsAccount a → step_moment a now ≤ max_moment
 step_moment_fits a now fits = let own : own_moment a ≤ max_moment = own_moment_fits a fits in omega arith
 
-added_fits : (a b : Account) (moment : ℕ) (does : Act) (added : Adds a moment does b) → FitsAccount a → moment ≤ max_moment → FitsAct does
+added_fits : (a b : Account) (moment : ℕ) (does : Act) (added : Adds a moment does b) → FitsAccount a → moment ≤ max_moment → FitsAct does → FewClients (a.entries ++ added.entry ∷ [])
     → ((n : ℕ) → NumberOf (Waiting (a.entries ++ added.entry ∷ [])) n → length a.entries + 1 + n ≤ 100000) → FitsAccount b
-added_fits a b moment does added fits moment_fits does_fits room =
+added_fits a b moment does added fits moment_fits does_fits few room =
     let entry_fits : FitsEntry added.entry = (subst (λ n. n ≤ max_moment) (sym added.moment_is) moment_fits, subst FitsAct (sym added.act_is) does_fits) in
-    subst FitsAccount (sym added.follows) (fits_with a added.entry fits entry_fits room)
+    subst FitsAccount (sym added.follows) (fits_with a added.entry fits entry_fits few room)
 
 ticked_fits : (a t : Account) (moment : ℕ) → FitsAccount a → moment ≤ max_moment → Ticks a moment t → FitsAccount t
 ticked_fits a t moment fits moment_fits (inr same) = subst FitsAccount (sym same.1) fits
@@ -171,7 +179,7 @@ ticked_fits a t moment fits moment_fits (inl ticks) =
     let e = added.entry in
     let due = ticks.0 in
     let until = subst (λ n. IsRequestUntil a.entries n due.0) (sym added.moment_is) (due_until a.entries moment due.0 due.1) in
-    added_fits a t moment act.Tick added fits moment_fits tt
+    added_fits a t moment act.Tick added fits moment_fits tt (few_still a.entries e (λ c i own. absurd (tick_no_hello c i (ap Some (sym added.act_is) ∙ own))) fits.clients)
     (stop_room a e fits (subst Legal added.follows added.legal) (ap call_in added.act_is) due.0 due.1.waits (tick_stops a.entries e due.0 added.act_is until))
 
 -- the account and the answer are within the limits
@@ -185,6 +193,6 @@ next_fits a b now m x fits message_fits next =
       | inl same ↦ subst FitsAccount (sym same) ticked
       | inr entered ↦
           let added = entered.adds in
-          added_fits t b moment (act_of m) added ticked moment_fits (act_fits m message_fits) (message_room t added.entry m ticked (subst Legal added.follows added.legal) added.act_is entered.room)
+          added_fits t b moment (act_of m) added ticked moment_fits (act_fits m message_fits) (message_few t added.entry m ticked added.act_is entered.room) (message_room t added.entry m ticked (subst Legal added.follows added.legal) added.act_is entered.room)
     ] in
     (after, step_fits t b moment m x ticked after message_fits next.steps)

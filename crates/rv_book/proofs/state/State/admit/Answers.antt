@@ -1,5 +1,6 @@
 -- After a client's first hello that was recorded the account and its tables are sound.
 use Rattle.std.proofs.Common.{◌∙◌, inr, None, refl, sym, ap, subst, arith, option_and_then}
+use Rattle.rv_session.specs.Standings.{MayEnter}
 use Rattle.rv_session.specs.Table.{fresh, session_of, waiting_place}
 use Rattle.rv_book.specs.declared.account.Act.TheVariants.{Hello}
 use Rattle.rv_book.specs.declared.state.State.{State}
@@ -10,7 +11,7 @@ use Rattle.rv_book.proofs.Greeting.{comes_ready, sound_idle, space_ready}
 use Rattle.rv_book.proofs.Keeping.{sound_same}
 use Rattle.rv_book.proofs.Lines.{room_left}
 use Rattle.rv_book.proofs.SessionTable.{Changes, set_changes}
-use Rattle.rv_book.proofs.Standing.{none_lower}
+use Rattle.rv_book.proofs.Standing.{may_new, none_lower, room_for_client}
 use Rattle.rv_book.proofs.Stepping.{err_gives}
 use Rattle.rv_book.proofs.state.State.admit.Goals as goal
 
@@ -40,8 +41,11 @@ returns-clause-sound c =
     let comes = comes_ready old ready c.args.moment (Hello c.args.client c.args.incarnation) 1 _ c.requires.comes prepared in
     let unknown = ap (λ t. session_of t c.args.client) prepared.same.sessions ∙ c.requires.unknown in
     let lower = none_lower (account_of ready) ready.sessions comes.sound.sessions_are comes.sound.legal c.args.client c.args.incarnation unknown in
+    let entering = subst (λ t. MayEnter t c.args.client c.args.incarnation) (sym prepared.same.sessions) c.requires.enters in
+    let count = may_new ready.sessions c.args.client c.args.incarnation unknown entering in
+    let room = room_for_client (account_of ready) ready.sessions comes.sound.sessions_are comes.sound.legal c.args.client count in
     let entered = set_changes ready.sessions c.enter.new.self c.args.client (fresh c.args.incarnation) c.in_ok-enter.ensures.ok in
-    sound_idle ready c.args.moment c.args.client c.args.incarnation comes lower (space_ready old ready 1 _ prepared) new c.push.ensures.entry
+    sound_idle ready c.args.moment c.args.client c.args.incarnation comes lower room (space_ready old ready 1 _ prepared) new c.push.ensures.entry
     (subst (λ t. Changes ready.sessions t c.args.client (fresh c.args.incarnation)) (sym c.push.ensures.sessions) entered)
     (ap (option_and_then (λ (s : _). waiting_place s.state)) unknown) c.push.ensures.stations c.push.ensures.waiting c.push.ensures.due
     (omega (arith, c.push.ensures.room, prepared.room, prepared.same.waiting))
