@@ -249,8 +249,7 @@ impl State {
         told
     }
 
-    // Records a request that has its session's next number, where there is room, and gives its reply; none
-    // where it waits.
+    // The same, where there is room.
     fn arrive(&mut self, moment: u64, key: Key, call: Call) -> Result<Option<Kept>, Refusal>
         requires comes { Comes self.old moment (Arrive key call) }
         requires stands { standing_of self.old.sessions key ≡ standing.Next }
@@ -402,13 +401,11 @@ impl State {
     {
         self.make_room(1, None)?;
         self.sessions.enter(client, incarnation)?;
-        self.push(
-            moment,
-            Act::Hello {
-                client,
-                incarnation,
-            },
-        );
+        let hello = Act::Hello {
+            client,
+            incarnation,
+        };
+        self.push(moment, hello);
         Ok(())
     }
 
@@ -433,13 +430,11 @@ impl State {
         self.make_room(1, None)?;
         self.end_if(waiting, Kept::Cancelled);
         self.sessions.enter(client, incarnation).unwrap();
-        self.push(
-            moment,
-            Act::Hello {
-                client,
-                incarnation,
-            },
-        );
+        let hello = Act::Hello {
+            client,
+            incarnation,
+        };
+        self.push(moment, hello);
         Ok(())
     }
 
@@ -471,8 +466,7 @@ impl State {
         self.account.own_moment().max(now.min(MAX_MOMENT))
     }
 
-    // Ends the request with the least limit that is due at a moment, if there is one, and tells whether it
-    // did.
+    // Ends the request with the least limit that is due at a moment, and tells whether there was one.
     fn end_next(&mut self, moment: u64) -> bool
         requires { IsEnding self.old moment }
         ensures ending { IsEnding self.new moment }
