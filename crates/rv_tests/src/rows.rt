@@ -9,12 +9,12 @@ use std::test::Fail;
 
 // Whether a step that found no memory left the account, which had so many entries, but for a tick.
 fn is_left(account: &Account, before: usize) -> bool {
-    let is_tick = |place| account
-        .entry(place)
-        .is_some_and(|entry| entry.act == Act::Tick);
     match account.len().checked_sub(before) {
         Some(0) => true,
-        Some(1) => is_tick(before),
+        Some(1) => match account.entry(before) {
+            Some(entry) => entry.act == Act::Tick,
+            None => false,
+        },
         _ => false,
     }
 }
