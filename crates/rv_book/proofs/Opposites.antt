@@ -1,5 +1,5 @@
 -- Sides that meet: opposite goes both ways, so each side has one at most that it meets and that meets it.
-use Rattle.std.proofs.Common.{◌≡◌, Some, refl, sym, subst, ◌∙◌}
+use Rattle.std.proofs.Common.{◌≡◌, ℕ, Some, IsSome, refl, sym, subst, ◌∙◌}
 use Rattle.std.proofs.lemmas.Option.{none-some, same_Some}
 use Rattle.rv_text.specs.declared.call.Side.{Side}
 use Rattle.rv_text.specs.declared.call.Side.TheVariants.{Exchanges, Gives, Looks, Takes}
@@ -18,3 +18,7 @@ one_opposite side other third opposes also = same_Some _ _ (sym also ∙ opposes
 -- who meets it
 pub one_opposed : (side other third : Side) → opposite side ≡ Some other → opposite third ≡ Some side → third ≡ other
 one_opposed side other third opposes back = one_opposite side other third opposes (opposite_back third side back)
+
+-- who looks meets nobody
+pub looks_alone : (queue : ℕ) → IsSome (opposite (Looks queue)) → ⊥
+looks_alone queue meets = let no : ⊥ = cc in no

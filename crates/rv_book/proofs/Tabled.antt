@@ -1,7 +1,7 @@
 -- What a change of one queue is to all who wait, side by side.
 use Rattle.std.proofs.Common.{◌≡◌, inl, inr, ℕ, zero, suc, List, [], ◌∷◌, ◌++◌, Option, Some, None, refl, sym, ap, subst, ◌∙◌, option_and_then}
 use Rattle.std.specs.List.{slice_get}
-use Rattle.std.specs.Prelude.{IsSome, option_map}
+use Rattle.std.specs.Prelude.{option_map}
 use Rattle.std.proofs.lemmas.Option.{none-some, slice_get-map, slice_get-get_or}
 use Rattle.rv_text.specs.declared.call.Side.{Side}
 use Rattle.rv_text.specs.declared.call.Side.TheVariants.{Exchanges, Gives, Looks, Takes}
@@ -12,12 +12,12 @@ use Rattle.rv_dual.specs.Queue.{IsAbove, Queue, SameLists}
 use Rattle.rv_dual.specs.declared.giver.Offer.{Offer}
 use Rattle.rv_book.specs.declared.account.Entry.{Entry}
 use Rattle.rv_book.specs.declared.arrived.Arrived.{Arrived}
-use Rattle.rv_book.specs.Calls.{Lasts, opposite}
+use Rattle.rv_book.specs.Calls.{Lasts}
 use Rattle.rv_book.specs.Meeting.{ArrivedOn, FindsNobody, Gave, GaveNobody, GaveTo, LaysDown, StaysBy, OwnDuty, StandsBy, Took, TookFrom, TookNothing, offer_by, own_by}
 use Rattle.rv_book.specs.Parked.{AreParked, IsParked, owed_at}
 use Rattle.rv_book.specs.Views.{AllEmpty, AreBelow, OnlyQueue, SameStations, Stations, exchanger_at, place_of_duty, queue_at, takers_places, waiting_on}
 use Rattle.rv_book.proofs.Numbers.{same_or_not}
-use Rattle.rv_book.proofs.Opposites.{one_opposite}
+use Rattle.rv_book.proofs.Opposites.{looks_alone, one_opposite}
 use Rattle.rv_book.proofs.Places.{get-append_cases}
 use Rattle.std.proofs.lemmas.List.{map-append}
 
@@ -270,7 +270,7 @@ module _ (old new : Stations) (queue : ℕ) (changed : ChangedAt old new queue) 
 pub looked_on : (stations : Stations) (queue : ℕ) (wait : Option Wait) (duty : Owed) (result : Arrived) → result ≡ record { partner = None; own = Some duty; other = None }
     → ArrivedOn stations stations (Looks queue) wait duty result
 looked_on stations queue wait duty result is =
-    let no_wait = λ (may : StaysBy (Looks queue) wait). let no : IsSome (opposite (Looks queue)) = may.0 in absurd (cc) in
+    let no_wait = λ (may : StaysBy (Looks queue) wait). looks_alone queue may.0 in
     let same : SameStations stations stations = record { queues = λ other. record { givers = refl; takers = refl }; exchangers = λ exchanger. refl } in
     subst (ArrivedOn stations stations (Looks queue) wait duty) (sym is) (record {
       meets = inr (no_wait, (λ other opposes. absurd (none-some other opposes)), same);

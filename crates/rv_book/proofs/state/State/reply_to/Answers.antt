@@ -8,11 +8,12 @@ use Rattle.rv_session.specs.declared.kept.Kept as kept
 use Rattle.rv_book.specs.Arriving.{GoesOn, WillReply}
 use Rattle.rv_book.specs.Tables.{Sees, account_of}
 use Rattle.rv_book.proofs.Counts.{count_replies}
+use Rattle.rv_book.proofs.Opposites.{looks_alone}
 use Rattle.rv_book.proofs.Peeks.{peek_finds_none, peek_replies}
 use Rattle.rv_book.proofs.Puts.{put_replies}
 use Rattle.rv_book.proofs.Swaps.{swap_replies, swap_unmet}
 use Rattle.rv_book.proofs.Takes.{take_replies, take_unmet}
-use Rattle.rv_book.proofs.ToldNow.{looks_alone, seen_first, seen_none, seen_number}
+use Rattle.rv_book.proofs.ToldNow.{seen_first, seen_none, seen_number}
 use Rattle.rv_book.proofs.Transfers.{received_replies, transfer_unmet}
 use Rattle.rv_book.proofs.state.State.reply_to.Goals as goal
 
