@@ -3,6 +3,7 @@ pub mod Places
 pub mod Counting
 pub mod Growing
 pub mod CallKinds
+pub mod Opposites
 pub mod Legality
 pub mod Fronts
 pub mod Histories
@@ -27,6 +28,8 @@ pub mod ReplyLaws
 pub mod Unmet
 pub mod Puts
 pub mod Getting
+pub mod ByMeeting
+pub mod Handed
 pub mod Takes
 pub mod Transfers
 pub mod Swaps

@@ -1,8 +1,8 @@
 -- What a change of one queue is to all who wait, side by side.
 use Rattle.std.proofs.Common.{◌≡◌, inl, inr, ℕ, zero, suc, List, [], ◌∷◌, ◌++◌, Option, Some, None, refl, sym, ap, subst, ◌∙◌, option_and_then}
 use Rattle.std.specs.List.{slice_get}
-use Rattle.std.specs.Prelude.{IsSome, option_map}
-use Rattle.std.proofs.lemmas.Option.{none-some, same_Some, slice_get-map, slice_get-get_or}
+use Rattle.std.specs.Prelude.{option_map}
+use Rattle.std.proofs.lemmas.Option.{none-some, slice_get-map, slice_get-get_or}
 use Rattle.rv_text.specs.declared.call.Side.{Side}
 use Rattle.rv_text.specs.declared.call.Side.TheVariants.{Exchanges, Gives, Looks, Takes}
 use Rattle.rv_text.specs.declared.call.Wait.{Wait}
@@ -12,11 +12,12 @@ use Rattle.rv_dual.specs.Queue.{IsAbove, Queue, SameLists}
 use Rattle.rv_dual.specs.declared.giver.Offer.{Offer}
 use Rattle.rv_book.specs.declared.account.Entry.{Entry}
 use Rattle.rv_book.specs.declared.arrived.Arrived.{Arrived}
-use Rattle.rv_book.specs.Calls.{Lasts, opposite}
+use Rattle.rv_book.specs.Calls.{Lasts}
 use Rattle.rv_book.specs.Meeting.{ArrivedOn, FindsNobody, Gave, GaveNobody, GaveTo, LaysDown, StaysBy, OwnDuty, StandsBy, Took, TookFrom, TookNothing, offer_by, own_by}
 use Rattle.rv_book.specs.Parked.{AreParked, IsParked, owed_at}
 use Rattle.rv_book.specs.Views.{AllEmpty, AreBelow, OnlyQueue, SameStations, Stations, exchanger_at, place_of_duty, queue_at, takers_places, waiting_on}
 use Rattle.rv_book.proofs.Numbers.{same_or_not}
+use Rattle.rv_book.proofs.Opposites.{looks_alone, one_opposite}
 use Rattle.rv_book.proofs.Places.{get-append_cases}
 use Rattle.std.proofs.lemmas.List.{map-append}
 
@@ -120,17 +121,11 @@ above stations queue place below =
 
 -- ---- an arrival that gives
 
-takes_only : (queue : ℕ) (other : Side) → opposite (Gives queue) ≡ Some other → other ≡ Takes queue
-takes_only queue other opposes = sym (same_Some _ _ opposes)
-
-gives_only : (queue : ℕ) (other : Side) → opposite (Takes queue) ≡ Some other → other ≡ Gives queue
-gives_only queue other opposes = sym (same_Some _ _ opposes)
-
 no_takers : (stations : Stations) (queue : ℕ) → (queue_at stations.queues queue).takers ≡ [] → FindsNobody stations (Gives queue)
-no_takers stations queue none other opposes = subst (λ side. waiting_on stations side ≡ []) (sym (takes_only queue other opposes)) (ap takers_places none)
+no_takers stations queue none other opposes = subst (λ side. waiting_on stations side ≡ []) (sym (one_opposite (Gives queue) (Takes queue) other refl opposes)) (ap takers_places none)
 
 no_givers : (stations : Stations) (queue : ℕ) → (queue_at stations.queues queue).givers ≡ [] → FindsNobody stations (Takes queue)
-no_givers stations queue none other opposes = subst (λ side. waiting_on stations side ≡ []) (sym (gives_only queue other opposes)) (ap places_of none)
+no_givers stations queue none other opposes = subst (λ side. waiting_on stations side ≡ []) (sym (one_opposite (Takes queue) (Gives queue) other refl opposes)) (ap places_of none)
 
 some_is_none : {X : Type 0} (x : X) → Some x ≡ None → ⊥
 some_is_none x is = none-some x (sym is)
@@ -275,7 +270,7 @@ module _ (old new : Stations) (queue : ℕ) (changed : ChangedAt old new queue) 
 pub looked_on : (stations : Stations) (queue : ℕ) (wait : Option Wait) (duty : Owed) (result : Arrived) → result ≡ record { partner = None; own = Some duty; other = None }
     → ArrivedOn stations stations (Looks queue) wait duty result
 looked_on stations queue wait duty result is =
-    let no_wait = λ (may : StaysBy (Looks queue) wait). let no : IsSome (opposite (Looks queue)) = may.0 in absurd (cc) in
+    let no_wait = λ (may : StaysBy (Looks queue) wait). looks_alone queue may.0 in
     let same : SameStations stations stations = record { queues = λ other. record { givers = refl; takers = refl }; exchangers = λ exchanger. refl } in
     subst (ArrivedOn stations stations (Looks queue) wait duty) (sym is) (record {
       meets = inr (no_wait, (λ other opposes. absurd (none-some other opposes)), same);

@@ -1,11 +1,9 @@
 -- What a call that looks sees in its queue is what the account says.
 use Rattle.std.proofs.Common.{◌≡◌, ℕ, List, [], ◌∷◌, length, Some, None, sym, subst}
-use Rattle.std.specs.Prelude.{IsSome}
 use Rattle.std.specs.List.{slice_get}
 use Rattle.std.proofs.lemmas.Option.{none-some, same_Some}
 use Rattle.rv_text.specs.declared.call.Side.{Side}
-use Rattle.rv_text.specs.declared.call.Side.TheVariants.{Gives, Looks}
-use Rattle.rv_book.specs.Calls.{opposite}
+use Rattle.rv_text.specs.declared.call.Side.TheVariants.{Gives}
 use Rattle.rv_book.specs.Counting.{NumberOf}
 use Rattle.rv_book.specs.declared.account.Entry.{Entry}
 use Rattle.rv_book.specs.Parked.{AreStations, IsLine}
@@ -31,6 +29,3 @@ none_there es side (first ∷ places) line at r opened = none-some first at
 
 pub seen_none : (es : List Entry) (stations : Stations) (queue : ℕ) → AreStations es stations → None ≡ slice_get (waiting_on stations (Gives queue)) 0 → HasNoItem es queue
 seen_none es stations queue are is = none_there es (Gives queue) (waiting_on stations (Gives queue)) (are.lines (Gives queue)) is
-
-pub looks_alone : (queue : ℕ) → IsSome (opposite (Looks queue)) → ⊥
-looks_alone queue meets = let no : ⊥ = cc in no

@@ -11,11 +11,12 @@ pub mod Limits
 pub mod Verdicts
 pub mod Order
 pub mod Laws
--- What only private clauses and proofs cite.
+-- What the invariant of `Book`, `IsSound` in `Tables`, says of its tables; private clauses cite these too.
 pub mod Views
 pub mod Parked
 pub mod Elapsing
-pub mod Meeting
 pub mod Arriving
 pub mod Tables
+-- What only private clauses and proofs cite.
+pub mod Meeting
 pub mod Ending

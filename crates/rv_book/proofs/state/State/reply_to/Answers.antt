@@ -8,11 +8,12 @@ use Rattle.rv_session.specs.declared.kept.Kept as kept
 use Rattle.rv_book.specs.Arriving.{GoesOn, WillReply}
 use Rattle.rv_book.specs.Tables.{Sees, account_of}
 use Rattle.rv_book.proofs.Counts.{count_replies}
+use Rattle.rv_book.proofs.Opposites.{looks_alone}
 use Rattle.rv_book.proofs.Peeks.{peek_finds_none, peek_replies}
 use Rattle.rv_book.proofs.Puts.{put_replies}
 use Rattle.rv_book.proofs.Swaps.{swap_replies, swap_unmet}
 use Rattle.rv_book.proofs.Takes.{take_replies, take_unmet}
-use Rattle.rv_book.proofs.ToldNow.{looks_alone, seen_first, seen_none, seen_number}
+use Rattle.rv_book.proofs.ToldNow.{seen_first, seen_none, seen_number}
 use Rattle.rv_book.proofs.Transfers.{received_replies, transfer_unmet}
 use Rattle.rv_book.proofs.state.State.reply_to.Goals as goal
 
@@ -26,14 +27,14 @@ returns-in-Some c = λ sees ends.
     let a = account_of c.args.self.now in
     subst (λ (call : Call). WillReply a call c.args.partner kept.TheVariants.Received) (sym c.in-Transfer.is)
     (subst (λ (partner : Option _). WillReply a (Transfer c.in-Transfer.queue c.in-Transfer.item c.in-Transfer.wait) partner kept.TheVariants.Received) (sym c.in-Some.is)
-    (received_replies a c.in-Transfer.queue c.in-Transfer.item c.in-Transfer.wait c.in-Some.field-0))
+    (received_replies c.in-Transfer.queue c.in-Transfer.item c.in-Transfer.wait a c.in-Some.field-0))
 
 pub returns-in-None : goal.returns-in-None
 returns-in-None c = λ sees ends.
     let a = account_of c.args.self.now in
     let own = Transfer c.in-Transfer.queue c.in-Transfer.item c.in-Transfer.wait in
     let unmet = subst (λ (call : Call). GoesOn call None → ⊥) c.in-Transfer.is (subst (λ (partner : Option _). GoesOn c.args.call.now partner → ⊥) c.in-None.is ends) in
-    let told = subst (WillReply a own None) (sym c.reply_at_once.ensures) (transfer_unmet a c.in-Transfer.queue c.in-Transfer.item c.in-Transfer.wait unmet) in
+    let told = subst (WillReply a own None) (sym c.reply_at_once.ensures) (transfer_unmet c.in-Transfer.queue c.in-Transfer.item c.in-Transfer.wait a unmet) in
     subst (λ (call : Call). WillReply a call c.args.partner c.reply_at_once.result) (sym c.in-Transfer.is)
     (subst (λ (partner : Option _). WillReply a own partner c.reply_at_once.result) (sym c.in-None.is) told)
 
@@ -42,14 +43,14 @@ returns-in-Some-partner c = λ sees ends.
     let a = account_of c.args.self.now in
     let place = c.in-Some-partner.place in
     subst (λ (call : Call). WillReply a call c.args.partner (kept.TheVariants.Item place)) (sym c.in-Take.is)
-    (subst (λ (partner : Option _). WillReply a (Take c.in-Take.queue c.in-Take.wait) partner (kept.TheVariants.Item place)) (sym c.in-Some-partner.is) (take_replies a c.in-Take.queue c.in-Take.wait place))
+    (subst (λ (partner : Option _). WillReply a (Take c.in-Take.queue c.in-Take.wait) partner (kept.TheVariants.Item place)) (sym c.in-Some-partner.is) (take_replies c.in-Take.queue c.in-Take.wait a place))
 
 pub returns-in-None-partner : goal.returns-in-None-partner
 returns-in-None-partner c = λ sees ends.
     let a = account_of c.args.self.now in
     let unmet = subst (λ (call : Call). GoesOn call None → ⊥) c.in-Take.is (subst (λ (partner : Option _). GoesOn c.args.call.now partner → ⊥) c.in-None-partner.is ends) in
     let own = Take c.in-Take.queue c.in-Take.wait in
-    let told = subst (WillReply a own None) (sym c.reply_at_once-in-None-partner.ensures) (take_unmet a c.in-Take.queue c.in-Take.wait unmet) in
+    let told = subst (WillReply a own None) (sym c.reply_at_once-in-None-partner.ensures) (take_unmet c.in-Take.queue c.in-Take.wait a unmet) in
     subst (λ (call : Call). WillReply a call c.args.partner c.reply_at_once-in-None-partner.result) (sym c.in-Take.is)
     (subst (λ (partner : Option _). WillReply a own partner c.reply_at_once-in-None-partner.result) (sym c.in-None-partner.is) told)
 
