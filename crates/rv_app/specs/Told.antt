@@ -1,6 +1,7 @@
 -- The results of a play, as far as they are told of here: that they are short, and that their answers were
 -- sent.
-use Rattle.std.specs.Prelude.{ℕ, ◌<◌, IsSome, List, length, slice_get}
+use Rattle.std.specs.Prelude.{ℕ, ◌<◌, IsSome, List, String, length, slice_get, string_bytes}
+use Rattle.std.specs.declared.alloc.Global.{Global}
 use Rattle.rv_world.specs.declared.event.Event.{Event}
 use Rattle.rv_world.specs.declared.event.Event.TheVariants as event
 use Rattle.rv_world.specs.declared.seen.Seen.{Seen}
@@ -10,6 +11,9 @@ use Rattle.rv_world.specs.World.{World}
 -- the text fits a printed line: a body, and the words before it
 abbrev pub IsShort : List ℕ → Type 0
 IsShort text = length text < 4160
+
+abbrev pub IsShortText : String Global → Type 0
+IsShortText text = IsShort (string_bytes text)
 
 -- an answer of this number was sent
 abbrev pub WasSent : World → ℕ → Type 0

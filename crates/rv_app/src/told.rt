@@ -3,7 +3,7 @@ ghost use Rattle.std.specs.Prelude.{◌≤◌, IfOk, string_bytes};
 ghost use Rattle.rv_text.specs.Bodies.{HasBodyLength};
 ghost use Rattle.rv_world.specs.Limits.{FitsEvent};
 ghost use Rattle.rv_world.specs.declared.seen.Seen.TheVariants as sees;
-ghost use Rattle.rv_app.specs.Told.{IsShort, SettlesBy, TellsSent, WasSent};
+ghost use Rattle.rv_app.specs.Told.{IsShortText, SettlesBy, TellsSent, WasSent};
 
 use crate::event::read_event;
 use crate::line::LineFault;
@@ -14,7 +14,7 @@ use std::alloc::{AllocError, Global};
 /// Takes the event that a line says, and tells what came of it. It fails only where memory for the line's
 /// reading or for the text was refused.
 pub(crate) fn play_line(alloc: Global, world: &mut World, line: &[u8]) -> Result<String, NoMemory>
-    ensures { IfOk result (λ text. IsShort (string_bytes text)) }
+    ensures { IfOk result IsShortText }
 {
     match read_event(alloc, line) {
         Ok(event) => play_event(alloc, world, &event),
@@ -26,7 +26,7 @@ pub(crate) fn play_line(alloc: Global, world: &mut World, line: &[u8]) -> Result
 // Takes an event, and tells what came of it.
 fn play_event(alloc: Global, world: &mut World, event: &Event) -> Result<String, NoMemory>
     requires { FitsEvent event.now }
-    ensures { IfOk result (λ text. IsShort (string_bytes text)) }
+    ensures { IfOk result IsShortText }
 {
     match world.step(alloc, event) {
         Ok(seen) => seen_text(alloc, world, event, seen),
@@ -37,7 +37,7 @@ fn play_event(alloc: Global, world: &mut World, event: &Event) -> Result<String,
 // What was seen of an event that was just taken.
 fn seen_text(alloc: Global, world: &World, event: &Event, seen: Seen) -> Result<String, NoMemory>
     requires { TellsSent world.now event.now seen }
-    ensures { IfOk result (λ text. IsShort (string_bytes text)) }
+    ensures { IfOk result IsShortText }
 {
     match seen {
         Seen::Sent(packet) => format!(in alloc; "sent {packet}"),
@@ -56,7 +56,7 @@ fn seen_text(alloc: Global, world: &World, event: &Event, seen: Seen) -> Result<
 // That the server sent this packet.
 fn answered_text(alloc: Global, world: &World, packet: usize) -> Result<String, NoMemory>
     requires { WasSent world.now packet }
-    ensures { IfOk result (λ text. IsShort (string_bytes text)) }
+    ensures { IfOk result IsShortText }
 {
     let body = packet_body(alloc, world, packet)?;
     format!(in alloc; "answered {packet} {body}")
@@ -65,7 +65,7 @@ fn answered_text(alloc: Global, world: &World, packet: usize) -> Result<String, 
 // That a request has the reply which came to its client.
 fn settled_text(alloc: Global, world: &World, event: &Event) -> Result<String, NoMemory>
     requires { SettlesBy world.now event.now }
-    ensures { IfOk result (λ text. IsShort (string_bytes text)) }
+    ensures { IfOk result IsShortText }
 {
     let body = match event {
         Event::ToClient(packet) => packet_body(alloc, world, *packet)?,

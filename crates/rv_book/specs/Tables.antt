@@ -241,6 +241,10 @@ EndsIf old new (Some place) kept = EndsAt old new place kept
 
 -- ---- what became of a message
 
+-- the account stayed, and perhaps has room for more
+abbrev pub SameAccount : State → State → Type 0
+SameAccount old new = account_of new ≡ account_of old
+
 -- why an entry that needs so many places was refused: the epoch is full; or it is not, and memory was refused
 abbrev pub NoEntryDue : Account → ℕ → Refusal → Type 0
 NoEntryDue a need refusal = EpochFullDue a need refusal

@@ -94,7 +94,7 @@ impl State {
     ghost use Rattle.rv_book.specs.Tables.{Becomes, BecomesAfterTicks, Comes, EndsAt, EndsIf, HasSpace};
     ghost use Rattle.rv_book.specs.Tables.{IsOwedIn, IsPrepared, IsPushed, IsReady, IsTime, MayEnd, with_due};
     ghost use Rattle.rv_book.specs.Tables.{IsRefused, IsRepeat, IsSame, IsSound, MayRecord, NoEntryDue, Sees};
-    ghost use Rattle.rv_book.specs.Tables.{SettlesIf, account_of};
+    ghost use Rattle.rv_book.specs.Tables.{SameAccount, SettlesIf, account_of};
     ghost use Rattle.rv_session.specs.Meanings.{HasLast, HasNext, IsNewer};
     ghost use Rattle.rv_session.specs.declared.session.State.TheVariants as state;
     ghost use Rattle.rv_session.specs.Table.{session_of};
@@ -257,7 +257,7 @@ impl State {
         ensures sound { IsSound self.new }
         ensures ok { IfOk result (IsRecorded (account_of self.old) (account_of self.new) moment key call) }
         ensures space { OnOk result (HasSpace self.old (need_of call)) }
-        ensures same { OnErr result (account_of self.new ≡ account_of self.old) }
+        ensures same { OnErr result (SameAccount self.old self.new) }
         ensures err { IfErr result (NoEntryDue (account_of self.old) (need_of call)) }
     {
         self.prepare(moment, &call)?;
@@ -343,7 +343,7 @@ impl State {
         ensures sound { IsSound self.new }
         ensures ok { OnOk result (IsCancelled (account_of self.old) (account_of self.new) moment key) }
         ensures space { OnOk result (HasSpace self.old 1) }
-        ensures same { OnErr result (account_of self.new ≡ account_of self.old) }
+        ensures same { OnErr result (SameAccount self.old self.new) }
         ensures err { IfErr result (NoEntryDue (account_of self.old) 1) }
     {
         self.make_room(1, None)?;
@@ -396,7 +396,7 @@ impl State {
         ensures ok { OnOk result (Adds (account_of self.old) moment (Hello client incarnation)
             (account_of self.new)) }
         ensures space { OnOk result (HasSpace self.old 1) }
-        ensures same { OnErr result (account_of self.new ≡ account_of self.old) }
+        ensures same { OnErr result (SameAccount self.old self.new) }
         ensures err { IfErr result (NoEntryDue (account_of self.old) 1) }
     {
         self.make_room(1, None)?;
@@ -424,7 +424,7 @@ impl State {
         ensures ok { OnOk result (Adds (account_of self.old) moment (Hello client incarnation)
             (account_of self.new)) }
         ensures space { OnOk result (HasSpace self.old 1) }
-        ensures same { OnErr result (account_of self.new ≡ account_of self.old) }
+        ensures same { OnErr result (SameAccount self.old self.new) }
         ensures err { IfErr result (NoEntryDue (account_of self.old) 1) }
     {
         self.make_room(1, None)?;

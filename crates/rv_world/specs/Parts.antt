@@ -36,8 +36,12 @@ pub record IsBookOf (books : List Account) (epoch i : ℕ) : Type 0 where
   pub there : slice_get books i ≡ Some account
   pub epoch_is : account.epoch ≡ epoch
 
--- the world is sound and keeps its limits, and the table knows its clients' greatest incarnations
+-- the table knows its clients' greatest incarnations
+abbrev pub KnowsNewest : State → Type 0
+KnowsNewest state = AreNewest state.clients.newest (started_by state.to_server.items)
+
+-- the world is sound and keeps its limits, and its table is true
 pub record IsSoundState (state : State) : Type 0 where
   pub sound : IsSound (world_of state)
   pub fits : AllFits (world_of state)
-  pub newest : AreNewest state.clients.newest (started_by state.to_server.items)
+  pub newest : KnowsNewest state

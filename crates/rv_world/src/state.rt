@@ -57,8 +57,7 @@ impl State {
     ghost use Rattle.rv_world.specs.Events.{Comes, IsAsking, IsHeard, IsNewest, IsReady, RunsBut, RunsNone};
     ghost use Rattle.rv_world.specs.Events.{WasStarted};
     ghost use Rattle.rv_world.specs.Processes.{process_in};
-    ghost use Rattle.rv_world.specs.Table.{AreNewest};
-    ghost use Rattle.rv_world.specs.Parts.{IsSoundState, started_by, world_of};
+    ghost use Rattle.rv_world.specs.Parts.{IsSoundState, KnowsNewest, world_of};
     ghost use Rattle.rv_world.specs.declared.event.Event.TheVariants as event;
     ghost use Rattle.rv_world.specs.declared.seen.WorldRefusal.TheVariants as refuses;
 
@@ -66,8 +65,7 @@ impl State {
     pub(crate) fn open(alloc: Global, epoch: u64) -> Result<State, NoMemory>
         requires { FitsIdentifier epoch }
         ensures world { IfOk result (λ state. world_of state ≡ first_world epoch) }
-        ensures newest { IfOk result (λ state.
-            AreNewest state.clients.newest (started_by state.to_server.items)) }
+        ensures newest { IfOk result KnowsNewest }
     {
         Ok(State {
             earlier: Vec::new(alloc),
@@ -85,7 +83,7 @@ impl State {
         requires sound { IsSoundState self.old }
         requires fits { FitsEvent event.now }
         ensures comes { Comes (world_of self.old) event.now (world_of self.new) result }
-        ensures newest { AreNewest self.new.clients.newest (started_by self.new.to_server.items) }
+        ensures newest { KnowsNewest self.new }
     {
         match event {
             Event::Start(client, incarnation) => self.start(*client, *incarnation),
@@ -106,7 +104,7 @@ impl State {
         requires incarnation { FitsIdentifier incarnation }
         ensures comes { Comes (world_of self.old) (event.Start client incarnation)
             (world_of self.new) result }
-        ensures newest { AreNewest self.new.clients.newest (started_by self.new.to_server.items) }
+        ensures newest { KnowsNewest self.new }
     {
         self.must_be_newest(client, incarnation)?;
         self.to_server.reserve(1)?;
@@ -118,7 +116,7 @@ impl State {
 
     // Whether a client was started only in lower incarnations: else why it can't start in this one.
     fn must_be_newest(&self, client: u64, incarnation: u64) -> Result<(), WorldRefusal>
-        requires { AreNewest self.now.clients.newest (started_by self.now.to_server.items) }
+        requires { KnowsNewest self.now }
         ensures ok { OnOk result (IsNewest (world_of self.now) client incarnation) }
         ensures err { IfErr result (λ refusal. WasStarted (world_of self.now) client incarnation
             × (refusal ≡ refuses.IncarnationNotGreater)) }
@@ -173,7 +171,7 @@ impl State {
         requires sound { IsSoundState self.old }
         requires call { FitsCall call.now }
         ensures comes { Comes (world_of self.old) (event.Begin client call.now) (world_of self.new) result }
-        ensures newest { AreNewest self.new.clients.newest (started_by self.new.to_server.items) }
+        ensures newest { KnowsNewest self.new }
     {
         let key = self.next_key(client)?;
         let asked = call.copy(alloc)?;
@@ -190,7 +188,7 @@ impl State {
     fn resend(&mut self, alloc: Global, client: u64) -> Result<Seen, WorldRefusal>
         requires sound { IsSoundState self.old }
         ensures comes { Comes (world_of self.old) (event.Resend client) (world_of self.new) result }
-        ensures newest { AreNewest self.new.clients.newest (started_by self.new.to_server.items) }
+        ensures newest { KnowsNewest self.new }
     {
         self.must_be_asking(client)?;
         self.to_server.reserve(1)?;
@@ -202,7 +200,7 @@ impl State {
     fn send_cancel(&mut self, client: u64) -> Result<Seen, WorldRefusal>
         requires sound { IsSoundState self.old }
         ensures comes { Comes (world_of self.old) (event.CancelSent client) (world_of self.new) result }
-        ensures newest { AreNewest self.new.clients.newest (started_by self.new.to_server.items) }
+        ensures newest { KnowsNewest self.new }
     {
         self.must_be_asking(client)?;
         self.to_server.reserve(1)?;
@@ -214,7 +212,7 @@ impl State {
     fn crash(&mut self, client: u64) -> Result<Seen, WorldRefusal>
         requires sound { IsSoundState self.old }
         ensures comes { Comes (world_of self.old) (event.Crash client) (world_of self.new) result }
-        ensures newest { AreNewest self.new.clients.newest (started_by self.new.to_server.items) }
+        ensures newest { KnowsNewest self.new }
     {
         self.process(client)?;
         self.clients.turn(client, None);
@@ -225,7 +223,7 @@ impl State {
     fn to_server(&mut self, alloc: Global, packet: usize, moment: u64) -> Result<Seen, WorldRefusal>
         requires sound { IsSoundState self.old }
         ensures comes { Comes (world_of self.old) (event.ToServer packet moment) (world_of self.new) result }
-        ensures newest { AreNewest self.new.clients.newest (started_by self.new.to_server.items) }
+        ensures newest { KnowsNewest self.new }
     {
         let message = match self.to_server.get(packet) {
             Some(message) => copy_message(alloc, message)?,
@@ -245,7 +243,7 @@ impl State {
     fn to_client(&mut self, alloc: Global, packet: usize) -> Result<Seen, WorldRefusal>
         requires sound { IsSoundState self.old }
         ensures comes { Comes (world_of self.old) (event.ToClient packet) (world_of self.new) result }
-        ensures newest { AreNewest self.new.clients.newest (started_by self.new.to_server.items) }
+        ensures newest { KnowsNewest self.new }
     {
         let Some(packet) = self.to_client.get(packet) else {
             return Err(WorldRefusal::NoSuchPacket);
@@ -290,7 +288,7 @@ impl State {
         requires sound { IsSoundState self.old }
         requires epoch { FitsIdentifier epoch }
         ensures comes { Comes (world_of self.old) (event.NewEpoch epoch) (world_of self.new) result }
-        ensures newest { AreNewest self.new.clients.newest (started_by self.new.to_server.items) }
+        ensures newest { KnowsNewest self.new }
     {
         if epoch <= self.present.account().epoch() {
             return Err(WorldRefusal::EpochNotGreater);
