@@ -1,4 +1,4 @@
--- Which sides, waits and items go together in one call: the one place of this crate's proofs that lists the calls for it.
+-- Which sides, waits and items go together in one call.
 use Rattle.std.proofs.Common.{◌≡◌, ℕ, List, Option, Some, None, refl, subst}
 use Rattle.rv_text.specs.declared.call.Wait.{Wait}
 use Rattle.rv_text.specs.declared.call.Side.{Side}
@@ -16,11 +16,7 @@ IsKind _ _ _ = ⊥
 
 kind_of : (call : Call) → IsKind (side_of call) (wait_of call) (item_of call)
 kind_of (call.TheVariants.Put queue item) = tt
-kind_of (call.TheVariants.Transfer queue item wait) = tt
-kind_of (call.TheVariants.Take queue wait) = tt
-kind_of (call.TheVariants.Swap exchanger item wait) = tt
-kind_of (call.TheVariants.Count queue) = tt
-kind_of (call.TheVariants.Peek queue) = tt
+kind_of _ = tt
 
 pub kind_at : (call : Call) (side : Side) → side_of call ≡ side → IsKind side (wait_of call) (item_of call)
 kind_at call side is = subst (λ s. IsKind s (wait_of call) (item_of call)) is (kind_of call)

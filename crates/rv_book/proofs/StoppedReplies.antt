@@ -22,8 +22,7 @@ stopped_replies (call.TheVariants.Put queue item) es r told stays no_put unmet s
 stopped_replies (call.TheVariants.Transfer queue item wait) es r told stays no_put unmet stopped = inr (unmet, lasting_told wait es r reply.TheVariants.Nobody told stays.1 stopped)
 stopped_replies (call.TheVariants.Take queue wait) es r told stays no_put unmet stopped = inr (unmet, lasting_told wait es r reply.TheVariants.Empty told stays.1 stopped)
 stopped_replies (call.TheVariants.Swap exchanger item wait) es r told stays no_put unmet stopped = inr (unmet, lasting_told wait es r reply.TheVariants.TimedOut told stays.1 stopped)
-stopped_replies (call.TheVariants.Count queue) es r told stays no_put unmet stopped = absurd (let no : ⊥ = let is = stays.0 in cc in no)
-stopped_replies (call.TheVariants.Peek queue) es r told stays no_put unmet stopped = absurd (let no : ⊥ = let is = stays.0 in cc in no)
+stopped_replies _ es r told stays no_put unmet stopped = absurd (let no : ⊥ = let is = stays.0 in cc in no)
 
 -- a waiting request that the last entry stops is told by it
 pub told_stopped : (es : List Entry) (e : Entry) (r : ℕ) (call : Call) → Waiting es r → call_at es r ≡ Some call → (e.partner ≡ Some r → ⊥) → StoppedAt (es ++ e ∷ []) r (length es) → RepliesAt (es ++ e ∷ []) r call (told_by e.act)

@@ -98,8 +98,7 @@ module _ (ms : Members) where
   find_call (call.Take queue w) has = rw (has.0, has.1.0, find_wait w has.1.1.0) refl
   find_call (call.Swap exchanger item w) has =
       rw (has.0, has.1.0, find_wait w has.1.1.0, has.1.1.1.0) refl
-  find_call (call.Count queue) has = rw (has.0, has.1.0) refl
-  find_call (call.Peek queue) has = rw (has.0, has.1.0) refl
+  find_call _ has = rw (has.0, has.1.0) refl
 
   -- ---- messages
 
