@@ -120,12 +120,6 @@ swap_parts m n i j v w e = let exchanger : m ≡ n = cc in let item : i ≡ j = 
 take_parts : (q r : ℕ) (v w : Wait) → call.Take q v ≡ call.Take r w → (q ≡ r) × (v ≡ w)
 take_parts q r v w e = (cc, cc)
 
-count_part : (q r : ℕ) → call.Count q ≡ call.Count r → q ≡ r
-count_part q r e = cc
-
-peek_part : (q r : ℕ) → call.Peek q ≡ call.Peek r → q ≡ r
-peek_part q r e = cc
-
 same_put : (q r : ℕ) (i j : List ℕ) → (call.Put q i ≡ call.Put r j) ⊎ (call.Put q i ≡ call.Put r j → ⊥)
 same_put q r i j = both (same_number q r) (same_text i j) (λ queue item. cc) (put_parts q r i j)
 
@@ -134,6 +128,6 @@ same_call (call.Put q i) (call.Put r j) = same_put q r i j
 same_call (call.Transfer q i v) (call.Transfer r j w) = both (same_put q r i j) (same_wait v w) (λ put wait. let parts = put_parts q r i j put in cc) (transfer_parts q r i j v w)
 same_call (call.Take q v) (call.Take r w) = both (same_number q r) (same_wait v w) (λ queue wait. cc) (take_parts q r v w)
 same_call (call.Swap m i v) (call.Swap n j w) = both (same_put m n i j) (same_wait v w) (λ put wait. let parts = put_parts m n i j put in cc) (swap_parts m n i j v w)
-same_call (call.Count q) (call.Count r) = alone (same_number q r) (λ queue. cc) (count_part q r)
-same_call (call.Peek q) (call.Peek r) = alone (same_number q r) (λ queue. cc) (peek_part q r)
+same_call (call.Count q) (call.Count r) = alone (same_number q r) (λ queue. cc) (λ e. cc)
+same_call (call.Peek q) (call.Peek r) = alone (same_number q r) (λ queue. cc) (λ e. cc)
 same_call _ _ = inr (λ e. absurd (let no : ⊥ = cc in no))
