@@ -7,7 +7,11 @@ use std::alloc::Global;
 
 /// Feeds the bytes in pieces of this size, the last one as long as it comes: the frames are those of the
 /// cut of all the bytes.
-pub fn frames_of_pieces(alloc: Global, bytes: &[u8], size: usize) -> Result<Frames, FrameFault>
+pub(crate) fn frames_of_pieces(
+    alloc: Global,
+    bytes: &[u8],
+    size: usize,
+) -> Result<Frames, FrameFault>
     requires { 0 < size }
     ensures { IfOk result (λ frames. Cut bytes.now frames.frames frames.end) }
 {
