@@ -1,0 +1,57 @@
+-- What is read of a connection: bytes, the frames of their cut, and what follows these.
+use Rattle.std.specs.Prelude.{ℕ, ◌≡◌, ◌≢◌, ◌++◌, ◌∷◌, [], List, Option, None, Some, Result, Ok, Err, Vec, true}
+use Rattle.std.specs.declared.alloc.Global.{Global}
+use Rattle.std.specs.Io.KnownBytes.{Consumes, IsAtEnd}
+use Rattle.rv_frame.specs.Cut.{Bad, End, IsBody, Open}
+use Rattle.rv_frame.specs.Source.{source_failed, source_remaining}
+use Rattle.rv_frame.specs.Stream.{HasFed, Stream}
+use Rattle.rv_frame.specs.declared.source.Source.{Source}
+use Rattle.rv_server.specs.declared.fault.WorkFault.{WorkFault}
+use Rattle.rv_server.specs.declared.fault.WorkFault.TheVariants.{BadLength, CutFrame, NoMemory, ReadFault}
+use Rattle.rv_server.specs.declared.fault.WorkFault.TheVariants.{TooLong, WriteFault}
+
+-- the bad length that was met, if the bytes end in one
+abbrev pub IsBadOf : Option ℕ → End → Type 0
+IsBadOf (Some n) end = end ≡ Bad n
+IsBadOf None (Open rest) = Unit {0}
+IsBadOf None (Bad n) = ⊥
+
+module _ {R : Type 0} (remaining : R → Option (List ℕ)) where
+  -- these bytes were read, and behind all that was fed before them they are fed; of the frames of all, these
+  -- were taken
+  pub record ReadsOn (before after : Source R) (old new : Stream) (more : List (List ℕ)) : Type 0 where
+    pub bytes : List ℕ
+    pub gives : Consumes (source_remaining remaining before) (source_remaining remaining after) bytes
+    pub fed : (all : List ℕ) (taken : List (List ℕ)) → HasFed all taken old
+        → HasFed (all ++ bytes) (taken ++ more) new
+
+  -- all whole frames were taken, and this follows them
+  pub record ReadsOut (before after : Source R) (old new : Stream) (IsLeft : End → Type 0) : Type 0 where
+    pub reads : ReadsOn before after old new []
+    pub all_taken : new.frames ≡ []
+    pub left : IsLeft new.end
+
+  -- the source has nothing more
+  abbrev pub HasEnded : Source R → Type 0
+  HasEnded source = IsAtEnd (source_remaining remaining source)
+
+  -- the bytes of a frame that isn't whole
+  pub record IsCut (end : End) : Type 0 where
+    pub rest : List ℕ
+    pub is : end ≡ Open rest
+    pub some : rest ≢ []
+
+  -- the next frame was taken, or why there is none
+  abbrev pub TakesFrame : Source R → Source R → Stream → Stream → Result (Option (Vec ℕ Global)) WorkFault
+      → Type 0
+  TakesFrame before after old new (Ok (Some body)) =
+      ReadsOn before after old new (body.items ∷ []) × IsBody body.items
+  TakesFrame before after old new (Ok None) =
+      ReadsOut before after old new (λ end. end ≡ Open []) × HasEnded after
+  TakesFrame before after old new (Err ReadFault) =
+      ReadsOut before after old new (λ end. Unit {0}) × (source_failed after ≡ true)
+  TakesFrame before after old new (Err CutFrame) = ReadsOut before after old new IsCut × HasEnded after
+  TakesFrame before after old new (Err (BadLength n)) = ReadsOut before after old new (λ end. end ≡ Bad n)
+  TakesFrame before after old new (Err NoMemory) = ReadsOn before after old new []
+  TakesFrame before after old new (Err (WriteFault sent)) = ⊥
+  TakesFrame before after old new (Err TooLong) = ⊥

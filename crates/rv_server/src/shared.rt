@@ -1,0 +1,180 @@
+//! The desk behind its lock, and the seats of the workers: their shares in the number of its entries.
+ghost use Rattle.std.specs.Prelude.{◌≡◌, ◌≤◌, ◌+◌, ◌-◌, ◌<◌, ◌≢◌, IfOk, IfErr, OnOk, OnErr, sum, vec_len};
+ghost use Rattle.rv_text.specs.Limits.{FitsMessage};
+ghost use Rattle.rv_server.specs.Stamps.{added_by};
+
+use crate::desk::Desk;
+use rv_text::{Message, NoMemory};
+use std::alloc::Global;
+use std::marker::Model;
+use std::sync::Mutex;
+use std::sync::ledger::{Blank, Book, Ledger, Share};
+use thiserror::Error;
+
+/// The most workers of a server.
+pub const MAX_WORKERS: usize = 64;
+
+/// What the lock guards: the desk, and the total of its entries, which contracts see as the desk. The total
+/// is always the number of the desk's entries.
+#[derive(Drop)]
+pub struct Locked<D: Desk, L: Ledger> {
+    desk: D,
+    total: Book<L>,
+}
+
+impl<D: Desk, L: Ledger> Model for Locked<D, L> {
+    ghost use Rattle.std.specs.Prelude.{◌≡◌};
+
+    ghost Value = { D };
+
+    ghost view = { λ locked. locked.desk };
+
+    ghost invariant = { λ locked. D.count locked.desk ≡ locked.total.total };
+}
+
+/// One worker's share in the number of entries, which contracts see as that number: those that its own
+/// messages added.
+#[derive(Drop)]
+pub struct Seat<L: Ledger> {
+    share: Share<L>,
+}
+
+impl<L: Ledger> Model for Seat<L> {
+    ghost use Rattle.std.specs.Prelude.{◌≡◌, ℕ};
+
+    ghost Value = { ℕ };
+
+    ghost view = { λ seat. seat.share.amount };
+
+    ghost invariant = { λ seat. seat.share.parts ≡ 1 };
+}
+
+/// A desk behind its lock, which contracts see as the number of seats that were made for it.
+#[derive(Drop)]
+pub struct Shared<D: Desk, L: Ledger> {
+    pub(crate) locked: Mutex<Locked<D, L>>,
+    seats: usize,
+}
+
+impl<D: Desk, L: Ledger> Model for Shared<D, L> {
+    ghost use Rattle.std.specs.Prelude.{◌≡◌, ◌≤◌, ℕ};
+
+    ghost Value = { ℕ };
+
+    ghost view = { λ shared. shared.seats };
+
+    ghost invariant = { λ shared. (1 ≤ shared.seats) × (shared.seats ≡ L.parts) };
+}
+
+/// Has the desk handle one message that keeps its limits, under the lock, and counts what it added to the
+/// total and to the seat.
+pub fn serve_message<D: Desk, L: Ledger>(
+    locked: &mut Locked<D, L>,
+    seat: &mut Seat<L>,
+    now: u64,
+    message: Message,
+) -> D::Stamp
+    requires { FitsMessage message }
+    ensures step { D.steps locked.old now message locked.new result }
+    ensures gave { D.gave locked.new result }
+    ensures asked { (D.stamped result).asked ≡ message }
+    ensures before { (D.stamped result).before ≡ D.count locked.old }
+    ensures length { (D.stamped result).length ≡ D.count locked.new }
+    ensures share { seat.new ≡ seat.old + added_by (D.stamped result) }
+    ensures within { seat.new ≤ D.count locked.new }
+{
+    let Locked { desk, total } = locked;
+    let before = desk.entries();
+    let stamp = desk.handle(now, message);
+    total.add(&mut seat.share, desk.entries() - before);
+    total.audit(&mut seat.share);
+    stamp
+}
+
+/// What a server leaves: its desk, and the number of the desk's entries.
+#[derive(Drop)]
+pub struct Closing<D: Desk> {
+    pub desk: D,
+    pub total: u64,
+}
+
+/// The number of seats is not the number that was made. Nothing has changed.
+#[derive(Clone, Copy, Debug, PartialEq, Eq, Error)]
+#[error("there are not as many seats as were made")]
+pub struct ForeignSeat;
+
+impl<D: Desk, L: Ledger> Shared<D, L> {
+    ghost use Rattle.std.specs.Prelude.{All, MatchResult, vec_len};
+
+    /// A desk with no entries behind a lock, and one seat with the share 0 for each of 1 to 64 workers. The
+    /// blank ledger has one part for each. Where memory is refused the desk is dropped.
+    pub fn open(
+        alloc: Global,
+        blank: Blank,
+        desk: D,
+        workers: usize,
+    ) -> Result<(Shared<D, L>, Vec<Seat<L>>), NoMemory>
+        requires name { blank.name ≡ L.name }
+        requires parts { blank.parts ≡ L.parts }
+        requires made { blank.parts ≡ workers }
+        requires some { 1 ≤ workers }
+        requires most { workers ≤ 64 }
+        requires empty { D.count desk ≡ 0 }
+        ensures seats { IfOk result (λ opened. opened.0 ≡ workers) }
+        ensures made { IfOk result (λ opened. vec_len opened.1 ≡ workers) }
+        ensures shares { IfOk result (λ opened. All (λ share. share ≡ 0) opened.1.items) }
+    {
+        let mut seats = Vec::with_capacity(alloc, workers)?;
+        let (total, mut all) = blank.open::<L>();
+        while seats.len() + 1 < workers {
+            let share = all.split_off(1, 0);
+            seats.push_reserved(Seat { share });
+        }
+        seats.push_reserved(Seat { share: all });
+        let locked = Mutex::new(Locked { desk, total });
+        let shared = Shared {
+            locked,
+            seats: workers,
+        };
+        Ok((shared, seats))
+    }
+}
+
+// All the shares in one, with the sum of their amounts.
+fn merged<L: Ledger>(seats: Vec<Seat<L>>) -> Share<L>
+    requires { 0 < vec_len seats }
+    ensures parts { result.parts ≡ vec_len seats }
+    ensures amount { result.amount ≡ sum seats.items }
+{
+    let mut seats = seats;
+    let Seat { share } = seats.pop().unwrap();
+    let mut all = share;
+    while let Some(Seat { share }) = seats.pop() {
+        all.merge(share);
+    }
+    all
+}
+
+/// Takes the desk out again, where all seats are handed in. The total is the number of its entries, and the
+/// sum of the seats' shares: nothing else reached the desk. With another number of seats all is handed
+/// back. That the seats are those of this server is said by the ledger's type. It takes no memory.
+pub fn finish<D: Desk, L: Ledger>(
+    shared: Shared<D, L>,
+    seats: Vec<Seat<L>>,
+) -> Result<Closing<D>, (Shared<D, L>, Vec<Seat<L>>, ForeignSeat)>
+    ensures total { IfOk result (λ closing. closing.total ≡ D.count closing.desk) }
+    ensures shares { IfOk result (λ closing. closing.total ≡ sum seats.items) }
+    ensures all_there { OnOk result (vec_len seats ≡ shared) }
+    ensures foreign { OnErr result (vec_len seats ≢ shared) }
+    ensures handed_back { IfErr result (λ back. (back.0 ≡ shared) × (back.1.items ≡ seats.items)) }
+{
+    if seats.len() != shared.seats {
+        return Err((shared, seats, ForeignSeat));
+    }
+    let mut all = merged(seats);
+    let Shared { locked, seats: _ } = shared;
+    let Locked { desk, mut total } = locked.into_inner();
+    total.audit(&mut all);
+    let total = desk.entries();
+    Ok(Closing { desk, total })
+}
