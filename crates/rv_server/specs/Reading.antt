@@ -16,6 +16,12 @@ IsBadOf (Some n) end = end ≡ Bad n
 IsBadOf None (Open rest) = Unit {0}
 IsBadOf None (Bad n) = ⊥
 
+-- the bytes of a frame that isn't whole
+pub record IsCut (end : End) : Type 0 where
+  pub rest : List ℕ
+  pub is : end ≡ Open rest
+  pub some : rest ≢ []
+
 module _ {R : Type 0} (remaining : R → Option (List ℕ)) where
   -- these bytes were read, and behind all that was fed before them they are fed; of the frames of all, these
   -- were taken
@@ -34,12 +40,6 @@ module _ {R : Type 0} (remaining : R → Option (List ℕ)) where
   -- the source has nothing more
   abbrev pub HasEnded : Source R → Type 0
   HasEnded source = IsAtEnd (source_remaining remaining source)
-
-  -- the bytes of a frame that isn't whole
-  pub record IsCut (end : End) : Type 0 where
-    pub rest : List ℕ
-    pub is : end ≡ Open rest
-    pub some : rest ≢ []
 
   -- the next frame was taken, or why there is none
   abbrev pub TakesFrame : Source R → Source R → Stream → Stream → Result (Option (Vec ℕ Global)) WorkFault

@@ -1,5 +1,6 @@
--- What a stamp shows of the one message that a desk handled.
-use Rattle.std.specs.Prelude.{◌≡◌, ◌-◌, ◌+◌, ◌≤◌, ◌∷◌, ◌++◌, ℕ, List, [], map, sum}
+-- What a stamp shows of the one message that a desk handled, and what stamps in a row show.
+use Rattle.std.specs.Prelude.{◌-◌, ◌+◌, ◌≤◌, ◌∷◌, ℕ, List, [], map}
+use Rattle.std.specs.List.{sum_by}
 use Rattle.rv_text.specs.declared.message.Message.{Message}
 use Rattle.rv_text.specs.declared.answer.Answer.{Answer}
 
@@ -15,6 +16,19 @@ pub record Stamped : Type 0 where
 abbrev pub added_by : Stamped → ℕ
 added_by stamp = stamp.length - stamp.before
 
--- how many entries the messages of these stamps added in all
-abbrev pub added : List Stamped → ℕ
-added stamps = sum (map added_by stamps)
+-- a stamp beside the number of the frame for which it was got
+abbrev pub Numbered : Type 0
+Numbered = ℕ × Stamped
+
+-- how many entries the messages added in all
+abbrev pub added : List Numbered → ℕ
+added = sum_by (λ (stamp : Numbered). added_by stamp.1)
+
+-- each desk had at least the entries that a seat's own messages had added by then: so many before the first
+abbrev pub Cover : ℕ → List Numbered → Type 0
+Cover own [] = Unit {0}
+Cover own (stamp ∷ stamps) = (own + added_by stamp.1 ≤ stamp.1.length) × Cover (own + added_by stamp.1) stamps
+
+-- what the stamps show
+abbrev pub shown : {S : Type 0} → (S → Stamped) → List (ℕ × S) → List Numbered
+shown stamped stamps = map (λ stamp. (stamp.0, stamped stamp.1)) stamps

@@ -1,11 +1,14 @@
 //! One desk behind a lock, and the workers that answer frames with it.
 #![tactic(auto)]
 
+mod asking;
 mod desk;
 mod fault;
 mod inlet;
+mod served;
 mod shared;
 
 pub use desk::{Clock, Desk, Gate};
 pub use fault::WorkFault;
+pub use served::{Item, Served};
 pub use shared::{Closing, ForeignSeat, Locked, MAX_WORKERS, Seat, Shared, finish, serve_message};

@@ -1,10 +1,10 @@
 //! The desk behind its lock, and the seats of the workers: their shares in the number of its entries.
 ghost use Rattle.std.specs.Prelude.{◌≡◌, ◌≤◌, ◌+◌, ◌-◌, ◌<◌, ◌≢◌, IfOk, IfErr, OnOk, OnErr, sum, vec_len};
-ghost use Rattle.rv_text.specs.Limits.{FitsMessage};
+ghost use Rattle.rv_text.specs.Limits.{FitsAnswer, FitsMessage};
 ghost use Rattle.rv_server.specs.Stamps.{added_by};
 
 use crate::desk::Desk;
-use rv_text::{Message, NoMemory};
+use rv_text::{Answer, Message, NoMemory};
 use std::alloc::Global;
 use std::marker::Model;
 use std::sync::Mutex;
@@ -78,6 +78,7 @@ pub fn serve_message<D: Desk, L: Ledger>(
     ensures step { D.steps locked.old now message locked.new result }
     ensures gave { D.gave locked.new result }
     ensures asked { (D.stamped result).asked ≡ message }
+    ensures fits { FitsAnswer (D.stamped result).said }
     ensures before { (D.stamped result).before ≡ D.count locked.old }
     ensures length { (D.stamped result).length ≡ D.count locked.new }
     ensures share { seat.new ≡ seat.old + added_by (D.stamped result) }
@@ -89,6 +90,28 @@ pub fn serve_message<D: Desk, L: Ledger>(
     total.add(&mut seat.share, desk.entries() - before);
     total.audit(&mut seat.share);
     stamp
+}
+
+impl<D: Desk, L: Ledger> Locked<D, L> {
+    // Has the desk handle one message, and makes its answer.
+    pub(crate) fn ask(
+        &mut self,
+        alloc: Global,
+        seat: &mut Seat<L>,
+        now: u64,
+        message: Message,
+    ) -> (D::Stamp, Result<Answer, NoMemory>)
+        requires { FitsMessage message }
+        ensures asked { (D.stamped result.0).asked ≡ message }
+        ensures share { seat.new ≡ seat.old + added_by (D.stamped result.0) }
+        ensures within { seat.new ≤ (D.stamped result.0).length }
+        ensures said { IfOk result.1 (λ answer. answer ≡ (D.stamped result.0).said) }
+        ensures fits { FitsAnswer (D.stamped result.0).said }
+    {
+        let stamp = serve_message(self, seat, now, message);
+        let answer = self.desk.answer(alloc, &stamp);
+        (stamp, answer)
+    }
 }
 
 /// What a server leaves: its desk, and the number of the desk's entries.

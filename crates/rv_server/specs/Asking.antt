@@ -1,0 +1,50 @@
+-- What is got for one frame, by asking the desk for it once or more often.
+use Rattle.std.specs.Prelude.{ℕ, ◌≡◌, ◌+◌, ◌++◌, List}
+use Rattle.std.specs.List.{All}
+use Rattle.rv_text.specs.Limits.{FitsAnswer}
+use Rattle.rv_text.specs.declared.answer.Answer.{Answer}
+use Rattle.rv_server.specs.Stamps.{Cover, Numbered, added}
+use Rattle.rv_server.specs.Turns.{IsFor, IsNoMessage, IsWaiting, LastSays}
+use Rattle.rv_server.specs.declared.asking.Told.{Told}
+use Rattle.rv_server.specs.declared.asking.Told.TheVariants.{BadText, NoMemory, Said}
+
+-- for the frame of this number and body these stamps were got, behind those that were there, and they added to
+-- the seat's share what they say
+pub record Gets (number : ℕ) (body : List ℕ) (share : ℕ) (old : List Numbered) (share' : ℕ)
+    (new got : List Numbered) : Type 0 where
+  pub behind : new ≡ old ++ got
+  pub own : All (IsFor number body) got
+  pub adds : share' ≡ share + added got
+  pub cover : Cover share got
+
+-- what is told of the frame, by its body and the stamps that were got for it
+abbrev pub Tells : List ℕ → List Numbered → Told → Type 0
+Tells body got BadText = IsNoMessage body
+Tells body got NoMemory = Unit {0}
+Tells body got (Said answer) = LastSays got answer × FitsAnswer answer
+
+-- it is told that the request waits
+pub record Waits (told : Told) : Type 0 where
+  pub answer : Answer
+  pub is : told ≡ Said answer
+  pub waiting : IsWaiting answer
+
+-- such stamps were got, and this is told by them
+pub record GetsTold (number : ℕ) (body : List ℕ) (share : ℕ) (old : List Numbered) (share' : ℕ)
+    (new : List Numbered) (told : Told) : Type 0 where
+  pub got : List Numbered
+  pub gets : Gets number body share old share' new got
+  pub tells : Tells body got told
+
+-- such stamps were got
+pub record GetsSome (number : ℕ) (body : List ℕ) (share : ℕ) (old : List Numbered) (share' : ℕ)
+    (new : List Numbered) : Type 0 where
+  pub got : List Numbered
+  pub gets : Gets number body share old share' new got
+
+-- so far all stamps that were got stand for an answer that waits
+pub record OnlyWaited (number : ℕ) (body : List ℕ) (share : ℕ) (old : List Numbered) (share' : ℕ)
+    (new : List Numbered) : Type 0 where
+  pub got : List Numbered
+  pub gets : Gets number body share old share' new got
+  pub waited : All (λ (stamp : Numbered). IsWaiting stamp.1.said) got

@@ -1,0 +1,59 @@
+-- How a worker answers frames: one answer for each, in order, by the stamps that it got for it.
+use Rattle.std.specs.Prelude.{ℕ, ◌≡◌, ◌+◌, ◌∷◌, ◌++◌, [], List}
+use Rattle.std.specs.List.{All}
+use Rattle.rv_text.specs.declared.message.Message.{Message}
+use Rattle.rv_text.specs.declared.message.Key.{Key}
+use Rattle.rv_text.specs.declared.answer.Answer.{Answer}
+use Rattle.rv_text.specs.declared.answer.Answer.TheVariants.{Refused, Waiting}
+use Rattle.rv_text.specs.declared.answer.Refusal.TheVariants as refusal
+use Rattle.rv_text.specs.Bodies.{IsMessageBody, answer_text}
+use Rattle.rv_text.specs.Limits.{FitsAnswer}
+use Rattle.rv_server.specs.Stamps.{Numbered, Stamped}
+use Rattle.rv_server.specs.declared.served.Item.{Item}
+use Rattle.rv_server.specs.declared.served.Item.TheVariants.{BadText, NoMemory, Said}
+
+-- no message has this body
+abbrev pub IsNoMessage : List ℕ → Type 0
+IsNoMessage body = (message : Message) → ¬ IsMessageBody body message
+
+abbrev pub IsWaiting : Answer → Type 0
+IsWaiting answer = (key : Key) × (answer ≡ Waiting key)
+
+-- the stamp was got for the frame of this number and body
+abbrev pub IsFor : ℕ → List ℕ → Numbered → Type 0
+IsFor number body stamp = (stamp.0 ≡ number) × IsMessageBody body stamp.1.asked
+
+-- the last of the stamps stands for this answer, and all before it for one that waits
+pub record LastSays (stamps : List Numbered) (answer : Answer) : Type 0 where
+  pub front : List Numbered
+  pub last : Numbered
+  pub are : stamps ≡ front ++ last ∷ []
+  pub said : last.1.said ≡ answer
+  pub waited : All (λ (stamp : Numbered). IsWaiting stamp.1.said) front
+
+-- one frame that was answered: its body, the stamps that were got for it, and the body of its answer
+pub record Turn : Type 0 where
+  pub body : List ℕ
+  pub stamps : List Numbered
+  pub item : Item
+  pub answer : List ℕ
+
+-- what the answer's body says, and of what
+abbrev pub Says : Item → List ℕ → List Numbered → List ℕ → Type 0
+Says BadText body stamps answer = IsNoMessage body × (answer ≡ answer_text (Refused refusal.BadText))
+Says NoMemory body stamps answer = answer ≡ answer_text (Refused refusal.NoMemory)
+Says Said body stamps answer = (said : Answer) × LastSays stamps said × (answer ≡ answer_text said)
+
+pub record IsTurn (number : ℕ) (turn : Turn) : Type 0 where
+  pub own : All (IsFor number turn.body) turn.stamps
+  pub says : Says turn.item turn.body turn.stamps turn.answer
+
+-- the turns, numbered from this number on
+abbrev pub AreTurns : ℕ → List Turn → Type 0
+AreTurns number [] = Unit {0}
+AreTurns number (turn ∷ turns) = IsTurn number turn × AreTurns (number + 1) turns
+
+-- the stamps of all turns
+abbrev pub stamps_of : List Turn → List Numbered
+stamps_of [] = []
+stamps_of (turn ∷ turns) = turn.stamps ++ stamps_of turns

@@ -1,0 +1,111 @@
+//! Asks the desk for one frame, until its answer is one that doesn't wait.
+ghost use Rattle.std.specs.Prelude.{◌≡◌, ◌≤◌, ◌+◌, IfOk, IsTrue, OnErr};
+ghost use Rattle.rv_text.specs.Limits.{FitsAnswer, FitsMessage};
+ghost use Rattle.rv_server.specs.Asking.{GetsSome, GetsTold, Waits};
+ghost use Rattle.rv_server.specs.Stamps.{added_by, shown};
+
+use crate::desk::{Clock, Desk, Gate};
+use crate::shared::{Locked, Seat, Shared};
+use rv_text::{Answer, Message, NoMemory, TextFault, decode_message};
+use std::alloc::Global;
+use std::sync::Wait;
+use std::sync::ledger::Ledger;
+
+/// The most pauses for one frame whose request waits.
+pub(crate) const MAX_PAUSES: usize = 200;
+
+// What a frame is to be answered by.
+#[derive(Drop)]
+pub(crate) enum Told {
+    BadText,
+    NoMemory,
+    Said(Answer),
+}
+
+impl Told {
+    // Whether it is said that the request waits.
+    fn waits(&self) -> bool
+        ensures { IsTrue result → Waits self.now }
+    {
+        match self {
+            Told::Said(Answer::Waiting { .. }) => true,
+            _ => false,
+        }
+    }
+}
+
+// Where a worker stands: the server, its clock and its gate.
+pub(crate) struct Post<'a, T, D: Desk, L: Ledger, C, G> {
+    pub(crate) rt: &'a T,
+    pub(crate) alloc: Global,
+    pub(crate) shared: &'a Shared<D, L>,
+    pub(crate) clock: &'a C,
+    pub(crate) gate: &'a G,
+}
+
+impl<'a, T: Wait, D: Desk, L: Ledger, C: Clock, G: Gate> Post<'a, T, D, L, C, G> {
+    // Has the desk handle a message, and makes its answer, under one hold of the lock.
+    fn ask_desk(&self, seat: &mut Seat<L>, message: Message) -> (D::Stamp, Result<Answer, NoMemory>)
+        requires { FitsMessage message }
+        ensures asked { (D.stamped result.0).asked ≡ message }
+        ensures share { seat.new ≡ seat.old + added_by (D.stamped result.0) }
+        ensures within { seat.new ≤ (D.stamped result.0).length }
+        ensures said { IfOk result.1 (λ answer. answer ≡ (D.stamped result.0).said) }
+        ensures fits { FitsAnswer (D.stamped result.0).said }
+    {
+        let shared = self.shared;
+        let now = self.clock.now();
+        shared.locked.lock(self.rt).ask(self.alloc, seat, now, message)
+    }
+
+    // Asks for the frame once. Room for the stamp is made before the desk is asked.
+    fn ask_once(
+        &self,
+        seat: &mut Seat<L>,
+        stamps: &mut Vec<(u32, D::Stamp)>,
+        number: u32,
+        body: &[u8],
+    ) -> Result<Told, NoMemory>
+        ensures told { IfOk result (GetsTold number body.now seat.old (shown D.stamped stamps.old.items)
+            seat.new (shown D.stamped stamps.new.items)) }
+        ensures refused { OnErr result ((seat.new ≡ seat.old) × (stamps.new.items ≡ stamps.old.items)) }
+    {
+        stamps.reserve(1)?;
+        let message = match decode_message(self.alloc, body) {
+            Ok(message) => message,
+            Err(TextFault::NoMemory) => return Ok(Told::NoMemory),
+            Err(TextFault::NotJson) => return Ok(Told::BadText),
+            Err(TextFault::NotMessage) => return Ok(Told::BadText),
+        };
+        let (stamp, answer) = self.ask_desk(seat, message);
+        stamps.push_reserved((number, stamp));
+        match answer {
+            Ok(answer) => Ok(Told::Said(answer)),
+            Err(_) => Ok(Told::NoMemory),
+        }
+    }
+
+    /// Asks for the frame of this number and body. Where its request waits it pauses, and asks again: at
+    /// most 200 pauses, and then the last answer stands.
+    pub(crate) fn ask(
+        &self,
+        seat: &mut Seat<L>,
+        stamps: &mut Vec<(u32, D::Stamp)>,
+        number: u32,
+        body: &[u8],
+    ) -> Result<Told, NoMemory>
+        ensures told { IfOk result (GetsTold number body.now seat.old (shown D.stamped stamps.old.items)
+            seat.new (shown D.stamped stamps.new.items)) }
+        ensures refused { OnErr result (GetsSome number body.now seat.old (shown D.stamped stamps.old.items)
+            seat.new (shown D.stamped stamps.new.items)) }
+    {
+        for _paused in 0..MAX_PAUSES {
+            let told = self.ask_once(seat, stamps, number, body)?;
+            if !told.waits() {
+                return Ok(told);
+            }
+            self.gate.pause();
+        }
+        self.ask_once(seat, stamps, number, body)
+    }
+}

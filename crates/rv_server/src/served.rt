@@ -1,0 +1,37 @@
+//! What a worker tells of the frames of a connection.
+use crate::desk::Desk;
+use std::alloc::Global;
+
+/// What a frame was answered by.
+#[derive(Clone, Copy, Debug, PartialEq, Eq)]
+pub enum Item {
+    /// The body of refusal 1: its own body is no message's.
+    BadText,
+    /// The body of refusal 11: memory was refused to the reading of its body or to the answer's text.
+    NoMemory,
+    /// The body of the answer of its last stamp.
+    Said,
+}
+
+/// What a worker tells of the frames of a connection: one item for each frame that was answered whole, and
+/// every stamp that it got, with the number of its frame, from 0, in the order in which it got them.
+#[derive(Drop)]
+pub struct Served<D: Desk> {
+    pub items: Vec<Item>,
+    pub stamps: Vec<(u32, D::Stamp)>,
+}
+
+impl<D: Desk> Served<D> {
+    ghost use Rattle.std.specs.Prelude.{◌≡◌, []};
+
+    // Nothing is told yet.
+    pub(crate) fn nothing(alloc: Global) -> Served<D>
+        ensures items { result.items.items ≡ [] }
+        ensures stamps { result.stamps.items ≡ [] }
+    {
+        Served {
+            items: Vec::new(alloc),
+            stamps: Vec::new(alloc),
+        }
+    }
+}
