@@ -5,3 +5,5 @@ pub mod Turns
 pub mod Works
 -- What only private clauses and proofs cite.
 pub mod Asking
+pub mod Writing
+pub mod Progress

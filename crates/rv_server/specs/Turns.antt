@@ -5,12 +5,16 @@ use Rattle.rv_text.specs.declared.message.Message.{Message}
 use Rattle.rv_text.specs.declared.message.Key.{Key}
 use Rattle.rv_text.specs.declared.answer.Answer.{Answer}
 use Rattle.rv_text.specs.declared.answer.Answer.TheVariants.{Refused, Waiting}
+use Rattle.rv_text.specs.declared.answer.Refusal.{Refusal}
 use Rattle.rv_text.specs.declared.answer.Refusal.TheVariants as refusal
 use Rattle.rv_text.specs.Bodies.{IsMessageBody, answer_text}
-use Rattle.rv_text.specs.Limits.{FitsAnswer}
-use Rattle.rv_server.specs.Stamps.{Numbered, Stamped}
+use Rattle.rv_server.specs.Stamps.{Numbered}
 use Rattle.rv_server.specs.declared.served.Item.{Item}
 use Rattle.rv_server.specs.declared.served.Item.TheVariants.{BadText, NoMemory, Said}
+
+-- the body of a refusal
+unfoldable pub refused_text : Refusal → List ℕ
+refused_text refusal = answer_text (Refused refusal)
 
 -- no message has this body
 abbrev pub IsNoMessage : List ℕ → Type 0
@@ -40,8 +44,8 @@ pub record Turn : Type 0 where
 
 -- what the answer's body says, and of what
 abbrev pub Says : Item → List ℕ → List Numbered → List ℕ → Type 0
-Says BadText body stamps answer = IsNoMessage body × (answer ≡ answer_text (Refused refusal.BadText))
-Says NoMemory body stamps answer = answer ≡ answer_text (Refused refusal.NoMemory)
+Says BadText body stamps answer = IsNoMessage body × (answer ≡ refused_text refusal.BadText)
+Says NoMemory body stamps answer = answer ≡ refused_text refusal.NoMemory
 Says Said body stamps answer = (said : Answer) × LastSays stamps said × (answer ≡ answer_text said)
 
 pub record IsTurn (number : ℕ) (turn : Turn) : Type 0 where

@@ -11,8 +11,9 @@ use Rattle.rv_server.specs.declared.fault.WorkFault.{WorkFault}
 use Rattle.rv_server.specs.declared.fault.WorkFault.TheVariants.{BadLength, CutFrame, NoMemory, ReadFault}
 use Rattle.rv_server.specs.declared.fault.WorkFault.TheVariants.{TooLong, WriteFault}
 use Rattle.rv_server.specs.declared.served.Item.{Item}
+use Rattle.rv_server.specs.declared.served.Served.{Served}
 use Rattle.rv_server.specs.Reading.{HasEnded, IsCut}
-use Rattle.rv_server.specs.Stamps.{Cover, Numbered, added}
+use Rattle.rv_server.specs.Stamps.{Cover, Numbered, Stamped, added, shown}
 use Rattle.rv_server.specs.Turns.{AreTurns, IsFor, IsTurn, Turn, stamps_of}
 
 -- the most frames of a connection
@@ -29,9 +30,12 @@ abbrev pub side : {R W : Type 0} → Source R → Sink W → ℕ → Side R W
 side source sink share = record { source = source; sink = sink; share = share }
 
 -- what is told of the frames: an item for each that was answered, and every stamp
-pub record Told : Type 0 where
+pub record Listed : Type 0 where
   pub items : List Item
   pub stamps : List Numbered
+
+abbrev pub listed : {D : Type 0} → {S : Type 0} → (S → Stamped) → Served D S → Listed
+listed stamped served = record { items = served.items.items; stamps = shown stamped served.stamps.items }
 
 -- the stamps were got for the first of these frames, if there is one
 abbrev pub AreForNext : ℕ → List (List ℕ) → List Numbered → Type 0
@@ -41,7 +45,7 @@ AreForNext number (body ∷ bodies) stamps = All (IsFor number body) stamps
 module _ {R W : Type 0} (remaining : R → Option (List ℕ)) (contents : W → Option (List ℕ)) where
   -- the bytes that were read have the frames of the turns, and then these more and this end; the turns' answers
   -- were written, and then these bytes more; beside the stamps of the turns there are these
-  pub record Worked (before after : Side R W) (told : Told) (more : List (List ℕ)) (end : End)
+  pub record Worked (before after : Side R W) (told : Listed) (more : List (List ℕ)) (end : End)
       (pending : List Numbered) (broken : List ℕ) : Type 0 where
     pub bytes : List ℕ
     pub turns : List Turn
@@ -58,11 +62,11 @@ module _ {R W : Type 0} (remaining : R → Option (List ℕ)) (contents : W → 
     pub few : length turns ≤ max_frames
 
   -- all frames were answered, and this follows them
-  abbrev pub WorkedOut : Side R W → Side R W → Told → End → Type 0
+  abbrev pub WorkedOut : Side R W → Side R W → Listed → End → Type 0
   WorkedOut before after told end = Worked before after told [] end [] []
 
   -- the answer of the next frame went out in part
-  pub record BreaksOff (before after : Side R W) (told : Told) (sent : ℕ) : Type 0 where
+  pub record BreaksOff (before after : Side R W) (told : Listed) (sent : ℕ) : Type 0 where
     pub turn : Turn
     pub is : IsTurn (length told.items) turn
     pub end : End
@@ -71,14 +75,14 @@ module _ {R W : Type 0} (remaining : R → Option (List ℕ)) (contents : W → 
     pub failed : sink_failed after.sink ≡ true
 
   -- memory was refused, for the next frame or before it
-  pub record LacksMemory (before after : Side R W) (told : Told) : Type 0 where
+  pub record LacksMemory (before after : Side R W) (told : Listed) : Type 0 where
     pub more : List (List ℕ)
     pub end : End
     pub pending : List Numbered
     pub worked : Worked before after told more end pending []
 
   -- what stands by the fault, if there is one
-  abbrev pub Works : Side R W → Side R W → Told → Option WorkFault → Type 0
+  abbrev pub Works : Side R W → Side R W → Listed → Option WorkFault → Type 0
   Works before after told None = WorkedOut before after told (Open []) × HasEnded remaining after.source
   Works before after told (Some ReadFault) =
       (end : End) × WorkedOut before after told end × (source_failed after.source ≡ true)

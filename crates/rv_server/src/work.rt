@@ -1,0 +1,123 @@
+//! Answers the frames of a connection, one by one, until it ends.
+ghost use Rattle.std.specs.Prelude.{◌≡◌, ◌<◌, None, Some, IfErr, IfOk, OnErr, OnOk, length, take, true};
+ghost use Rattle.rv_text.specs.Bodies.{HasBodyLength};
+ghost use Rattle.rv_frame.specs.Cut.{frame_bytes};
+ghost use Rattle.rv_frame.specs.Sink.{SinkTakes, sink_failed};
+ghost use Rattle.rv_text.specs.declared.answer.Refusal.TheVariants as refusal;
+ghost use Rattle.rv_server.specs.Turns.{refused_text};
+ghost use Rattle.rv_server.specs.Works.{Works, listed, side};
+ghost use Rattle.rv_server.specs.Writing.{FitsTold, Writes, WritesPart};
+ghost use Rattle.rv_server.specs.Progress.{MakesTurn, StopsTurn, out};
+
+use crate::asking::{Post, Told};
+use crate::desk::{Clock, Desk, Gate};
+use crate::fault::WorkFault;
+use crate::inlet::Inlet;
+use crate::served::{Item, Served};
+use crate::shared::{Seat, Shared};
+use rv_frame::{Sink, Source, WriteFault, write_frame};
+use rv_text::{BAD_TEXT_BODY, NO_MEMORY_BODY, encode_answer, laws};
+use std::alloc::Global;
+use std::io::{Read, Write};
+use std::sync::Wait;
+use std::sync::ledger::Ledger;
+
+/// The most frames of a connection.
+pub const MAX_FRAMES: u32 = 65_536;
+
+// The body of refusal 1.
+fn bad_text() -> &'static [u8]
+    ensures text { result.now ≡ refused_text refusal.BadText }
+    ensures short { HasBodyLength result.now }
+{
+    laws::body_constants();
+    BAD_TEXT_BODY.as_bytes()
+}
+
+// The body of refusal 11.
+fn no_memory() -> &'static [u8]
+    ensures text { result.now ≡ refused_text refusal.NoMemory }
+    ensures short { HasBodyLength result.now }
+{
+    laws::body_constants();
+    NO_MEMORY_BODY.as_bytes()
+}
+
+// Writes the frame of this body, for which this item stands.
+fn write_item<W: Write>(sink: &mut Sink<W>, item: Item, body: &[u8]) -> Result<Item, WriteFault>
+    requires { HasBodyLength body.now }
+    ensures item { IfOk result (λ written. written ≡ item) }
+    ensures frame { OnOk result (SinkTakes W.contents sink.old sink.new (frame_bytes body.now)) }
+    ensures sent { IfErr result (λ fault.
+        SinkTakes W.contents sink.old sink.new (take fault.sent (frame_bytes body.now))) }
+    ensures part { IfErr result (λ fault. fault.sent < length (frame_bytes body.now)) }
+    ensures failed { OnErr result (sink_failed sink.new ≡ true) }
+{
+    write_frame(sink, body)?;
+    Ok(item)
+}
+
+// Writes the frame that answers, and gives the item that stands for it.
+fn write_told<W: Write>(
+    alloc: Global,
+    sink: &mut Sink<W>,
+    told: &Told,
+) -> Result<Item, WriteFault>
+    requires { FitsTold told.now }
+    ensures whole { IfOk result (Writes W.contents sink.old sink.new told.now) }
+    ensures part { IfErr result (λ fault. WritesPart W.contents sink.old sink.new told.now fault.sent) }
+{
+    match told {
+        Told::BadText => write_item(sink, Item::BadText, bad_text()),
+        Told::NoMemory => write_item(sink, Item::NoMemory, no_memory()),
+        Told::Said(answer) => match encode_answer(alloc, answer) {
+            Ok(text) => write_item(sink, Item::Said, text.as_bytes()),
+            Err(_) => write_item(sink, Item::NoMemory, no_memory()),
+        },
+    }
+}
+
+impl<'a, T: Wait, D: Desk, L: Ledger, C: Clock, G: Gate> Post<'a, T, D, L, C, G> {
+    // Answers one frame. Room for its item is made first.
+    fn serve_frame<W: Write>(
+        &self,
+        seat: &mut Seat<L>,
+        sink: &mut Sink<W>,
+        served: &mut Served<D>,
+        number: u32,
+        body: &[u8],
+    ) -> Result<(), WorkFault>
+        ensures ok { OnOk result (MakesTurn W.contents number body.now (out sink.old seat.old)
+            (out sink.new seat.new) (listed D.stamped served.old) (listed D.stamped served.new)) }
+        ensures fault { IfErr result (StopsTurn W.contents number body.now (out sink.old seat.old)
+            (out sink.new seat.new) (listed D.stamped served.old) (listed D.stamped served.new)) }
+    {
+        served.items.reserve(1)?;
+        let told = self.ask(seat, &mut served.stamps, number, body)?;
+        let item = write_told(self.alloc, sink, &told)?;
+        served.items.push_reserved(item);
+        Ok(())
+    }
+
+    // Answers frames until the source ends.
+    fn serve_frames<R: Read, W: Write>(
+        &self,
+        seat: &mut Seat<L>,
+        source: &mut Source<R>,
+        sink: &mut Sink<W>,
+        served: &mut Served<D>,
+    ) -> Result<(), WorkFault>
+    {
+        let mut inlet = Inlet::new(self.alloc);
+        for number in 0..MAX_FRAMES {
+            match inlet.next_frame(source)? {
+                Some(body) => self.serve_frame(seat, sink, served, number, body.as_slice())?,
+                None => return Ok(()),
+            }
+        }
+        match inlet.next_frame(source)? {
+            Some(_) => Err(WorkFault::TooLong),
+            None => Ok(()),
+        }
+    }
+}
