@@ -1,3 +1,4 @@
 -- The lemmas that the proofs of this crate share.
 pub mod Getting
 pub mod Answering
+pub mod Advancing

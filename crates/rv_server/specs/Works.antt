@@ -37,6 +37,9 @@ pub record Listed : Type 0 where
 abbrev pub listed : {D : Type 0} → {S : Type 0} → (S → Stamped) → Served D S → Listed
 listed stamped served = record { items = served.items.items; stamps = shown stamped served.stamps.items }
 
+abbrev pub nothing : Listed
+nothing = record { items = []; stamps = [] }
+
 -- the stamps were got for the first of these frames, if there is one
 abbrev pub AreForNext : ℕ → List (List ℕ) → List Numbered → Type 0
 AreForNext number [] stamps = stamps ≡ []
@@ -69,9 +72,10 @@ module _ {R W : Type 0} (remaining : R → Option (List ℕ)) (contents : W → 
   pub record BreaksOff (before after : Side R W) (told : Listed) (sent : ℕ) : Type 0 where
     pub turn : Turn
     pub is : IsTurn (length told.items) turn
+    pub later : List (List ℕ)
     pub end : End
     pub part : sent < length (frame_bytes turn.answer)
-    pub worked : Worked before after told (turn.body ∷ []) end turn.stamps (take sent (frame_bytes turn.answer))
+    pub worked : Worked before after told (turn.body ∷ later) end turn.stamps (take sent (frame_bytes turn.answer))
     pub failed : sink_failed after.sink ≡ true
 
   -- memory was refused, for the next frame or before it
@@ -91,5 +95,5 @@ module _ {R W : Type 0} (remaining : R → Option (List ℕ)) (contents : W → 
       (end : End) × WorkedOut before after told end × IsCut end × HasEnded remaining after.source
   Works before after told (Some (BadLength n)) = WorkedOut before after told (Bad n)
   Works before after told (Some NoMemory) = LacksMemory before after told
-  Works before after told (Some TooLong) = (body : List ℕ) × (end : End)
-      × Worked before after told (body ∷ []) end [] [] × (length told.items ≡ max_frames)
+  Works before after told (Some TooLong) = (body : List ℕ) × (later : List (List ℕ)) × (end : End)
+      × Worked before after told (body ∷ later) end [] [] × (length told.items ≡ max_frames)

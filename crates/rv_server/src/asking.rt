@@ -35,6 +35,7 @@ impl Told {
 }
 
 // Where a worker stands: the server, its clock and its gate.
+#[derive(Drop)]
 pub(crate) struct Post<'a, T, D: Desk, L: Ledger, C, G> {
     pub(crate) rt: &'a T,
     pub(crate) alloc: Global,

@@ -13,4 +13,4 @@ pub use desk::{Clock, Desk, Gate};
 pub use fault::WorkFault;
 pub use served::{Item, Served};
 pub use shared::{Closing, ForeignSeat, Locked, MAX_WORKERS, Seat, Shared, finish, serve_message};
-pub use work::MAX_FRAMES;
+pub use work::{MAX_FRAMES, work};

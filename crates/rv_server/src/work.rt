@@ -5,7 +5,7 @@ ghost use Rattle.rv_frame.specs.Cut.{frame_bytes};
 ghost use Rattle.rv_frame.specs.Sink.{SinkTakes, sink_failed};
 ghost use Rattle.rv_text.specs.declared.answer.Refusal.TheVariants as refusal;
 ghost use Rattle.rv_server.specs.Turns.{refused_text};
-ghost use Rattle.rv_server.specs.Works.{Works, listed, side};
+ghost use Rattle.rv_server.specs.Works.{Works, listed, nothing, side};
 ghost use Rattle.rv_server.specs.Writing.{FitsTold, Writes, WritesPart};
 ghost use Rattle.rv_server.specs.Progress.{MakesTurn, StopsTurn, out};
 
@@ -107,6 +107,12 @@ impl<'a, T: Wait, D: Desk, L: Ledger, C: Clock, G: Gate> Post<'a, T, D, L, C, G>
         sink: &mut Sink<W>,
         served: &mut Served<D>,
     ) -> Result<(), WorkFault>
+        requires { listed D.stamped served.old ≡ nothing }
+        ensures ok { OnOk result (Works R.remaining W.contents (side source.old sink.old seat.old)
+            (side source.new sink.new seat.new) (listed D.stamped served.new) None) }
+        ensures fault { IfErr result (λ fault. Works R.remaining W.contents
+            (side source.old sink.old seat.old) (side source.new sink.new seat.new)
+            (listed D.stamped served.new) (Some fault)) }
     {
         let mut inlet = Inlet::new(self.alloc);
         for number in 0..MAX_FRAMES {
@@ -119,5 +125,45 @@ impl<'a, T: Wait, D: Desk, L: Ledger, C: Clock, G: Gate> Post<'a, T, D, L, C, G>
             Some(_) => Err(WorkFault::TooLong),
             None => Ok(()),
         }
+    }
+}
+
+/// Answers the frames of a connection, in order, one frame for each, until its source ends or a fault comes.
+///
+/// A frame's body that is no message's is answered by [`BAD_TEXT_BODY`]. Else the desk is asked for its
+/// message, under the lock. Where the answer waits, the worker pauses with the lock free, and asks for the
+/// same message again, read anew from its body: at most 200 pauses, and then the last answer stands. Where
+/// memory was refused to the message or to the answer's text, [`NO_MEMORY_BODY`] is the answer.
+///
+/// It waits for the lock, for the gate, and for what the source and the sink wait for. A [`WorkFault`] comes
+/// with what was done before it.
+pub fn work<T: Wait, D: Desk, L: Ledger, C: Clock, G: Gate, R: Read, W: Write>(
+    rt: &T,
+    alloc: Global,
+    shared: &Shared<D, L>,
+    seat: &mut Seat<L>,
+    clock: &C,
+    gate: &G,
+    source: &mut Source<R>,
+    sink: &mut Sink<W>,
+) -> Result<Served<D>, (Served<D>, WorkFault)>
+    ensures ended { IfOk result (λ served. Works R.remaining W.contents
+        (side source.old sink.old seat.old) (side source.new sink.new seat.new)
+        (listed D.stamped served) None) }
+    ensures stopped { IfErr result (λ stopped. Works R.remaining W.contents
+        (side source.old sink.old seat.old) (side source.new sink.new seat.new)
+        (listed D.stamped stopped.0) (Some stopped.1)) }
+{
+    let post = Post {
+        rt,
+        alloc,
+        shared,
+        clock,
+        gate,
+    };
+    let mut served = Served::nothing(alloc);
+    match post.serve_frames(seat, source, sink, &mut served) {
+        Ok(()) => Ok(served),
+        Err(fault) => Err((served, fault)),
     }
 }

@@ -1,0 +1,170 @@
+-- A worker answers frame after frame: how far it has come, and what stands where it ends.
+use Rattle.std.proofs.Common.{◌≡◌, ◌∙◌, ◌+◌, ◌++◌, ◌∷◌, ◌≤◌, [], ℕ, List, None, Ok, Err, Option, Some, add-zero, add_assoc, ap, append-nil, append_assoc, arith, length, length-append, map, refl, subst, sym, zero-add}
+use Rattle.std.specs.Io.KnownBytes.{Appends}
+use Rattle.std.specs.List.{All}
+use Rattle.std.proofs.KnownBytes.{Appends-nil, Appends-trans, Consumes-nil, Consumes-trans}
+use Rattle.std.proofs.lemmas.List.{map-append}
+use Rattle.std.proofs.lemmas.List.Elements.{All-nil}
+use Rattle.rv_frame.specs.Cut.{Bad, Cut, End, Open, frame_bytes, row_bytes}
+use Rattle.rv_frame.specs.Sink.{SinkTakes}
+use Rattle.rv_frame.specs.Stream.{HasFed, Stream}
+use Rattle.rv_frame.specs.declared.source.Source.{Source}
+use Rattle.rv_frame.specs.declared.sink.Sink.{Sink}
+use Rattle.rv_frame.proofs.Cuts.{row_append}
+use Rattle.rv_server.specs.Asking.{Gets}
+use Rattle.rv_server.specs.Progress.{LacksTurn, MakesTurn, Out, Progress, StopsTurn, out}
+use Rattle.rv_server.specs.Reading.{ReadsOn, ReadsOut, TakesFrame}
+use Rattle.rv_server.specs.Stamps.{Cover, Numbered, added}
+use Rattle.rv_server.specs.Turns.{AreTurns, IsFor, IsTurn, Turn, stamps_of}
+use Rattle.rv_server.specs.Works.{AreForNext, Listed, Side, Worked, Works, max_frames, nothing, side}
+use Rattle.rv_server.specs.declared.fault.WorkFault.{WorkFault}
+use Rattle.rv_server.specs.declared.fault.WorkFault.TheVariants.{BadLength, CutFrame, NoMemory, ReadFault, TooLong, WriteFault}
+use Rattle.rv_server.proofs.Getting.{added_append, cover_append}
+
+-- ---- turns, one behind the others
+
+abbrev body_of : Turn → List ℕ
+body_of turn = turn.body
+
+abbrev answer_of : Turn → List ℕ
+answer_of turn = turn.answer
+
+turns_more : (number : ℕ) (turns : List Turn) (turn : Turn) → AreTurns number turns → IsTurn (number + length turns) turn → AreTurns number (turns ++ turn ∷ [])
+turns_more number [] turn are is = (subst (λ (n : ℕ). IsTurn n turn) (add-zero number) is, tt)
+turns_more number (first ∷ turns) turn are is =
+    let same : number + length (first ∷ turns) ≡ (number + 1) + length turns = omega arith in
+    (are.0, turns_more (number + 1) turns turn are.1 (subst (λ (n : ℕ). IsTurn n turn) same is))
+
+stamps_more : (turns : List Turn) (turn : Turn) → stamps_of (turns ++ turn ∷ []) ≡ stamps_of turns ++ turn.stamps
+stamps_more [] turn = append-nil turn.stamps
+stamps_more (first ∷ turns) turn = ap (λ (l : List Numbered). first.stamps ++ l) (stamps_more turns turn) ∙ sym (append_assoc first.stamps (stamps_of turns) turn.stamps)
+
+row_more : (turns : List Turn) (turn : Turn) → row_bytes (map answer_of turns) ++ frame_bytes turn.answer ≡ row_bytes (map answer_of (turns ++ turn ∷ []))
+row_more turns turn =
+    ap (λ (l : List ℕ). row_bytes (map answer_of turns) ++ l) (sym (append-nil (frame_bytes turn.answer)))
+    ∙ sym (row_append (map answer_of turns) (turn.answer ∷ [])) ∙ ap row_bytes (sym (map-append answer_of turns (turn ∷ [])))
+
+-- ---- the share, with the stamps of one frame more
+
+share_on : (own share share' number : ℕ) (body : List ℕ) (old new got : List Numbered) → share ≡ own + added old → Gets number body share old share' new got
+    → share' ≡ own + added new
+share_on own share share' number body old new got before gets =
+    let sum = added_append old got in
+    gets.adds ∙ ap (λ (n : ℕ). n + added got) before ∙ add_assoc own (added old) (added got) ∙ ap (λ (n : ℕ). own + n) (sym sum)
+    ∙ ap (λ (l : List Numbered). own + added l) (sym gets.behind)
+
+cover_on : (own share share' number : ℕ) (body : List ℕ) (old new got : List Numbered) → share ≡ own + added old → Cover own old
+    → Gets number body share old share' new got → Cover own new
+cover_on own share share' number body old new got before covers gets =
+    subst (λ (l : List Numbered). Cover own l) (sym gets.behind) (cover_append own old got covers (subst (λ (n : ℕ). Cover n got) before gets.cover))
+
+-- ---- how far a worker has come
+
+no_stamps : (number : ℕ) (bodies : List (List ℕ)) → AreForNext number bodies []
+no_stamps number [] = refl
+no_stamps number (body ∷ bodies) = All-nil (IsFor number body)
+
+module _ {R W : Type 0} (remaining : R → Option (List ℕ)) (contents : W → Option (List ℕ)) where
+  pub begin : (before : Side R W) (stream : Stream) → HasFed [] [] stream → Progress remaining contents before before nothing stream 0
+  begin before stream fed = record {
+    bytes = [];
+    turns = [];
+    count = refl;
+    read = Consumes-nil _;
+    fed = fed;
+    right = tt;
+    items = refl;
+    stamps = refl;
+    written = Appends-nil _;
+    share = sym (add-zero before.share);
+    cover = tt;
+  }
+
+  pub advance : (before mid : Side R W) (listed listed' : Listed) (old new : Stream) (number : ℕ) (body : List ℕ) (source : Source R) (after : Out W)
+      → Progress remaining contents before mid listed old number → ReadsOn remaining mid.source source old new (body ∷ [])
+      → MakesTurn contents number body (out mid.sink mid.share) after listed listed'
+      → Progress remaining contents before (side source after.sink after.share) listed' new (number + 1)
+  advance before mid listed listed' old new number body source after so_far reads made =
+      let turns = so_far.turns in
+      let turn = made.turn in
+      let bodies : map body_of (turns ++ turn ∷ []) ≡ map body_of turns ++ body ∷ [] =
+          map-append body_of turns (turn ∷ []) ∙ ap (λ (b : List ℕ). map body_of turns ++ b ∷ []) made.of in
+      record {
+        bytes = so_far.bytes ++ reads.bytes;
+        turns = turns ++ turn ∷ [];
+        count = length-append turns (turn ∷ []) ∙ ap (λ (n : ℕ). n + 1) so_far.count;
+        read = Consumes-trans _ _ _ _ _ so_far.read reads.gives;
+        fed = subst (λ (l : List (List ℕ)). HasFed (so_far.bytes ++ reads.bytes) l new) (sym bodies) (reads.fed so_far.bytes (map body_of turns) so_far.fed);
+        right = turns_more 0 turns turn so_far.right (subst (λ (n : ℕ). IsTurn n turn) (sym (zero-add (length turns) ∙ so_far.count)) made.is);
+        items = made.items ∙ ap (λ l. l ++ turn.item ∷ []) so_far.items ∙ sym (map-append (λ (t : Turn). t.item) turns (turn ∷ []));
+        stamps = made.stamps.behind ∙ ap (λ (l : List Numbered). l ++ turn.stamps) so_far.stamps ∙ sym (stamps_more turns turn);
+        written = subst (λ (l : List ℕ). SinkTakes contents before.sink after.sink l) (row_more turns turn) (Appends-trans _ _ _ _ _ so_far.written made.written);
+        share = share_on before.share mid.share after.share number body listed.stamps listed'.stamps turn.stamps so_far.share made.stamps;
+        cover = cover_on before.share mid.share after.share number body listed.stamps listed'.stamps turn.stamps so_far.share so_far.cover made.stamps;
+      }
+
+  -- nothing more was written or got since; this is what the bytes hold beyond the frames that were answered
+  worked_to : (before mid : Side R W) (listed : Listed) (old new : Stream) (number : ℕ) (source : Source R) (taken more : List (List ℕ))
+      → Progress remaining contents before mid listed old number → number ≤ max_frames → ReadsOn remaining mid.source source old new taken
+      → taken ++ new.frames ≡ more → Worked remaining contents before (side source mid.sink mid.share) listed more new.end [] []
+  worked_to before mid listed old new number source taken more so_far few reads rest =
+      let bodies = map body_of so_far.turns in record {
+        bytes = so_far.bytes ++ reads.bytes;
+        turns = so_far.turns;
+        read = Consumes-trans _ _ _ _ _ so_far.read reads.gives;
+        cut = subst (λ (l : List (List ℕ)). Cut (so_far.bytes ++ reads.bytes) l new.end) (append_assoc bodies taken new.frames ∙ ap (λ (l : List (List ℕ)). bodies ++ l) rest)
+            (reads.fed so_far.bytes bodies so_far.fed);
+        right = so_far.right;
+        items = so_far.items;
+        stamps = so_far.stamps ∙ sym (append-nil (stamps_of so_far.turns));
+        pending_are = no_stamps (length so_far.turns) more;
+        written = subst (λ (l : List ℕ). SinkTakes contents before.sink mid.sink l) (sym (append-nil (row_bytes (map answer_of so_far.turns)))) so_far.written;
+        share = so_far.share;
+        cover = so_far.cover;
+        few = subst (λ (n : ℕ). n ≤ max_frames) (sym so_far.count) few;
+      }
+
+  worked_out : (before mid : Side R W) (listed : Listed) (old new : Stream) (number : ℕ) (source : Source R) (IsLeft : End → Type 0)
+      → Progress remaining contents before mid listed old number → number ≤ max_frames → ReadsOut remaining mid.source source old new IsLeft
+      → Worked remaining contents before (side source mid.sink mid.share) listed [] new.end [] []
+  worked_out before mid listed old new number source IsLeft so_far few out_of =
+      worked_to before mid listed old new number source [] [] so_far few out_of.reads out_of.all_taken
+
+  pub ends : (before mid : Side R W) (listed : Listed) (old new : Stream) (number : ℕ) (source : Source R)
+      → Progress remaining contents before mid listed old number → number ≤ max_frames → TakesFrame remaining mid.source source old new (Ok None)
+      → Works remaining contents before (side source mid.sink mid.share) listed None
+  ends before mid listed old new number source so_far few took =
+      (
+        subst (λ (e : End). Worked remaining contents before (side source mid.sink mid.share) listed [] e [] []) took.0.left
+        (worked_out before mid listed old new number source _ so_far few took.0),
+        took.1,
+      )
+
+  pub stops_reading : (before mid : Side R W) (listed : Listed) (old new : Stream) (number : ℕ) (source : Source R) (fault : WorkFault)
+      → Progress remaining contents before mid listed old number → number ≤ max_frames → TakesFrame remaining mid.source source old new (Err fault)
+      → Works remaining contents before (side source mid.sink mid.share) listed (Some fault)
+  stops_reading before mid listed old new number source ReadFault so_far few took =
+      (new.end, worked_out before mid listed old new number source _ so_far few took.0, took.1)
+  stops_reading before mid listed old new number source CutFrame so_far few took =
+      (new.end, worked_out before mid listed old new number source _ so_far few took.0, took.0.left, took.1)
+  stops_reading before mid listed old new number source (BadLength n) so_far few took =
+      subst (λ (e : End). Worked remaining contents before (side source mid.sink mid.share) listed [] e [] []) took.left
+      (worked_out before mid listed old new number source _ so_far few took)
+  stops_reading before mid listed old new number source NoMemory so_far few took = record {
+    more = new.frames;
+    end = new.end;
+    pending = [];
+    worked = worked_to before mid listed old new number source [] new.frames so_far few took refl;
+  }
+  stops_reading before mid listed old new number source (WriteFault sent) so_far few took = absurd took
+  stops_reading before mid listed old new number source TooLong so_far few took = absurd took
+
+  pub too_long : (before mid : Side R W) (listed : Listed) (old new : Stream) (source : Source R) (body : List ℕ)
+      → Progress remaining contents before mid listed old max_frames → ReadsOn remaining mid.source source old new (body ∷ [])
+      → Works remaining contents before (side source mid.sink mid.share) listed (Some TooLong)
+  too_long before mid listed old new source body so_far reads =
+      (
+        body, new.frames, new.end,
+        worked_to before mid listed old new max_frames source (body ∷ []) (body ∷ new.frames) so_far (omega arith) reads refl,
+        ap length so_far.items ∙ ?,
+      )
