@@ -1,10 +1,13 @@
 -- What is read of a connection: bytes, the frames of their cut, and what follows these.
-use Rattle.std.specs.Prelude.{ℕ, ◌≡◌, ◌≢◌, ◌++◌, ◌∷◌, [], List, Option, None, Some, Result, Ok, Err, Vec, true}
+use Rattle.std.specs.Prelude.{ℕ, ◌≡◌, ◌≢◌, ◌<◌, ◌++◌, ◌∷◌, [], List, Option, None, Some, Result, Ok, Err, Vec}
+use Rattle.std.specs.Prelude.{true}
 use Rattle.std.specs.declared.alloc.Global.{Global}
-use Rattle.std.specs.Io.KnownBytes.{Consumes, IsAtEnd}
+use Rattle.std.specs.Io.KnownBytes.{Consumes, IsAtEnd, Keeps}
+use Rattle.std.specs.List.{All}
 use Rattle.rv_frame.specs.Cut.{Bad, End, IsBody, Open}
 use Rattle.rv_frame.specs.Source.{source_failed, source_remaining}
-use Rattle.rv_frame.specs.Stream.{HasFed, Stream}
+use Rattle.rv_frame.specs.Stream.{HasFed, IsOpen, Stream}
+use Rattle.rv_frame.specs.declared.source.ReadFault.{ReadFault as Fault}
 use Rattle.rv_frame.specs.declared.source.Source.{Source}
 use Rattle.rv_server.specs.declared.fault.WorkFault.{WorkFault}
 use Rattle.rv_server.specs.declared.fault.WorkFault.TheVariants.{BadLength, CutFrame, NoMemory, ReadFault}
@@ -21,6 +24,23 @@ pub record IsCut (end : End) : Type 0 where
   pub rest : List ℕ
   pub is : end ≡ Open rest
   pub some : rest ≢ []
+
+-- what follows the whole frames are bytes
+abbrev pub FollowBytes : End → Type 0
+FollowBytes (Open rest) = All (λ (byte : ℕ). byte < 256) rest
+FollowBytes (Bad n) = Unit {0}
+
+-- the oldest whole frame was taken; or there is none, or memory was refused; for the proofs
+abbrev pub TakesWhole : Stream → Stream → Result (Option (Vec ℕ Global)) WorkFault → Type 0
+TakesWhole old new (Ok (Some body)) =
+    (old.frames ≡ body.items ∷ new.frames) × (new.end ≡ old.end) × IsBody body.items
+TakesWhole old new (Ok None) = (new ≡ old) × (old.frames ≡ []) × IsOpen old.end
+TakesWhole old new (Err (BadLength n)) = (new ≡ old) × (old.frames ≡ []) × (old.end ≡ Bad n)
+TakesWhole old new (Err NoMemory) = new ≡ old
+TakesWhole old new (Err ReadFault) = ⊥
+TakesWhole old new (Err CutFrame) = ⊥
+TakesWhole old new (Err (WriteFault sent)) = ⊥
+TakesWhole old new (Err TooLong) = ⊥
 
 module _ {R : Type 0} (remaining : R → Option (List ℕ)) where
   -- these bytes were read, and behind all that was fed before them they are fed; of the frames of all, these
@@ -41,7 +61,18 @@ module _ {R : Type 0} (remaining : R → Option (List ℕ)) where
   abbrev pub HasEnded : Source R → Type 0
   HasEnded source = IsAtEnd (source_remaining remaining source)
 
-  -- the next frame was taken, or why there is none
+  -- one byte was read, or none at the end; for the proofs
+  abbrev pub ReadsByte : Source R → Source R → Result (Option ℕ) Fault → Type 0
+  ReadsByte before after (Ok (Some byte)) =
+      Consumes (source_remaining remaining before) (source_remaining remaining after) (byte ∷ [])
+  ReadsByte before after (Ok None) =
+      Consumes (source_remaining remaining before) (source_remaining remaining after) [] × HasEnded after
+  ReadsByte before after (Err fault) =
+      Keeps (source_remaining remaining before) (source_remaining remaining after)
+      × (source_failed after ≡ true)
+
+  -- the next frame was taken, or why there is none; a byte for which memory was refused was read and is lost,
+  -- so the stream that was met need not be the one that is left
   abbrev pub TakesFrame : Source R → Source R → Stream → Stream → Result (Option (Vec ℕ Global)) WorkFault
       → Type 0
   TakesFrame before after old new (Ok (Some body)) =
@@ -52,6 +83,6 @@ module _ {R : Type 0} (remaining : R → Option (List ℕ)) where
       ReadsOut before after old new (λ end. Unit {0}) × (source_failed after ≡ true)
   TakesFrame before after old new (Err CutFrame) = ReadsOut before after old new IsCut × HasEnded after
   TakesFrame before after old new (Err (BadLength n)) = ReadsOut before after old new (λ end. end ≡ Bad n)
-  TakesFrame before after old new (Err NoMemory) = ReadsOn before after old new []
+  TakesFrame before after old new (Err NoMemory) = (met : Stream) × ReadsOn before after old met []
   TakesFrame before after old new (Err (WriteFault sent)) = ⊥
   TakesFrame before after old new (Err TooLong) = ⊥

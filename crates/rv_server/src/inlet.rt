@@ -1,8 +1,8 @@
 //! The frames of a connection, read from its source.
-ghost use Rattle.rv_server.specs.Reading.{TakesFrame};
+ghost use Rattle.rv_server.specs.Reading.{ReadsByte, TakesFrame, TakesWhole};
 
 use crate::fault::WorkFault;
-use rv_frame::{FrameFault, Frames, Source};
+use rv_frame::{FrameFault, Frames, ReadFault, Source};
 use std::alloc::Global;
 use std::io::Read;
 use std::marker::Model;
@@ -16,19 +16,21 @@ pub(crate) struct Inlet {
 
 impl Model for Inlet {
     ghost use Rattle.rv_frame.specs.Stream.{Stream};
-    ghost use Rattle.rv_server.specs.Reading.{IsBadOf};
+    ghost use Rattle.rv_server.specs.Reading.{FollowBytes, IsBadOf};
 
     ghost Value = { Stream };
 
     ghost view = { λ inlet. inlet.frames };
 
-    ghost invariant = { λ inlet. IsBadOf inlet.bad inlet.frames.end };
+    ghost invariant = { λ inlet. IsBadOf inlet.bad inlet.frames.end × FollowBytes inlet.frames.end };
 }
 
 impl Inlet {
-    ghost use Rattle.std.specs.Prelude.{◌≡◌, []};
+    ghost use Rattle.std.specs.Prelude.{◌≡◌, ◌<◌, ◌∷◌, [], IfErr, IfOk, None, OnErr, OnOk};
     ghost use Rattle.rv_frame.specs.Cut.{Open};
-    ghost use Rattle.rv_frame.specs.Stream.{HasFed};
+    ghost use Rattle.rv_frame.specs.Stream.{Feeds, HasFed, IsOpen, rest_length};
+    ghost use Rattle.rv_server.specs.Reading.{IsCut};
+    ghost use Rattle.rv_server.specs.declared.fault.WorkFault.TheVariants.{CutFrame, NoMemory};
 
     /// An inlet of which nothing was read.
     pub(crate) fn new(alloc: Global) -> Inlet
@@ -50,6 +52,70 @@ impl Inlet {
     ) -> Result<Option<Vec<u8>>, WorkFault>
         ensures { TakesFrame R.remaining source.old source.new self.old self.new result }
     {
-        unreachable!()
+        loop {
+            if let Some(body) = self.whole_frame()? {
+                return Ok(Some(body));
+            }
+            match read_byte(source)? {
+                Some(byte) => self.feed(byte)?,
+                None => return self.at_end(),
+            }
+        }
+    }
+
+    // Takes the oldest whole frame; `None` where there is none, and no bad length was met.
+    fn whole_frame(&mut self) -> Result<Option<Vec<u8>>, WorkFault>
+        ensures { TakesWhole self.old self.new result }
+    {
+        if let Some(body) = self.frames.next()? {
+            return Ok(Some(body));
+        }
+        match self.bad {
+            Some(n) => Err(WorkFault::BadLength(n)),
+            None => Ok(None),
+        }
+    }
+
+    // Takes one byte in. What follows the whole frames then is shorter than the longest frame.
+    fn feed(&mut self, byte: u8) -> Result<(), WorkFault>
+        ensures fed { OnOk result (Feeds self.old (byte ∷ []) self.new) }
+        ensures short { OnOk result (rest_length self.new.end < 4098) }
+        ensures refused { OnErr result (self.new ≡ self.old) }
+        ensures fault { IfErr result (λ fault. fault ≡ NoMemory) }
+    {
+        match self.frames.feed(&[byte]) {
+            Ok(()) => Ok(()),
+            Err(FrameFault::BadLength(n)) => {
+                self.bad = Some(n);
+                Ok(())
+            }
+            Err(FrameFault::NoMemory) => Err(WorkFault::NoMemory),
+        }
+    }
+
+    // What the end of the source is behind all whole frames: no frame, or one that is cut.
+    fn at_end(&self) -> Result<Option<Vec<u8>>, WorkFault>
+        requires { IsOpen self.now.end }
+        ensures none { IfOk result (λ body. (body ≡ None) × (self.now.end ≡ Open [])) }
+        ensures cut { IfErr result (λ fault. (fault ≡ CutFrame) × IsCut self.now.end) }
+    {
+        if self.frames.rest() == 0 {
+            Ok(None)
+        } else {
+            Err(WorkFault::CutFrame)
+        }
+    }
+}
+
+// The source's next byte; `None` at its end.
+fn read_byte<R: Read>(source: &mut Source<R>) -> Result<Option<u8>, ReadFault>
+    ensures { ReadsByte R.remaining source.old source.new result }
+{
+    let mut byte = [0u8; 1];
+    let count = source.read(&mut byte)?;
+    if count == 0 {
+        Ok(None)
+    } else {
+        Ok(Some(byte[0]))
     }
 }
