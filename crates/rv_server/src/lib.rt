@@ -7,10 +7,10 @@ mod fault;
 mod inlet;
 mod served;
 mod shared;
-mod work;
+mod worker;
 
 pub use desk::{Clock, Desk, Gate};
 pub use fault::WorkFault;
 pub use served::{Item, Served};
 pub use shared::{Closing, ForeignSeat, Locked, MAX_WORKERS, Seat, Shared, finish, serve_message};
-pub use work::{MAX_FRAMES, work};
+pub use worker::{MAX_FRAMES, work};

@@ -4,7 +4,7 @@ use Rattle.rv_server.specs.Writing.{IsAnswer}
 use Rattle.rv_server.specs.declared.asking.Told.{Told}
 use Rattle.rv_server.specs.declared.served.Item.TheVariants as item
 use Rattle.rv_server.proofs.Answering.{part_written, whole_written}
-use Rattle.rv_server.proofs.work.write_told.Goals as goal
+use Rattle.rv_server.proofs.worker.write_told.Goals as goal
 
 pub returns-in-BadText-clause-whole : goal.returns-in-BadText-clause-whole
 returns-in-BadText-clause-whole g c =
