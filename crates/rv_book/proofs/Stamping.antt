@@ -1,5 +1,5 @@
 -- A step gives its stamp, and a verdict that was given stays given.
-use Rattle.std.proofs.Common.{◌≡◌, ◌≤◌, ◌+◌, ℕ, List, ◌++◌, length, take, Option, Some, refl, sym, ap, subst, ◌∙◌, arith, le_refl, length-append}
+use Rattle.std.proofs.Common.{◌≡◌, ◌≤◌, ◌+◌, ℕ, List, length, take, Option, Some, refl, sym, ap, subst, ◌∙◌, arith, le_refl, length-append}
 use Rattle.std.specs.Prelude.{unwrap_or}
 use Rattle.rv_text.specs.declared.message.Message.{Message}
 use Rattle.rv_text.specs.declared.answer.Answer.{Answer}
@@ -15,7 +15,7 @@ use Rattle.rv_book.specs.Laws.{VerdictsStay}
 use Rattle.rv_book.specs.Limits.{FitsAccount}
 use Rattle.rv_book.specs.Steps.{Next, step_moment}
 use Rattle.rv_book.specs.Tables.{BecomesAfterTicks, IsSound, account_of}
-use Rattle.rv_book.specs.Verdicts.{IsOfStep, Stamp, WasGiven, answer_of, said_in, stamp_of}
+use Rattle.rv_book.specs.Verdicts.{IsOfStep, Stamp, WasGiven, said_in, stamp_of}
 use Rattle.rv_book.proofs.Fitting.{step_fits}
 use Rattle.rv_book.proofs.Staying.{said_stays, steps_extend}
 use Rattle.std.proofs.lemmas.List.{take-append-le, take_all}

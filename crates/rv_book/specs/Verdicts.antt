@@ -43,7 +43,7 @@ answer_of entries (Replied key kept) = option_map (answer.TheVariants.Replied ke
 answer_of entries (Waiting key) = Some (answer.TheVariants.Waiting key)
 answer_of entries (Refused refusal) = Some (answer.TheVariants.Refused refusal)
 
--- the same, where there is one
+-- the same; the refusal stands only where there is none, as for no verdict
 abbrev pub said_in : Account → Said → Answer
 said_in a kept = unwrap_or (answer_of a.entries kept) (answer.TheVariants.Refused refusal.NoMemory)
 
@@ -58,8 +58,13 @@ pub record Stamp : Type 0 where
 
 -- the stamp of a message, between two accounts
 abbrev pub stamp_of : Message → Account → Account → Said → Stamp
-stamp_of m a b kept =
-    record { asked = m; said = said_in b kept; before = length a.entries; length = length b.entries; kept = kept }
+stamp_of m a b kept = record {
+  asked = m;
+  said = said_in b kept;
+  before = length a.entries;
+  length = length b.entries;
+  kept = kept;
+}
 
 -- the stamp is of a step from some legal account
 pub record IsOfStep (v : Stamp) : Type 0 where

@@ -80,13 +80,11 @@ impl Book {
     {
         let asked = Snapshot::of(&message);
         let before = Snapshot::of(self.state.account());
-        let said = self.state.step(now, message);
-        let after = Snapshot::of(self.state.account());
         Verdict {
-            said,
             asked,
             before,
-            after,
+            said: self.state.step(now, message),
+            after: Snapshot::of(self.state.account()),
         }
     }
 
@@ -97,11 +95,7 @@ impl Book {
         ensures { IfOk result (λ answer. answer ≡ verdict.now.said) }
     {
         match verdict.said {
-            Said::Welcome {
-                epoch,
-                client,
-                incarnation,
-            } => Ok(Answer::Welcome {
+            Said::Welcome(epoch, client, incarnation) => Ok(Answer::Welcome {
                 epoch,
                 client,
                 incarnation,

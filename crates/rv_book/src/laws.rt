@@ -5,8 +5,7 @@ ghost use Rattle.rv_book.specs.Verdicts.{IsOfStep};
 
 use crate::verdict::Verdict;
 
-/// A reply that stands in a legal account stands in every legal account that extends it, and the
-/// request has no other reply there.
+/// A reply in a legal account stands in every legal account that extends it, and is the only one there.
 pub fn replies_stay()
     ensures { RepliesStay }
 {}
@@ -49,8 +48,7 @@ pub fn verdicts_stay()
     ensures { VerdictsStay }
 {}
 
-/// A step leaves no choice, want of memory aside: from one account, by one moment and message, it leads
-/// to one account and one answer.
+/// By one moment and message a step leads to one account and one answer, want of memory aside.
 pub fn one_next()
     ensures { OneNext }
 {}

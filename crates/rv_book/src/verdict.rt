@@ -7,18 +7,10 @@ use std::snapshot::Snapshot;
 
 #[derive(Clone, Copy)]
 pub(crate) enum Said {
-    Welcome {
-        epoch: u64,
-        client: u64,
-        incarnation: u64,
-    },
-    Replied {
-        key: Key,
-        kept: Kept,
-    },
-    Waiting {
-        key: Key,
-    },
+    // The session of this epoch, client and incarnation is open.
+    Welcome(u64, u64, u64),
+    Replied { key: Key, kept: Kept },
+    Waiting { key: Key },
     Refused(Refusal),
 }
 
