@@ -1,7 +1,7 @@
 //! The turn of one line: what it does to the book, and the body that answers it.
-ghost use Rattle.std.specs.Prelude.{◌≡◌, string_bytes, IsSome, IfOk, IfSome};
+ghost use Rattle.std.specs.Prelude.{◌≡◌, string_bytes, IfOk};
 ghost use Rattle.rv_text.specs.Bodies.{HasBodyLength, answer_text};
-ghost use Rattle.rv_book.specs.Verdicts.{says};
+ghost use Rattle.rv_book.specs.Verdicts.{WasGiven};
 ghost use Rattle.rv_text.specs.Limits.{FitsAnswer, FitsMessage};
 ghost use Rattle.rv_book.specs.Steps.{Next};
 ghost use Rattle.rv_app.specs.Body.{HasTextOfBody, body_text};
@@ -65,12 +65,11 @@ fn answer_message(alloc: Global, book: &mut Book, moment: u64, message: Message)
     }
 }
 
-// The text of the answer that the verdict says.
+// The text of the answer that the verdict stands for.
 fn verdict_text(alloc: Global, book: &Book, verdict: &Verdict) -> Result<String, NoMemory>
-    requires said { IsSome (says book.now verdict.now) }
-    requires fits { IfSome (says book.now verdict.now) FitsAnswer }
-    ensures text { IfOk result (λ s. IfSome (says book.now verdict.now)
-        (λ answer. string_bytes s ≡ answer_text answer)) }
+    requires given { WasGiven book.now verdict.now }
+    requires fits { FitsAnswer verdict.now.said }
+    ensures text { IfOk result (λ s. string_bytes s ≡ answer_text verdict.now.said) }
     ensures of_body { IfOk result (λ s. HasBodyLength (string_bytes s)) }
 {
     let answer = book.answer(alloc, verdict)?;

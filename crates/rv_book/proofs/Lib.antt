@@ -50,6 +50,7 @@ pub mod ToldCancelled
 pub mod Entering
 pub mod OneStep
 pub mod Fitting
+pub mod Stamping
 pub mod ToldNow
 pub mod Ending
 pub mod Keeping

@@ -1,4 +1,4 @@
--- Replies and verdicts stay where an account is extended, and a key is told one thing.
+-- Replies, and what is kept of answers, stay where an account is extended, and a key is told one thing.
 use Rattle.rv_text.specs.declared.answer.Reply as reply
 use Rattle.rv_text.specs.declared.answer.Answer as answer
 use Rattle.rv_book.specs.declared.account.Act as act
@@ -21,7 +21,7 @@ use Rattle.rv_text.specs.declared.message.Message.{Message}
 use Rattle.rv_book.proofs.Growing.{act_read, call_read, reads_on, reads_within}
 use Rattle.rv_text.specs.declared.answer.Refusal.{Refusal}
 use Rattle.rv_book.proofs.Lines.{RefuseOr-elim, WhereElse-elim}
-use Rattle.rv_book.specs.Laws.{RepliesStay, StepsExtend, VerdictsStay}
+use Rattle.rv_book.specs.Laws.{RepliesStay, StepsExtend}
 use Rattle.rv_text.specs.declared.answer.Reply.{Reply}
 use Rattle.rv_book.specs.declared.verdict.Said.{Said}
 use Rattle.rv_book.specs.Verdicts.{answer_of, item_at, reply_of}
@@ -97,7 +97,7 @@ extends_on a b c first second = record {
 pub steps_extend : StepsExtend
 steps_extend a b now m x next = extends_on a next.ticked b (ticks_extend a next.ticked _ next.ticks) (step_extends next.ticked b _ m x next.steps)
 
--- ---- a verdict stays
+-- ---- what is kept of an answer stays
 
 reading_on : {B : Type 0} (F : Option Entry → Option B) → F None ≡ None → (a b : Account) (r : ℕ) (y : B) → Extends a b → F (slice_get a.entries r) ≡ Some y → F (slice_get b.entries r) ≡ Some y
 reading_on F none a b r y extends there = ap (λ (es : List Entry). F (slice_get es r)) extends.entries ∙ reads_on F none a.entries extends.more r y there
@@ -128,9 +128,6 @@ said_stays a b (said.TheVariants.Replied key k) x extends is =
     ap (option_map (answer.TheVariants.Replied key)) (kept_stays a b k r.0 extends r.1 ∙ sym r.1) ∙ is
 said_stays a b (said.TheVariants.Waiting key) x extends is = is
 said_stays a b (said.TheVariants.Refused refusal) x extends is = is
-
-pub verdicts_stay : VerdictsStay
-verdicts_stay a b verdict x extends is = said_stays a b verdict.said x extends is
 
 -- ---- a reply stays, and it is the only one
 

@@ -1,5 +1,5 @@
 -- The laws of accounts, replies and steps, over the definitions alone.
-use Rattle.std.specs.Prelude.{◌≡◌, ◌≢◌, ℕ, Some}
+use Rattle.std.specs.Prelude.{◌≡◌, ◌≢◌, ℕ}
 use Rattle.rv_text.specs.declared.message.Key.{Key}
 use Rattle.rv_text.specs.declared.call.Call.{Call}
 use Rattle.rv_text.specs.declared.message.Message.{Message}
@@ -9,14 +9,13 @@ use Rattle.rv_text.specs.declared.answer.Answer.TheVariants.{Refused, Replied}
 use Rattle.rv_text.specs.declared.answer.Reply.TheVariants.{Cancelled}
 use Rattle.rv_text.specs.declared.answer.Refusal.TheVariants.{NoMemory}
 use Rattle.rv_book.specs.declared.account.Act.TheVariants.{Hello, Arrive, Cancel}
-use Rattle.rv_book.specs.declared.verdict.Verdict.{Verdict}
 use Rattle.rv_book.specs.Account.{Account, Extends}
 use Rattle.rv_book.specs.Legal.{Legal}
 use Rattle.rv_book.specs.Replies.{HasReply}
 use Rattle.rv_book.specs.Steps.{CancelLines, HelloLines, RequestLines, Adds, Answers, Replies, Next, Ticks}
 use Rattle.rv_book.specs.Steps.{step_moment}
 use Rattle.rv_book.specs.Order.{InOrder}
-use Rattle.rv_book.specs.Verdicts.{says}
+use Rattle.rv_book.specs.Verdicts.{Stamp, WasGiven}
 
 -- a reply that stands in a legal account stands in every legal account that extends it, and no other does
 abbrev pub RepliesStay : Type 0
@@ -75,10 +74,9 @@ ItemsLeaveInOrder = (a : Account) → Legal a → InOrder a.entries
 abbrev pub StepsExtend : Type 0
 StepsExtend = (a b : Account) (now : ℕ) (m : Message) (x : Answer) → Next a now m b x → Extends a b
 
--- what a verdict says it says in every account that extends the one in which it was given
+-- a verdict that was given in an account was given in every account that extends it
 abbrev pub VerdictsStay : Type 0
-VerdictsStay = (a b : Account) (verdict : Verdict) (x : Answer) → Extends a b
-    → says a verdict ≡ Some x → says b verdict ≡ Some x
+VerdictsStay = (a b : Account) (v : Stamp) → Extends a b → WasGiven a v → WasGiven b v
 
 -- a step leaves no choice, want of memory aside: one account after it and one answer
 abbrev pub OneNext : Type 0

@@ -1,17 +1,18 @@
--- The answer that a verdict stands for, in an account that has the places which the verdict keeps.
-use Rattle.std.specs.Prelude.{◌≡◌, ℕ, List, Option, Some, option_map, option_and_then}
+-- What a verdict shows, the answer that it stands for, and when it was given.
+use Rattle.std.specs.Prelude.{◌≡◌, ◌≤◌, ℕ, List, Option, Some, length, option_map, option_and_then, unwrap_or}
 use Rattle.rv_text.specs.declared.answer.Reply.{Reply}
 use Rattle.rv_text.specs.declared.answer.Reply as reply
 use Rattle.rv_text.specs.declared.answer.Answer.{Answer}
 use Rattle.rv_text.specs.declared.answer.Answer as answer
+use Rattle.rv_text.specs.declared.answer.Refusal.TheVariants as refusal
 use Rattle.rv_session.specs.declared.kept.Kept.{Kept}
 use Rattle.rv_session.specs.declared.kept.Kept as kept
 use Rattle.rv_book.specs.declared.verdict.Said.{Said}
 use Rattle.rv_book.specs.declared.verdict.Said.TheVariants.{Welcome, Replied, Waiting, Refused}
-use Rattle.rv_book.specs.declared.verdict.Verdict.{Verdict}
 use Rattle.rv_book.specs.declared.account.Entry.{Entry}
 use Rattle.rv_text.specs.declared.message.Message.{Message}
 use Rattle.rv_book.specs.Account.{Account, call_at}
+use Rattle.rv_book.specs.Legal.{Legal, before}
 use Rattle.rv_book.specs.Steps.{Next}
 use Rattle.rv_text.specs.Calls.{item_of}
 
@@ -34,6 +35,7 @@ reply_of entries (kept.TheVariants.Counted items consumers) =
     Some (reply.TheVariants.Counted items consumers)
 reply_of entries (kept.TheVariants.Peeked place) = option_map reply.TheVariants.Peeked (item_at entries place)
 
+-- the answer that stands for what is kept; none where its reply has none
 abbrev pub answer_of : List Entry → Said → Option Answer
 answer_of entries (Welcome epoch client incarnation) =
     Some (answer.TheVariants.Welcome epoch client incarnation)
@@ -41,12 +43,44 @@ answer_of entries (Replied key kept) = option_map (answer.TheVariants.Replied ke
 answer_of entries (Waiting key) = Some (answer.TheVariants.Waiting key)
 answer_of entries (Refused refusal) = Some (answer.TheVariants.Refused refusal)
 
--- what the verdict says in the account
-abbrev pub says : Account → Verdict → Option Answer
-says a verdict = answer_of a.entries verdict.said
+-- the same; the refusal stands only where there is none, as for no verdict
+abbrev pub said_in : Account → Said → Answer
+said_in a kept = unwrap_or (answer_of a.entries kept) (answer.TheVariants.Refused refusal.NoMemory)
 
--- the verdict says the answer of one step from the one account to the other
-pub record IsStep (a : Account) (now : ℕ) (m : Message) (b : Account) (verdict : Verdict) : Type 0 where
-  pub answer : Answer
-  pub is : says b verdict ≡ Some answer
-  pub next : Next a now m b answer
+-- what a verdict shows: the message that it was given for, the answer that it stands for, the number of the
+-- account's entries before and after that step, and what it keeps of the answer
+pub record Stamp : Type 0 where
+  pub asked : Message
+  pub said : Answer
+  pub before : ℕ
+  pub length : ℕ
+  pub kept : Said
+
+-- the stamp of a message, between two accounts
+abbrev pub stamp_of : Message → Account → Account → Said → Stamp
+stamp_of m a b kept = record {
+  asked = m;
+  said = said_in b kept;
+  before = length a.entries;
+  length = length b.entries;
+  kept = kept;
+}
+
+-- the stamp is of a step from some legal account
+pub record IsOfStep (v : Stamp) : Type 0 where
+  pub account : Account
+  pub legal : Legal account
+  pub account_has : length account.entries ≡ v.before
+  pub moment : ℕ
+  pub after : Account
+  pub after_has : length after.entries ≡ v.length
+  pub step : Next account moment v.asked after v.said
+
+-- the stamp was given in the account: a step leads from its entries before to those after, and in it what the
+-- stamp keeps stands for the answer of that step
+pub record WasGiven (a : Account) (v : Stamp) : Type 0 where
+  pub moment : ℕ
+  pub step : Next (before a v.before) moment v.asked (before a v.length) v.said
+  pub grows : v.before ≤ v.length
+  pub within : v.length ≤ length a.entries
+  pub says : answer_of a.entries v.kept ≡ Some v.said

@@ -53,9 +53,8 @@ fn limit_after(moment: u64, wait: Wait) -> Option<u64>
     }
 }
 
-/// All entries of an epoch, in the order in which they were recorded: what contracts see of it are
-/// its epoch, its opening moment and the list of its entries; and beside that, for how many entries more
-/// it has room.
+/// All entries of an epoch, in the order in which they were recorded. Contracts see its epoch, its opening
+/// moment and the list of its entries; and beside that, for how many entries more it has room.
 #[derive(Debug, Drop)]
 pub struct Account {
     epoch: u64,
@@ -182,8 +181,7 @@ impl Account {
         }
     }
 
-    // Makes room for so many entries more. Where its growth is refused the account stays, and so does the
-    // room that it had.
+    // Makes room for so many entries more. Where that is refused the account and the room that it had stay.
     pub(crate) fn reserve(&mut self, more: usize) -> Result<(), NoMemory>
         ensures same { self.new.account ≡ self.old.account }
         ensures kept { self.old.room ≤ self.new.room }

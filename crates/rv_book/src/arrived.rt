@@ -57,14 +57,7 @@ impl Arrived {
         requires least { ends_waiting self.now.other ≤ waiting + starts_waiting self.now.own }
         ensures { result + ends_waiting self.now.other ≡ waiting + starts_waiting self.now.own }
     {
-        let started = match self.own {
-            Some(_) => waiting,
-            None => waiting + 1,
-        };
-        match self.other {
-            Some(_) => started - 1,
-            None => started,
-        }
+        waiting + usize::from(self.own.is_none()) - usize::from(self.other.is_some())
     }
 }
 

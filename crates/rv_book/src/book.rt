@@ -1,8 +1,9 @@
 //! The book of one epoch: it takes messages one by one and says what becomes of each.
-ghost use Rattle.std.specs.Prelude.{◌≡◌, ◌≤◌, ◌^◌, [], Some, IsSome, IfSome, IfOk, min};
+ghost use Rattle.std.specs.Prelude.{◌≡◌, ◌≤◌, ◌^◌, [], Some, IsSome, IfOk, length, min};
 ghost use Rattle.rv_text.specs.Limits.{FitsAnswer, FitsIdentifier, FitsMessage};
 ghost use Rattle.rv_book.specs.Legal.{Legal};
-ghost use Rattle.rv_book.specs.Verdicts.{IsStep, says, reply_of as kept_reply};
+ghost use Rattle.rv_book.specs.Steps.{Next};
+ghost use Rattle.rv_book.specs.Verdicts.{Stamp, WasGiven, reply_of as kept_reply};
 
 use crate::account::Account;
 use crate::state::{MAX_MOMENT, State};
@@ -11,6 +12,7 @@ use rv_session::Kept;
 use rv_text::{Answer, Message, NoMemory, Reply};
 use std::alloc::Global;
 use std::marker::Model;
+use std::snapshot::Snapshot;
 
 /// The book of an epoch, which contracts see as its [`Account`].
 ///
@@ -68,26 +70,32 @@ impl Book {
     /// nothing is due the least limit alone is looked at.
     pub fn handle(&mut self, now: u64, message: Message) -> Verdict
         requires { FitsMessage message }
-        ensures step { IsStep self.old now message self.new result }
-        ensures fits { IfSome (says self.new result) FitsAnswer }
+        ensures step { Next self.old now message self.new result.said }
+        ensures asked { result.asked ≡ message }
+        ensures before { result.before ≡ length self.old.entries }
+        ensures length { result.length ≡ length self.new.entries }
+        ensures fits { FitsAnswer result.said }
+        ensures given { WasGiven self.new result }
+        ensures still { (v : Stamp) → WasGiven self.old v → WasGiven self.new v }
     {
+        let asked = Snapshot::of(&message);
+        let before = Snapshot::of(self.state.account());
         Verdict {
+            asked,
+            before,
             said: self.state.step(now, message),
+            after: Snapshot::of(self.state.account()),
         }
     }
 
     /// The answer that a verdict of this book stands for, in the state that gave it and in every later
     /// one. It takes memory only for an item's text, and fails only where that was refused.
     pub fn answer(&self, alloc: Global, verdict: &Verdict) -> Result<Answer, NoMemory>
-        requires { IsSome (says self.now verdict.now) }
-        ensures { IfOk result (λ answer. says self.now verdict.now ≡ Some answer) }
+        requires { WasGiven self.now verdict.now }
+        ensures { IfOk result (λ answer. answer ≡ verdict.now.said) }
     {
         match verdict.said {
-            Said::Welcome {
-                epoch,
-                client,
-                incarnation,
-            } => Ok(Answer::Welcome {
+            Said::Welcome(epoch, client, incarnation) => Ok(Answer::Welcome {
                 epoch,
                 client,
                 incarnation,

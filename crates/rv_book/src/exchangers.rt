@@ -72,8 +72,7 @@ impl Exchangers {
         exchange(&mut self.exchangers[exchanger as usize], wait, duty)
     }
 
-    /// The request that waits at an exchanger leaves it, if it arrived at this place, and gives its duty
-    /// back.
+    /// The request that waits at an exchanger, if it is of this place, leaves it and gives its duty back.
     pub(crate) fn withdraw(&mut self, exchanger: u64, place: Place) -> Option<Duty>
         requires { FitsSide (Exchanges exchanger) }
         ensures left { LeftExchanger (exchanger_at self.old exchanger) (exchanger_at self.new exchanger) place

@@ -1,9 +1,11 @@
 //! Laws of accounts, replies and steps: each function is its contract, over the definitions alone.
 ghost use Rattle.rv_book.specs.Laws.{CancelsCanEnter, HellosCanEnter, OneNext, RepliesStay, RequestsCanEnter};
 ghost use Rattle.rv_book.specs.Laws.{ItemsLeaveInOrder, StepsExtend, TicksCanEnter, VerdictsStay};
+ghost use Rattle.rv_book.specs.Verdicts.{IsOfStep};
 
-/// A reply that stands in a legal account stands in every legal account that extends it, and the
-/// request has no other reply there.
+use crate::verdict::Verdict;
+
+/// A reply in a legal account stands in every legal account that extends it, and is the only one there.
 pub fn replies_stay()
     ensures { RepliesStay }
 {}
@@ -41,13 +43,20 @@ pub fn steps_extend()
     ensures { StepsExtend }
 {}
 
-/// What a verdict says, it says in every later account.
+/// A verdict that was given in an account was given in every account that extends it.
 pub fn verdicts_stay()
     ensures { VerdictsStay }
 {}
 
-/// A step leaves no choice, want of memory aside: from one account, by one moment and message, it leads
-/// to one account and one answer.
+/// By one moment and message a step leads to one account and one answer, want of memory aside.
 pub fn one_next()
     ensures { OneNext }
 {}
+
+/// Wherever a verdict is, a step of its message, from some legal account of as many entries as it was given
+/// before, leads to one of as many as after, with its answer.
+pub fn verdict_is_of_a_step(verdict: &Verdict)
+    ensures { IsOfStep verdict.now }
+{
+    let _ = &verdict.said;
+}

@@ -206,8 +206,7 @@ impl State {
         }
     }
 
-    // Makes all growths of a request that comes at a moment: of its entries, its side and, where it may wait
-    // for some time, its deadline. What follows can't fail.
+    // Makes all growths of a request: of its entries, its side and any deadline. What follows can't fail.
     fn prepare(&mut self, moment: u64, call: &Call) -> Result<(), Refusal>
         requires sound { IsSound self.old }
         requires moment { moment ≤ max_moment }
@@ -223,8 +222,7 @@ impl State {
         Ok(())
     }
 
-    // Records a request that has its session's next number, for which there is room, and gives its reply;
-    // none where it waits.
+    // Records a session's next request, for which there is room, and gives its reply; none where it waits.
     fn record(&mut self, moment: u64, key: Key, call: Call) -> Option<Kept>
         requires { MayRecord self.old moment key call }
         ensures sound { IsSound self.new }
@@ -272,8 +270,7 @@ impl State {
         self.account.push(moment, act, None);
     }
 
-    // What a request is told that arrived at a place, if it came with this call: the reply that is kept, or
-    // that it waits.
+    // What a request at a place is told, if it came with this call: the reply that is kept, or waiting.
     fn repeat(
         &self,
         place: Option<Place>,
@@ -409,8 +406,7 @@ impl State {
         Ok(())
     }
 
-    // Records a client's hello of a greater incarnation. The request that waits in its session, if one does,
-    // is cancelled.
+    // Records a client's hello of a greater incarnation. Its request that waits, if one does, is cancelled.
     fn renew(
         &mut self,
         moment: u64,
@@ -508,8 +504,7 @@ impl State {
         }
     }
 
-    /// Takes one step with a message that came at a moment, and says what became of it: first it times out
-    /// what is due, and then the message is looked at.
+    /// Times out what is due, takes a step with a message that came at a moment, and says what became of it.
     pub(crate) fn step(&mut self, now: u64, message: Message) -> Said
         requires sound { IsSound self.old }
         requires fits { FitsMessage message }
@@ -535,11 +530,7 @@ impl State {
                 client,
                 incarnation,
             } => match self.greet(moment, client, incarnation) {
-                Ok(()) => Said::Welcome {
-                    epoch,
-                    client,
-                    incarnation,
-                },
+                Ok(()) => Said::Welcome(epoch, client, incarnation),
                 Err(refusal) => Said::Refused(refusal),
             },
             Message::Request { key, call } => match self.request(moment, key, call) {

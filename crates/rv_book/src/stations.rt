@@ -56,8 +56,7 @@ impl Stations {
         self.queues.count(queue)
     }
 
-    /// Makes room for an arrival of this side; an exchanger needs none. Where a growth is refused nothing
-    /// changes.
+    /// Makes room for an arrival of this side; an exchanger needs none. A refused growth changes nothing.
     pub(crate) fn reserve(&mut self, side: Side) -> Result<(), NoMemory>
         requires { FitsSide side }
         ensures same { SameStations self.old self.new }

@@ -1,21 +1,16 @@
 //! What the book said to a message, in a form that takes no memory.
+use crate::account::Account;
 use rv_session::Kept;
-use rv_text::{Key, Refusal};
+use rv_text::{Key, Message, Refusal};
+use std::marker::Model;
+use std::snapshot::Snapshot;
 
 #[derive(Clone, Copy)]
 pub(crate) enum Said {
-    Welcome {
-        epoch: u64,
-        client: u64,
-        incarnation: u64,
-    },
-    Replied {
-        key: Key,
-        kept: Kept,
-    },
-    Waiting {
-        key: Key,
-    },
+    // The session of this epoch, client and incarnation is open.
+    Welcome(u64, u64, u64),
+    Replied { key: Key, kept: Kept },
+    Waiting { key: Key },
     Refused(Refusal),
 }
 
@@ -34,9 +29,23 @@ impl Said {
     }
 }
 
-/// What [`Book::handle`](crate::Book::handle) said to a message. It takes no memory;
-/// [`Book::answer`](crate::Book::answer) makes the answer of it.
+/// What [`Book::handle`](crate::Book::handle) said to a message; [`Book::answer`](crate::Book::answer) makes
+/// the answer of it. It takes no memory: contracts see its message and the account's length before and after.
 #[derive(Drop)]
 pub struct Verdict {
     pub(crate) said: Said,
+    pub(crate) asked: Snapshot<Message>,
+    pub(crate) before: Snapshot<Account>,
+    pub(crate) after: Snapshot<Account>,
+}
+
+impl Model for Verdict {
+    ghost use Rattle.rv_book.specs.Verdicts.{IsOfStep, Stamp, stamp_of};
+
+    ghost Value = { Stamp };
+
+    ghost view = { λ v. stamp_of v.asked.value v.before.value.account v.after.value.account v.said };
+
+    ghost invariant = { λ v.
+        IsOfStep (stamp_of v.asked.value v.before.value.account v.after.value.account v.said) };
 }

@@ -1,5 +1,5 @@
--- The law, which Staying proves.
-use Rattle.rv_book.proofs.Staying.{verdicts_stay}
+-- The law, which Stamping proves.
+use Rattle.rv_book.proofs.Stamping.{verdicts_stay}
 use Rattle.rv_book.proofs.laws.verdicts_stay.Goals as goal
 
 pub returns : goal.returns

@@ -1,25 +1,32 @@
--- What a verdict says is the answer of a step, and within the limits.
-use Rattle.std.specs.Prelude.{IfSome}
-use Rattle.std.proofs.Common.{sym, subst}
-use Rattle.rv_text.specs.Limits.{FitsAnswer}
+-- What a verdict shows is its step's.
+use Rattle.std.proofs.Common.{◌∙◌, subst, sym}
 use Rattle.rv_book.specs.Account.{Account}
-use Rattle.rv_book.specs.Steps.{step_moment}
-use Rattle.rv_book.specs.Tables.{BecomesAfterTicks}
-use Rattle.rv_book.proofs.Fitting.{step_fits}
+use Rattle.rv_book.specs.Steps.{Next}
+use Rattle.rv_book.specs.Verdicts.{WasGiven, said_in}
+use Rattle.rv_book.proofs.Stamping.{gives_stamp, still_given}
 use Rattle.rv_book.proofs.book.Book.handle.Goals as goal
+
+pub invariant_of-result : goal.invariant_of-result
+invariant_of-result c =
+    let gives = gives_stamp c.of-asked.ensures (c.of-before.ensures ∙ c.account.ensures) (c.of.ensures ∙ c.account-2.ensures) c.self.invariant c.step.ensures.sound c.requires c.step.ensures.step in
+    gives.of_step
 
 pub returns-clause-step : goal.returns-clause-step
 returns-clause-step c =
-    let became = subst (λ (a : Account). BecomesAfterTicks a c.args.now c.args.message c.step.new.self.account.account c.step.result) c.self.view_is c.step.ensures.step in
-    record {
-      answer = became.becomes.answer;
-      is = became.becomes.is;
-      next = record { ticked = became.ticked; ticks = became.ticks; steps = became.becomes.step };
-    }
+    let gives = gives_stamp c.of-asked.ensures (c.of-before.ensures ∙ c.account.ensures) (c.of.ensures ∙ c.account-2.ensures) c.self.invariant c.step.ensures.sound c.requires c.step.ensures.step in
+    subst (λ (a : Account). Next a c.args.now c.args.message c.step.new.self.account.account (said_in c.of.result.value.account c.step.result)) c.self.view_is gives.step
 
 pub returns-clause-fits : goal.returns-clause-fits
 returns-clause-fits c =
-    let a = c.self.inside.state.account.account in
-    let became = c.step.ensures.step in
-    let fits = step_fits became.ticked c.step.new.self.account.account (step_moment a c.args.now) c.args.message became.becomes.answer became.fits c.step.ensures.sound.fits c.requires became.becomes.step in
-    subst (λ o. IfSome o FitsAnswer) (sym became.becomes.is) fits
+    let gives = gives_stamp c.of-asked.ensures (c.of-before.ensures ∙ c.account.ensures) (c.of.ensures ∙ c.account-2.ensures) c.self.invariant c.step.ensures.sound c.requires c.step.ensures.step in
+    gives.fits
+
+pub returns-clause-given : goal.returns-clause-given
+returns-clause-given c =
+    let gives = gives_stamp c.of-asked.ensures (c.of-before.ensures ∙ c.account.ensures) (c.of.ensures ∙ c.account-2.ensures) c.self.invariant c.step.ensures.sound c.requires c.step.ensures.step in
+    gives.given
+
+pub returns-clause-still : goal.returns-clause-still
+returns-clause-still c v given =
+    let gives = gives_stamp c.of-asked.ensures (c.of-before.ensures ∙ c.account.ensures) (c.of.ensures ∙ c.account-2.ensures) c.self.invariant c.step.ensures.sound c.requires c.step.ensures.step in
+    still_given gives v (subst (λ (a : Account). WasGiven a v) (sym c.self.view_is) given)
