@@ -2,6 +2,7 @@
 #![tactic(auto)]
 
 mod asking;
+mod book;
 mod desk;
 mod fault;
 mod inlet;
