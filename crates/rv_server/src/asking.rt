@@ -1,12 +1,11 @@
 //! Asks the desk for one frame, until its answer is one that doesn't wait.
-ghost use Rattle.std.specs.Prelude.{◌≡◌, ◌≤◌, ◌+◌, IfOk, IsTrue, OnErr};
-ghost use Rattle.rv_text.specs.Limits.{FitsAnswer, FitsMessage};
+ghost use Rattle.std.specs.Prelude.{◌≡◌, IfOk, IsTrue, OnErr};
 ghost use Rattle.rv_server.specs.Asking.{GetsSome, GetsTold, Waits};
-ghost use Rattle.rv_server.specs.Stamps.{added_by, shown};
+ghost use Rattle.rv_server.specs.Stamps.{shown};
 
 use crate::desk::{Clock, Desk, Gate};
-use crate::shared::{Locked, Seat, Shared};
-use rv_text::{Answer, Message, NoMemory, TextFault, decode_message};
+use crate::shared::{Seat, Shared};
+use rv_text::{Answer, NoMemory, TextFault, decode_message};
 use std::alloc::Global;
 use std::sync::Wait;
 use std::sync::ledger::Ledger;
@@ -45,20 +44,6 @@ pub(crate) struct Post<'a, T, D: Desk, L: Ledger, C, G> {
 }
 
 impl<'a, T: Wait, D: Desk, L: Ledger, C: Clock, G: Gate> Post<'a, T, D, L, C, G> {
-    // Has the desk handle a message, and makes its answer, under one hold of the lock.
-    fn ask_desk(&self, seat: &mut Seat<L>, message: Message) -> (D::Stamp, Result<Answer, NoMemory>)
-        requires { FitsMessage message }
-        ensures asked { (D.stamped result.0).asked ≡ message }
-        ensures share { seat.new ≡ seat.old + added_by (D.stamped result.0) }
-        ensures within { seat.new ≤ (D.stamped result.0).length }
-        ensures said { IfOk result.1 (λ answer. answer ≡ (D.stamped result.0).said) }
-        ensures fits { FitsAnswer (D.stamped result.0).said }
-    {
-        let shared = self.shared;
-        let now = self.clock.now();
-        shared.locked.lock(self.rt).ask(self.alloc, seat, now, message)
-    }
-
     // Asks for the frame once. Room for the stamp is made before the desk is asked.
     fn ask_once(
         &self,
@@ -78,7 +63,8 @@ impl<'a, T: Wait, D: Desk, L: Ledger, C: Clock, G: Gate> Post<'a, T, D, L, C, G>
             Err(TextFault::NotJson) => return Ok(Told::BadText),
             Err(TextFault::NotMessage) => return Ok(Told::BadText),
         };
-        let (stamp, answer) = self.ask_desk(seat, message);
+        let now = self.clock.now();
+        let (stamp, answer) = self.shared.ask(self.rt, self.alloc, seat, now, message);
         stamps.push_reserved((number, stamp));
         match answer {
             Ok(answer) => Ok(Told::Said(answer)),

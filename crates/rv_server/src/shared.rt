@@ -1,13 +1,14 @@
 //! The desk behind its lock, and the seats of the workers: their shares in the number of its entries.
 ghost use Rattle.std.specs.Prelude.{◌≡◌, ◌≤◌, ◌+◌, ◌-◌, ◌<◌, ◌≢◌, IfOk, IfErr, OnOk, OnErr, sum, vec_len};
 ghost use Rattle.rv_text.specs.Limits.{FitsAnswer, FitsMessage};
+ghost use Rattle.rv_server.specs.Asking.{IsAsked};
 ghost use Rattle.rv_server.specs.Stamps.{added_by};
 
 use crate::desk::Desk;
 use rv_text::{Answer, Message, NoMemory};
 use std::alloc::Global;
 use std::marker::Model;
-use std::sync::Mutex;
+use std::sync::{Mutex, Wait};
 use std::sync::ledger::{Blank, Book, Ledger, Share};
 use thiserror::Error;
 
@@ -52,7 +53,7 @@ impl<L: Ledger> Model for Seat<L> {
 /// A desk behind its lock, which contracts see as the number of seats that were made for it.
 #[derive(Drop)]
 pub struct Shared<D: Desk, L: Ledger> {
-    pub(crate) locked: Mutex<Locked<D, L>>,
+    locked: Mutex<Locked<D, L>>,
     seats: usize,
 }
 
@@ -94,7 +95,7 @@ pub fn serve_message<D: Desk, L: Ledger>(
 
 impl<D: Desk, L: Ledger> Locked<D, L> {
     // Has the desk handle one message, and makes its answer.
-    pub(crate) fn ask(
+    fn ask(
         &mut self,
         alloc: Global,
         seat: &mut Seat<L>,
@@ -102,11 +103,7 @@ impl<D: Desk, L: Ledger> Locked<D, L> {
         message: Message,
     ) -> (D::Stamp, Result<Answer, NoMemory>)
         requires { FitsMessage message }
-        ensures asked { (D.stamped result.0).asked ≡ message }
-        ensures share { seat.new ≡ seat.old + added_by (D.stamped result.0) }
-        ensures within { seat.new ≤ (D.stamped result.0).length }
-        ensures said { IfOk result.1 (λ answer. answer ≡ (D.stamped result.0).said) }
-        ensures fits { FitsAnswer (D.stamped result.0).said }
+        ensures { IsAsked D.stamped message seat.old seat.new result }
     {
         let stamp = serve_message(self, seat, now, message);
         let answer = self.desk.answer(alloc, &stamp);
@@ -127,7 +124,7 @@ pub struct Closing<D: Desk> {
 pub struct ForeignSeat;
 
 impl<D: Desk, L: Ledger> Shared<D, L> {
-    ghost use Rattle.std.specs.Prelude.{All, MatchResult, vec_len};
+    ghost use Rattle.std.specs.Prelude.{All};
 
     /// A desk with no entries behind a lock, and one seat with the share 0 for each of 1 to 64 workers. The
     /// blank ledger has one part for each. Where memory is refused the desk is dropped.
@@ -160,6 +157,21 @@ impl<D: Desk, L: Ledger> Shared<D, L> {
             seats: workers,
         };
         Ok((shared, seats))
+    }
+
+    // Has the desk handle one message, and makes its answer, under one hold of the lock.
+    pub(crate) fn ask<T: Wait>(
+        &self,
+        rt: &T,
+        alloc: Global,
+        seat: &mut Seat<L>,
+        now: u64,
+        message: Message,
+    ) -> (D::Stamp, Result<Answer, NoMemory>)
+        requires { FitsMessage message }
+        ensures { IsAsked D.stamped message seat.old seat.new result }
+    {
+        self.locked.lock(rt).ask(alloc, seat, now, message)
     }
 }
 
