@@ -1,25 +1,23 @@
 -- A worker answers frame after frame: how far it has come, and what stands where it ends.
-use Rattle.std.proofs.Common.{◌≡◌, ◌∙◌, ◌+◌, ◌++◌, ◌∷◌, ◌≤◌, [], ℕ, List, None, Ok, Err, Option, Some, add-zero, add_assoc, ap, append-nil, append_assoc, arith, length, length-append, map, refl, subst, sym, take, zero-add}
-use Rattle.std.specs.Io.KnownBytes.{Appends}
-use Rattle.std.specs.List.{All}
+use Rattle.std.proofs.Common.{inl, inr, ◌≡◌, ◌∙◌, ◌+◌, ◌++◌, ◌∷◌, ◌<◌, ◌≤◌, [], ℕ, List, None, Ok, Err, Option, Some, add-zero, add_assoc, ap, append-nil, append_assoc, arith, length, length-append, map, refl, subst, sym, take, zero-add}
 use Rattle.std.proofs.KnownBytes.{Appends-nil, Appends-trans, Consumes-nil, Consumes-trans}
 use Rattle.std.proofs.lemmas.List.{length-map, map-append}
 use Rattle.std.proofs.lemmas.List.Elements.{All-nil}
-use Rattle.rv_frame.specs.Cut.{Bad, Cut, End, Open, frame_bytes, row_bytes}
+use Rattle.rv_frame.specs.Cut.{Cut, End, frame_bytes, row_bytes}
 use Rattle.rv_frame.specs.Sink.{SinkTakes}
 use Rattle.rv_frame.specs.Stream.{HasFed, Stream}
 use Rattle.rv_frame.specs.declared.source.Source.{Source}
 use Rattle.rv_frame.specs.declared.sink.Sink.{Sink}
 use Rattle.rv_frame.proofs.Cuts.{row_append}
-use Rattle.rv_server.specs.Asking.{Gets}
-use Rattle.rv_server.specs.Progress.{LacksTurn, MakesTurn, Out, Progress, StopsTurn, out}
+use Rattle.rv_server.specs.Asking.{Cover, Gets}
+use Rattle.rv_server.specs.Progress.{MakesTurn, Out, Progress, StopsTurn, out}
 use Rattle.rv_server.specs.Reading.{ReadsOn, ReadsOut, TakesFrame}
-use Rattle.rv_server.specs.Stamps.{Cover, Numbered, added}
-use Rattle.rv_server.specs.Turns.{AreTurns, IsFor, IsTurn, Turn, stamps_of}
-use Rattle.rv_server.specs.Works.{AreForNext, Listed, Side, Worked, Works, max_frames, nothing, side}
+use Rattle.rv_server.specs.Stamps.{Numbered, added}
+use Rattle.rv_server.specs.Turns.{AreFor, AreTurns, IsFor, IsTurn, Turn, stamps_of}
+use Rattle.rv_server.specs.Works.{AreForNext, Connection, Listed, Worked, Works, connection, max_frames, nothing}
 use Rattle.rv_server.specs.declared.fault.WorkFault.{WorkFault}
 use Rattle.rv_server.specs.declared.fault.WorkFault.TheVariants.{BadLength, CutFrame, NoMemory, ReadFault, TooLong, WriteFault}
-use Rattle.rv_server.proofs.Getting.{added_append, cover_append}
+use Rattle.rv_server.proofs.Getting.{added_append, cover_append, covers_all}
 
 -- ---- turns, one behind the others
 
@@ -62,10 +60,10 @@ cover_on own share share' number body old new got before covers gets =
 
 no_stamps : (number : ℕ) (bodies : List (List ℕ)) → AreForNext number bodies []
 no_stamps number [] = refl
-no_stamps number (body ∷ bodies) = All-nil (IsFor number body)
+no_stamps number (body ∷ bodies) = record { each = All-nil (IsFor number body); waited = tt }
 
 module _ {R W : Type 0} (remaining : R → Option (List ℕ)) (contents : W → Option (List ℕ)) where
-  pub begin : (before : Side R W) (listed : Listed) (stream : Stream) → listed ≡ nothing → HasFed [] [] stream
+  pub begin : (before : Connection R W) (listed : Listed) (stream : Stream) → listed ≡ nothing → HasFed [] [] stream
       → Progress remaining contents before before listed stream 0
   begin before listed stream none fed = subst (λ (l : Listed). Progress remaining contents before before l stream 0) (sym none) (record {
     bytes = [];
@@ -81,15 +79,15 @@ module _ {R W : Type 0} (remaining : R → Option (List ℕ)) (contents : W → 
     cover = tt;
   })
 
-  pub advance : (before mid : Side R W) (listed listed' : Listed) (old new : Stream) (number : ℕ) (body : List ℕ) (source : Source R) (after : Out W)
+  pub advance : (before mid : Connection R W) (listed listed' : Listed) (old new : Stream) (number : ℕ) (body : List ℕ) (source : Source R) (after : Out W)
       → Progress remaining contents before mid listed old number → ReadsOn remaining mid.source source old new (body ∷ [])
       → MakesTurn contents number body (out mid.sink mid.share) after listed listed'
-      → Progress remaining contents before (side source after.sink after.share) listed' new (number + 1)
+      → Progress remaining contents before (connection source after.sink after.share) listed' new (number + 1)
   advance before mid listed listed' old new number body source after so_far reads made =
       let turns = so_far.turns in
       let turn = made.turn in
       let bodies : map body_of (turns ++ turn ∷ []) ≡ map body_of turns ++ body ∷ [] =
-          map-append body_of turns (turn ∷ []) ∙ ap (λ (b : List ℕ). map body_of turns ++ b ∷ []) made.of in
+      map-append body_of turns (turn ∷ []) ∙ ap (λ (b : List ℕ). map body_of turns ++ b ∷ []) made.of in
       record {
         bytes = so_far.bytes ++ reads.bytes;
         turns = turns ++ turn ∷ [];
@@ -105,7 +103,7 @@ module _ {R W : Type 0} (remaining : R → Option (List ℕ)) (contents : W → 
       }
 
   -- the cut of all that was read: the frames that were answered, and these more
-  cut_to : (before mid : Side R W) (listed : Listed) (old new : Stream) (number : ℕ) (source : Source R) (taken more : List (List ℕ))
+  cut_to : (before mid : Connection R W) (listed : Listed) (old new : Stream) (number : ℕ) (source : Source R) (taken more : List (List ℕ))
       → (so_far : Progress remaining contents before mid listed old number) → (reads : ReadsOn remaining mid.source source old new taken)
       → taken ++ new.frames ≡ more → Cut (so_far.bytes ++ reads.bytes) (map body_of so_far.turns ++ more) new.end
   cut_to before mid listed old new number source taken more so_far reads rest =
@@ -114,9 +112,9 @@ module _ {R W : Type 0} (remaining : R → Option (List ℕ)) (contents : W → 
       (append_assoc bodies taken new.frames ∙ ap (λ (l : List (List ℕ)). bodies ++ l) rest) (reads.fed so_far.bytes bodies so_far.fed)
 
   -- nothing more was written or got since; this is what the bytes hold beyond the frames that were answered
-  worked_to : (before mid : Side R W) (listed : Listed) (old new : Stream) (number : ℕ) (source : Source R) (taken more : List (List ℕ))
+  worked_to : (before mid : Connection R W) (listed : Listed) (old new : Stream) (number : ℕ) (source : Source R) (taken more : List (List ℕ))
       → Progress remaining contents before mid listed old number → number ≤ max_frames → ReadsOn remaining mid.source source old new taken
-      → taken ++ new.frames ≡ more → Worked remaining contents before (side source mid.sink mid.share) listed more new.end [] []
+      → taken ++ new.frames ≡ more → Worked remaining contents before (connection source mid.sink mid.share) listed more new.end [] []
   worked_to before mid listed old new number source taken more so_far few reads rest = record {
     bytes = so_far.bytes ++ reads.bytes;
     turns = so_far.turns;
@@ -128,62 +126,63 @@ module _ {R W : Type 0} (remaining : R → Option (List ℕ)) (contents : W → 
     pending_are = no_stamps (length so_far.turns) more;
     written = subst (λ (l : List ℕ). SinkTakes contents before.sink mid.sink l) (sym (append-nil (row_bytes (map answer_of so_far.turns)))) so_far.written;
     share = so_far.share;
-    cover = so_far.cover;
+    cover = covers_all before.share listed.stamps so_far.cover;
     few = subst (λ (n : ℕ). n ≤ max_frames) (sym so_far.count) few;
   }
 
-  worked_out : (before mid : Side R W) (listed : Listed) (old new : Stream) (number : ℕ) (source : Source R) (IsLeft : End → Type 0)
+  worked_out : (before mid : Connection R W) (listed : Listed) (old new : Stream) (number : ℕ) (source : Source R) (IsLeft : End → Type 0)
       → Progress remaining contents before mid listed old number → number ≤ max_frames → ReadsOut remaining mid.source source old new IsLeft
-      → Worked remaining contents before (side source mid.sink mid.share) listed [] new.end [] []
+      → Worked remaining contents before (connection source mid.sink mid.share) listed [] new.end [] []
   worked_out before mid listed old new number source IsLeft so_far few out_of =
       worked_to before mid listed old new number source [] [] so_far few out_of.reads out_of.all_taken
 
-  pub ends : (before mid : Side R W) (listed : Listed) (old new : Stream) (number : ℕ) (source : Source R)
+  pub ends : (before mid : Connection R W) (listed : Listed) (old new : Stream) (number : ℕ) (source : Source R)
       → Progress remaining contents before mid listed old number → number ≤ max_frames → TakesFrame remaining mid.source source old new (Ok None)
-      → Works remaining contents before (side source mid.sink mid.share) listed None
-  ends before mid listed old new number source so_far few took =
-      (
-        subst (λ (e : End). Worked remaining contents before (side source mid.sink mid.share) listed [] e [] []) took.0.left
+      → Works remaining contents before (connection source mid.sink mid.share) listed None
+  ends before mid listed old new number source so_far few took = (
+    subst (λ (e : End). Worked remaining contents before (connection source mid.sink mid.share) listed [] e [] []) took.0.left
         (worked_out before mid listed old new number source _ so_far few took.0),
-        took.1,
-      )
+    took.1,
+  )
 
-  stops_reading : (before mid : Side R W) (listed : Listed) (old new : Stream) (number : ℕ) (source : Source R) (fault : WorkFault)
+  stops_reading : (before mid : Connection R W) (listed : Listed) (old new : Stream) (number : ℕ) (source : Source R) (fault : WorkFault)
       → Progress remaining contents before mid listed old number → number ≤ max_frames → TakesFrame remaining mid.source source old new (Err fault)
-      → Works remaining contents before (side source mid.sink mid.share) listed (Some fault)
+      → Works remaining contents before (connection source mid.sink mid.share) listed (Some fault)
   stops_reading before mid listed old new number source ReadFault so_far few took =
       (new.end, worked_out before mid listed old new number source _ so_far few took.0, took.1)
   stops_reading before mid listed old new number source CutFrame so_far few took =
       (new.end, worked_out before mid listed old new number source _ so_far few took.0, took.0.left, took.1)
   stops_reading before mid listed old new number source (BadLength n) so_far few took =
-      subst (λ (e : End). Worked remaining contents before (side source mid.sink mid.share) listed [] e [] []) took.left
+      subst (λ (e : End). Worked remaining contents before (connection source mid.sink mid.share) listed [] e [] []) took.left
       (worked_out before mid listed old new number source _ so_far few took)
   stops_reading before mid listed old new number source NoMemory so_far few took = record {
     more = took.0.frames;
     end = took.0.end;
     pending = [];
+    few = inl refl;
     worked = worked_to before mid listed old took.0 number source [] took.0.frames so_far few took.1 refl;
   }
   stops_reading before mid listed old new number source (WriteFault sent) so_far few took = absurd took
   stops_reading before mid listed old new number source TooLong so_far few took = absurd took
 
-  pub too_long : (before mid : Side R W) (listed : Listed) (old new : Stream) (number : ℕ) (source : Source R) (body : List ℕ)
+  pub too_long : (before mid : Connection R W) (listed : Listed) (old new : Stream) (number : ℕ) (source : Source R) (body : List ℕ)
       → number ≡ max_frames → Progress remaining contents before mid listed old number → ReadsOn remaining mid.source source old new (body ∷ [])
-      → Works remaining contents before (side source mid.sink mid.share) listed (Some TooLong)
-  too_long before mid listed old new number source body whole so_far reads =
-      (
-        body, new.frames, new.end,
-        worked_to before mid listed old new number source (body ∷ []) (body ∷ new.frames) so_far (omega (arith, whole)) reads refl,
-        ap length so_far.items ∙ length-map so_far.turns (λ (t : Turn). t.item) ∙ so_far.count ∙ whole,
-      )
+      → Works remaining contents before (connection source mid.sink mid.share) listed (Some TooLong)
+  too_long before mid listed old new number source body whole so_far reads = (
+    body,
+    new.frames,
+    new.end,
+    worked_to before mid listed old new number source (body ∷ []) (body ∷ new.frames) so_far (omega (arith, whole)) reads refl,
+    ap length so_far.items ∙ length-map so_far.turns (λ (t : Turn). t.item) ∙ so_far.count ∙ whole,
+  )
 
   -- stamps were got for the next frame, and these bytes of an answer went out
-  stopped_at : (before mid : Side R W) (listed listed' : Listed) (old new : Stream) (number : ℕ) (body : List ℕ) (source : Source R) (after : Out W)
+  stopped_at : (before mid : Connection R W) (listed listed' : Listed) (old new : Stream) (number : ℕ) (body : List ℕ) (source : Source R) (after : Out W)
       (got : List Numbered) (broken : List ℕ)
       → Progress remaining contents before mid listed old number → number ≤ max_frames → ReadsOn remaining mid.source source old new (body ∷ [])
       → listed'.items ≡ listed.items → Gets number body mid.share listed.stamps after.share listed'.stamps got
       → SinkTakes contents mid.sink after.sink broken
-      → Worked remaining contents before (side source after.sink after.share) listed' (body ∷ new.frames) new.end got broken
+      → Worked remaining contents before (connection source after.sink after.share) listed' (body ∷ new.frames) new.end got broken
   stopped_at before mid listed listed' old new number body source after got broken so_far few reads items gets wrote =
       record {
         bytes = so_far.bytes ++ reads.bytes;
@@ -193,35 +192,43 @@ module _ {R W : Type 0} (remaining : R → Option (List ℕ)) (contents : W → 
         right = so_far.right;
         items = items ∙ so_far.items;
         stamps = gets.behind ∙ ap (λ (l : List Numbered). l ++ got) so_far.stamps;
-        pending_are = subst (λ (n : ℕ). All (IsFor n body) got) (sym so_far.count) gets.own;
+        pending_are = subst (λ (n : ℕ). AreFor n body got) (sym so_far.count) gets.own;
         written = Appends-trans _ _ _ _ _ so_far.written wrote;
         share = share_on before.share mid.share after.share number body listed.stamps listed'.stamps got so_far.share gets;
-        cover = cover_on before.share mid.share after.share number body listed.stamps listed'.stamps got so_far.share so_far.cover gets;
+        cover = covers_all before.share listed'.stamps
+            (cover_on before.share mid.share after.share number body listed.stamps listed'.stamps got so_far.share so_far.cover gets);
         few = subst (λ (n : ℕ). n ≤ max_frames) (sym so_far.count) few;
       }
 
-  stops_turn : (before mid : Side R W) (listed listed' : Listed) (old new : Stream) (number : ℕ) (body : List ℕ) (source : Source R) (after : Out W)
+  as_many : (before mid : Connection R W) (listed listed' : Listed) (stream : Stream) (number : ℕ) → Progress remaining contents before mid listed stream number
+      → listed'.items ≡ listed.items → length listed'.items ≡ number
+  as_many before mid listed listed' stream number so_far items =
+      ap length (items ∙ so_far.items) ∙ length-map so_far.turns (λ (t : Turn). t.item) ∙ so_far.count
+
+  stops_turn : (before mid : Connection R W) (listed listed' : Listed) (old new : Stream) (number : ℕ) (body : List ℕ) (source : Source R) (after : Out W)
       (fault : WorkFault)
-      → Progress remaining contents before mid listed old number → number ≤ max_frames → ReadsOn remaining mid.source source old new (body ∷ [])
+      → Progress remaining contents before mid listed old number → number < max_frames → ReadsOn remaining mid.source source old new (body ∷ [])
       → StopsTurn contents number body (out mid.sink mid.share) after listed listed' fault
-      → Works remaining contents before (side source after.sink after.share) listed' (Some fault)
+      → Works remaining contents before (connection source after.sink after.share) listed' (Some fault)
   stops_turn before mid listed listed' old new number body source after (WriteFault sent) so_far few reads broke = record {
     turn = broke.turn;
-    is = subst (λ (n : ℕ). IsTurn n broke.turn) (sym (ap length (broke.items ∙ so_far.items) ∙ length-map so_far.turns (λ (t : Turn). t.item) ∙ so_far.count)) broke.is;
+    is = subst (λ (n : ℕ). IsTurn n broke.turn) (sym (as_many before mid listed listed' old number so_far broke.items)) broke.is;
+    few = subst (λ (n : ℕ). n < max_frames) (sym (as_many before mid listed listed' old number so_far broke.items)) few;
     later = new.frames;
     end = new.end;
     part = broke.part;
     worked =
-      subst (λ (b : List ℕ). Worked remaining contents before (side source after.sink after.share) listed' (b ∷ new.frames) new.end broke.turn.stamps (take sent (frame_bytes broke.turn.answer))) (sym broke.of)
-      (stopped_at before mid listed listed' old new number body source after broke.turn.stamps _ so_far few reads broke.items broke.stamps broke.written);
+        subst (λ (b : List ℕ). Worked remaining contents before (connection source after.sink after.share) listed' (b ∷ new.frames) new.end broke.turn.stamps (take sent (frame_bytes broke.turn.answer))) (sym broke.of)
+        (stopped_at before mid listed listed' old new number body source after broke.turn.stamps _ so_far (omega (arith, few)) reads broke.items broke.stamps broke.written);
     failed = broke.failed;
   }
   stops_turn before mid listed listed' old new number body source after NoMemory so_far few reads lacks = record {
     more = body ∷ new.frames;
     end = new.end;
     pending = lacks.got;
-    worked = stopped_at before mid listed listed' old new number body source after lacks.got [] so_far few reads lacks.items lacks.stamps
-      (subst (λ (s : Sink W). SinkTakes contents mid.sink s []) (sym lacks.same) (Appends-nil _));
+    few = inr (subst (λ (n : ℕ). n < max_frames) (sym (as_many before mid listed listed' old number so_far lacks.items)) few);
+    worked = stopped_at before mid listed listed' old new number body source after lacks.got [] so_far (omega (arith, few)) reads lacks.items lacks.stamps
+        (subst (λ (s : Sink W). SinkTakes contents mid.sink s []) (sym lacks.same) (Appends-nil _));
   }
   stops_turn before mid listed listed' old new number body source after ReadFault so_far few reads none = absurd none
   stops_turn before mid listed listed' old new number body source after CutFrame so_far few reads none = absurd none
@@ -230,18 +237,18 @@ module _ {R W : Type 0} (remaining : R → Option (List ℕ)) (contents : W → 
 
   -- ---- with the fault as a `?` hands it on
 
-  pub stopped_reading : (before mid : Side R W) (listed : Listed) (old new : Stream) (number : ℕ) (source : Source R) (cause fault : WorkFault) → fault ≡ cause
+  pub stopped_reading : (before mid : Connection R W) (listed : Listed) (old new : Stream) (number : ℕ) (source : Source R) (cause fault : WorkFault) → fault ≡ cause
       → Progress remaining contents before mid listed old number → number ≤ max_frames → TakesFrame remaining mid.source source old new (Err cause)
-      → Works remaining contents before (side source mid.sink mid.share) listed (Some fault)
+      → Works remaining contents before (connection source mid.sink mid.share) listed (Some fault)
   stopped_reading before mid listed old new number source cause fault is so_far few took =
-      subst (λ (f : WorkFault). Works remaining contents before (side source mid.sink mid.share) listed (Some f)) (sym is)
+      subst (λ (f : WorkFault). Works remaining contents before (connection source mid.sink mid.share) listed (Some f)) (sym is)
       (stops_reading before mid listed old new number source cause so_far few took)
 
-  pub stopped_turn : (before mid : Side R W) (listed listed' : Listed) (old new : Stream) (number : ℕ) (body : List ℕ) (source : Source R) (after : Out W)
+  pub stopped_turn : (before mid : Connection R W) (listed listed' : Listed) (old new : Stream) (number : ℕ) (body : List ℕ) (source : Source R) (after : Out W)
       (cause fault : WorkFault) → fault ≡ cause
-      → Progress remaining contents before mid listed old number → number ≤ max_frames → ReadsOn remaining mid.source source old new (body ∷ [])
+      → Progress remaining contents before mid listed old number → number < max_frames → ReadsOn remaining mid.source source old new (body ∷ [])
       → StopsTurn contents number body (out mid.sink mid.share) after listed listed' cause
-      → Works remaining contents before (side source after.sink after.share) listed' (Some fault)
+      → Works remaining contents before (connection source after.sink after.share) listed' (Some fault)
   stopped_turn before mid listed listed' old new number body source after cause fault is so_far few reads stops =
-      subst (λ (f : WorkFault). Works remaining contents before (side source after.sink after.share) listed' (Some f)) (sym is)
+      subst (λ (f : WorkFault). Works remaining contents before (connection source after.sink after.share) listed' (Some f)) (sym is)
       (stops_turn before mid listed listed' old new number body source after cause so_far few reads stops)

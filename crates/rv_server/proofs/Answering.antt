@@ -1,6 +1,6 @@
 -- One frame is answered: from what was got and told of it to its turn.
 use Rattle.std.proofs.Common.{◌≡◌, ◌<◌, ◌++◌, ◌∷◌, [], ℕ, List, Err, IsErrAnd, IfErr, IfOk, Ok, OnErr, OnOk, Option, Result, length, refl, subst, sym, take, true}
-use Rattle.rv_frame.specs.Cut.{frame_bytes}
+use Rattle.rv_frame.specs.Cut.{IsBody, frame_bytes}
 use Rattle.rv_frame.specs.Sink.{SinkTakes, sink_failed}
 use Rattle.rv_frame.specs.declared.sink.Sink.{Sink}
 use Rattle.rv_frame.specs.declared.sink.WriteFault.{WriteFault as SinkFault}
@@ -19,20 +19,21 @@ use Rattle.rv_server.specs.declared.served.Item.{Item}
 use Rattle.rv_server.specs.declared.served.Item.TheVariants as item
 
 module _ {W : Type 0} (contents : W → Option (List ℕ)) where
-  pub whole_written : (old new : Sink W) (t : Told) (i : Item) (body : List ℕ) (r : Result Item SinkFault) → IsAnswer t i body
+  pub whole_written : (old new : Sink W) (t : Told) (i : Item) (body : List ℕ) (r : Result Item SinkFault) → IsAnswer t i body → IsBody body
       → IfOk r (λ written. written ≡ i) → OnOk r (SinkTakes contents old new (frame_bytes body)) → IfOk r (Writes contents old new t)
-  whole_written old new t i body (Ok written) is same takes =
-      subst (λ (own : Item). Writes contents old new t own) (sym same) (record { answer = body; is = is; written = takes })
-  whole_written old new t i body (Err fault) is same takes = tt
+  whole_written old new t i body (Ok written) is fits same takes =
+      subst (λ (own : Item). Writes contents old new t own) (sym same) (record { answer = body; is = is; fits = fits; written = takes })
+  whole_written old new t i body (Err fault) is fits same takes = tt
 
-  pub part_written : (old new : Sink W) (t : Told) (i : Item) (body : List ℕ) (r : Result Item SinkFault) → IsAnswer t i body
+  pub part_written : (old new : Sink W) (t : Told) (i : Item) (body : List ℕ) (r : Result Item SinkFault) → IsAnswer t i body → IsBody body
       → IfErr r (λ fault. SinkTakes contents old new (take fault.sent (frame_bytes body))) → IfErr r (λ fault. fault.sent < length (frame_bytes body))
       → OnErr r (sink_failed new ≡ true) → IfErr r (λ fault. WritesPart contents old new t fault.sent)
-  part_written old new t i body (Ok written) is takes part failed = tt
-  part_written old new t i body (Err fault) is takes part failed = record {
+  part_written old new t i body (Ok written) is fits takes part failed = tt
+  part_written old new t i body (Err fault) is fits takes part failed = record {
     item = i;
     answer = body;
     is = is;
+    fits = fits;
     part = part;
     written = takes;
     failed = failed;
@@ -54,9 +55,10 @@ abbrev turn_of : (body : List ℕ) (got : List Numbered) (i : Item) (answer : Li
 turn_of body got i answer = record { body = body; stamps = got; item = i; answer = answer }
 
 turn_is : (number : ℕ) (body : List ℕ) (share share' : ℕ) (old new : List Numbered) (t : Told) (i : Item) (answer : List ℕ)
-    → (told : GetsTold number body share old share' new t) → IsAnswer t i answer → IsTurn number (turn_of body told.got i answer)
-turn_is number body share share' old new t i answer told is = record {
+    → (told : GetsTold number body share old share' new t) → IsAnswer t i answer → IsBody answer → IsTurn number (turn_of body told.got i answer)
+turn_is number body share share' old new t i answer told is fits = record {
   own = told.gets.own;
+  fits = fits;
   says = says_of body told.got t i answer told.tells is;
 }
 
@@ -82,7 +84,7 @@ module _ {W : Type 0} (contents : W → Option (List ℕ)) where
   makes_turn number body before after old new t i told writes items = record {
     turn = turn_of body told.got i writes.answer;
     of = refl;
-    is = turn_is number body before.share after.share old.stamps new.stamps t i writes.answer told writes.is;
+    is = turn_is number body before.share after.share old.stamps new.stamps t i writes.answer told writes.is writes.fits;
     items = items;
     stamps = told.gets;
     written = writes.written;
@@ -95,7 +97,7 @@ module _ {W : Type 0} (contents : W → Option (List ℕ)) where
       subst (λ (f : WorkFault). StopsTurn contents number body before after old new f) (sym is) (record {
         turn = turn_of body told.got writes.item writes.answer;
         of = refl;
-        is = turn_is number body before.share after.share old.stamps new.stamps t writes.item writes.answer told writes.is;
+        is = turn_is number body before.share after.share old.stamps new.stamps t writes.item writes.answer told writes.is writes.fits;
         items = items;
         stamps = told.gets;
         part = writes.part;

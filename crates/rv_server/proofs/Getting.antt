@@ -1,13 +1,12 @@
 -- Stamps that are got for a frame, one behind the other.
 use Rattle.std.proofs.Common.{add-zero, ◌≡◌, ◌∙◌, ◌+◌, ◌++◌, ◌∷◌, ◌≤◌, [], ℕ, List, Err, Ok, OnErr, Result, ap, arith, refl, subst, sym, append-nil, append_assoc}
-use Rattle.std.specs.List.{All, sum_by}
-use Rattle.std.proofs.lemmas.List.Elements.{All-append, All-cons, All-nil}
+use Rattle.std.specs.List.{All}
+use Rattle.std.proofs.lemmas.List.Elements.{All-append, All-cons, All-head, All-nil, All-tail}
 use Rattle.std.proofs.lemmas.List.Sums.{sum_by-append, sum_by-cons}
 use Rattle.rv_text.specs.declared.answer.Answer.{Answer}
-use Rattle.rv_text.specs.Limits.{FitsAnswer}
-use Rattle.rv_server.specs.Asking.{Gets, GetsSome, GetsTold, OnlyWaited, Tells, Waits}
-use Rattle.rv_server.specs.Stamps.{Cover, Numbered, Stamped, added, added_by}
-use Rattle.rv_server.specs.Turns.{IsFor, IsWaiting, LastSays}
+use Rattle.rv_server.specs.Asking.{Cover, Gets, GetsSome, GetsTold, OnlyWaited, Tells, Waits}
+use Rattle.rv_server.specs.Stamps.{Covers, Numbered, Stamped, added, added_by}
+use Rattle.rv_server.specs.Turns.{IsFor, IsWaiting, LastSays, WaitsBetween}
 use Rattle.rv_server.specs.declared.asking.Told.{Told}
 use Rattle.rv_server.specs.declared.asking.Told.TheVariants.{BadText, NoMemory, Said}
 
@@ -23,10 +22,32 @@ cover_append own (stamp ∷ front) stamps covers more =
       cover_append (own + added_by stamp.1) front stamps covers.1 (subst (λ (n : ℕ). Cover n stamps) same more),
     )
 
+-- the stamp stands for an answer that waits
+abbrev AnswerWaits : Numbered → Type 0
+AnswerWaits stamp = IsWaiting stamp.1.said
+
+between_append : (front stamps : List Numbered) → All AnswerWaits front → WaitsBetween stamps → WaitsBetween (front ++ stamps)
+between_append [] stamps waited between = between
+between_append (stamp ∷ []) [] waited between = tt
+between_append (stamp ∷ []) (next ∷ stamps) waited between = (All-head AnswerWaits stamp [] waited, between)
+between_append (stamp ∷ next ∷ front) stamps waited between =
+    (All-head AnswerWaits stamp (next ∷ front) waited, between_append (next ∷ front) stamps (All-tail AnswerWaits stamp (next ∷ front) waited) between)
+
+covers_at : (own : ℕ) (front back : List Numbered) (stamp : Numbered) → Cover own (front ++ stamp ∷ back) → own + added front + added_by stamp.1 ≤ stamp.1.length
+covers_at own [] back stamp covers = subst (λ (n : ℕ). n + added_by stamp.1 ≤ stamp.1.length) (sym (add-zero own)) covers.0
+covers_at own (first ∷ front) back stamp covers =
+    let sum = sum_by-cons (λ (s : Numbered). added_by s.1) first front in
+    let so_far = covers_at (own + added_by first.1) front back stamp covers.1 in
+    let same : own + added (first ∷ front) ≡ own + added_by first.1 + added front = omega (arith, sum) in
+    subst (λ (n : ℕ). n + added_by stamp.1 ≤ stamp.1.length) (sym same) so_far
+
+pub covers_all : (own : ℕ) (stamps : List Numbered) → Cover own stamps → Covers own stamps
+covers_all own stamps covers front back stamp is = covers_at own front back stamp (subst (λ (l : List Numbered). Cover own l) is covers)
+
 pub nothing_got : (number : ℕ) (body : List ℕ) (share : ℕ) (old : List Numbered) → Gets number body share old share old []
 nothing_got number body share old = record {
   behind = sym (append-nil old);
-  own = All-nil (IsFor number body);
+  own = record { each = All-nil (IsFor number body); waited = tt };
   adds = omega arith;
   cover = tt;
 }
@@ -44,23 +65,22 @@ pub one_got : (number : ℕ) (body : List ℕ) (share share' : ℕ) (old : List 
     → share' ≡ share + added_by stamp → share' ≤ stamp.length → Gets number body share old share' (old ++ (number, stamp) ∷ []) ((number, stamp) ∷ [])
 one_got number body share share' old stamp own adds within = record {
   behind = refl;
-  own = All-cons (IsFor number body) (number, stamp) [] own (All-nil (IsFor number body));
+  own = record { each = All-cons (IsFor number body) (number, stamp) [] own (All-nil (IsFor number body)); waited = tt };
   adds = adds ∙ ap (λ (n : ℕ). share + n) (sym (sum_by-cons (λ (s : Numbered). added_by s.1) (number, stamp) [] ∙ add-zero (added_by stamp)));
   cover = (subst (λ (n : ℕ). n ≤ stamp.length) adds within, tt);
 }
 
-pub join_got : (number : ℕ) (body : List ℕ) (share share' share'' : ℕ) (old mid new got more : List Numbered)
-    → Gets number body share old share' mid got → Gets number body share' mid share'' new more → Gets number body share old share'' new (got ++ more)
-join_got number body share share' share'' old mid new got more first second = record {
+join_got : (number : ℕ) (body : List ℕ) (share share' share'' : ℕ) (old mid new got more : List Numbered)
+    → All AnswerWaits got → Gets number body share old share' mid got → Gets number body share' mid share'' new more → Gets number body share old share'' new (got ++ more)
+join_got number body share share' share'' old mid new got more waited first second = record {
   behind = second.behind ∙ ap (λ (l : List Numbered). l ++ more) first.behind ∙ append_assoc old got more;
-  own = All-append (IsFor number body) got more first.own second.own;
+  own = record {
+    each = All-append (IsFor number body) got more first.own.each second.own.each;
+    waited = between_append got more waited second.own.waited;
+  };
   adds = second.adds ∙ ap (λ (n : ℕ). n + added more) first.adds ∙ (let s = added_append got more in omega (arith, s));
   cover = cover_append share got more first.cover (subst (λ (n : ℕ). Cover n more) first.adds second.cover);
 }
-
--- the stamp stands for an answer that waits
-abbrev AnswerWaits : Numbered → Type 0
-AnswerWaits stamp = IsWaiting stamp.1.said
 
 last_behind : (front stamps : List Numbered) (answer : Answer) → All AnswerWaits front → LastSays stamps answer → LastSays (front ++ stamps) answer
 last_behind front stamps answer waited says = record {
@@ -87,7 +107,7 @@ pub told_behind : (number : ℕ) (body : List ℕ) (share share' share'' : ℕ) 
     → OnlyWaited number body share old share' mid → GetsTold number body share' mid share'' new told → GetsTold number body share old share'' new told
 told_behind number body share share' share'' old mid new told first second = record {
   got = first.got ++ second.got;
-  gets = join_got number body share share' share'' old mid new first.got second.got first.gets second.gets;
+  gets = join_got number body share share' share'' old mid new first.got second.got first.waited first.gets second.gets;
   tells = tells_behind body first.got second.got told first.waited second.tells;
 }
 
@@ -97,7 +117,7 @@ waits_behind : (number : ℕ) (body : List ℕ) (share share' share'' : ℕ) (ol
     → OnlyWaited number body share old share'' new
 waits_behind number body share share' share'' old mid new answer first waits second = record {
   got = first.got ++ second.got;
-  gets = join_got number body share share' share'' old mid new first.got second.got first.gets second.gets;
+  gets = join_got number body share share' share'' old mid new first.got second.got first.waited first.gets second.gets;
   waited = All-append AnswerWaits first.got second.got first.waited (all_wait second.got answer waits second.tells.0);
 }
 

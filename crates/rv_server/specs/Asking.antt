@@ -1,30 +1,36 @@
 -- What is got for one frame, by asking the desk for it once or more often.
-use Rattle.std.specs.Prelude.{ℕ, ◌≡◌, ◌+◌, ◌≤◌, ◌++◌, IfOk, List, Result}
+use Rattle.std.specs.Prelude.{ℕ, ◌≡◌, ◌+◌, ◌≤◌, ◌∷◌, ◌++◌, [], IfOk, List, Result}
 use Rattle.std.specs.List.{All}
 use Rattle.rv_text.specs.Limits.{FitsAnswer}
 use Rattle.rv_text.specs.declared.answer.Answer.{Answer}
 use Rattle.rv_text.specs.declared.message.Message.{Message}
-use Rattle.rv_server.specs.Stamps.{Cover, Numbered, Stamped, added, added_by}
-use Rattle.rv_server.specs.Turns.{IsFor, IsNoMessage, IsWaiting, LastSays}
+use Rattle.rv_server.specs.Stamps.{Numbered, Stamped, added, added_by}
+use Rattle.rv_server.specs.Turns.{AreFor, IsNoMessage, IsWaiting, LastSays}
 use Rattle.rv_server.specs.declared.asking.Told.{Told}
 use Rattle.rv_server.specs.declared.asking.Told.TheVariants.{BadText, NoMemory, Said}
 
--- the desk handled this message for the seat, and this is its stamp, with the stamp's answer, if its text found
--- memory
+-- the desk handled this message for the seat, and this is its stamp, with the stamp's answer, if its text
+-- found memory
 pub record IsAsked {S E : Type 0} (stamped : S → Stamped) (message : Message) (share share' : ℕ)
     (result : S × Result Answer E) : Type 0 where
   pub asked : (stamped result.0).asked ≡ message
   pub adds : share' ≡ share + added_by (stamped result.0)
   pub within : share' ≤ (stamped result.0).length
+  pub grows : (stamped result.0).before ≤ (stamped result.0).length
   pub said : IfOk result.1 (λ answer. answer ≡ (stamped result.0).said)
   pub fits : FitsAnswer (stamped result.0).said
 
--- for the frame of this number and body these stamps were got, behind those that were there, and they added to
--- the seat's share what they say
+-- the same as `Covers`, stamp by stamp
+abbrev pub Cover : ℕ → List Numbered → Type 0
+Cover own [] = Unit {0}
+Cover own (stamp ∷ stamps) = (own + added_by stamp.1 ≤ stamp.1.length) × Cover (own + added_by stamp.1) stamps
+
+-- for the frame of this number and body these stamps were got, behind those that were there, and they added
+-- to the seat's share what they say
 pub record Gets (number : ℕ) (body : List ℕ) (share : ℕ) (old : List Numbered) (share' : ℕ)
     (new got : List Numbered) : Type 0 where
   pub behind : new ≡ old ++ got
-  pub own : All (IsFor number body) got
+  pub own : AreFor number body got
   pub adds : share' ≡ share + added got
   pub cover : Cover share got
 

@@ -1,9 +1,9 @@
--- What the contracts cite.
+-- What a reader must agree with: all that the public contracts cite.
 pub mod Stamps
-pub mod Reading
 pub mod Turns
 pub mod Works
 -- What only private clauses and proofs cite.
+pub mod Reading
 pub mod Asking
 pub mod Writing
 pub mod Progress

@@ -1,17 +1,15 @@
 -- How far a worker has come, and what one frame more does.
 use Rattle.std.specs.Prelude.{ℕ, ◌≡◌, ◌+◌, ◌<◌, ◌∷◌, ◌++◌, [], List, Option, map, length, take, true}
-use Rattle.std.specs.Io.KnownBytes.{Consumes}
 use Rattle.rv_frame.specs.Cut.{frame_bytes, row_bytes}
 use Rattle.rv_frame.specs.Sink.{SinkTakes, sink_failed}
-use Rattle.rv_frame.specs.Source.{source_remaining}
 use Rattle.rv_frame.specs.Stream.{HasFed, Stream}
 use Rattle.rv_frame.specs.declared.sink.Sink.{Sink}
 use Rattle.rv_server.specs.declared.fault.WorkFault.{WorkFault}
 use Rattle.rv_server.specs.declared.fault.WorkFault.TheVariants.{NoMemory, WriteFault}
-use Rattle.rv_server.specs.Stamps.{Cover, Numbered, added}
+use Rattle.rv_server.specs.Stamps.{Numbered, added}
 use Rattle.rv_server.specs.Turns.{AreTurns, IsTurn, Turn, stamps_of}
-use Rattle.rv_server.specs.Asking.{Gets}
-use Rattle.rv_server.specs.Works.{Listed, Side}
+use Rattle.rv_server.specs.Asking.{Cover, Gets}
+use Rattle.rv_server.specs.Works.{Connection, Gives, Listed}
 
 -- where answers go: the sink, and the share of the seat
 pub record Out (W : Type 0) : Type 0 where
@@ -51,17 +49,19 @@ module _ {W : Type 0} (contents : W → Option (List ℕ)) where
     pub same : after.sink ≡ before.sink
 
   abbrev pub StopsTurn : ℕ → List ℕ → Out W → Out W → Listed → Listed → WorkFault → Type 0
-  StopsTurn number body before after old new (WriteFault sent) = BreaksTurn number body before after old new sent
+  StopsTurn number body before after old new (WriteFault sent) =
+      BreaksTurn number body before after old new sent
   StopsTurn number body before after old new NoMemory = LacksTurn number body before after old new
   StopsTurn number body before after old new _ = ⊥
 
 module _ {R W : Type 0} (remaining : R → Option (List ℕ)) (contents : W → Option (List ℕ)) where
   -- so many frames were answered, all that were taken of the stream
-  pub record Progress (before after : Side R W) (listed : Listed) (stream : Stream) (number : ℕ) : Type 0 where
+  pub record Progress (before after : Connection R W) (listed : Listed) (stream : Stream) (number : ℕ)
+      : Type 0 where
     pub bytes : List ℕ
     pub turns : List Turn
     pub count : length turns ≡ number
-    pub read : Consumes (source_remaining remaining before.source) (source_remaining remaining after.source) bytes
+    pub read : Gives remaining before.source after.source bytes
     pub fed : HasFed bytes (map (λ (turn : Turn). turn.body) turns) stream
     pub right : AreTurns 0 turns
     pub items : listed.items ≡ map (λ (turn : Turn). turn.item) turns

@@ -1,14 +1,15 @@
 -- What is read of a connection: bytes, the frames of their cut, and what follows these.
-use Rattle.std.specs.Prelude.{ℕ, ◌≡◌, ◌≢◌, ◌<◌, ◌++◌, ◌∷◌, [], List, Option, None, Some, Result, Ok, Err, Vec}
+use Rattle.std.specs.Prelude.{ℕ, ◌≡◌, ◌<◌, ◌++◌, ◌∷◌, [], List, Option, None, Some, Result, Ok, Err, Vec}
 use Rattle.std.specs.Prelude.{true}
 use Rattle.std.specs.declared.alloc.Global.{Global}
-use Rattle.std.specs.Io.KnownBytes.{Consumes, IsAtEnd, Keeps}
+use Rattle.std.specs.Io.KnownBytes.{Keeps}
 use Rattle.std.specs.List.{All}
 use Rattle.rv_frame.specs.Cut.{Bad, End, IsBody, Open}
 use Rattle.rv_frame.specs.Source.{source_failed, source_remaining}
 use Rattle.rv_frame.specs.Stream.{HasFed, IsOpen, Stream}
 use Rattle.rv_frame.specs.declared.source.ReadFault.{ReadFault as Fault}
 use Rattle.rv_frame.specs.declared.source.Source.{Source}
+use Rattle.rv_server.specs.Works.{Gives, HasEnded, IsCut}
 use Rattle.rv_server.specs.declared.fault.WorkFault.{WorkFault}
 use Rattle.rv_server.specs.declared.fault.WorkFault.TheVariants.{BadLength, CutFrame, NoMemory, ReadFault}
 use Rattle.rv_server.specs.declared.fault.WorkFault.TheVariants.{TooLong, WriteFault}
@@ -18,12 +19,6 @@ abbrev pub IsBadOf : Option ℕ → End → Type 0
 IsBadOf (Some n) end = end ≡ Bad n
 IsBadOf None (Open rest) = Unit {0}
 IsBadOf None (Bad n) = ⊥
-
--- the bytes of a frame that isn't whole
-pub record IsCut (end : End) : Type 0 where
-  pub rest : List ℕ
-  pub is : end ≡ Open rest
-  pub some : rest ≢ []
 
 -- what follows the whole frames are bytes
 abbrev pub FollowBytes : End → Type 0
@@ -47,7 +42,7 @@ module _ {R : Type 0} (remaining : R → Option (List ℕ)) where
   -- were taken
   pub record ReadsOn (before after : Source R) (old new : Stream) (more : List (List ℕ)) : Type 0 where
     pub bytes : List ℕ
-    pub gives : Consumes (source_remaining remaining before) (source_remaining remaining after) bytes
+    pub gives : Gives remaining before after bytes
     pub fed : (all : List ℕ) (taken : List (List ℕ)) → HasFed all taken old
         → HasFed (all ++ bytes) (taken ++ more) new
 
@@ -57,16 +52,12 @@ module _ {R : Type 0} (remaining : R → Option (List ℕ)) where
     pub all_taken : new.frames ≡ []
     pub left : IsLeft new.end
 
-  -- the source has nothing more
-  abbrev pub HasEnded : Source R → Type 0
-  HasEnded source = IsAtEnd (source_remaining remaining source)
-
   -- one byte was read, or none at the end; for the proofs
   abbrev pub ReadsByte : Source R → Source R → Result (Option ℕ) Fault → Type 0
   ReadsByte before after (Ok (Some byte)) =
-      Consumes (source_remaining remaining before) (source_remaining remaining after) (byte ∷ [])
+      Gives remaining before after (byte ∷ [])
   ReadsByte before after (Ok None) =
-      Consumes (source_remaining remaining before) (source_remaining remaining after) [] × HasEnded after
+      Gives remaining before after [] × HasEnded remaining after
   ReadsByte before after (Err fault) =
       Keeps (source_remaining remaining before) (source_remaining remaining after)
       × (source_failed after ≡ true)
@@ -78,10 +69,11 @@ module _ {R : Type 0} (remaining : R → Option (List ℕ)) where
   TakesFrame before after old new (Ok (Some body)) =
       ReadsOn before after old new (body.items ∷ []) × IsBody body.items
   TakesFrame before after old new (Ok None) =
-      ReadsOut before after old new (λ end. end ≡ Open []) × HasEnded after
+      ReadsOut before after old new (λ end. end ≡ Open []) × HasEnded remaining after
   TakesFrame before after old new (Err ReadFault) =
       ReadsOut before after old new (λ end. Unit {0}) × (source_failed after ≡ true)
-  TakesFrame before after old new (Err CutFrame) = ReadsOut before after old new IsCut × HasEnded after
+  TakesFrame before after old new (Err CutFrame) =
+      ReadsOut before after old new IsCut × HasEnded remaining after
   TakesFrame before after old new (Err (BadLength n)) = ReadsOut before after old new (λ end. end ≡ Bad n)
   TakesFrame before after old new (Err NoMemory) = (met : Stream) × ReadsOn before after old met []
   TakesFrame before after old new (Err (WriteFault sent)) = ⊥

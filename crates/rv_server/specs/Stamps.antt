@@ -1,11 +1,11 @@
 -- What a stamp shows of the one message that a desk handled, and what stamps in a row show.
-use Rattle.std.specs.Prelude.{◌-◌, ◌+◌, ◌≤◌, ◌∷◌, ℕ, List, [], map}
+use Rattle.std.specs.Prelude.{◌≡◌, ◌-◌, ◌+◌, ◌≤◌, ◌∷◌, ◌++◌, ℕ, List, map}
 use Rattle.std.specs.List.{sum_by}
 use Rattle.rv_text.specs.declared.message.Message.{Message}
 use Rattle.rv_text.specs.declared.answer.Answer.{Answer}
 
--- the message that was handled, the answer that the stamp stands for, and how many entries the desk had before
--- and after
+-- the message that was handled, the answer that the stamp stands for, and how many entries the desk had
+-- before and after
 pub record Stamped : Type 0 where
   pub asked : Message
   pub said : Answer
@@ -24,10 +24,11 @@ Numbered = ℕ × Stamped
 abbrev pub added : List Numbered → ℕ
 added = sum_by (λ (stamp : Numbered). added_by stamp.1)
 
--- each desk had at least the entries that a seat's own messages had added by then: so many before the first
-abbrev pub Cover : ℕ → List Numbered → Type 0
-Cover own [] = Unit {0}
-Cover own (stamp ∷ stamps) = (own + added_by stamp.1 ≤ stamp.1.length) × Cover (own + added_by stamp.1) stamps
+-- at each stamp the desk had at least the entries that the seat's own messages had added by then: so many
+-- before the first stamp, and those of the stamps up to this one
+abbrev pub Covers : ℕ → List Numbered → Type 0
+Covers own stamps = (front back : List Numbered) (stamp : Numbered) → stamps ≡ front ++ stamp ∷ back
+    → own + added front + added_by stamp.1 ≤ stamp.1.length
 
 -- what the stamps show
 abbrev pub shown : {S : Type 0} → (S → Stamped) → List (ℕ × S) → List Numbered

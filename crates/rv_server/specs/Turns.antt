@@ -1,5 +1,5 @@
 -- How a worker answers frames: one answer for each, in order, by the stamps that it got for it.
-use Rattle.std.specs.Prelude.{ℕ, ◌≡◌, ◌+◌, ◌∷◌, ◌++◌, [], List}
+use Rattle.std.specs.Prelude.{ℕ, ◌≡◌, ◌+◌, ◌≤◌, ◌∷◌, ◌++◌, [], List}
 use Rattle.std.specs.List.{All}
 use Rattle.rv_text.specs.declared.message.Message.{Message}
 use Rattle.rv_text.specs.declared.message.Key.{Key}
@@ -8,6 +8,7 @@ use Rattle.rv_text.specs.declared.answer.Answer.TheVariants.{Refused, Waiting}
 use Rattle.rv_text.specs.declared.answer.Refusal.{Refusal}
 use Rattle.rv_text.specs.declared.answer.Refusal.TheVariants as refusal
 use Rattle.rv_text.specs.Bodies.{IsMessageBody, answer_text}
+use Rattle.rv_frame.specs.Cut.{IsBody}
 use Rattle.rv_server.specs.Stamps.{Numbered}
 use Rattle.rv_server.specs.declared.served.Item.{Item}
 use Rattle.rv_server.specs.declared.served.Item.TheVariants.{BadText, NoMemory, Said}
@@ -24,8 +25,21 @@ abbrev pub IsWaiting : Answer → Type 0
 IsWaiting answer = (key : Key) × (answer ≡ Waiting key)
 
 -- the stamp was got for the frame of this number and body
-abbrev pub IsFor : ℕ → List ℕ → Numbered → Type 0
-IsFor number body stamp = (stamp.0 ≡ number) × IsMessageBody body stamp.1.asked
+pub record IsFor (number : ℕ) (body : List ℕ) (stamp : Numbered) : Type 0 where
+  pub number_is : stamp.0 ≡ number
+  pub asked : IsMessageBody body stamp.1.asked
+  pub grows : stamp.1.before ≤ stamp.1.length
+
+-- each stamp that another follows stands for an answer that waits
+abbrev pub WaitsBetween : List Numbered → Type 0
+WaitsBetween [] = Unit {0}
+WaitsBetween (stamp ∷ []) = Unit {0}
+WaitsBetween (stamp ∷ next ∷ stamps) = IsWaiting stamp.1.said × WaitsBetween (next ∷ stamps)
+
+-- the stamps were got for that frame, and asked for again only while the answer waited
+pub record AreFor (number : ℕ) (body : List ℕ) (stamps : List Numbered) : Type 0 where
+  pub each : All (IsFor number body) stamps
+  pub waited : WaitsBetween stamps
 
 -- the last of the stamps stands for this answer, and all before it for one that waits
 pub record LastSays (stamps : List Numbered) (answer : Answer) : Type 0 where
@@ -49,7 +63,8 @@ Says NoMemory body stamps answer = answer ≡ refused_text refusal.NoMemory
 Says Said body stamps answer = (said : Answer) × LastSays stamps said × (answer ≡ answer_text said)
 
 pub record IsTurn (number : ℕ) (turn : Turn) : Type 0 where
-  pub own : All (IsFor number turn.body) turn.stamps
+  pub own : AreFor number turn.body turn.stamps
+  pub fits : IsBody turn.answer
   pub says : Says turn.item turn.body turn.stamps turn.answer
 
 -- the turns, numbered from this number on

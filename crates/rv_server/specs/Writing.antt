@@ -3,7 +3,7 @@ use Rattle.std.specs.Prelude.{ℕ, ◌≡◌, ◌<◌, List, Option, length, tak
 use Rattle.rv_text.specs.Bodies.{answer_text}
 use Rattle.rv_text.specs.Limits.{FitsAnswer}
 use Rattle.rv_text.specs.declared.answer.Refusal.TheVariants as refusal
-use Rattle.rv_frame.specs.Cut.{frame_bytes}
+use Rattle.rv_frame.specs.Cut.{IsBody, frame_bytes}
 use Rattle.rv_frame.specs.Sink.{SinkTakes, sink_failed}
 use Rattle.rv_frame.specs.declared.sink.Sink.{Sink}
 use Rattle.rv_server.specs.Turns.{refused_text}
@@ -16,7 +16,8 @@ abbrev pub FitsTold : Told → Type 0
 FitsTold (told.Said answer) = FitsAnswer answer
 FitsTold _ = Unit {0}
 
--- the body that answers, and the item that stands for it: want of memory may take the place of an answer's text
+-- the body that answers, and the item that stands for it: want of memory may take the place of an answer's
+-- text
 abbrev pub IsAnswer : Told → Item → List ℕ → Type 0
 IsAnswer told item.NoMemory answer = answer ≡ refused_text refusal.NoMemory
 IsAnswer told.BadText item.BadText answer = answer ≡ refused_text refusal.BadText
@@ -27,6 +28,7 @@ module _ {W : Type 0} (contents : W → Option (List ℕ)) where
   pub record Writes (old new : Sink W) (told : Told) (item : Item) : Type 0 where
     pub answer : List ℕ
     pub is : IsAnswer told item answer
+    pub fits : IsBody answer
     pub written : SinkTakes contents old new (frame_bytes answer)
 
   -- the first bytes alone went out, so many, and not all
@@ -34,6 +36,7 @@ module _ {W : Type 0} (contents : W → Option (List ℕ)) where
     pub item : Item
     pub answer : List ℕ
     pub is : IsAnswer told item answer
+    pub fits : IsBody answer
     pub part : sent < length (frame_bytes answer)
     pub written : SinkTakes contents old new (take sent (frame_bytes answer))
     pub failed : sink_failed new ≡ true

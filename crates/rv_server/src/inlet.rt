@@ -29,7 +29,7 @@ impl Inlet {
     ghost use Rattle.std.specs.Prelude.{◌≡◌, ◌<◌, ◌∷◌, [], IfErr, IfOk, None, OnErr, OnOk};
     ghost use Rattle.rv_frame.specs.Cut.{Open};
     ghost use Rattle.rv_frame.specs.Stream.{Feeds, HasFed, IsOpen, rest_length};
-    ghost use Rattle.rv_server.specs.Reading.{IsCut};
+    ghost use Rattle.rv_server.specs.Works.{IsCut};
     ghost use Rattle.rv_server.specs.declared.fault.WorkFault.TheVariants.{CutFrame, NoMemory};
 
     /// An inlet of which nothing was read.

@@ -17,7 +17,9 @@ pub enum Item {
 /// every stamp that it got, with the number of its frame, from 0, in the order in which it got them.
 #[derive(Drop)]
 pub struct Served<D: Desk> {
+    /// One for each frame that was answered whole.
     pub items: Vec<Item>,
+    /// Each stamp, beside the number of its frame.
     pub stamps: Vec<(u32, D::Stamp)>,
 }
 

@@ -8,8 +8,8 @@ use crate::desk::Desk;
 use rv_text::{Answer, Message, NoMemory};
 use std::alloc::Global;
 use std::marker::Model;
-use std::sync::{Mutex, Wait};
 use std::sync::ledger::{Blank, Book, Ledger, Share};
+use std::sync::{Mutex, MutexGuard, Wait};
 use thiserror::Error;
 
 /// The most workers of a server.
@@ -50,7 +50,8 @@ impl<L: Ledger> Model for Seat<L> {
     ghost invariant = { λ seat. seat.share.parts ≡ 1 };
 }
 
-/// A desk behind its lock, which contracts see as the number of seats that were made for it.
+/// A desk behind its lock, which contracts see as the number of seats that were made for it. What the desk is
+/// when the lock is taken is known by its type alone: other workers may have had it.
 #[derive(Drop)]
 pub struct Shared<D: Desk, L: Ledger> {
     locked: Mutex<Locked<D, L>>,
@@ -83,6 +84,7 @@ pub fn serve_message<D: Desk, L: Ledger>(
     ensures before { (D.stamped result).before ≡ D.count locked.old }
     ensures length { (D.stamped result).length ≡ D.count locked.new }
     ensures share { seat.new ≡ seat.old + added_by (D.stamped result) }
+    ensures never_lower { D.count locked.old ≤ D.count locked.new }
     ensures within { seat.new ≤ D.count locked.new }
 {
     let Locked { desk, total } = locked;
@@ -114,7 +116,9 @@ impl<D: Desk, L: Ledger> Locked<D, L> {
 /// What a server leaves: its desk, and the number of the desk's entries.
 #[derive(Drop)]
 pub struct Closing<D: Desk> {
+    /// The desk, as the last message left it.
     pub desk: D,
+    /// The number of its entries.
     pub total: u64,
 }
 
@@ -125,6 +129,7 @@ pub struct ForeignSeat;
 
 impl<D: Desk, L: Ledger> Shared<D, L> {
     ghost use Rattle.std.specs.Prelude.{All};
+    ghost use Rattle.rv_server.specs.declared.shared.TheConstants.{MAX_WORKERS};
 
     /// A desk with no entries behind a lock, and one seat with the share 0 for each of 1 to 64 workers. The
     /// blank ledger has one part for each. Where memory is refused the desk is dropped.
@@ -138,7 +143,7 @@ impl<D: Desk, L: Ledger> Shared<D, L> {
         requires parts { blank.parts ≡ L.parts }
         requires made { blank.parts ≡ workers }
         requires some { 1 ≤ workers }
-        requires most { workers ≤ 64 }
+        requires most { workers ≤ MAX_WORKERS }
         requires empty { D.count desk ≡ 0 }
         ensures seats { IfOk result (λ opened. opened.0 ≡ workers) }
         ensures made { IfOk result (λ opened. vec_len opened.1 ≡ workers) }
@@ -159,6 +164,11 @@ impl<D: Desk, L: Ledger> Shared<D, L> {
         Ok((shared, seats))
     }
 
+    /// The desk, for as long as it is held. It waits while another holds it.
+    pub fn lock<T: Wait>(&self, rt: &T) -> MutexGuard<'_, Locked<D, L>> {
+        self.locked.lock(rt)
+    }
+
     // Has the desk handle one message, and makes its answer, under one hold of the lock.
     pub(crate) fn ask<T: Wait>(
         &self,
@@ -171,7 +181,7 @@ impl<D: Desk, L: Ledger> Shared<D, L> {
         requires { FitsMessage message }
         ensures { IsAsked D.stamped message seat.old seat.new result }
     {
-        self.locked.lock(rt).ask(alloc, seat, now, message)
+        self.lock(rt).ask(alloc, seat, now, message)
     }
 }
 

@@ -5,7 +5,7 @@ ghost use Rattle.rv_frame.specs.Cut.{frame_bytes};
 ghost use Rattle.rv_frame.specs.Sink.{SinkTakes, sink_failed};
 ghost use Rattle.rv_text.specs.declared.answer.Refusal.TheVariants as refusal;
 ghost use Rattle.rv_server.specs.Turns.{refused_text};
-ghost use Rattle.rv_server.specs.Works.{Works, listed, nothing, side};
+ghost use Rattle.rv_server.specs.Works.{Works, connection, listed, nothing};
 ghost use Rattle.rv_server.specs.Writing.{FitsTold, Writes, WritesPart};
 ghost use Rattle.rv_server.specs.Progress.{MakesTurn, StopsTurn, out};
 
@@ -58,11 +58,7 @@ fn write_item<W: Write>(sink: &mut Sink<W>, item: Item, body: &[u8]) -> Result<I
 }
 
 // Writes the frame that answers, and gives the item that stands for it.
-fn write_told<W: Write>(
-    alloc: Global,
-    sink: &mut Sink<W>,
-    told: &Told,
-) -> Result<Item, WriteFault>
+fn write_told<W: Write>(alloc: Global, sink: &mut Sink<W>, told: &Told) -> Result<Item, WriteFault>
     requires { FitsTold told.now }
     ensures whole { IfOk result (Writes W.contents sink.old sink.new told.now) }
     ensures part { IfErr result (λ fault. WritesPart W.contents sink.old sink.new told.now fault.sent) }
@@ -108,10 +104,10 @@ impl<'a, T: Wait, D: Desk, L: Ledger, C: Clock, G: Gate> Post<'a, T, D, L, C, G>
         served: &mut Served<D>,
     ) -> Result<(), WorkFault>
         requires { listed D.stamped served.old ≡ nothing }
-        ensures ok { OnOk result (Works R.remaining W.contents (side source.old sink.old seat.old)
-            (side source.new sink.new seat.new) (listed D.stamped served.new) None) }
+        ensures ok { OnOk result (Works R.remaining W.contents (connection source.old sink.old seat.old)
+            (connection source.new sink.new seat.new) (listed D.stamped served.new) None) }
         ensures fault { IfErr result (λ fault. Works R.remaining W.contents
-            (side source.old sink.old seat.old) (side source.new sink.new seat.new)
+            (connection source.old sink.old seat.old) (connection source.new sink.new seat.new)
             (listed D.stamped served.new) (Some fault)) }
     {
         let mut inlet = Inlet::new(self.alloc);
@@ -148,10 +144,10 @@ pub fn work<T: Wait, D: Desk, L: Ledger, C: Clock, G: Gate, R: Read, W: Write>(
     sink: &mut Sink<W>,
 ) -> Result<Served<D>, (Served<D>, WorkFault)>
     ensures ended { IfOk result (λ served. Works R.remaining W.contents
-        (side source.old sink.old seat.old) (side source.new sink.new seat.new)
+        (connection source.old sink.old seat.old) (connection source.new sink.new seat.new)
         (listed D.stamped served) None) }
     ensures stopped { IfErr result (λ stopped. Works R.remaining W.contents
-        (side source.old sink.old seat.old) (side source.new sink.new seat.new)
+        (connection source.old sink.old seat.old) (connection source.new sink.new seat.new)
         (listed D.stamped stopped.0) (Some stopped.1)) }
 {
     let post = Post {

@@ -14,7 +14,7 @@ pub returns-in_err-item-clause-fault : goal.returns-in_err-item-clause-fault
 returns-in_err-item-clause-fault g c =
     fault_gives c.from_residual-in_err-item.result (λ fault. fault ≡ WriteFault c.in_err-item.field-0.0.sent) _ c.from_residual-in_err-item.ensures.1
     (λ fault is. breaks_turn g.W.Write.contents c.args.number c.args.body.now _ _ _ _ c.in_ok-told.told _ fault is c.in_ok-told.ensures.told
-      c.in_err-item.ensures.part c.reserve.ensures.items)
+    c.in_err-item.ensures.part c.reserve.ensures.items)
 
 pub returns-clause-ok : goal.returns-clause-ok
 returns-clause-ok g c =
