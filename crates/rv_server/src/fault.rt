@@ -5,13 +5,15 @@ use rv_frame::{ReadFault, WriteFault};
 use std::alloc::AllocError;
 use thiserror::Error;
 
-/// Why [`work`](crate::work) stopped. The frames before the fault were answered.
+/// Why [`work`](crate::work) stopped. All frames before the fault were answered; where memory was refused, some
+/// that were read may not have been.
 #[derive(Clone, Copy, Debug, PartialEq, Eq, Error)]
 pub enum WorkFault {
-    /// 1: a read failed.
+    /// 1: a read failed, at this call or at an earlier one. The source has failed.
     #[error("a read of the connection failed")]
     ReadFault,
-    /// 2: a write failed, after so many bytes of one answer's frame.
+    /// 2: a write failed, at this call or at an earlier one, after so many bytes of one answer's frame. The
+    /// sink has failed.
     #[error("a write to the connection failed after {0} bytes of a frame")]
     WriteFault(usize),
     /// 3: the input ended in the middle of a frame.

@@ -14,7 +14,7 @@ pub enum Item {
 }
 
 /// What a worker tells of the frames of a connection: one item for each frame that was answered whole, and
-/// every stamp that it got, with the number of its frame, from 0, in the order in which it got them.
+/// the stamps that it got, with the numbers of their frames, from 0, in the order in which it got them.
 #[derive(Drop)]
 pub struct Served<D: Desk> {
     /// One for each frame that was answered whole.

@@ -131,8 +131,11 @@ impl<'a, T: Wait, D: Desk, L: Ledger, C: Clock, G: Gate> Post<'a, T, D, L, C, G>
 /// same message again, read anew from its body: at most 200 pauses, and then the last answer stands. Where
 /// memory was refused to the message or to the answer's text, [`NO_MEMORY_BODY`] is the answer.
 ///
-/// It waits for the lock, for the gate, and for what the source and the sink wait for. A [`WorkFault`] comes
-/// with what was done before it.
+/// At most 65,536 frames are answered. The seat's share rises by what the messages of the stamps added. A
+/// [`WorkFault`] comes with what was done before it; after a write fault each answer before it is out whole,
+/// and so many bytes of one more as the fault counts.
+///
+/// It waits for the lock, for the gate, and for what the source and the sink wait for.
 pub fn work<T: Wait, D: Desk, L: Ledger, C: Clock, G: Gate, R: Read, W: Write>(
     rt: &T,
     alloc: Global,
