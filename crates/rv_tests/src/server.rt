@@ -7,7 +7,6 @@ use rv_frame::testing::{TestReader, TestWriter};
 use rv_frame::{Sink, Source};
 use rv_server::{Clock, Gate, Item, Seat, Served, Shared, WorkFault, finish, work};
 use std::alloc::Global;
-use std::io;
 use std::io::{Read, Write};
 use std::marker::Brand;
 use std::process::Abort;
@@ -15,10 +14,9 @@ use std::sync::Wait;
 use std::sync::atomic::{AtomicBool, AtomicU64, Ordering};
 use std::sync::ledger::{Blank, Ledger};
 use std::test::Fail;
-use std::thread;
 use std::thread::Threads;
-use std::time;
 use std::time::Duration;
+use std::{io, thread, time};
 
 // The most turns of a wait, of a millisecond each.
 const MAX_TURNS: u64 = 10_000;
@@ -135,16 +133,20 @@ fn answer<W: Wait, L: Ledger, G: Gate>(
 ) -> Ended {
     let mut source = Source::new(reader);
     let mut sink = Sink::new(writer);
-    work(rt, alloc, shared, seat, &Still, gate, &mut source, &mut sink)
+    work(
+        rt,
+        alloc,
+        shared,
+        seat,
+        &Still,
+        gate,
+        &mut source,
+        &mut sink,
+    )
 }
 
 // The server's entries are as many, and those of its seats.
-fn closes<L: Ledger>(
-    rt: &impl Abort,
-    shared: Shared<Book, L>,
-    seats: Vec<Seat<L>>,
-    total: u64,
-) {
+fn closes<L: Ledger>(rt: &impl Abort, shared: Shared<Book, L>, seats: Vec<Seat<L>>, total: u64) {
     match finish(shared, seats) {
         Ok(closing) => assert_eq!(rt; closing.total, total),
         Err(_) => assert!(rt; false, "a seat is missing"),
@@ -295,6 +297,9 @@ fn two<L: Ledger + Send + Sync, R: Wait + Threads + Abort + time::Clock + Sync>(
 {
     let desk = Book::open(alloc, 1, 0)?;
     let (shared, mut seats) = Shared::<Book, L>::open(alloc, blank, desk, 2)?;
+    let (Some(mut first_seat), Some(mut second_seat)) = (seats.pop(), seats.pop()) else {
+        return Err(Fail::new("a seat is missing"));
+    };
     let meeting = Meeting {
         clock: rt,
         paused: Event::new(),
@@ -306,21 +311,40 @@ fn two<L: Ledger + Send + Sync, R: Wait + Threads + Abort + time::Clock + Sync>(
         writer: TestWriter::new(alloc, 50),
         whole: TAKES.answers.len(),
     };
-    let first_reader = TestReader::new(GIVES.sent, 1);
     let second_reader = LateReader {
         meeting: &meeting,
         reader: TestReader::new(TAKES.sent, 1),
     };
-    let (front, back) = seats.split_at_mut(1);
     let (first, second) = thread::join(
         rt,
-        || answer(rt, alloc, &shared, &mut front[0], &meeting, first_reader, &mut first_writer),
-        || answer(rt, alloc, &shared, &mut back[0], &meeting, second_reader, &mut second_writer),
+        || {
+            let reader = TestReader::new(GIVES.sent, 1);
+            answer(
+                rt,
+                alloc,
+                &shared,
+                &mut first_seat,
+                &meeting,
+                reader,
+                &mut first_writer,
+            )
+        },
+        || answer(
+            rt,
+            alloc,
+            &shared,
+            &mut second_seat,
+            &meeting,
+            second_reader,
+            &mut second_writer,
+        ),
     );
     GIVES.came(rt, &first, first_writer.taken());
     TAKES.came(rt, &second, second_writer.writer.taken());
     assert!(rt; !meeting.paused.is_late());
     assert!(rt; !meeting.answered.is_late());
+    seats.push(first_seat)?;
+    seats.push(second_seat)?;
     closes(rt, shared, seats, 4);
     Ok(())
 }
