@@ -6,7 +6,7 @@ use rv_book::Book;
 use rv_frame::testing::{TestReader, TestWriter};
 use rv_frame::{Sink, Source};
 use rv_server::{Clock, Gate, Item, Seat, Served, Shared, WorkFault, finish, work};
-use std::alloc::Global;
+use std::alloc::AllocGlobal;
 use std::io::{Read, Write};
 use std::marker::Brand;
 use std::process::Abort;
@@ -121,16 +121,16 @@ impl Row {
     }
 }
 
-// One worker on what the reader gives.
-fn answer<W: Wait, L: Ledger, G: Gate>(
-    rt: &W,
-    alloc: Global,
+// One worker answers what the reader gives.
+fn answer<T: Wait + AllocGlobal, L: Ledger, G: Gate, R: Read + Drop, W: Write>(
+    rt: &T,
     shared: &Shared<Book, L>,
     seat: &mut Seat<L>,
     gate: &G,
-    reader: impl Read + Drop,
-    writer: &mut (impl Write + Drop),
+    reader: R,
+    writer: &mut W,
 ) -> Ended {
+    let alloc = rt.alloc();
     let mut source = Source::new(reader);
     let mut sink = Sink::new(writer);
     work(
@@ -154,9 +154,8 @@ fn closes<L: Ledger>(rt: &impl Abort, shared: Shared<Book, L>, seats: Vec<Seat<L
 }
 
 // A server of one worker answers as the row says, and ends with so many entries.
-fn one<L: Ledger, R: Wait + Abort, G: Gate>(
+fn one<L: Ledger, R: Wait + Abort + AllocGlobal, G: Gate>(
     rt: &R,
-    alloc: Global,
     blank: Blank,
     gate: &G,
     row: &Row,
@@ -166,11 +165,12 @@ fn one<L: Ledger, R: Wait + Abort, G: Gate>(
     requires parts { blank.parts ≡ L.parts }
     requires made { blank.parts ≡ 1 }
 {
+    let alloc = rt.alloc();
     let desk = Book::open(alloc, 1, 0)?;
     let (shared, mut seats) = Shared::<Book, L>::open(alloc, blank, desk, 1)?;
     let reader = TestReader::new(row.sent, 1);
     let mut writer = TestWriter::new(alloc, 50);
-    let ended = answer(rt, alloc, &shared, &mut seats[0], gate, reader, &mut writer);
+    let ended = answer(rt, &shared, &mut seats[0], gate, reader, &mut writer);
     row.came(rt, &ended, writer.taken());
     closes(rt, shared, seats, total);
     Ok(())
@@ -181,7 +181,7 @@ fn a_request_that_waits_is_asked_again(rt: HostRuntime) -> Result<(), Fail> {
     let gate = Counting {
         pauses: AtomicU64::new(0),
     };
-    one::<Brand, HostRuntime, Counting>(&rt, rt.alloc(), Blank::new(1), &gate, &WAITS, 2)?;
+    one::<Brand, HostRuntime, Counting>(&rt, Blank::new(1), &gate, &WAITS, 2)?;
     assert_eq!(rt; gate.pauses.load(Ordering::SeqCst), 200);
     Ok(())
 }
@@ -192,7 +192,7 @@ fn other_frames_are_answered_at_once(rt: HostRuntime) -> Result<(), Fail> {
         pauses: AtomicU64::new(0),
     };
     for row in [IS_CUT, IS_BAD] {
-        one::<Brand, HostRuntime, Counting>(&rt, rt.alloc(), Blank::new(1), &gate, &row, 1)?;
+        one::<Brand, HostRuntime, Counting>(&rt, Blank::new(1), &gate, &row, 1)?;
     }
     assert_eq!(rt; gate.pauses.load(Ordering::SeqCst), 0);
     Ok(())
@@ -242,6 +242,16 @@ struct Meeting<'a, C> {
     answered: Event,
 }
 
+impl<'a, C> Meeting<'a, C> {
+    fn new(clock: &'a C) -> Meeting<'a, C> {
+        Meeting {
+            clock,
+            paused: Event::new(),
+            answered: Event::new(),
+        }
+    }
+}
+
 impl<'a, C: time::Clock> Gate for Meeting<'a, C> {
     fn pause(&self) {
         self.paused.comes();
@@ -285,71 +295,59 @@ impl<'a, C: time::Clock> Write for TellingWriter<'a, C> {
     }
 }
 
-// A server of two workers hands an item over, while the first of them pauses.
-fn two<L: Ledger + Send + Sync, R: Wait + Threads + Abort + time::Clock + Sync>(
+// Two workers hand an item over, while the first of them pauses.
+fn hand_over<L: Ledger + Send + Sync, R: Wait + Threads + Abort + AllocGlobal + time::Clock + Sync>(
     rt: &R,
-    alloc: Global,
+    shared: Shared<Book, L>,
+    mut first: Seat<L>,
+    mut second: Seat<L>,
+) -> Result<(), Fail> {
+    let alloc = rt.alloc();
+    let meeting = Meeting::new(rt);
+    let mut writer = TestWriter::new(alloc, 50);
+    let mut telling = TellingWriter {
+        meeting: &meeting,
+        writer: TestWriter::new(alloc, 50),
+        whole: TAKES.answers.len(),
+    };
+    let late = LateReader {
+        meeting: &meeting,
+        reader: TestReader::new(TAKES.sent, 1),
+    };
+    let (gave, took) = thread::join(
+        rt,
+        || {
+            let reader = TestReader::new(GIVES.sent, 1);
+            answer(rt, &shared, &mut first, &meeting, reader, &mut writer)
+        },
+        || answer(rt, &shared, &mut second, &meeting, late, &mut telling),
+    );
+    GIVES.came(rt, &gave, writer.taken());
+    TAKES.came(rt, &took, telling.writer.taken());
+    assert!(rt; !meeting.paused.is_late() && !meeting.answered.is_late());
+    closes(rt, shared, vec![in alloc; first, second]?, 4);
+    Ok(())
+}
+
+// A server of two workers ends with the entries of both.
+fn two<L: Ledger + Send + Sync, R: Wait + Threads + Abort + AllocGlobal + time::Clock + Sync>(
+    rt: &R,
     blank: Blank,
 ) -> Result<(), Fail>
     requires name { blank.name ≡ L.name }
     requires parts { blank.parts ≡ L.parts }
     requires made { blank.parts ≡ 2 }
 {
+    let alloc = rt.alloc();
     let desk = Book::open(alloc, 1, 0)?;
     let (shared, mut seats) = Shared::<Book, L>::open(alloc, blank, desk, 2)?;
-    let (Some(mut first_seat), Some(mut second_seat)) = (seats.pop(), seats.pop()) else {
-        return Err(Fail::new("a seat is missing"));
-    };
-    let meeting = Meeting {
-        clock: rt,
-        paused: Event::new(),
-        answered: Event::new(),
-    };
-    let mut first_writer = TestWriter::new(alloc, 50);
-    let mut second_writer = TellingWriter {
-        meeting: &meeting,
-        writer: TestWriter::new(alloc, 50),
-        whole: TAKES.answers.len(),
-    };
-    let second_reader = LateReader {
-        meeting: &meeting,
-        reader: TestReader::new(TAKES.sent, 1),
-    };
-    let (first, second) = thread::join(
-        rt,
-        || {
-            let reader = TestReader::new(GIVES.sent, 1);
-            answer(
-                rt,
-                alloc,
-                &shared,
-                &mut first_seat,
-                &meeting,
-                reader,
-                &mut first_writer,
-            )
-        },
-        || answer(
-            rt,
-            alloc,
-            &shared,
-            &mut second_seat,
-            &meeting,
-            second_reader,
-            &mut second_writer,
-        ),
-    );
-    GIVES.came(rt, &first, first_writer.taken());
-    TAKES.came(rt, &second, second_writer.writer.taken());
-    assert!(rt; !meeting.paused.is_late());
-    assert!(rt; !meeting.answered.is_late());
-    seats.push(first_seat)?;
-    seats.push(second_seat)?;
-    closes(rt, shared, seats, 4);
-    Ok(())
+    match (seats.pop(), seats.pop()) {
+        (Some(first), Some(second)) => hand_over(rt, shared, first, second),
+        _ => Err(Fail::new("a seat is missing")),
+    }
 }
 
 #[test]
 fn the_lock_is_free_in_a_pause(rt: HostRuntime) -> Result<(), Fail> {
-    two::<Brand, HostRuntime>(&rt, rt.alloc(), Blank::new(2))
+    two::<Brand, HostRuntime>(&rt, Blank::new(2))
 }
