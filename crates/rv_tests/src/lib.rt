@@ -18,6 +18,8 @@ mod pieces;
 #[cfg(test)]
 mod rows;
 #[cfg(test)]
+mod server;
+#[cfg(test)]
 mod texts;
 #[cfg(test)]
 mod worlds;
