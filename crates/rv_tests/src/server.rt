@@ -5,7 +5,10 @@ ghost use Rattle.std.specs.Prelude.{◌≡◌};
 use rv_book::Book;
 use rv_frame::testing::{TestReader, TestWriter};
 use rv_frame::{Sink, Source};
-use rv_server::{Clock, Gate, Item, Seat, Served, Shared, WorkFault, finish, work};
+use rv_server::{
+    Clock, ForeignSeat, Gate, Item, Seat, Served, Shared, WorkFault, finish, serve_message, work,
+};
+use rv_text::Message;
 use std::alloc::AllocGlobal;
 use std::io::{Read, Write};
 use std::marker::Brand;
@@ -21,12 +24,13 @@ use std::{io, thread, time};
 // The most turns of a wait, of a millisecond each.
 const MAX_TURNS: u64 = 10_000;
 
-// A clock that stands at 0.
-struct Still;
+// A clock that stands at a moment.
+#[derive(Clone, Copy)]
+struct Still(u64);
 
 impl Clock for Still {
     fn now(&self) -> u64 {
-        0
+        self.0
     }
 }
 
@@ -45,6 +49,7 @@ impl Gate for Counting {
 // What comes to one worker, and what is to become of it.
 #[derive(Clone, Copy)]
 struct Row {
+    moment: u64,
     sent: &'static [u8],
     answers: &'static [u8],
     items: &'static [Item],
@@ -53,6 +58,7 @@ struct Row {
 }
 
 const WAITS: Row = Row {
+    moment: 0,
     sent: b"\x00\x2b{\"client\":1,\"incarnation\":1,\"kind\":\"hello\"}\
         \x00\x6b{\"call\":\"take\",\"client\":1,\"epoch\":1,\"incarnation\":1,\
         \"kind\":\"request\",\"number\":1,\"queue\":3,\"wait\":\"forever\"}",
@@ -64,6 +70,7 @@ const WAITS: Row = Row {
 };
 
 const IS_CUT: Row = Row {
+    moment: 7,
     sent: b"\x00\x2b{\"client\":1,\"incarnation\":1,\"kind\":\"hello\"}\x00\x2b{",
     answers: b"\x00\x37{\"client\":1,\"epoch\":1,\"incarnation\":1,\"kind\":\"welcome\"}",
     items: &[Item::Said],
@@ -72,6 +79,7 @@ const IS_CUT: Row = Row {
 };
 
 const IS_BAD: Row = Row {
+    moment: 9,
     sent: b"\x00\x02{}\x00\x2b{\"client\":1,\"incarnation\":1,\"kind\":\"hello\"}",
     answers: b"\x00\x1b{\"code\":1,\"kind\":\"refused\"}\
         \x00\x37{\"client\":1,\"epoch\":1,\"incarnation\":1,\"kind\":\"welcome\"}",
@@ -81,6 +89,7 @@ const IS_BAD: Row = Row {
 };
 
 const GIVES: Row = Row {
+    moment: 0,
     sent: b"\x00\x2b{\"client\":1,\"incarnation\":1,\"kind\":\"hello\"}\
         \x00\x7a{\"call\":\"transfer\",\"client\":1,\"epoch\":1,\"incarnation\":1,\"item\":\"a\",\
         \"kind\":\"request\",\"number\":1,\"queue\":3,\"wait\":\"forever\"}",
@@ -93,6 +102,7 @@ const GIVES: Row = Row {
 };
 
 const TAKES: Row = Row {
+    moment: 0,
     sent: b"\x00\x2b{\"client\":2,\"incarnation\":1,\"kind\":\"hello\"}\
         \x00\x6b{\"call\":\"take\",\"client\":2,\"epoch\":1,\"incarnation\":1,\
         \"kind\":\"request\",\"number\":1,\"queue\":3,\"wait\":\"forever\"}",
@@ -121,11 +131,12 @@ impl Row {
     }
 }
 
-// One worker answers what the reader gives.
+// One worker answers what the reader gives, at this moment.
 fn answer<T: Wait + AllocGlobal, L: Ledger, G: Gate, R: Read + Drop, W: Write>(
     rt: &T,
     shared: &Shared<Book, L>,
     seat: &mut Seat<L>,
+    moment: u64,
     gate: &G,
     reader: R,
     writer: &mut W,
@@ -138,17 +149,27 @@ fn answer<T: Wait + AllocGlobal, L: Ledger, G: Gate, R: Read + Drop, W: Write>(
         alloc,
         shared,
         seat,
-        &Still,
+        &Still(moment),
         gate,
         &mut source,
         &mut sink,
     )
 }
 
-// The server's entries are as many, and those of its seats.
-fn closes<L: Ledger>(rt: &impl Abort, shared: Shared<Book, L>, seats: Vec<Seat<L>>, total: u64) {
+// The server's entries are as many, those of its seats, and the first is of this moment.
+fn closes<L: Ledger>(
+    rt: &impl Abort,
+    shared: Shared<Book, L>,
+    seats: Vec<Seat<L>>,
+    total: u64,
+    moment: u64,
+) {
     match finish(shared, seats) {
-        Ok(closing) => assert_eq!(rt; closing.total, total),
+        Ok(closing) => {
+            assert_eq!(rt; closing.total, total);
+            let first = closing.desk.account().entry(0);
+            assert!(rt; first.is_some_and(|entry| entry.moment == moment));
+        }
         Err(_) => assert!(rt; false, "a seat is missing"),
     }
 }
@@ -170,9 +191,10 @@ fn one<L: Ledger, R: Wait + Abort + AllocGlobal, G: Gate>(
     let (shared, mut seats) = Shared::<Book, L>::open(alloc, blank, desk, 1)?;
     let reader = TestReader::new(row.sent, 1);
     let mut writer = TestWriter::new(alloc, 50);
-    let ended = answer(rt, &shared, &mut seats[0], gate, reader, &mut writer);
+    let seat = &mut seats[0];
+    let ended = answer(rt, &shared, seat, row.moment, gate, reader, &mut writer);
     row.came(rt, &ended, writer.taken());
-    closes(rt, shared, seats, total);
+    closes(rt, shared, seats, total, row.moment);
     Ok(())
 }
 
@@ -318,14 +340,30 @@ fn hand_over<L: Ledger + Send + Sync, R: Wait + Threads + Abort + AllocGlobal + 
         rt,
         || {
             let reader = TestReader::new(GIVES.sent, 1);
-            answer(rt, &shared, &mut first, &meeting, reader, &mut writer)
+            answer(
+                rt,
+                &shared,
+                &mut first,
+                GIVES.moment,
+                &meeting,
+                reader,
+                &mut writer,
+            )
         },
-        || answer(rt, &shared, &mut second, &meeting, late, &mut telling),
+        || answer(
+            rt,
+            &shared,
+            &mut second,
+            TAKES.moment,
+            &meeting,
+            late,
+            &mut telling,
+        ),
     );
     GIVES.came(rt, &gave, writer.taken());
     TAKES.came(rt, &took, telling.writer.taken());
     assert!(rt; !meeting.paused.is_late() && !meeting.answered.is_late());
-    closes(rt, shared, vec![in alloc; first, second]?, 4);
+    closes(rt, shared, vec![in alloc; first, second]?, 4, 0);
     Ok(())
 }
 
@@ -350,4 +388,37 @@ fn two<L: Ledger + Send + Sync, R: Wait + Threads + Abort + AllocGlobal + time::
 #[test]
 fn the_lock_is_free_in_a_pause(rt: HostRuntime) -> Result<(), Fail> {
     two::<Brand, HostRuntime>(&rt, Blank::new(2))
+}
+
+// A message is handed over through the lock, and counts to its seat. All seats are asked for at the end.
+fn asks_for_all_seats<L: Ledger, R: Wait + Abort + AllocGlobal>(
+    rt: &R,
+    blank: Blank,
+) -> Result<(), Fail>
+    requires name { blank.name ≡ L.name }
+    requires parts { blank.parts ≡ L.parts }
+    requires made { blank.parts ≡ 2 }
+{
+    let alloc = rt.alloc();
+    let desk = Book::open(alloc, 1, 0)?;
+    let (shared, mut seats) = Shared::<Book, L>::open(alloc, blank, desk, 2)?;
+    let hello = Message::Hello {
+        client: 1,
+        incarnation: 1,
+    };
+    let _stamp = serve_message(&mut *shared.lock(rt), &mut seats[0], 7, hello);
+    let left_out = seats.pop().unwrap();
+    match finish(shared, seats) {
+        Ok(_) => Err(Fail::new("a seat was left out")),
+        Err((shared, mut seats, ForeignSeat)) => {
+            seats.push(left_out)?;
+            closes(rt, shared, seats, 1, 7);
+            Ok(())
+        }
+    }
+}
+
+#[test]
+fn all_seats_are_asked_for(rt: HostRuntime) -> Result<(), Fail> {
+    asks_for_all_seats::<Brand, HostRuntime>(&rt, Blank::new(2))
 }
