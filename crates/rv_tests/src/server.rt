@@ -360,9 +360,10 @@ fn hand_over<L: Ledger + Send + Sync, R: Wait + Threads + Abort + AllocGlobal + 
             &mut telling,
         ),
     );
+    assert!(rt; !meeting.paused.is_late(), "no worker paused");
+    assert!(rt; !meeting.answered.is_late(), "no answer came in a pause");
     GIVES.came(rt, &gave, writer.taken());
     TAKES.came(rt, &took, telling.writer.taken());
-    assert!(rt; !meeting.paused.is_late() && !meeting.answered.is_late());
     closes(rt, shared, vec![in alloc; first, second]?, 4, 0);
     Ok(())
 }
