@@ -27,7 +27,8 @@ pub record IsCut (end : End) : Type 0 where
 
 -- the source gave exactly these bytes, where what it has left is known, by its `R.remaining`
 abbrev pub Gives : {R : Type 0} → (R → Option (List ℕ)) → Source R → Source R → List ℕ → Type 0
-Gives remaining old new bytes = Consumes (source_remaining remaining old) (source_remaining remaining new) bytes
+Gives remaining old new bytes =
+    Consumes (source_remaining remaining old) (source_remaining remaining new) bytes
 
 -- the source has nothing more, by its `R.remaining`
 abbrev pub HasEnded : {R : Type 0} → (R → Option (List ℕ)) → Source R → Type 0

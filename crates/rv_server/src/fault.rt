@@ -5,8 +5,8 @@ use rv_frame::{ReadFault, WriteFault};
 use std::alloc::AllocError;
 use thiserror::Error;
 
-/// Why [`work`](crate::work) stopped. All frames before the fault were answered; where memory was refused, some
-/// that were read may not have been.
+/// Why [`work`](crate::work) stopped. All frames before the fault were answered; where memory was refused,
+/// some that were read may not have been.
 #[derive(Clone, Copy, Debug, PartialEq, Eq, Error)]
 pub enum WorkFault {
     /// 1: a read failed, at this call or at an earlier one. The source has failed.
