@@ -17,3 +17,6 @@ pub mod EventLists
 pub mod Partners
 pub mod TheHeadline
 pub mod Roomy
+pub mod Pairs
+pub mod Queries
+pub mod Telling

@@ -4,12 +4,17 @@
 
 mod clients;
 mod event;
+mod front;
 pub mod laws;
+mod lines;
+mod marks;
 mod packet;
 mod process;
 mod rule;
+mod rules;
 mod runs;
 mod seen;
+mod sessions;
 mod state;
 mod world;
 

@@ -1,0 +1,250 @@
+//! What an audit keeps of the entries that it has passed.
+ghost use Rattle.std.specs.Prelude.{◌≡◌, ◌↔◌, ◌<◌, ℕ, option_and_then, option_map, IfNone, IfSome, IsTrue, length};
+ghost use Rattle.rv_book.specs.Legal.{HasWaiting, SomethingDue, WaitsUnder};
+ghost use Rattle.rv_book.specs.declared.account.Act.TheVariants.{Hello};
+ghost use Rattle.rv_world.specs.Breaking.{IsNotNext, StartsNoNewer};
+ghost use Rattle.rv_book.specs.Steps.{own_moment};
+ghost use Rattle.rv_book.specs.Account.{call_at};
+ghost use Rattle.rv_book.specs.Waiting.{IsOldest, Met, OpenAt, SideAt, Waiting};
+ghost use Rattle.rv_text.specs.declared.call.Side.{Side};
+ghost use Rattle.rv_world.specs.Passed.{ArrivesWith, HasOlder, HasOne, IsArrivalOf, IsFront, IsSessionOf};
+ghost use Rattle.rv_world.specs.Passed.{IsOfSessionOf, WaitsOf, passed};
+ghost use Rattle.rv_world.specs.Sessions.{session_in};
+
+use crate::lines::Lines;
+use crate::marks::Marks;
+use crate::sessions::{Session, Sessions};
+use rv_book::{Account, Act, Place};
+use rv_text::{Call, Key, Side};
+use std::alloc::Global;
+
+// The entries that an audit has passed, as far as it has come: a legal account.
+#[derive(Drop)]
+pub(crate) struct Front<'a> {
+    account: &'a Account,
+    // The moment of the last entry, or the opening moment.
+    moment: u64,
+    // Of each place whether its arrival is in a pair or swap.
+    met: Vec<bool>,
+    lines: Lines,
+    // The places of those that wait, each under its limit, as far as a limit is below 2^64.
+    limits: Marks,
+    sessions: Sessions,
+}
+
+// Whether the act is the arrival of a request with this key.
+fn is_arrival_of(act: &Act, key: &Key) -> bool
+    ensures { IsTrue result ↔ IsArrivalOf act.now key.now }
+{
+    match act {
+        Act::Arrive { key: other, .. } => other == key,
+        Act::Hello { .. } | Act::Cancel { .. } | Act::Tick => false,
+    }
+}
+
+impl<'a> Front<'a> {
+
+    // Nothing was passed yet. It takes no memory yet.
+    pub(crate) fn empty(alloc: Global, account: &'a Account) -> Front<'a>
+        ensures account { result.account.now ≡ account.now }
+        ensures front { IsFront result }
+    {
+        Front {
+            account,
+            moment: account.opened(),
+            met: Vec::new(alloc),
+            lines: Lines::empty(alloc),
+            limits: Marks::empty(alloc),
+            sessions: Sessions::empty(alloc),
+        }
+    }
+
+    // How many entries were passed.
+    pub(crate) fn len(&self) -> usize
+        ensures { result ≡ length self.now.met.items }
+    {
+        self.met.len()
+    }
+
+    // The moment of the last entry, or the opening moment.
+    pub(crate) fn moment(&self) -> u64
+        requires { IsFront self.now }
+        ensures { result ≡ own_moment (passed self.now) }
+    {
+        self.moment
+    }
+
+    // Whether a waiting request has a limit at or below the moment.
+    pub(crate) fn has_due(&self, moment: u64) -> bool
+        requires { IsFront self.now }
+        ensures { IsTrue result ↔ SomethingDue (passed self.now).entries moment }
+    {
+        self.limits.least_until(moment).is_some()
+    }
+
+    // Whether an entry was passed at the place that is in no pair or swap.
+    pub(crate) fn is_free(&self, place: Place) -> bool
+        requires { IsFront self.now }
+        ensures { IsTrue result ↔ ((place < length (passed self.now).entries)
+            × (¬ Met (passed self.now).entries place)) }
+    {
+        self.met.get(place) == Some(&false)
+    }
+
+    // Whether an open arrival of the side stands at the place.
+    pub(crate) fn is_open(&self, side: Side, place: Place) -> bool
+        requires { IsFront self.now }
+        ensures { IsTrue result ↔ OpenAt (passed self.now).entries side place }
+    {
+        self.lines.has(side, place)
+    }
+
+    // The oldest open arrival of the side.
+    pub(crate) fn oldest(&self, side: Side) -> Option<Place>
+        requires { IsFront self.now }
+        ensures some { IfSome result (IsOldest (passed self.now).entries side) }
+        ensures none { IfNone result ((place : ℕ)
+            → ¬ OpenAt (passed self.now).entries side place) }
+    {
+        self.lines.oldest(side)
+    }
+
+    // The client's session, if it said a hello.
+    pub(crate) fn session(&self, client: u64) -> Option<Session>
+        requires { IsFront self.now }
+        ensures { IsSessionOf (passed self.now).entries client result }
+    {
+        self.sessions.of(client)
+    }
+
+    // The call of the arrival at a place, if one stands there.
+    pub(crate) fn call(&self, place: Place) -> Option<&Call>
+        ensures { option_map (λ c. c.now) result ≡ call_at self.now.account.now.account.entries place }
+    {
+        match &self.account.entry(place)?.act {
+            Act::Arrive { call, .. } => Some(call),
+            Act::Hello { .. } | Act::Cancel { .. } | Act::Tick => None,
+        }
+    }
+
+    // Whether a request waits at the place.
+    pub(crate) fn is_waiting(&self, place: Place) -> bool
+        requires { IsFront self.now }
+        ensures { IsTrue result ↔ Waiting (passed self.now).entries place }
+    {
+        match self.call(place) {
+            Some(call) => call.wait().is_some() && self.lines.has(call.side(), place),
+            None => false,
+        }
+    }
+
+    // Where the last request of the client arrived, if that may wait.
+    fn request(&self, client: u64) -> Option<Place>
+        ensures { result ≡ option_and_then (λ s. s.request) (session_in self.now.sessions client) }
+    {
+        self.sessions.of(client)?.request
+    }
+
+    // Where the request of the client waits, if one does.
+    pub(crate) fn waiting(&self, client: u64) -> Option<Place>
+        requires { IsFront self.now }
+        ensures some { IfSome result (WaitsOf (passed self.now).entries client) }
+        ensures none { IfNone result (¬ HasWaiting (passed self.now).entries client) }
+    {
+        match self.request(client) {
+            Some(place) => self.is_waiting(place).then_some(place),
+            None => None,
+        }
+    }
+
+    // Whether a request waits that has this key.
+    pub(crate) fn waits_under(&self, key: &Key) -> bool
+        requires { IsFront self.now }
+        ensures { IsTrue result ↔ WaitsUnder (passed self.now).entries key.now }
+    {
+        match self.waiting(key.client) {
+            Some(place) => self.has_key(place, key),
+            None => false,
+        }
+    }
+
+    // Whether the arrival at a place has this key.
+    fn has_key(&self, place: Place, key: &Key) -> bool
+        ensures { IsTrue result ↔ ArrivesWith self.now.account.now.account.entries key.now place }
+    {
+        match self.account.entry(place) {
+            Some(entry) => is_arrival_of(&entry.act, key),
+            None => false,
+        }
+    }
+
+    // Whether the client said a hello of this incarnation or a greater one.
+    pub(crate) fn reaches(&self, client: u64, incarnation: u64) -> bool
+        requires { IsFront self.now }
+        ensures { IsTrue result ↔ StartsNoNewer (passed self.now).entries (Hello client incarnation) }
+    {
+        match self.sessions.of(client) {
+            Some(session) => incarnation <= session.incarnation,
+            None => false,
+        }
+    }
+
+    // Whether the key has the account's epoch and its client's incarnation.
+    pub(crate) fn has_session(&self, key: &Key) -> bool
+        requires { IsFront self.now }
+        ensures { IsTrue result ↔ IsOfSessionOf (passed self.now) key.now }
+    {
+        match self.sessions.of(key.client) {
+            Some(session) => key.epoch == self.account.epoch() && key.incarnation == session.incarnation,
+            None => false,
+        }
+    }
+
+    // Whether the key's number isn't its session's last plus one.
+    pub(crate) fn is_not_next(&self, key: &Key) -> bool
+        requires { IsFront self.now }
+        ensures { IsTrue result ↔ IsNotNext (passed self.now).entries key.now }
+    {
+        match self.sessions.of(key.client) {
+            Some(session) => key.number <= session.last || key.number - session.last != 1,
+            None => key.number != 1,
+        }
+    }
+
+    // The side of the arrival at a place, if one was passed there.
+    pub(crate) fn side(&self, place: Place) -> Option<Side>
+        requires { IsFront self.now }
+        ensures some { IfSome result (λ side. SideAt (passed self.now).entries side place) }
+        ensures none { IfNone result ((side : Side) → ¬ SideAt (passed self.now).entries side place) }
+    {
+        if place >= self.met.len() {
+            return None;
+        }
+        match self.call(place) {
+            Some(call) => Some(call.side()),
+            None => None,
+        }
+    }
+
+    // Whether an open arrival of the side stands before the place.
+    pub(crate) fn has_older(&self, side: Side, place: Place) -> bool
+        requires { IsFront self.now }
+        ensures { IsTrue result ↔ HasOlder (passed self.now).entries side place }
+    {
+        match self.oldest(side) {
+            Some(first) => first < place,
+            None => false,
+        }
+    }
+
+    // Whether an arrival of the side is open anywhere.
+    pub(crate) fn has_one(&self, side: Side) -> bool
+        requires { IsFront self.now }
+        ensures { IsTrue result ↔ HasOne (passed self.now).entries side }
+    {
+        match self.oldest(side) {
+            Some(_) => true,
+            None => false,
+        }
+    }
+}
