@@ -20,3 +20,6 @@ pub mod Roomy
 pub mod Pairs
 pub mod Queries
 pub mod Telling
+pub mod RulesKept
+pub mod RulesSuffice
+pub mod ByRules
