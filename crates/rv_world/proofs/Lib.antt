@@ -23,3 +23,8 @@ pub mod Telling
 pub mod RulesKept
 pub mod RulesSuffice
 pub mod ByRules
+pub mod Closing
+pub mod Joining
+pub mod Firsts
+pub mod Touching
+pub mod Entering

@@ -40,7 +40,7 @@ some_due es limits moment None are fits some none = (
   λ yes_some. absurd (false≢true yes_some),
   λ due.
       let elapsed : due.1.limit ≤ moment = due.1.elapsed in
-      absurd (false≢true (sym (none due.1.limit due.0 elapsed) ∙ are.each due.1.limit due.0 (omega arith) (record { waits = due.1.waits; left = refl; has = due.1.has }))),
+      absurd (false≢true (sym (none due.1.limit due.0 elapsed) ∙ are.each due.1.limit due.0 (record { waits = due.1.waits; left = refl; has = due.1.has; fits = omega arith }))),
 )
 
 -- ---- lines

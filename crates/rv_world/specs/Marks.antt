@@ -1,13 +1,17 @@
 -- Sets of places, each under a number: what one has marked, and what one more or one less changes.
 use Rattle.std.specs.Prelude.{◌≡◌, ◌⊎◌, ◌≢◌, ◌≤◌, ◌<◌, ◌^◌, ℕ, Bool, true, false}
 use Rattle.std.specs.Ordering.{ordering_then, nat_cmp}
-use Rattle.std.specs.BTreeSet.{BTreeSet, contains}
+use Rattle.std.specs.BTreeSet.{BTreeSet, btree_set_len, contains}
 use Rattle.rv_world.specs.declared.marks.Marks.{Marks}
 
 -- whether the place is marked under the number
 abbrev pub marked : Marks → ℕ → ℕ → Bool
 marked m number place =
     contains (λ (x y : ℕ × ℕ). ordering_then (nat_cmp x.0 y.0) (nat_cmp x.1 y.1)) m.marks (number, place)
+
+-- how many are marked
+abbrev pub count_of : Marks → ℕ
+count_of m = btree_set_len m.marks
 
 -- one more is marked
 pub record Gains (old new : Marks) (number place : ℕ) : Type 0 where

@@ -2,6 +2,7 @@
 //! a time. The servers are the book, and the clients are those of the typed client.
 #![tactic(auto)]
 
+mod auditing;
 mod clients;
 mod event;
 mod front;
@@ -18,6 +19,7 @@ mod sessions;
 mod state;
 mod world;
 
+pub use auditing::audit;
 pub use event::Event;
 pub use packet::Packet;
 pub use rule::{Audit, Rule};

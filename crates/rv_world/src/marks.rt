@@ -1,5 +1,5 @@
 //! Sets of places, each under a number: that of a queue, of an exchanger, or a limit.
-ghost use Rattle.std.specs.Prelude.{◌≡◌, ℕ, false, IfNone, IfSome, OnErr, OnOk};
+ghost use Rattle.std.specs.Prelude.{◌≡◌, ◌<◌, ℕ, false, true, IfNone, IfSome, OnErr, OnOk};
 
 use rv_book::Place;
 use rv_text::NoMemory;
@@ -15,7 +15,7 @@ pub(crate) struct Marks {
 }
 
 impl Marks {
-    ghost use Rattle.rv_world.specs.Marks.{Gains, IsLeast, IsLowest, Loses, NoneUnder, NoneUntil, marked};
+    ghost use Rattle.rv_world.specs.Marks.{Gains, IsLeast, IsLowest, Loses, NoneUnder, NoneUntil, count_of, marked};
 
     // No place is marked. It takes no memory yet.
     pub(crate) fn empty(alloc: Global) -> Marks
@@ -45,7 +45,8 @@ impl Marks {
 
     // The place is no longer marked under the number.
     pub(crate) fn remove(&mut self, number: u64, place: Place)
-        ensures { Loses self.old self.new number place }
+        ensures loses { Loses self.old self.new number place }
+        ensures fewer { marked self.old number place ≡ true → count_of self.new < count_of self.old }
     {
         self.marks.remove(&(number, place));
     }

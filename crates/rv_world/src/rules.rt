@@ -286,7 +286,7 @@ fn swaps_nobody(front: &Front<'_>, entry: &Entry) -> bool
 // ---- all rules
 
 // Whether the entry breaks the rule.
-fn breaks(front: &Front<'_>, rule: Rule, entry: &Entry) -> bool
+pub(crate) fn breaks(front: &Front<'_>, rule: Rule, entry: &Entry) -> bool
     requires { IsFront front.now }
     ensures { IsTrue result ↔ BreaksBehind rule (passed front.now) entry.now }
 {

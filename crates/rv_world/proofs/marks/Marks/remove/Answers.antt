@@ -3,5 +3,5 @@ use Rattle.rv_world.specs.Marks.{Gains, IsLeast, IsLowest, Loses, NoneUnder, Non
 use Rattle.rv_world.proofs.Pairs.{loses}
 use Rattle.rv_world.proofs.marks.Marks.remove.Goals as goal
 
-pub returns : goal.returns
-returns c = loses c.args.self.now.marks c.remove.new.self c.args.number c.args.place c.remove.ensures.updates.0
+pub returns-clause-loses : goal.returns-clause-loses
+returns-clause-loses c = loses c.args.self.now.marks c.remove.new.self c.args.number c.args.place c.remove.ensures.updates.0
