@@ -5,7 +5,7 @@ use Rattle.std.proofs.lemmas.Bool.{cases_lt, cases_order}
 use Rattle.std.proofs.lemmas.List.{take-take}
 use Rattle.std.proofs.lemmas.Option.{none-some, same_Some, slice_get_past}
 use Rattle.rv_book.specs.declared.account.Entry.{Entry}
-use Rattle.rv_book.specs.Account.{Account}
+use Rattle.rv_book.specs.Account.{Account, Stored}
 use Rattle.rv_book.specs.Legal.{Legal, MayFollow, before}
 use Rattle.rv_book.proofs.Fronts.{Legal-before}
 use Rattle.rv_book.proofs.Places.{get-take, within}
@@ -39,19 +39,19 @@ stands_at S2 = refl
 
 -- a place of the list has the rule of that rank
 rank_at : (n : ℕ) (rule : Rule) → slice_get rules n ≡ Some rule → rank_of rule ≡ n
-rank_at 0 rule is = ap rank_of (sym (same_Some _ _ is))
-rank_at 1 rule is = ap rank_of (sym (same_Some _ _ is))
-rank_at 2 rule is = ap rank_of (sym (same_Some _ _ is))
-rank_at 3 rule is = ap rank_of (sym (same_Some _ _ is))
-rank_at 4 rule is = ap rank_of (sym (same_Some _ _ is))
-rank_at 5 rule is = ap rank_of (sym (same_Some _ _ is))
-rank_at 6 rule is = ap rank_of (sym (same_Some _ _ is))
-rank_at 7 rule is = ap rank_of (sym (same_Some _ _ is))
-rank_at 8 rule is = ap rank_of (sym (same_Some _ _ is))
-rank_at 9 rule is = ap rank_of (sym (same_Some _ _ is))
-rank_at 10 rule is = ap rank_of (sym (same_Some _ _ is))
-rank_at 11 rule is = ap rank_of (sym (same_Some _ _ is))
-rank_at n rule is = ?
+rank_at zero rule is = ap rank_of (sym (same_Some _ _ is))
+rank_at (suc zero) rule is = ap rank_of (sym (same_Some _ _ is))
+rank_at (suc (suc zero)) rule is = ap rank_of (sym (same_Some _ _ is))
+rank_at (suc (suc (suc zero))) rule is = ap rank_of (sym (same_Some _ _ is))
+rank_at (suc (suc (suc (suc zero)))) rule is = ap rank_of (sym (same_Some _ _ is))
+rank_at (suc (suc (suc (suc (suc zero))))) rule is = ap rank_of (sym (same_Some _ _ is))
+rank_at (suc (suc (suc (suc (suc (suc zero)))))) rule is = ap rank_of (sym (same_Some _ _ is))
+rank_at (suc (suc (suc (suc (suc (suc (suc zero))))))) rule is = ap rank_of (sym (same_Some _ _ is))
+rank_at (suc (suc (suc (suc (suc (suc (suc (suc zero)))))))) rule is = ap rank_of (sym (same_Some _ _ is))
+rank_at (suc (suc (suc (suc (suc (suc (suc (suc (suc zero))))))))) rule is = ap rank_of (sym (same_Some _ _ is))
+rank_at (suc (suc (suc (suc (suc (suc (suc (suc (suc (suc zero)))))))))) rule is = ap rank_of (sym (same_Some _ _ is))
+rank_at (suc (suc (suc (suc (suc (suc (suc (suc (suc (suc (suc zero))))))))))) rule is = ap rank_of (sym (same_Some _ _ is))
+rank_at (suc (suc (suc (suc (suc (suc (suc (suc (suc (suc (suc (suc n)))))))))))) rule is = absurd (none-some rule is)
 
 pub first_by_rank : (a : Account) (e : Entry) (o : Option Rule) → IfSome o (BreaksFirstOf rules a e) → IfSome o (BreaksFirst a e)
 first_by_rank a e None some = tt
@@ -103,6 +103,28 @@ all_passed a n legal none = subst (λ (es : List Entry). Legal (record { epoch =
 -- the next entry may be passed
 pub may_pass : (front : Front) (e : Entry) → IsFront front → slice_get front.account.now.account.entries (length front.met.items) ≡ Some e → BreaksNone (passed front) e → MayPass front e
 may_pass front e is there none = record { there = there; follows = may_follow (passed front) e is.legal none }
+
+-- ---- what a front tells, at the place that comes next
+
+module _ (front : Front) (a : Stored) (n : ℕ) (is : IsFront front) (same : front.account.now ≡ a) (at : n ≡ length front.met.items) where
+  next_there : (e : Entry) → Some e ≡ slice_get a.account.entries n → slice_get front.account.now.account.entries (length front.met.items) ≡ Some e
+  next_there e there =
+      ap (λ (s : Stored). slice_get s.account.entries (length front.met.items)) same ∙ ap (slice_get a.account.entries) (sym at) ∙ sym there
+
+  pub fault_told : (e : Entry) (rule : Rule) (place : ℕ) → place ≡ length front.met.items → Some e ≡ slice_get a.account.entries n → BreaksFirst (passed front) e rule → FirstFault a.account place rule
+  fault_told e rule place here there first =
+      subst (λ m. FirstFault a.account m rule) (sym here)
+      (subst (λ (s : Stored). FirstFault s.account (length front.met.items) rule) same
+      (first_fault front.account.now.account (length front.met.items) e rule is.legal (next_there e there) first))
+
+  pub next_may : (e : Entry) → Some e ≡ slice_get a.account.entries n → BreaksNone (passed front) e → MayPass front e
+  next_may e there none = may_pass front e is (next_there e there) none
+
+  pub legal_told : None ≡ slice_get a.account.entries n → Legal a.account
+  legal_told none =
+      let past : slice_get front.account.now.account.entries (length front.met.items) ≡ None =
+      ap (λ (s : Stored). slice_get s.account.entries (length front.met.items)) same ∙ ap (slice_get a.account.entries) (sym at) ∙ sym none in
+      subst (λ (s : Stored). Legal s.account) same (all_passed front.account.now.account (length front.met.items) is.legal past)
 
 -- ---- what is told
 

@@ -59,11 +59,13 @@ pub fn audit(alloc: Global, account: &Account) -> Result<Audit, NoMemory>
 {
     let mut front = Front::empty(alloc, account);
     while let Some(entry) = account.entry(front.len()) {
-        if let Some(rule) = first_broken(&front, entry) {
-            let place = front.len();
-            return Ok(Audit::Fault { place, rule });
+        match first_broken(&front, entry) {
+            Some(rule) => {
+                let place = front.len();
+                return Ok(Audit::Fault { place, rule });
+            }
+            None => front.pass(entry)?,
         }
-        front.pass(entry)?;
     }
     Ok(Audit::Legal)
 }

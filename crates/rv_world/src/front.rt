@@ -1,5 +1,5 @@
 //! What an audit keeps of the entries that it has passed.
-ghost use Rattle.std.specs.Prelude.{◌≡◌, ◌↔◌, ◌<◌, ◌++◌, ◌∷◌, [], ℕ, Some, true, false, None, option_and_then, option_map, IfNone, IfSome, IsTrue, OnOk, is_some, length};
+ghost use Rattle.std.specs.Prelude.{◌≡◌, ◌↔◌, ◌<◌, ◌^◌, ◌++◌, ◌∷◌, [], ℕ, Some, true, false, None, option_and_then, option_map, IfNone, IfSome, IsTrue, OnOk, is_some, length};
 ghost use Rattle.rv_book.specs.Calls.{Lasts, MayMeet, Stays};
 ghost use Rattle.rv_book.specs.Legal.{HasWaiting, MayFollow, SomethingDue, WaitsUnder};
 ghost use Rattle.rv_book.specs.declared.account.Act.TheVariants.{Hello, Tick};
@@ -464,6 +464,7 @@ impl<'a> Front<'a> {
         requires { IsFront self.old }
         ensures out { IsTakingOut self.old self.new moment }
         ensures none { NoneUntil self.new.limits moment }
+        ensures fits { moment < 2 ^ 64 }
     {
         while self.close_next(moment) {}
     }
