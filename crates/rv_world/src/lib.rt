@@ -3,6 +3,7 @@
 #![tactic(auto)]
 
 mod auditing;
+mod brings;
 mod clients;
 mod event;
 mod front;

@@ -1,4 +1,3 @@
-use Rattle.std.proofs.Common.{◌≡◌, ℕ, IfNone, IfSome, IsTrue, refl, sym, ap, ◌∙◌, subst, arith}
 use Rattle.rv_world.proofs.Telling.{for_nothing}
 use Rattle.rv_world.proofs.rules.ticks_for_nothing.Goals as goal
 

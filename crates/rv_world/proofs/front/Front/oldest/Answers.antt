@@ -1,4 +1,3 @@
-use Rattle.std.proofs.Common.{◌≡◌, ℕ, IfNone, IfSome, refl, sym, subst}
 use Rattle.rv_world.proofs.Queries.{nobody_there, oldest_there}
 use Rattle.rv_world.proofs.front.Front.oldest.Goals as goal
 

@@ -1,4 +1,4 @@
-use Rattle.std.proofs.Common.{◌≡◌, ℕ, IfNone, IfSome, IsTrue, refl, sym, ap, ◌∙◌, subst, arith}
+use Rattle.std.proofs.Common.{refl, sym, subst}
 use Rattle.rv_world.proofs.Telling.{reached}
 use Rattle.rv_world.specs.Passed.{IsSessionOf, passed}
 use Rattle.rv_world.proofs.front.Front.reaches.Goals as goal
