@@ -143,3 +143,20 @@ fn a_frame_is_written(rt: HostRuntime) {
         stops(&rt, rt.alloc(), b"BC", b"\x00\x02BC", room);
     }
 }
+
+// A device that takes all that it is given is asked once for this frame.
+fn leaves_at_once(rt: &impl Abort, alloc: Global, body: &[u8])
+    requires { IsBody body.now }
+{
+    let mut device = TestWriter::new(alloc, 10_000);
+    let mut sink = Sink::new(&mut device);
+    assert_eq!(rt; write_frame(&mut sink, body), Ok(()));
+    assert_eq!(rt; device.writes(), 1);
+    assert_eq!(rt; device.taken().len(), body.len() + 2);
+}
+
+#[test]
+fn a_frame_is_one_write(rt: HostRuntime) {
+    leaves_at_once(&rt, rt.alloc(), b"A");
+    leaves_at_once(&rt, rt.alloc(), &[b'x'; 4_096]);
+}
