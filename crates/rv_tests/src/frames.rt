@@ -86,6 +86,25 @@ fn a_bad_length_ends_the_frames(rt: HostRuntime) {
     assert_eq!(rt; frames.feed(b"\x10\x01"), Err(FrameFault::BadLength(4097)));
 }
 
+// The length bytes of the longest frame, and then in one piece its body, two frames, and a byte.
+#[test]
+fn a_piece_is_longer_than_a_frame(rt: HostRuntime) -> Result<(), Fail> {
+    let body = [b'x'; 4_096];
+    let mut piece = body.to_vec(rt.alloc())?;
+    piece.extend_from_slice(TWO_FRAMES)?;
+    piece.push(0)?;
+    let mut frames = Frames::new(rt.alloc());
+    assert_eq!(rt; frames.feed(b"\x10\x00"), Ok(()));
+    assert_eq!(rt; frames.rest(), 2);
+    assert_eq!(rt; frames.feed(&piece), Ok(()));
+    assert_eq!(rt; frames.rest(), 1);
+    for body in [body.as_slice(), b"A", b"BC"] {
+        gives(&rt, &mut frames, body);
+    }
+    gives_none(&rt, &mut frames);
+    Ok(())
+}
+
 // Where memory is refused, the same call once more.
 fn feed_again(frames: &mut Frames, piece: &[u8]) -> Result<(), FrameFault> {
     match frames.feed(piece) {
