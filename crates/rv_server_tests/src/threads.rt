@@ -1,13 +1,11 @@
-//! Workers of a server over bytes in memory: what they answer, how often they ask, and that a pause leaves
-//! the lock free.
+//! Workers of a server in threads: one that pauses leaves the lock free, and each counts what its own messages
+//! added.
 ghost use Rattle.std.specs.Prelude.{◌≡◌};
 
+use crate::run::{Row, Still, answer, closes};
 use rv_book::Book;
 use rv_frame::testing::{TestReader, TestWriter};
-use rv_frame::{Sink, Source};
-use rv_server::{
-    Clock, ForeignSeat, Gate, Item, Seat, Served, Shared, WorkFault, finish, serve_message, work,
-};
+use rv_server::{ForeignSeat, Gate, Item, Seat, Shared, finish, serve_message};
 use rv_text::Message;
 use std::alloc::AllocGlobal;
 use std::io::{Read, Write};
@@ -24,72 +22,7 @@ use std::{io, thread, time};
 // The most turns of a wait, of a millisecond each.
 const MAX_TURNS: u64 = 10_000;
 
-// A clock that stands at a moment.
-#[derive(Clone, Copy)]
-struct Still(u64);
-
-impl Clock for Still {
-    fn now(&self) -> u64 {
-        self.0
-    }
-}
-
-// A gate that counts its pauses.
-#[derive(Drop)]
-struct Counting {
-    pauses: AtomicU64,
-}
-
-impl Gate for Counting {
-    fn pause(&self) {
-        self.pauses.fetch_add(1, Ordering::SeqCst);
-    }
-}
-
-// What comes to one worker, and what is to become of it.
-#[derive(Clone, Copy)]
-struct Row {
-    moment: u64,
-    sent: &'static [u8],
-    answers: &'static [u8],
-    items: &'static [Item],
-    stamps: usize,
-    fault: Option<WorkFault>,
-}
-
-const WAITS: Row = Row {
-    moment: 0,
-    sent: b"\x00\x2b{\"client\":1,\"incarnation\":1,\"kind\":\"hello\"}\
-        \x00\x6b{\"call\":\"take\",\"client\":1,\"epoch\":1,\"incarnation\":1,\
-        \"kind\":\"request\",\"number\":1,\"queue\":3,\"wait\":\"forever\"}",
-    answers: b"\x00\x37{\"client\":1,\"epoch\":1,\"incarnation\":1,\"kind\":\"welcome\"}\
-        \x00\x42{\"client\":1,\"epoch\":1,\"incarnation\":1,\"kind\":\"waiting\",\"number\":1}",
-    items: &[Item::Said, Item::Said],
-    stamps: 202,
-    fault: None,
-};
-
-const IS_CUT: Row = Row {
-    moment: 7,
-    sent: b"\x00\x2b{\"client\":1,\"incarnation\":1,\"kind\":\"hello\"}\x00\x2b{",
-    answers: b"\x00\x37{\"client\":1,\"epoch\":1,\"incarnation\":1,\"kind\":\"welcome\"}",
-    items: &[Item::Said],
-    stamps: 1,
-    fault: Some(WorkFault::CutFrame),
-};
-
-const IS_BAD: Row = Row {
-    moment: 9,
-    sent: b"\x00\x02{}\x00\x2b{\"client\":1,\"incarnation\":1,\"kind\":\"hello\"}",
-    answers: b"\x00\x1b{\"code\":1,\"kind\":\"refused\"}\
-        \x00\x37{\"client\":1,\"epoch\":1,\"incarnation\":1,\"kind\":\"welcome\"}",
-    items: &[Item::BadText, Item::Said],
-    stamps: 1,
-    fault: None,
-};
-
-const GIVES: Row = Row {
-    moment: 0,
+const GIVES: Row<'static> = Row {
     sent: b"\x00\x2b{\"client\":1,\"incarnation\":1,\"kind\":\"hello\"}\
         \x00\x7a{\"call\":\"transfer\",\"client\":1,\"epoch\":1,\"incarnation\":1,\"item\":\"a\",\
         \"kind\":\"request\",\"number\":1,\"queue\":3,\"wait\":\"forever\"}",
@@ -101,8 +34,7 @@ const GIVES: Row = Row {
     fault: None,
 };
 
-const TAKES: Row = Row {
-    moment: 0,
+const TAKES: Row<'static> = Row {
     sent: b"\x00\x2b{\"client\":2,\"incarnation\":1,\"kind\":\"hello\"}\
         \x00\x6b{\"call\":\"take\",\"client\":2,\"epoch\":1,\"incarnation\":1,\
         \"kind\":\"request\",\"number\":1,\"queue\":3,\"wait\":\"forever\"}",
@@ -113,112 +45,6 @@ const TAKES: Row = Row {
     stamps: 2,
     fault: None,
 };
-
-// What a worker ended with.
-type Ended = Result<Served<Book>, (Served<Book>, WorkFault)>;
-
-impl Row {
-    // A worker ended with this, and wrote this.
-    fn came(&self, rt: &impl Abort, ended: &Ended, written: &[u8]) {
-        let (served, fault) = match ended {
-            Ok(served) => (served, None),
-            Err((served, fault)) => (served, Some(*fault)),
-        };
-        assert_eq!(rt; written, self.answers);
-        assert_eq!(rt; served.items.as_slice(), self.items);
-        assert_eq!(rt; served.stamps.len(), self.stamps);
-        assert_eq!(rt; fault, self.fault);
-    }
-}
-
-// One worker answers what the reader gives, at this moment.
-fn answer<T: Wait + AllocGlobal, L: Ledger, G: Gate, R: Read + Drop, W: Write>(
-    rt: &T,
-    shared: &Shared<Book, L>,
-    seat: &mut Seat<L>,
-    moment: u64,
-    gate: &G,
-    reader: R,
-    writer: &mut W,
-) -> Ended {
-    let alloc = rt.alloc();
-    let mut source = Source::new(reader);
-    let mut sink = Sink::new(writer);
-    work(
-        rt,
-        alloc,
-        shared,
-        seat,
-        &Still(moment),
-        gate,
-        &mut source,
-        &mut sink,
-    )
-}
-
-// The server's entries are as many, those of its seats, and the first is of this moment.
-fn closes<L: Ledger>(
-    rt: &impl Abort,
-    shared: Shared<Book, L>,
-    seats: Vec<Seat<L>>,
-    total: u64,
-    moment: u64,
-) {
-    match finish(shared, seats) {
-        Ok(closing) => {
-            assert_eq!(rt; closing.total, total);
-            let first = closing.desk.account().entry(0);
-            assert!(rt; first.is_some_and(|entry| entry.moment == moment));
-        }
-        Err(_) => assert!(rt; false, "a seat is missing"),
-    }
-}
-
-// A server of one worker answers as the row says, and ends with so many entries.
-fn one<L: Ledger, R: Wait + Abort + AllocGlobal, G: Gate>(
-    rt: &R,
-    blank: Blank,
-    gate: &G,
-    row: &Row,
-    total: u64,
-) -> Result<(), Fail>
-    requires name { blank.name ≡ L.name }
-    requires parts { blank.parts ≡ L.parts }
-    requires made { blank.parts ≡ 1 }
-{
-    let alloc = rt.alloc();
-    let desk = Book::open(alloc, 1, 0)?;
-    let (shared, mut seats) = Shared::<Book, L>::open(alloc, blank, desk, 1)?;
-    let reader = TestReader::new(row.sent, 1);
-    let mut writer = TestWriter::new(alloc, 50);
-    let seat = &mut seats[0];
-    let ended = answer(rt, &shared, seat, row.moment, gate, reader, &mut writer);
-    row.came(rt, &ended, writer.taken());
-    closes(rt, shared, seats, total, row.moment);
-    Ok(())
-}
-
-#[test]
-fn a_request_that_waits_is_asked_again(rt: HostRuntime) -> Result<(), Fail> {
-    let gate = Counting {
-        pauses: AtomicU64::new(0),
-    };
-    one::<Brand, HostRuntime, Counting>(&rt, Blank::new(1), &gate, &WAITS, 2)?;
-    assert_eq!(rt; gate.pauses.load(Ordering::SeqCst), 200);
-    Ok(())
-}
-
-#[test]
-fn other_frames_are_answered_at_once(rt: HostRuntime) -> Result<(), Fail> {
-    let gate = Counting {
-        pauses: AtomicU64::new(0),
-    };
-    for row in [IS_CUT, IS_BAD] {
-        one::<Brand, HostRuntime, Counting>(&rt, Blank::new(1), &gate, &row, 1)?;
-    }
-    assert_eq!(rt; gate.pauses.load(Ordering::SeqCst), 0);
-    Ok(())
-}
 
 // What one thread does and another waits for.
 #[derive(Drop)]
@@ -344,7 +170,7 @@ fn hand_over<L: Ledger + Send + Sync, R: Wait + Threads + Abort + AllocGlobal + 
                 rt,
                 &shared,
                 &mut first,
-                GIVES.moment,
+                &Still(0),
                 &meeting,
                 reader,
                 &mut writer,
@@ -354,7 +180,7 @@ fn hand_over<L: Ledger + Send + Sync, R: Wait + Threads + Abort + AllocGlobal + 
             rt,
             &shared,
             &mut second,
-            TAKES.moment,
+            &Still(0),
             &meeting,
             late,
             &mut telling,
@@ -364,7 +190,12 @@ fn hand_over<L: Ledger + Send + Sync, R: Wait + Threads + Abort + AllocGlobal + 
     assert!(rt; !meeting.answered.is_late(), "no answer came in a pause");
     GIVES.came(rt, &gave, writer.taken());
     TAKES.came(rt, &took, telling.writer.taken());
-    closes(rt, shared, vec![in alloc; first, second]?, 4, 0);
+    closes(
+        rt,
+        shared,
+        vec![in alloc; first, second]?,
+        [0, 0, 0, 0].as_slice(),
+    );
     Ok(())
 }
 
@@ -413,7 +244,7 @@ fn asks_for_all_seats<L: Ledger, R: Wait + Abort + AllocGlobal>(
         Ok(_) => Err(Fail::new("a seat was left out")),
         Err((shared, mut seats, ForeignSeat)) => {
             seats.push(left_out)?;
-            closes(rt, shared, seats, 1, 7);
+            closes(rt, shared, seats, [7].as_slice());
             Ok(())
         }
     }
