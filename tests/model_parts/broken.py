@@ -1,7 +1,8 @@
 """Accounts that are broken by hand: behind entries that make a legal account, each last entry breaks this rule, or none."""
 from dataclasses import replace
 
-from .account import Account, Call, Cancel, Entry, Hello, Key, Request, Tick, first_fault
+from .account import Account, Call, Cancel, Entry, Hello, Key, Request, Tick
+from .audit import audit
 
 
 def hello(client, incarnation):
@@ -168,6 +169,6 @@ def broken_faults():
     """Each account by its last entry, with what is wrong with the rule that is found, if something is."""
     for opened, first, lasts in BROKEN:
         for last, rule in lasts:
-            found = first_fault(Account(1, opened, (*first, last)))
+            found = audit(Account(1, opened, (*first, last)))
             expected = rule and (len(first), rule)
             yield f"behind {len(first)} entries, {last}", None if found == expected else f"got {found}, not {rule}"

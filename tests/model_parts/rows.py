@@ -9,7 +9,8 @@ a reply's word and members, or `{..`, the text itself.
 import json
 import re
 
-from model_parts.account import Account, Call, Entry, Hello, Key, Request, Tick, first_fault
+from model_parts.account import Account, Call, Entry, Hello, Key, Request, Tick
+from model_parts.audit import audit
 from model_parts.steps import WHOLE, told
 from model_parts.texts import written
 from model_parts.world import World, world_fault
@@ -458,7 +459,7 @@ def row_fault(epoch, lines):
         account, got = told(account, line.encode(), WHOLE)
         if got != expected:
             return f"{line}: got {got}"
-    fault = first_fault(account) if len(account.entries) < 100 else None
+    fault = audit(account) if len(account.entries) < 100 else None
     return f"the account breaks a rule: {fault}" if fault else None
 
 
@@ -480,5 +481,5 @@ def row_faults():
     for name, epoch, lines in ROWS:
         yield name, row_fault(epoch, lines)
     for *change, expected in AUDITS:
-        got = first_fault(audited(*change))
+        got = audit(audited(*change))
         yield f"audit {change}", None if got == expected else f"got {got}, not {expected}"
