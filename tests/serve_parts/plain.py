@@ -12,6 +12,8 @@ from serve_parts.wire import (
 
 GREATEST = 2**53 - 1
 FRAMES = 65_536
+# How many wait at once: one after another, with a second each, they would take so many seconds.
+WAITING = 40
 
 
 def a_hand_over(program):
@@ -64,6 +66,34 @@ def a_request_that_waits_alone(program):
             peer.expect(request(fourth, give("transfer", "a", 300)), replied(fourth, reply="timedout"))
         asked = {first: take("forever"), second: take(20), third: take("forever"), fourth: give("transfer", "a", 300)}
         server.judged(asked, [(first, {"reply": "cancelled"}), (second, {"reply": "timedout"})])
+
+
+def many_that_wait(program):
+    """Requests that wait at once, each in a connection of its own, wait beside each other: were the book locked while
+    one pauses, the last would be told so much later. Then each gets one of as many items."""
+    with Server(program, workers=WAITING + 1, connections=WAITING + 1) as server:
+        keys = [Key(1, client, 1, 1) for client in range(1, WAITING + 1)]
+        peers = [server.greeted(key.client) for key in keys]
+        began = time.monotonic()
+        for peer, key in zip(peers, keys):
+            peer.send(frame(request(key, take("forever"))))
+        for peer, key in zip(peers, keys):
+            got = peer.hear()
+            demand(got == waits(key), f"{key} was answered {got!r}")
+        took = time.monotonic() - began
+        demand(took < WAITING / 5, f"{WAITING} requests that wait were told so after {took:.1f} seconds")
+        giver, asked, told = 1_000, {key: take("forever") for key in keys}, []
+        with server.greeted(giver) as peer:
+            for number in range(1, WAITING + 1):
+                key = Key(1, giver, 1, number)
+                asked[key] = give("put", f"item {number}")
+                peer.expect(request(key, asked[key]), replied(key, reply="done"))
+        for peer, key in zip(peers, keys):
+            told.append((key, reply_of(peer.told(request(key, asked[key])))))
+            peer.close()
+        items = sorted(reply.get("item", "") for _, reply in told)
+        demand(items == sorted(f"item {number}" for number in range(1, WAITING + 1)), f"they got {items}")
+        server.judged(asked, told)
 
 
 def a_new_incarnation(program):
@@ -299,6 +329,8 @@ def bad_words(program):
         ends_so(program, call_words(**options), 1, b"address fault\n")
 
 
-CASES = [a_hand_over, a_consumer_that_waits, a_request_that_waits_alone, a_new_incarnation, long_texts, ends_of_connections,
-         too_many_frames, its_connections, a_late_client, a_silent_peer, many_at_once, a_port_that_is_taken, nobody_listens,
-         addresses, bad_words]
+CASES = [
+    a_hand_over, a_consumer_that_waits, a_request_that_waits_alone, many_that_wait, a_new_incarnation, long_texts,
+    ends_of_connections, too_many_frames, its_connections, a_late_client, a_silent_peer, many_at_once,
+    a_port_that_is_taken, nobody_listens, addresses, bad_words,
+]
