@@ -12,6 +12,8 @@ from serve_parts.wire import (
 
 GREATEST = 2**53 - 1
 FRAMES = 65_536
+# Requests in a row, and how long a system waits before it acknowledges a packet with none of its own, in seconds.
+EXCHANGES, DELAY = 300, 0.04
 # How many wait at once: one after another, with a second each, they would take so many seconds.
 WAITING = 40
 
@@ -173,6 +175,19 @@ def too_many_frames(program):
         demand(account is None or len(account.entries) == 1, "the account has other than one entry")
 
 
+def no_packet_waits(program):
+    """A request costs one exchange of packets: none of an answer waits until the one before it was acknowledged."""
+    with Server(program, workers=1, connections=1) as server:
+        with server.greeted(1) as peer:
+            began = time.monotonic()
+            for number in range(1, EXCHANGES + 1):
+                key = Key(1, 1, 1, number)
+                peer.expect(request(key, give("put", "a")), replied(key, reply="done"))
+            took = time.monotonic() - began
+        demand(took < EXCHANGES * DELAY / 2, f"{EXCHANGES} requests took {took:.1f} seconds")
+        server.ended()
+
+
 def its_connections(program):
     """A server ends after its connections, and not before; with none it ends at once."""
     for count in (0, 1, 5):
@@ -264,6 +279,40 @@ def nobody_listens(program):
         os.close(write)
 
 
+def broken_input():
+    """An input whose reading fails: a connection that the other end has reset."""
+    with socket.create_server(("127.0.0.1", 0)) as listener:
+        broken = socket.create_connection(listener.getsockname())
+        Peer(listener.accept()[0]).reset()
+    return broken
+
+
+def broken_streams(program):
+    """A caller whose input can't be read asks nothing; where printing fails it says so, and so does a server that prints
+    its account."""
+    prints = subprocess.run([program, *serve_words()], input=b"", capture_output=True, timeout=PATIENCE).stdout
+    with Server(program, workers=1, connections=2) as server:
+        server.greeted(1).close()
+        words = call_words(connect=f"127.0.0.1:{server.port}")
+        with broken_input() as broken:
+            ran = subprocess.run([program, *words], stdin=broken, capture_output=True, timeout=PATIENCE)
+        judge(words, ran, 1, b"run fault 1\n")
+        account = server.ended()
+        demand(account is None or len(account.entries) == 1, "the account has other than one entry")
+    with Server(program, workers=1, connections=2) as server, open("/dev/full", "wb") as full:
+        server.greeted(2).close()
+        words = call_words(connect=f"127.0.0.1:{server.port}")
+        text = b'{"call":"put","item":"a","queue":3}\n' * 2
+        ran = subprocess.run([program, *words], input=text, stdout=full, stderr=subprocess.PIPE, timeout=PATIENCE)
+        demand((ran.returncode, ran.stderr) == (1, b"run fault 2\n"), f"a caller that can't print: {ran}")
+        account = server.ended()
+        demand(account is None or len(account.entries) == 3, "a caller that can't print goes on, or did not ask")
+    with open("/dev/full", "wb") as full:
+        ran = subprocess.run([program, *serve_words()], input=b"", stdout=full, stderr=subprocess.PIPE, timeout=PATIENCE)
+    wanted = (1, b"run fault 2\n") if prints else (0, b"")
+    demand((ran.returncode, ran.stderr) == wanted, f"a server that can't print its account: {ran}")
+
+
 def addresses(program):
     """Addresses that are none."""
     for text in ["127.0.0.1", "127.0.0.1:", ":", "", "127.0.0.1:65536", "127.0.0.1:99999", "127.0.0.1:x", "127.0.0.1:-1",
@@ -331,6 +380,6 @@ def bad_words(program):
 
 CASES = [
     a_hand_over, a_consumer_that_waits, a_request_that_waits_alone, many_that_wait, a_new_incarnation, long_texts,
-    ends_of_connections, too_many_frames, its_connections, a_late_client, a_silent_peer, many_at_once,
-    a_port_that_is_taken, nobody_listens, addresses, bad_words,
+    ends_of_connections, too_many_frames, no_packet_waits, its_connections, a_late_client, a_silent_peer, many_at_once,
+    a_port_that_is_taken, nobody_listens, broken_streams, addresses, bad_words,
 ]
