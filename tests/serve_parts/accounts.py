@@ -73,6 +73,8 @@ def account_fault(account, asked, told):
     for entry in account.entries:
         if isinstance(entry.act, Request) and asked.get(entry.act.key) != call_members(entry.act.call):
             return f"{entry.act} was not asked"
+        if isinstance(entry.act, Cancel) and entry.act.key not in asked:
+            return f"{entry.act} was not asked"
     for key, members in told:
         if reply(account.entries, key) != members:
             return f"{key} was told {members}, and {reply(account.entries, key)} stands"

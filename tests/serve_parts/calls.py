@@ -16,6 +16,9 @@ WELCOME, WAITS = frame(welcome(2)), frame(waits(ONE))
 ITEM = replied(ONE, reply="item", item="a")
 ANSWER = frame(ITEM)
 
+# Requests in a row, and how long a system waits before it acknowledges a packet with none of its own, in seconds.
+EXCHANGES, DELAY = 300, 0.04
+
 
 def lines(*calls):
     """The call texts of these calls, a line each."""
@@ -235,4 +238,17 @@ def lines_of_calls(program):
                 [HELLO, *PUT_FRAMES[:2]])
 
 
-CASES = [two_callers, a_line_as_soon_as_it_is_settled, settled_in_turn, started_again, strange_servers, lines_of_calls]
+def no_packet_waits(program):
+    """A request leaves in one piece, or else no part of it waits until the one before it was acknowledged."""
+    keys = [Key(1, 2, 1, number) for number in range(1, EXCHANGES + 1)]
+    bodies = [request(key, PUTS[0]) for key in keys]
+    done = [replied(key, reply="done") for key in keys]
+    began = time.monotonic()
+    at_a_script(program, [WELCOME, *map(frame, done)], lines(*PUTS[:1] * EXCHANGES), 3,
+                b"".join(line + b"\n" for line in done), 0, [HELLO, *bodies])
+    took = time.monotonic() - began
+    demand(took < EXCHANGES * DELAY / 2, f"{EXCHANGES} requests took {took:.1f} seconds")
+
+
+CASES = [two_callers, a_line_as_soon_as_it_is_settled, settled_in_turn, started_again, strange_servers, lines_of_calls,
+         no_packet_waits]

@@ -12,6 +12,10 @@ from serve_parts.wire import (
 
 GREATEST = 2**53 - 1
 FRAMES = 65_536
+# Requests in a row, and how long a system waits before it acknowledges a packet with none of its own, in seconds.
+EXCHANGES, DELAY = 300, 0.04
+# How many wait at once: one after another, with a second each, they would take so many seconds.
+WAITING = 40
 
 
 def a_hand_over(program):
@@ -64,6 +68,34 @@ def a_request_that_waits_alone(program):
             peer.expect(request(fourth, give("transfer", "a", 300)), replied(fourth, reply="timedout"))
         asked = {first: take("forever"), second: take(20), third: take("forever"), fourth: give("transfer", "a", 300)}
         server.judged(asked, [(first, {"reply": "cancelled"}), (second, {"reply": "timedout"})])
+
+
+def many_that_wait(program):
+    """Requests that wait at once, each in a connection of its own, wait beside each other: were the book locked while
+    one pauses, the last would be told so much later. Then each gets one of as many items."""
+    with Server(program, workers=WAITING + 1, connections=WAITING + 1) as server:
+        keys = [Key(1, client, 1, 1) for client in range(1, WAITING + 1)]
+        peers = [server.greeted(key.client) for key in keys]
+        began = time.monotonic()
+        for peer, key in zip(peers, keys):
+            peer.send(frame(request(key, take("forever"))))
+        for peer, key in zip(peers, keys):
+            got = peer.hear()
+            demand(got == waits(key), f"{key} was answered {got!r}")
+        took = time.monotonic() - began
+        demand(took < WAITING / 5, f"{WAITING} requests that wait were told so after {took:.1f} seconds")
+        giver, asked, told = 1_000, {key: take("forever") for key in keys}, []
+        with server.greeted(giver) as peer:
+            for number in range(1, WAITING + 1):
+                key = Key(1, giver, 1, number)
+                asked[key] = give("put", f"item {number}")
+                peer.expect(request(key, asked[key]), replied(key, reply="done"))
+        for peer, key in zip(peers, keys):
+            told.append((key, reply_of(peer.told(request(key, asked[key])))))
+            peer.close()
+        items = sorted(reply.get("item", "") for _, reply in told)
+        demand(items == sorted(f"item {number}" for number in range(1, WAITING + 1)), f"they got {items}")
+        server.judged(asked, told)
 
 
 def a_new_incarnation(program):
@@ -141,6 +173,19 @@ def too_many_frames(program):
             peer.expect(hello(1), welcome(1))
         account = server.judged({}, [])
         demand(account is None or len(account.entries) == 1, "the account has other than one entry")
+
+
+def no_packet_waits(program):
+    """A request costs one exchange of packets: none of an answer waits until the one before it was acknowledged."""
+    with Server(program, workers=1, connections=1) as server:
+        with server.greeted(1) as peer:
+            began = time.monotonic()
+            for number in range(1, EXCHANGES + 1):
+                key = Key(1, 1, 1, number)
+                peer.expect(request(key, give("put", "a")), replied(key, reply="done"))
+            took = time.monotonic() - began
+        demand(took < EXCHANGES * DELAY / 2, f"{EXCHANGES} requests took {took:.1f} seconds")
+        server.ended()
 
 
 def its_connections(program):
@@ -234,6 +279,40 @@ def nobody_listens(program):
         os.close(write)
 
 
+def broken_input():
+    """An input whose reading fails: a connection that the other end has reset."""
+    with socket.create_server(("127.0.0.1", 0)) as listener:
+        broken = socket.create_connection(listener.getsockname())
+        Peer(listener.accept()[0]).reset()
+    return broken
+
+
+def broken_streams(program):
+    """A caller whose input can't be read asks nothing; where printing fails it says so, and so does a server that prints
+    its account."""
+    prints = subprocess.run([program, *serve_words()], input=b"", capture_output=True, timeout=PATIENCE).stdout
+    with Server(program, workers=1, connections=2) as server:
+        server.greeted(1).close()
+        words = call_words(connect=f"127.0.0.1:{server.port}")
+        with broken_input() as broken:
+            ran = subprocess.run([program, *words], stdin=broken, capture_output=True, timeout=PATIENCE)
+        judge(words, ran, 1, b"run fault 1\n")
+        account = server.ended()
+        demand(account is None or len(account.entries) == 1, "the account has other than one entry")
+    with Server(program, workers=1, connections=2) as server, open("/dev/full", "wb") as full:
+        server.greeted(2).close()
+        words = call_words(connect=f"127.0.0.1:{server.port}")
+        text = b'{"call":"put","item":"a","queue":3}\n' * 2
+        ran = subprocess.run([program, *words], input=text, stdout=full, stderr=subprocess.PIPE, timeout=PATIENCE)
+        demand((ran.returncode, ran.stderr) == (1, b"run fault 2\n"), f"a caller that can't print: {ran}")
+        account = server.ended()
+        demand(account is None or len(account.entries) == 3, "a caller that can't print goes on, or did not ask")
+    with open("/dev/full", "wb") as full:
+        ran = subprocess.run([program, *serve_words()], input=b"", stdout=full, stderr=subprocess.PIPE, timeout=PATIENCE)
+    wanted = (1, b"run fault 2\n") if prints else (0, b"")
+    demand((ran.returncode, ran.stderr) == wanted, f"a server that can't print its account: {ran}")
+
+
 def addresses(program):
     """Addresses that are none."""
     for text in ["127.0.0.1", "127.0.0.1:", ":", "", "127.0.0.1:65536", "127.0.0.1:99999", "127.0.0.1:x", "127.0.0.1:-1",
@@ -299,6 +378,8 @@ def bad_words(program):
         ends_so(program, call_words(**options), 1, b"address fault\n")
 
 
-CASES = [a_hand_over, a_consumer_that_waits, a_request_that_waits_alone, a_new_incarnation, long_texts, ends_of_connections,
-         too_many_frames, its_connections, a_late_client, a_silent_peer, many_at_once, a_port_that_is_taken, nobody_listens,
-         addresses, bad_words]
+CASES = [
+    a_hand_over, a_consumer_that_waits, a_request_that_waits_alone, many_that_wait, a_new_incarnation, long_texts,
+    ends_of_connections, too_many_frames, no_packet_waits, its_connections, a_late_client, a_silent_peer, many_at_once,
+    a_port_that_is_taken, nobody_listens, broken_streams, addresses, bad_words,
+]

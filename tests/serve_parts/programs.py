@@ -83,6 +83,7 @@ class Server(Process):
 
     def __init__(self, program, workers, connections, epoch=1):
         self.program, self.epoch, self.connections, self.listens = program, epoch, connections, False
+        self.made, self.lock = 0, threading.Lock()
         for _ in range(TRIES):
             self.port = free_port()
             super().__init__([program, "serve", "--listen", f"127.0.0.1:{self.port}", "--epoch", str(epoch),
@@ -118,6 +119,8 @@ class Server(Process):
                 time.sleep(0.005)
                 continue
             self.listens = True
+            with self.lock:
+                self.made += 1
             return Peer(connection)
 
     def greeted(self, client, incarnation=1):
@@ -127,17 +130,18 @@ class Server(Process):
         return peer
 
     def use_up(self):
-        """Makes the connections that are left, one by one, so that the server ends: it must refuse one in time."""
-        ends = time.monotonic() + 4 * PATIENCE
-        for _ in range(self.connections + 1):
-            demand(time.monotonic() < ends, "the connections that were left are not served")
+        """Makes the connections that are left, one by one, so that the server ends: it must serve these and no more."""
+        ends, served = time.monotonic() + 4 * PATIENCE, self.made
+        while True:
+            demand(time.monotonic() < ends, f"{self.connections - served} connections are left and not served")
             try:
                 with self.connect() as peer:
                     peer.end()
                     demand(not peer.more(), f"a connection that asked nothing was answered {peer.got!r}")
             except ConnectionError:
-                return
-        raise Wrong(f"more than {self.connections} connections were accepted")
+                break
+            served += 1
+        demand(served == self.connections, f"{served} connections were served, not {self.connections}")
 
     def ended(self, patience=PATIENCE):
         """The account that the server printed at its end, which must be a good one; None where it prints none."""
