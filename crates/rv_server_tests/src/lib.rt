@@ -5,8 +5,12 @@
 #[cfg(test)]
 mod frames;
 #[cfg(test)]
+mod meeting;
+#[cfg(test)]
 mod pauses;
 #[cfg(test)]
 mod run;
+#[cfg(test)]
+mod talks;
 #[cfg(test)]
 mod threads;

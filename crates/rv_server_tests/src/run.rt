@@ -4,7 +4,7 @@ ghost use Rattle.std.specs.Prelude.{◌≡◌};
 use rv_book::Book;
 use rv_frame::testing::{TestReader, TestWriter};
 use rv_frame::{Sink, Source};
-use rv_server::{Clock, Gate, Item, Seat, Served, Shared, WorkFault, finish, work};
+use rv_server::{Clock, ForeignSeat, Gate, Item, Seat, Served, Shared, WorkFault, finish, work};
 use std::alloc::AllocGlobal;
 use std::io::{Read, Write};
 use std::marker::Brand;
@@ -66,8 +66,8 @@ pub(crate) struct Row<'a> {
     pub(crate) fault: Option<WorkFault>,
 }
 
-// What a worker ended with.
-type Ended = Result<Served<Book>, (Served<Book>, WorkFault)>;
+/// What a worker ended with.
+pub(crate) type Ended = Result<Served<Book>, (Served<Book>, WorkFault)>;
 
 impl Row<'_> {
     /// A worker ended with this, and wrote this.
@@ -118,6 +118,27 @@ pub(crate) fn closes<L: Ledger>(
             }
         }
         Err(_) => assert!(rt; false, "a seat is missing"),
+    }
+}
+
+/// With a seat left out the server doesn't end; with all seats its entries are of these moments.
+pub(crate) fn all_are_asked_for<L: Ledger>(
+    rt: &impl Abort,
+    shared: Shared<Book, L>,
+    seats: Vec<Seat<L>>,
+    moments: &[u64],
+) -> Result<(), Fail> {
+    let mut seats = seats;
+    let Some(left_out) = seats.pop() else {
+        return Err(Fail::new("there is no seat"));
+    };
+    match finish(shared, seats) {
+        Ok(_) => Err(Fail::new("a seat was left out")),
+        Err((shared, mut seats, ForeignSeat)) => {
+            seats.push(left_out)?;
+            closes(rt, shared, seats, moments);
+            Ok(())
+        }
     }
 }
 

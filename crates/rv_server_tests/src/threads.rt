@@ -2,110 +2,22 @@
 //! added.
 ghost use Rattle.std.specs.Prelude.{◌≡◌};
 
-use crate::run::{Row, Still, answer, closes};
+use crate::meeting::Meeting;
+use crate::run::{Ended, Row, Still, all_are_asked_for, answer, closes};
+use crate::talks::{GIVES, TAKES, Talk};
 use rv_book::Book;
 use rv_frame::testing::{TestReader, TestWriter};
-use rv_server::{ForeignSeat, Gate, Item, Seat, Shared, finish, serve_message};
+use rv_server::{Item, Seat, Shared, serve_message};
 use rv_text::Message;
 use std::alloc::AllocGlobal;
 use std::io::{Read, Write};
 use std::marker::Brand;
 use std::process::Abort;
 use std::sync::Wait;
-use std::sync::atomic::{AtomicBool, AtomicU64, Ordering};
 use std::sync::ledger::{Blank, Ledger};
 use std::test::Fail;
 use std::thread::Threads;
-use std::time::Duration;
 use std::{io, thread, time};
-
-// The most turns of a wait, of a millisecond each.
-const MAX_TURNS: u64 = 10_000;
-
-const GIVES: Row<'static> = Row {
-    sent: b"\x00\x2b{\"client\":1,\"incarnation\":1,\"kind\":\"hello\"}\
-        \x00\x7a{\"call\":\"transfer\",\"client\":1,\"epoch\":1,\"incarnation\":1,\"item\":\"a\",\
-        \"kind\":\"request\",\"number\":1,\"queue\":3,\"wait\":\"forever\"}",
-    answers: b"\x00\x37{\"client\":1,\"epoch\":1,\"incarnation\":1,\"kind\":\"welcome\"}\
-        \x00\x53{\"client\":1,\"epoch\":1,\"incarnation\":1,\"kind\":\"reply\",\"number\":1,\
-        \"reply\":\"received\"}",
-    items: &[Item::Said, Item::Said],
-    stamps: 3,
-    fault: None,
-};
-
-const TAKES: Row<'static> = Row {
-    sent: b"\x00\x2b{\"client\":2,\"incarnation\":1,\"kind\":\"hello\"}\
-        \x00\x6b{\"call\":\"take\",\"client\":2,\"epoch\":1,\"incarnation\":1,\
-        \"kind\":\"request\",\"number\":1,\"queue\":3,\"wait\":\"forever\"}",
-    answers: b"\x00\x37{\"client\":2,\"epoch\":1,\"incarnation\":1,\"kind\":\"welcome\"}\
-        \x00\x5a{\"client\":2,\"epoch\":1,\"incarnation\":1,\"item\":\"a\",\"kind\":\"reply\",\
-        \"number\":1,\"reply\":\"item\"}",
-    items: &[Item::Said, Item::Said],
-    stamps: 2,
-    fault: None,
-};
-
-// What one thread does and another waits for.
-#[derive(Drop)]
-struct Event {
-    came: AtomicBool,
-    turns: AtomicU64,
-}
-
-impl Event {
-    fn new() -> Event {
-        Event {
-            came: AtomicBool::new(false),
-            turns: AtomicU64::new(0),
-        }
-    }
-
-    fn comes(&self) {
-        self.came.store(true, Ordering::SeqCst);
-    }
-
-    // Whether all turns were waited.
-    fn is_late(&self) -> bool {
-        self.turns.load(Ordering::SeqCst) >= MAX_TURNS
-    }
-
-    // Waits for it, at most 10,000 turns in all calls.
-    fn wait(&self, clock: &impl time::Clock) {
-        for _turn in 0..MAX_TURNS {
-            if self.came.load(Ordering::SeqCst) || self.is_late() {
-                return;
-            }
-            self.turns.fetch_add(1, Ordering::SeqCst);
-            thread::sleep(clock, Duration::from_millis(1));
-        }
-    }
-}
-
-// A gate at which the first worker waits until the second has its answers.
-#[derive(Drop)]
-struct Meeting<'a, C> {
-    clock: &'a C,
-    paused: Event,
-    answered: Event,
-}
-
-impl<'a, C> Meeting<'a, C> {
-    fn new(clock: &'a C) -> Meeting<'a, C> {
-        Meeting {
-            clock,
-            paused: Event::new(),
-            answered: Event::new(),
-        }
-    }
-}
-
-impl<'a, C: time::Clock> Gate for Meeting<'a, C> {
-    fn pause(&self) {
-        self.paused.comes();
-        self.answered.wait(self.clock);
-    }
-}
 
 // A reader that gives no byte until the first worker paused.
 #[derive(Drop)]
@@ -141,6 +53,18 @@ impl<'a, C: time::Clock> Write for TellingWriter<'a, C> {
     fn flush(&mut self) -> io::Result<()> {
         self.writer.flush()
     }
+}
+
+// A worker answered a client whole, with so many stamps.
+fn answered(rt: &impl Abort, talk: Talk, stamps: usize, ended: &Ended, written: &[u8]) {
+    let row = Row {
+        sent: talk.sent,
+        answers: talk.answers,
+        items: &[Item::Said, Item::Said],
+        stamps,
+        fault: None,
+    };
+    row.came(rt, ended, written);
 }
 
 // Two workers hand an item over, while the first of them pauses.
@@ -188,8 +112,8 @@ fn hand_over<L: Ledger + Send + Sync, R: Wait + Threads + Abort + AllocGlobal + 
     );
     assert!(rt; !meeting.paused.is_late(), "no worker paused");
     assert!(rt; !meeting.answered.is_late(), "no answer came in a pause");
-    GIVES.came(rt, &gave, writer.taken());
-    TAKES.came(rt, &took, telling.writer.taken());
+    answered(rt, GIVES, 3, &gave, writer.taken());
+    answered(rt, TAKES, 2, &took, telling.writer.taken());
     closes(
         rt,
         shared,
@@ -239,15 +163,7 @@ fn asks_for_all_seats<L: Ledger, R: Wait + Abort + AllocGlobal>(
         incarnation: 1,
     };
     let _stamp = serve_message(&mut *shared.lock(rt), &mut seats[0], 7, hello);
-    let left_out = seats.pop().unwrap();
-    match finish(shared, seats) {
-        Ok(_) => Err(Fail::new("a seat was left out")),
-        Err((shared, mut seats, ForeignSeat)) => {
-            seats.push(left_out)?;
-            closes(rt, shared, seats, [7].as_slice());
-            Ok(())
-        }
-    }
+    all_are_asked_for(rt, shared, seats, [7].as_slice())
 }
 
 #[test]
