@@ -1,6 +1,5 @@
 -- An account is legal exactly where no rule is broken at any place, and an audit tells one thing of it.
-use Rattle.std.specs.Prelude.{◌↔◌}
-use Rattle.std.proofs.Common.{◌≡◌, inl, inr, ℕ, zero, suc, ◌<◌, ◌≤◌, List, [], ◌∷◌, length, take, Some, refl, sym, ap, subst, ◌∙◌, arith}
+use Rattle.std.proofs.Common.{◌≡◌, inl, inr, ℕ, zero, suc, ◌<◌, List, [], ◌∷◌, Some, refl, sym, ap, subst, ◌∙◌, arith}
 use Rattle.std.specs.List.{slice_get}
 use Rattle.std.proofs.lemmas.Bool.{cases_lt, cases_order}
 use Rattle.std.proofs.lemmas.List.{take-take}
@@ -9,11 +8,10 @@ use Rattle.rv_book.specs.declared.account.Entry.{Entry}
 use Rattle.rv_book.specs.Account.{Account}
 use Rattle.rv_book.specs.Legal.{before, Legal, MayFollow}
 use Rattle.rv_book.proofs.Fronts.{Legal-before, read_whole}
-use Rattle.rv_world.specs.declared.rule.Audit.{Audit}
 use Rattle.rv_world.specs.declared.rule.Audit.TheVariants as tells
 use Rattle.rv_world.specs.declared.rule.Rule.{Rule}
 use Rattle.rv_world.specs.declared.rule.Rule.TheVariants.{M1, M2, M3, N1, N2, N3, P1, P2, P3, P4, S1, S2}
-use Rattle.rv_world.specs.Breaking.{Breaks, FirstFault, IsToldOf, KeepsRules, rank_of}
+use Rattle.rv_world.specs.Breaking.{FirstFault, KeepsRules, rank_of}
 use Rattle.rv_world.specs.Laws.{LegalByRules, OneAudit}
 use Rattle.rv_world.proofs.RulesKept.{breaks_nothing}
 use Rattle.rv_world.proofs.RulesSuffice.{may_follow}

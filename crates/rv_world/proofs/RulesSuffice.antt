@@ -15,7 +15,7 @@ use Rattle.rv_book.specs.declared.account.Act.TheVariants.{Hello, Arrive, Cancel
 use Rattle.rv_book.specs.Account.{Account, act_at, call_at, call_in, key_in, partner_at}
 use Rattle.rv_book.specs.Calls.{MayMeet, opposite}
 use Rattle.rv_book.specs.Sessions.{HasIncarnation}
-use Rattle.rv_book.specs.Waiting.{Met, OpenAt, SideAt, Waiting}
+use Rattle.rv_book.specs.Waiting.{Met, OpenAt, Waiting}
 use Rattle.rv_book.specs.Legal.{CancelsInTurn, CountsUp, IsFreePartner, IsNextNumber, IsOfSession, IsOpenOpposite, KeepsLimits, KeepsTime, Legal}
 use Rattle.rv_book.specs.Legal.{MayFollow, NamesFreePartner, NothingDue, PairsOldest, PairsOpposites, PairsWherePossible, RaisesIncarnation}
 use Rattle.rv_book.specs.Legal.{SomethingDue, WaitsUnder}
@@ -32,7 +32,7 @@ use Rattle.rv_book.proofs.Sides.{one_side}
 use Rattle.rv_book.proofs.Ticking.{something_or_nothing}
 use Rattle.rv_world.specs.declared.rule.Rule.{Rule}
 use Rattle.rv_world.specs.declared.rule.Rule.TheVariants.{M1, M2, M3, N1, N2, N3, P1, P2, P3, P4, S1, S2}
-use Rattle.rv_world.specs.Breaking.{BreaksBehind, BreaksCount, FallsBack, IsOfNoSession, IsOutOfTurn, IsPaired, IsSwapped, Meets}
+use Rattle.rv_world.specs.Breaking.{BreaksBehind, BreaksCount, FallsBack, IsOfNoSession, IsOutOfTurn, IsPaired, IsSwapped}
 use Rattle.rv_world.specs.Breaking.{MeetsNobody, MeetsWrongly, NamesOne, NamesWrongly, PassesOver, StartsNoNewer, WasNamed}
 
 -- ---- moments
