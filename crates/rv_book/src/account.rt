@@ -234,8 +234,8 @@ impl Account {
             entries,
         }
     }
-    /// A copy of the account, legal or not, by the allocator that the account keeps. It fails only where memory
-    /// was refused.
+
+    /// A copy, legal or not, by the allocator that the account keeps. It fails only where memory was refused.
     pub fn clone_out(&self) -> Result<Account, NoMemory>
         ensures { IfOk result (λ copy. copy.account ≡ self.now.account) }
     {

@@ -1,7 +1,8 @@
--- What breaks each rule of accounts at a place, and which fault of an account is its first.
+-- What breaks each rule of an audit at a place, and which fault of an account is its first.
 --
 -- An entry is looked at behind the account of those before it, in the words in which rv_book says which entry
--- may stand where. Of each rule is said what breaks it, whether another is broken there or not.
+-- may stand where. Of each rule is said what breaks it, whether another is broken there or not. Who is open is
+-- said by pairs and swaps, which only arrivals that may meet make; in a legal account no other names a partner.
 use Rattle.std.specs.Prelude.{◌≡◌, ◌≢◌, ◌⊎◌, ◌<◌, ◌≤◌, ◌+◌, ℕ, List, length, Some, None, slice_get, codes}
 use Rattle.rv_text.specs.declared.message.Key.{Key}
 use Rattle.rv_text.specs.declared.call.Call.{Call}
@@ -15,7 +16,8 @@ use Rattle.rv_book.specs.Account.{Account, act_at, partner_at, call_in, key_in}
 use Rattle.rv_book.specs.Calls.{MayMeet}
 use Rattle.rv_book.specs.Sessions.{HasIncarnation, LastNumber, SaidHello}
 use Rattle.rv_book.specs.Waiting.{OpenAt, SideAt}
-use Rattle.rv_book.specs.Legal.{before, HasWaiting, IsOpenOpposite, Legal, NothingDue, SomethingDue, WaitsUnder}
+use Rattle.rv_book.specs.Legal.{before, HasWaiting, IsOpenOpposite, Legal, NothingDue}
+use Rattle.rv_book.specs.Legal.{SomethingDue, WaitsUnder}
 use Rattle.rv_book.specs.Steps.{own_moment}
 use Rattle.rv_world.specs.declared.rule.Rule.{Rule}
 use Rattle.rv_world.specs.declared.rule.Audit.{Audit}
@@ -50,8 +52,8 @@ pub record StartsNoNewer (entries : List Entry) (does : Act) : Type 0 where
   pub earlier : act_at entries place ≡ Some (Hello client reached)
   pub no_newer : incarnation ≤ reached
 
--- it is an arrival or a cancel with another epoch than the account's, or with an incarnation that is not that
--- of its client's last hello, if there is one
+-- it is an arrival or a cancel with another epoch than the account's, or its client's last hello isn't of its
+-- incarnation, or there is none
 pub record IsOfNoSession (a : Account) (does : Act) : Type 0 where
   pub key : Key
   pub names : key_in does ≡ Some key
@@ -119,8 +121,8 @@ pub record ArrivesAs (Is : Side → Type 0) (e : Entry) (call : Call) : Type 0 w
   pub arrives : call_in e.act ≡ Some call
   pub is : Is (side_of call)
 
--- the entry is an arrival of such a side, and the partner that it names isn't an open arrival of the other side
--- of its queue, or at its exchanger
+-- the entry is an arrival of such a side, and the partner that it names isn't an open arrival of the other
+-- side of its queue, or at its exchanger
 pub record MeetsWrongly (Is : Side → Type 0) (entries : List Entry) (e : Entry) : Type 0 where
   pub call : Call
   pub arrives : ArrivesAs Is e call

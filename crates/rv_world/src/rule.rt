@@ -4,8 +4,8 @@ ghost use Rattle.rv_world.specs.Breaking.{name_of};
 
 use rv_book::Place;
 
-/// A rule of accounts, which the entry at a place keeps or breaks by itself and by the entries before it. The
-/// order is that in which an audit asks them at one place.
+/// A rule of accounts, which the entry at a place keeps or breaks by itself and by those before it. The order
+/// is that in which an audit asks them at one place.
 #[derive(Clone, Copy, Debug, PartialEq, Eq)]
 pub enum Rule {
     /// Time never falls: an entry's moment is at least that of the entry before it, and the first entry's at
@@ -17,11 +17,13 @@ pub enum Rule {
     M3,
     /// A client starts again in greater incarnations alone.
     N1,
-    /// A request and a cancel are of the account's epoch, and of the incarnation of their client's last hello.
+    /// A request or a cancel is of the account's epoch, and of the incarnation of its client's last hello.
     N2,
-    /// A session counts its requests up by one, with one waiting at most; a cancel is of that one, or of the next.
+    /// A session counts its requests up by one, with one waiting at most; a cancel is of that one, or of the
+    /// next.
     N3,
-    /// A partner is an earlier place that is in no pair or swap, and only who gives, takes or exchanges has one.
+    /// A partner is an earlier place that was not named and names none; who gives, takes or exchanges alone
+    /// has one.
     P1,
     /// Who gives is paired with who takes of that queue, and the other way round, while the partner is open.
     P2,
@@ -62,6 +64,6 @@ impl Rule {
 pub enum Audit {
     /// No rule is broken at any place.
     Legal,
-    /// The first place at which a rule is broken, and of those that are broken there the first in their order.
+    /// The first place at which a rule is broken, and of those broken there the first in their order.
     Fault { place: Place, rule: Rule },
 }
