@@ -1,4 +1,5 @@
-"""Compares what `rv audit` says of random accounts, most of them spoilt, with what the model's audit says."""
+"""Compares what `rv audit` says of accounts with their verdicts: of those made by hand, and of random ones, most of them
+spoilt, whose verdict the model gives."""
 import os
 import random
 import subprocess
@@ -7,37 +8,48 @@ from concurrent.futures import ThreadPoolExecutor
 from itertools import islice
 
 from model_parts.account import MAX_ENTRIES
-from model_parts.audit import RULES, audit
-from model_parts.lines import BadLine, read_account
+from model_parts.broken import broken_texts
+from model_parts.broken_lines import line_texts
 from model_parts.spoilt import make_texts
-from model_parts.tables import table_audit
+from model_parts.verdicts import KINDS, Unsure, kind_of, verdict
 
 # How many texts are made of one book's account, and how many of them are at hand at a time.
 TEXTS = 8
 AT_HAND = 400
-# Of longer accounts the tables alone are asked: the plain audit's cost grows faster than the entries.
-MOST_PLAIN = 120
-# What a run of so many accounts has to meet, beside each rule.
+# A run of so many accounts has to meet each verdict.
 FULL_RUN = 2_000
-KINDS = ("legal", "bad line", *RULES)
-# Beside each other: as many entry lines as there may be, and one more.
-FULL = b"epoch 1 opened 0\n" + MAX_ENTRIES * b"0 - tick\n"
+# The most seconds that one account may take.
+MOST_SECONDS = 60
+# As many entry lines as there may be, each of which breaks a rule.
+TICKS = b"epoch 1 opened 0\n" + MAX_ENTRIES * b"0 - tick\n"
+HELLO = b'0 - {"client":%d,"incarnation":1,"kind":"hello"}\n'
+ITEM = b'0 - {"call":"put","client":1,"epoch":1,"incarnation":1,"item":"","kind":"request","number":%d,"queue":3}\n'
+TAKE = b'0 %s {"call":"take","client":2,"epoch":1,"incarnation":1,"kind":"request","number":1,"queue":3,"wait":"now"}'
 
 
-class Unsure(Exception):
-    """The model's two audits differ."""
+def full_texts():
+    """Accounts of as many entries as there may be, and of one line more, each with its verdict."""
+    front = b"epoch 1 opened 0\n" + HELLO % 1 + HELLO % 2
+    items = front + b"".join(ITEM % number for number in range(1, MAX_ENTRIES - 2))
+    last = MAX_ENTRIES - 1
+    takes = [(b"2", "legal"), (b"-", f"fault {last} P4"), (b"%d" % (last - 1), f"fault {last} P3"),
+             (b"1", f"fault {last} P2"), (b"%d" % last, f"fault {last} P1")]
+    yield TICKS, "fault 0 M3"
+    yield TICKS + b"0 - tick\n", f"bad line {MAX_ENTRIES + 2}"
+    yield from ((items + TAKE % partner, expected) for partner, expected in takes)
 
 
-def verdict(text):
-    """What `rv audit` has to say of a text."""
-    try:
-        account = read_account(text)
-    except BadLine as bad:
-        return f"bad line {bad.args[0]}"
-    fault = table_audit(account)
-    if len(account.entries) <= MOST_PLAIN and audit(account) != fault:
-        raise Unsure(f"the plain audit says {audit(account)}, and the one with tables {fault}")
-    return "fault {} {}".format(*fault) if fault else "legal"
+def hand_made():
+    """Each account that is made by hand, with its name and its verdict."""
+    for name, texts in [("form", line_texts()), ("account", broken_texts()), ("full account", full_texts())]:
+        yield from ((f"{name} {number} by hand", *pair) for number, pair in enumerate(texts, 1))
+
+
+def random_ones(seed, count):
+    """So many random accounts, each with its name, and with its verdict as the model has it."""
+    books = (make_texts(random.Random(f"{seed} {book}"), TEXTS) for book in range(count))
+    for number, text in enumerate(islice((text for texts in books for text in texts), count), 1):
+        yield f"account {number} of seed {seed}", text, verdict_or_fault(text)
 
 
 def verdict_or_fault(text):
@@ -48,14 +60,12 @@ def verdict_or_fault(text):
         return f"the model at odds with itself: {unsure}"
 
 
-def kind_of(said):
-    """The rule that is broken, or `legal` or `bad line`."""
-    return said.split()[-1] if said.startswith("fault") else said.rstrip(" 0123456789")
-
-
 def what_it_said(program, text):
     """What the program prints for a text, with its status, and what it says on standard error."""
-    ran = subprocess.run([program, "audit"], input=text, capture_output=True)
+    try:
+        ran = subprocess.run([program, "audit"], input=text, capture_output=True, timeout=MOST_SECONDS)
+    except subprocess.TimeoutExpired:
+        return b"", None, b"it took too long"
     return ran.stdout, ran.returncode, ran.stderr
 
 
@@ -64,35 +74,26 @@ def is_said(ran, expected):
     return ran == (f"{expected}\n".encode(), int(expected != "legal"), b"")
 
 
-def audits_fault(seed):
-    """What is wrong with the model's two audits of some random accounts, if something is."""
-    for text in make_texts(random.Random(f"audits {seed}"), 50):
-        try:
-            verdict(text)
-        except Unsure as unsure:
-            return f"{unsure}: {text}"
-    return None
-
-
-def texts_of(seed, count):
-    """So many texts, each with its number."""
-    yield from enumerate([FULL, FULL + b"0 - tick\n", b"", b"\n"][:count], 1)
-    books = (make_texts(random.Random(f"{seed} {book}"), TEXTS) for book in range(count))
-    yield from islice(enumerate((text for texts in books for text in texts), 5), max(0, count - 4))
+def first_difference(program, accounts):
+    """How many accounts of each verdict were met, and the first that the program says something else of."""
+    met, accounts = Counter(), iter(accounts)
+    with ThreadPoolExecutor(os.cpu_count()) as several:
+        while part := list(islice(accounts, AT_HAND)):
+            runs = several.map(lambda account: what_it_said(program, account[1]), part)
+            for account, ran in zip(part, runs):
+                met[kind_of(account[2])] += 1
+                if not is_said(ran, account[2]):
+                    return met, (*account, ran)
+    return met, None
 
 
 def compare_audits(program, seed, count):
-    """Compares so many accounts, and sees that each verdict was met; ends at the first difference."""
-    met, texts = Counter(), texts_of(seed, count)
-    with ThreadPoolExecutor(os.cpu_count()) as several:
-        while part := list(islice(texts, AT_HAND)):
-            runs = several.map(lambda numbered: what_it_said(program, numbered[1]), part)
-            for (number, text), ran in zip(part, runs):
-                expected = verdict_or_fault(text)
-                met[kind_of(expected)] += 1
-                if not is_said(ran, expected):
-                    show(seed, number, text, expected, ran)
-                    return False
+    """Compares those made by hand and so many random ones, in which each verdict is to be met."""
+    for accounts in [hand_made(), random_ones(seed, count)]:
+        met, difference = first_difference(program, accounts)
+        if difference:
+            show(*difference)
+            return False
     print(f"seed {seed}: {count} accounts, each verdict as the model has it: "
           + ", ".join(f"{kind} {met[kind]}" for kind in KINDS))
     missed = [kind for kind in KINDS if not met[kind]]
@@ -101,13 +102,13 @@ def compare_audits(program, seed, count):
     return count < FULL_RUN or not missed
 
 
-def show(seed, number, text, expected, ran):
+def show(name, text, expected, ran):
     """Prints a difference with the account's lines."""
     output, status, errors = ran
-    print(f"FAILED: seed {seed}, account {number}: expected {expected!r}, "
-          f"got {output[:200]!r}, status {status}, standard error {errors[:200]!r}")
-    lines = text.split(b"\n")
+    print(f"FAILED: {name}: expected {expected!r}, got {output[:200]!r}, status {status}, "
+          f"standard error {errors[:200]!r}")
+    lines = text.splitlines(keepends=True)
     for line in lines[:200]:
-        print(f"    {line.decode('utf-8', 'backslashreplace')!r}" if len(line) < 1_000 else f"    {line!r}")
+        print(f"    {line[:5_000]!r}")
     if len(lines) > 200:
         print(f"    and {len(lines) - 200} lines more")

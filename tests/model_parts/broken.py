@@ -3,8 +3,8 @@ Where it breaks several, the first of them in their order is given."""
 from dataclasses import replace
 
 from .account import Account, Call, Cancel, Entry, Hello, Key, Request, Tick
-from .audits import verdict
 from .lines import account_text
+from .verdicts import verdict
 
 
 def hello(client, incarnation):
@@ -149,6 +149,7 @@ BROKEN = [
         (at(hello(1, 2), 11), "M2"),
         (at(hello(2, 1), 10), "M2"),
         (at(keyed(ENDED, epoch=2), 10), "M2"),
+        (at(keyed(take(2, 1), epoch=2), 10), "M2"),
         (meeting(at(count(2, 9), 10), 2), "M2"),
         (at(hello(1, 2), 9), None),
         (at(ENDED, 9), None),
@@ -223,10 +224,16 @@ BROKEN = [
 ]
 
 
-def broken_faults():
-    """Each account by its last entry, with what is wrong with the rule that is found, if something is."""
+def broken_texts():
+    """The lines of each account, with their verdict."""
     for opened, first, lasts in BROKEN:
         for last, rule in lasts:
-            found = verdict(account_text(Account(1, opened, (*first, last))))
-            expected = f"fault {len(first)} {rule}" if rule else "legal"
-            yield f"behind {len(first)} entries, {last}", None if found == expected else f"got {found}, not {expected}"
+            text = account_text(Account(1, opened, (*first, last)))
+            yield text, f"fault {len(first)} {rule}" if rule else "legal"
+
+
+def broken_faults():
+    """Each account by its number, with what is wrong with the verdict that is found, if something is."""
+    for number, (text, expected) in enumerate(broken_texts(), 1):
+        found = verdict(text)
+        yield f"broken account {number}", None if found == expected else f"{text}: got {found}, not {expected}"

@@ -1,5 +1,5 @@
 """Account lines by hand: an example with changes, forms that are read and forms that are not; each with its verdict."""
-from model_parts.audits import verdict
+from model_parts.verdicts import verdict
 
 EXAMPLE = b"""\
 epoch 1 opened 0
@@ -92,9 +92,14 @@ TEXTS = [
 ]
 
 
-def line_faults():
-    """Each text by its number, with what is wrong with its verdict, if something is."""
+def line_texts():
+    """Each text, with its verdict."""
     changed = [(EXAMPLE.replace(old, new, 1) if old else EXAMPLE, expected) for old, new, expected in CHANGES]
-    for number, (text, expected) in enumerate([*changed, *TEXTS], 1):
-        got = verdict(text)
-        yield f"account lines {number}", None if got == expected else f"{text}: got {got}, not {expected}"
+    return changed + TEXTS
+
+
+def line_faults():
+    """Each text by its number, with what is wrong with the verdict that is found, if something is."""
+    for number, (text, expected) in enumerate(line_texts(), 1):
+        found = verdict(text)
+        yield f"account lines {number}", None if found == expected else f"{text}: got {found}, not {expected}"

@@ -10,10 +10,10 @@ import json
 import re
 
 from model_parts.account import Account, Key
-from model_parts.audits import verdict
 from model_parts.lines import account_text
 from model_parts.steps import WHOLE, told
 from model_parts.texts import written
+from model_parts.verdicts import verdict
 from model_parts.world import World, world_fault
 
 THREE = "hello 1/1 => welcome\nhello 2/1 => welcome\nhello 3/1 => welcome\n"

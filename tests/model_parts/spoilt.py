@@ -95,6 +95,8 @@ class SpoiltEntries:
     def several(self):
         """Some changes of one entry, so that it breaks more than one rule."""
         if self.place() is not None:
+            if self.odds(0.4):
+                self.late()
             for _ in range(self.chance.randint(2, 4)):
                 at = self.last
                 self.chance.choice([self.partner, self.moment, self.key, self.call, self.greeting])()
@@ -129,14 +131,24 @@ class SpoiltEntries:
         far = [0, j, j + 1, len(self.entries) - 1, len(self.entries), MAX_PARTNER]
         return self.chance.choice([None, None, *near, *earlier[-4:], *earlier[-1:], self.chance.choice(far)])
 
+    def late(self):
+        """The entry comes at the limit of a request that waits, or beside it."""
+        limits = self.limits(self.last)
+        if limits:
+            self.set(self.last, moment=min(self.chance.choice(limits) + self.chance.choice([-1, 0, 0, 1]), MAX_MOMENT))
+
+    def limits(self, j):
+        """The limits of the requests that wait before a place."""
+        before = self.entries[:j]
+        return [limit(before, r) for r in waiting(before) if limit(before, r) is not None]
+
     def moment(self):
         """Another moment, that of a neighbour, a limit, or one beside; now and then all that follow rise as well."""
         j = self.place()
         if j is None:
             return
         own, before = self.entries[j].moment, self.entries[j - 1].moment if j else self.opened
-        limits = [limit(self.entries, r) for r in arrivals(self.entries[:j])]
-        others = [moment for moment in limits[-9:] if moment is not None]
+        others = self.limits(j) * 2
         near = [own - 1, own + 1, own + 1, before, before - 1, before - 1, before + 1, *others, *(at - 1 for at in others)]
         moment = self.chance.choice([*near, *near, *near, 0, self.opened - 1, MAX_MOMENT])
         self.set(j, moment=min(max(0, moment), MAX_MOMENT))
@@ -191,11 +203,9 @@ class SpoiltEntries:
     def tick_in(self):
         """A further tick, mostly where it might be due."""
         j = self.chance.randint(0, len(self.entries))
-        before = self.entries[:j]
-        limits = [limit(before, r) for r in waiting(before) if limit(before, r) is not None]
-        own = before[-1].moment if before else self.opened
+        limits, own = self.limits(j), self.entries[j - 1].moment if j else self.opened
         moment = self.chance.choice([own, own + 1, *limits, *limits, *(at - 1 for at in limits)])
-        self.put_in(j, Entry(min(moment, MAX_MOMENT), Tick(), self.chance.choice([None] * 9 + [0])))
+        self.put_in(j, Entry(min(moment, MAX_MOMENT), Tick(), self.chance.choice([None] * 4 + [0])))
 
     def tick_out(self):
         """A tick is left out, or another one."""
@@ -376,10 +386,11 @@ class SpoiltLines:
 
     def head(self):
         """Another first line, or none."""
-        epoch = self.chance.choice(NUMERALS + [b"9007199254740991", b"9007199254740992"])
+        epoch = self.chance.choice([self.chance.choice(NUMERALS), b"0", b"9007199254740991", b"9007199254740992"])
+        opened = self.chance.choice([self.chance.choice(NUMERALS), b"4611686018427387904", b"4611686018427387905"])
         self.lines[:1] = self.chance.choice([
             [], [self.chance.choice(HEADS)], [self.chance.choice(HEADS)], [b"epoch %s opened 0" % epoch],
-            [b"epoch 1 opened %s" % self.chance.choice(NUMERALS)], self.lines[:1] * 2])
+            [b"epoch 1 opened %s" % opened], self.lines[:1] * 2])
 
     def ending(self):
         """Another end: the last LF is missing, or there is one more, or a CR or other bytes; or each line has a CR."""
