@@ -1,5 +1,5 @@
-//! What no clause says of a server: what its workers answer over memory, how often they ask, pause and read, and
-//! that a pause leaves the lock free.
+//! What no clause says of a server: what its workers answer over memory, how often they ask, pause and read,
+//! that a pause leaves the lock free, and that connections on sockets are served side by side.
 #![tactic(auto)]
 
 #[cfg(test)]
@@ -10,6 +10,8 @@ mod meeting;
 mod pauses;
 #[cfg(test)]
 mod run;
+#[cfg(test)]
+mod sockets;
 #[cfg(test)]
 mod talks;
 #[cfg(test)]

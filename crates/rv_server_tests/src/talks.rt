@@ -26,3 +26,23 @@ pub(crate) const TAKES: Talk = Talk {
         \x00\x5a{\"client\":2,\"epoch\":1,\"incarnation\":1,\"item\":\"a\",\"kind\":\"reply\",\
         \"number\":1,\"reply\":\"item\"}",
 };
+
+/// Client 1 puts "a".
+pub(crate) const PUTS: Talk = Talk {
+    sent: b"\x00\x2b{\"client\":1,\"incarnation\":1,\"kind\":\"hello\"}\
+        \x00\x64{\"call\":\"put\",\"client\":1,\"epoch\":1,\"incarnation\":1,\"item\":\"a\",\
+        \"kind\":\"request\",\"number\":1,\"queue\":3}",
+    answers: b"\x00\x37{\"client\":1,\"epoch\":1,\"incarnation\":1,\"kind\":\"welcome\"}\
+        \x00\x4f{\"client\":1,\"epoch\":1,\"incarnation\":1,\"kind\":\"reply\",\"number\":1,\
+        \"reply\":\"done\"}",
+};
+
+/// Client 2 takes it, and would not wait.
+pub(crate) const POLLS: Talk = Talk {
+    sent: b"\x00\x2b{\"client\":2,\"incarnation\":1,\"kind\":\"hello\"}\
+        \x00\x67{\"call\":\"take\",\"client\":2,\"epoch\":1,\"incarnation\":1,\
+        \"kind\":\"request\",\"number\":1,\"queue\":3,\"wait\":\"now\"}",
+    answers: b"\x00\x37{\"client\":2,\"epoch\":1,\"incarnation\":1,\"kind\":\"welcome\"}\
+        \x00\x5a{\"client\":2,\"epoch\":1,\"incarnation\":1,\"item\":\"a\",\"kind\":\"reply\",\
+        \"number\":1,\"reply\":\"item\"}",
+};
