@@ -1,4 +1,4 @@
-"""Measures `rv audit` on accounts of three shapes, beside `rv book` on the lines that make as many entries."""
+"""Measures `rv audit` on accounts of four shapes, beside `rv book` on lines that make as many entries."""
 import json
 import os
 import subprocess
@@ -69,22 +69,45 @@ def come_and_go(count):
         yield keyed("cancel", client, numbers[client]), None
 
 
+def crowd(count):
+    """Far more clients than a book serves all wait, each with an earlier limit than the one before, and give up in
+    another order."""
+    size = count // 3
+    for client in range(1, count - 2 * size + 1):
+        yield hello(client), None
+    for client in range(1, size + 1):
+        yield take(client, 1, DAY - count - client), None
+    for turn in range(size):
+        yield keyed("cancel", turn * 7_919 % size + 1, 1), None
+
+
+# Those that the book makes, and one that it does not, beside the first of them.
 SHAPES = [
     ("items met in turn", in_turn),
     ("items that wait and are then taken", all_at_once),
     ("1,024 waiting clients that come and go", come_and_go),
 ]
+NO_BOOK = ("a crowd that waits and gives up", crowd)
 
 
-def write_lines(entries, book, account):
-    """Writes the lines that make the entries, each a moment after the one before, and the account's."""
-    account.write("epoch 1 opened 0\n")
+def body_of(members):
+    """A message's body."""
+    return json.dumps(members, sort_keys=True, separators=(",", ":"))
+
+
+def write_messages(entries, file):
+    """Writes the lines that make the entries, each a moment after the one before."""
+    for moment, (members, _) in enumerate(entries):
+        file.write(f"{moment} {body_of(members)}\n")
+    file.flush()
+
+
+def write_account(entries, file):
+    """Writes the lines of the account of these entries."""
+    file.write("epoch 1 opened 0\n")
     for moment, (members, partner) in enumerate(entries):
-        body = json.dumps(members, sort_keys=True, separators=(",", ":"))
-        book.write(f"{moment} {body}\n")
-        account.write(f"{moment} {'-' if partner is None else partner} {body}\n")
-    book.flush()
-    account.flush()
+        file.write(f"{moment} {'-' if partner is None else partner} {body_of(members)}\n")
+    file.flush()
 
 
 def start(words, path):
@@ -115,36 +138,40 @@ def peak(words, path):
     return most * 1024
 
 
-def see_good(program, book, account):
+def see_good(words, path):
     """Ends where a line is refused or the account is not legal: then they are not what is to be measured."""
-    for words, path, is_good in [(["book", "--epoch", "1"], book, lambda printed: b'"refused"' not in printed),
-                                 (["audit"], account, lambda printed: printed == b"legal\n")]:
-        with open(path, "rb") as source:
-            printed = subprocess.run([program, *words], stdin=source, capture_output=True).stdout
-        if not is_good(printed):
-            sys.exit(f"rv {words[0]} on lines of the measurement printed {printed[:200]}")
+    with open(path, "rb") as source:
+        printed = subprocess.run(words, stdin=source, capture_output=True).stdout
+    if b'"refused"' in printed or words[1] == "audit" and printed != b"legal\n":
+        sys.exit(f"{' '.join(words)} on lines of the measurement printed {printed[:200]}")
 
 
-def row(program, make, count):
-    """The seconds that an audit and the book take, and the bytes of an entry: its line, and what is beside it."""
-    with tempfile.NamedTemporaryFile("w", suffix=".in") as book, tempfile.NamedTemporaryFile("w") as account:
-        write_lines(make(count), book, account)
-        see_good(program, book.name, account.name)
+def measure(program, make, made, count):
+    """The seconds that an audit takes, and the book for as many entries, and the bytes of an entry: its line, and what
+    is beside it."""
+    book_words, audit_words = [program, "book", "--epoch", "1"], [program, "audit"]
+    with tempfile.NamedTemporaryFile("w") as book, tempfile.NamedTemporaryFile("w") as account:
+        write_messages(made(count), book)
+        write_account(make(count), account)
+        see_good(book_words, book.name)
+        see_good(audit_words, account.name)
         line = os.path.getsize(account.name) / count
-        memory = peak([program, "audit"], account.name) / count - line
-        audit = seconds([program, "audit"], account.name)
-        return audit, seconds([program, "book", "--epoch", "1"], book.name), line, memory
+        memory = peak(audit_words, account.name) / count - line
+        return seconds(audit_words, account.name), seconds(book_words, book.name), line, memory
 
 
 def audits_beside_book(program):
     """Prints what audits take, and ends where one of the greatest accounts takes too much."""
-    for name, make in SHAPES:
+    over = []
+    for name, make, made in [*((name, make, make) for name, make in SHAPES), (*NO_BOOK, in_turn)]:
         first = None
         for count in SIZES:
-            audit, book, line, memory = row(program, make, count)
+            audit, book, line, memory = measure(program, make, made, count)
             first = first or audit / count
             print(f"rv audit, {name}: {count} entries in {audit:.3f} seconds, {audit / book:.2f} times the time of rv "
                   f"book, {audit / count / first:.2f} times that of an entry among {SIZES[0]}; peak memory {line:.0f} "
                   f"bytes a line, and {memory:.0f} beside it", flush=True)
         if audit > MOST_RATIO * book or memory > MOST_BYTES:
-            sys.exit(f"rv audit, {name}: over {MOST_RATIO} times the time of rv book, or {MOST_BYTES} bytes an entry")
+            over.append(name)
+    if over:
+        sys.exit(f"over {MOST_RATIO} times the time of rv book, or {MOST_BYTES} bytes an entry: {', '.join(over)}")
