@@ -1,5 +1,5 @@
-"""Compares what `rv audit` says of accounts with their verdicts: of those made by hand, and of random ones, most of them
-spoilt, whose verdict the model gives."""
+"""Compares what `rv audit` says of accounts with their verdicts: of those made by hand, and of random ones, most of
+them spoilt, whose verdict the model gives."""
 import os
 import random
 import subprocess
@@ -7,9 +7,9 @@ from collections import Counter
 from concurrent.futures import ThreadPoolExecutor
 from itertools import islice
 
-from model_parts.account import MAX_ENTRIES
 from model_parts.broken import broken_texts
 from model_parts.broken_lines import line_texts
+from model_parts.full import full_texts
 from model_parts.spoilt import make_texts
 from model_parts.verdicts import KINDS, Unsure, kind_of, verdict
 
@@ -20,25 +20,6 @@ AT_HAND = 400
 FULL_RUN = 2_000
 # The most seconds that one account may take.
 MOST_SECONDS = 60
-# As many entry lines as there may be, each of which breaks a rule.
-TICKS = b"epoch 1 opened 0\n" + MAX_ENTRIES * b"0 - tick\n"
-HELLO = b'0 - {"client":%d,"incarnation":1,"kind":"hello"}\n'
-ITEM = b'0 - {"call":"put","client":1,"epoch":1,"incarnation":1,"item":"","kind":"request","number":%d,"queue":3}\n'
-TAKE = b'0 %s {"call":"take","client":2,"epoch":1,"incarnation":1,"kind":"request","number":1,"queue":3,"wait":"now"}'
-
-
-def full_texts():
-    """Accounts of as many entries as there may be, and of one line more, each with its verdict."""
-    front = b"epoch 1 opened 0\n" + HELLO % 1 + HELLO % 2
-    items = front + b"".join(ITEM % number for number in range(1, MAX_ENTRIES - 2))
-    last = MAX_ENTRIES - 1
-    takes = [(b"2", "legal"), (b"-", f"fault {last} P4"), (b"%d" % (last - 1), f"fault {last} P3"),
-             (b"1", f"fault {last} P2"), (b"%d" % last, f"fault {last} P1")]
-    yield TICKS, "fault 0 M3"
-    yield TICKS + b"0 - tick\n", f"bad line {MAX_ENTRIES + 2}"
-    yield from ((items + TAKE % partner, expected) for partner, expected in takes)
-
-
 def hand_made():
     """Each account that is made by hand, with its name and its verdict."""
     for name, texts in [("form", line_texts()), ("account", broken_texts()), ("full account", full_texts())]:

@@ -1,5 +1,5 @@
-"""Accounts that are broken by hand: behind entries that make a legal account, each last entry breaks this rule, or none.
-Where it breaks several, the first of them in their order is given."""
+"""Accounts that are broken by hand: behind entries that make a legal account, each last entry breaks this rule, or
+none. Where it breaks several, the first of them in their order is given."""
 from dataclasses import replace
 
 from .account import Account, Call, Cancel, Entry, Hello, Key, Request, Tick
@@ -89,7 +89,7 @@ BROKEN = [
         (meeting(swap(2, 1, "c"), 2), "S1"),
     ]),
     (0, [ONE], [(ONE, "N1")]),
-    (3, [], [(at(ONE, 3), None), (at(tick(0), 2), "M1"), (at(tick(0), 3), "M3"), (at(POLL, 2), "M1"), (at(POLL, 3), "N2")]),
+    (3, [], [(at(ONE, 3), None), (tick(2), "M1"), (tick(3), "M3"), (at(POLL, 2), "M1"), (at(POLL, 3), "N2")]),
     (1, [], [(ONE, "M1")]),
     (0, [ONE, TWO, A, B, meeting(POLL, 2), at(hello(1, 3), 1)], [
         (meeting(at(take(2, 2), 1), 3), None),

@@ -19,10 +19,11 @@ NUMERALS = [b"", b"0", b"00", b"01", b"+1", b"-1", b"-0", b"1.0", b"1e0", b"0x1"
             b"18446744073709551616", b"18446744073709551617", b"1" + b"0" * 19, b"9" * 30, b"0" * 5_000, b"9" * 5_000]
 TICKS = [b"tick", b"tick ", b" tick", b"tick\r", b"\ttick", b"Tick", b"TICK", b"ticks", b"tic", b'"tick"', b"tick tick",
          b"-", b"", b"tick\0", b"hello"]
-HEADS = [b"", b" ", b"epoch", b"epoch 1", b"epoch 1 opened", b"epoch 1 opened ", b"epoch 1 opened 0 ", b" epoch 1 opened 0",
-         b"epoch 1 opened 0\r", b"epoch  1 opened 0", b"epoch 1  opened 0", b"epoch 1 opened  0", b"epoch\t1 opened 0",
-         b"Epoch 1 opened 0", b"epoch 1 Opened 0", b"epoch 1 closed 0", b"epoch opened 0", b"epoch 1 0", b"1 0", b"tick",
-         b"0 - tick", b"epoch 1 opened 0 0", b"epoch 1 opened 0 opened 0", b"epoch - opened 0", b"epoch 1 opened -"]
+HEADS = [b"", b" ", b"epoch", b"epoch 1", b"epoch 1 opened", b"epoch 1 opened ", b"epoch 1 opened 0 ",
+         b" epoch 1 opened 0", b"epoch 1 opened 0\r", b"epoch  1 opened 0", b"epoch 1  opened 0", b"epoch 1 opened  0",
+         b"epoch\t1 opened 0", b"Epoch 1 opened 0", b"epoch 1 Opened 0", b"epoch 1 closed 0", b"epoch opened 0",
+         b"epoch 1 0", b"1 0", b"tick", b"0 - tick", b"epoch 1 opened 0 0", b"epoch 1 opened 0 opened 0",
+         b"epoch - opened 0", b"epoch 1 opened -"]
 BODIES = [b"{}", b"[]", b"null", b"1", b'""', b"{", b"}", b"-", b'{"kind":"tick"}', b'{"kind":"welcome"}',
           b'{"client":1,"epoch":1,"incarnation":1,"kind":"welcome"}', b'{"code":1,"kind":"refused"}',
           b'{"client":0,"incarnation":1,"kind":"hello"}', b'{"client":9007199254740992,"incarnation":1,"kind":"hello"}']
@@ -46,7 +47,8 @@ class AccountScript(Script):
 
     def body(self):
         """The body of a message."""
-        return written(self.hello() if self.odds(self.restarts) or not self.account.entries else self.of_a_key()).encode()
+        greets = self.odds(self.restarts) or not self.account.entries
+        return written(self.hello() if greets else self.of_a_key()).encode()
 
     def call(self):
         """The members of a call, often of one at the first exchanger."""
@@ -82,7 +84,7 @@ class SpoiltEntries:
             [9, 5, 3, 3, 2, 2, 2, 3, 2, 6, 2, 12, 5, 1])[0]()
 
     def place(self, *kinds):
-        """The place of an entry of one of these kinds, often the one that was changed last; none where there is none."""
+        """The place of an entry of one of these kinds, often the one that was changed last; none where none is there."""
         places = [j for j, entry in enumerate(self.entries) if not kinds or isinstance(entry.act, kinds)]
         if self.last not in places or self.odds(0.4):
             self.last = self.chance.choice(places) if places else None
@@ -149,7 +151,8 @@ class SpoiltEntries:
             return
         own, before = self.entries[j].moment, self.entries[j - 1].moment if j else self.opened
         others = self.limits(j) * 2
-        near = [own - 1, own + 1, own + 1, before, before - 1, before - 1, before + 1, *others, *(at - 1 for at in others)]
+        near = [own - 1, own + 1, own + 1, before, before - 1, before - 1, before + 1]
+        near += [*others, *(at - 1 for at in others)]
         moment = self.chance.choice([*near, *near, *near, 0, self.opened - 1, MAX_MOMENT])
         self.set(j, moment=min(max(0, moment), MAX_MOMENT))
         if self.odds(0.5):
@@ -337,7 +340,8 @@ class SpoiltLines:
         name = self.chance.choice([0, 0, 1, 1, 1]) if at else self.chance.choice([1, 3])
         if name < len(fields):
             own = fields[name]
-            fields[name] = self.chance.choice([self.chance.choice(NUMERALS), b"0" + own, own + b"0", b"+" + own, own[1:]])
+            other = self.chance.choice(NUMERALS)
+            fields[name] = self.chance.choice([other, b"0" + own, own + b"0", b"+" + own, own[1:]])
         self.lines[at] = b" ".join(fields)
 
     def body(self):
@@ -382,7 +386,8 @@ class SpoiltLines:
             line, one = self.lines[at], self.chance.choice([1, 2])
             self.lines[at] = self.chance.choice([
                 b" " + line, line + b" ", line + b"\r", b"\t" + line, line.replace(b" ", b"  ", one),
-                line.replace(b" ", b"\t", one), line.replace(b" ", b"", one), line.rsplit(b" ", 1)[0], line + b" " + line])
+                line.replace(b" ", b"\t", one), line.replace(b" ", b"", one), line.rsplit(b" ", 1)[0],
+                line + b" " + line])
 
     def head(self):
         """Another first line, or none."""
@@ -409,8 +414,8 @@ class SpoiltLines:
 def make_texts(chance, count):
     """So many texts of one book's account, or of its front: some as they are, most with one or two changes."""
     script = AccountScript(chance)
-    lines = chance.randint(200, 400) if chance.random() < 0.01 else chance.choice([0, 20, 40, 60, 80, 100, 100, 120, 120])
-    for _ in range(lines):
+    is_long = chance.random() < 0.01
+    for _ in range(chance.randint(200, 400) if is_long else chance.choice([0, 20, 40, 60, 80, 100, 100, 120, 120])):
         script.line()
     for _ in range(count):
         yield make_text(chance, script)

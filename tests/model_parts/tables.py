@@ -1,5 +1,5 @@
-"""The audit again, with tables that are kept entry by entry: for accounts of many entries. It is compared with the plain
-one wherever that is quick enough.
+"""The audit again, with tables that are kept entry by entry: for accounts of many entries. It is compared with the
+plain one wherever that is quick enough.
 
 Before the first fault the entries are a legal account, and so each client has one session and at most one request that
 waits, and an exchanger at most one.
