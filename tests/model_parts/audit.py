@@ -42,17 +42,17 @@ def moment_falls(front):
 
 
 def comes_too_late(front):
-    """It is no tick, and a waiting request has a limit at or below its moment."""
+    """Something is due by its moment, which only a tick may find so."""
     return not isinstance(front.act, Tick) and overdue(front.before, front.entry.moment)
 
 
 def ticks_for_nobody(front):
-    """It is a tick, and no waiting request has a limit at or below its moment."""
+    """A tick finds nothing due by its moment."""
     return isinstance(front.act, Tick) and not overdue(front.before, front.entry.moment)
 
 
 def hello_is_old(front):
-    """It is a hello, and its client has an earlier one of that or a greater incarnation."""
+    """A hello's client has said hello before with an incarnation as great or greater."""
     if not isinstance(front.act, Hello):
         return False
     earlier = hellos(front.before, front.act.client)
@@ -92,27 +92,27 @@ def partner_is_taken(front):
 
 
 def partner_is_not_open(front):
-    """It gives or takes, and its partner is no open arrival of the other side of its queue."""
+    """It gives or takes, and its partner is nobody who may be met there."""
     return front.queues and front.entry.partner is not None and front.entry.partner not in front.opposites
 
 
 def partner_is_not_first(front):
-    """It gives or takes, and before its partner stands an open arrival of the partner's side and queue."""
+    """It gives or takes, and passes over somebody who came before its partner."""
     return front.queues and front.entry.partner is not None and any(r < front.entry.partner for r in front.opposites)
 
 
 def meets_nobody(front):
-    """It gives or takes and names no partner, and an open arrival of the other side of its queue is there."""
+    """It gives or takes alone, though somebody of the other side of its queue may still be met."""
     return front.queues and front.entry.partner is None and bool(front.opposites)
 
 
 def swaps_with_another(front):
-    """It exchanges, and its partner is no open arrival at its exchanger."""
+    """It exchanges, and its partner is nobody who may be met there."""
     return front.exchanges and front.entry.partner is not None and front.entry.partner not in front.opposites
 
 
 def swaps_with_nobody(front):
-    """It exchanges and names no partner, and an open arrival at its exchanger is there."""
+    """It exchanges alone, though somebody at its exchanger may still be met."""
     return front.exchanges and front.entry.partner is None and bool(front.opposites)
 
 
