@@ -1,5 +1,5 @@
 -- From what a getter of clap gives to the rows that the specs speak of, and what a subcommand's name tells.
-use Rattle.std.proofs.Common.{◌≡◌, ◌∙◌, ap, arith, Bor, codes, get_or, List, option_map, Option, ℕ}
+use Rattle.std.proofs.Common.{◌≡◌, ◌∙◌, ap, arith, Bor, codes, get_or, List, option_map, Option, None, Some, subst, ℕ}
 use Rattle.clap.proofs.WalkLemmas.{first_value-rows}
 use Rattle.clap.specs.Words.{Row, Text, first_of, first_value, rows_of}
 use Rattle.clap.specs.declared.parser.matches.Found.{Found}
@@ -11,6 +11,14 @@ use Rattle.rv_app.specs.declared.command.Command.TheVariants.{Book, Call, Play, 
 pub value_in_rows : (f : Found) (name : Text) (value : Option (Bor Text)) → option_map (λ v. v.now) value ≡ first_value f name
     → option_map (λ v. v.now) value ≡ first_of name (rows_of f)
 value_in_rows f name value got = got ∙ first_value-rows f name
+
+abbrev IsNothing : Option Text → Type 0
+IsNothing None = Unit {0}
+IsNothing (Some text) = ⊥
+
+-- a value that is not there is no text
+pub not_there : (value : Option Text) (text : Text) → None ≡ value → value ≡ Some text → ⊥
+not_there value text none some = subst IsNothing (none ∙ some) tt
 
 -- the first letter of a command's word: no two have the same
 abbrev pub letter_of : Command → ℕ

@@ -38,12 +38,13 @@ call_app =
     let started = with_rule named (required_option (codes "incarnation")) in
     with_rule started (required_option (codes "tries"))
 
+-- the subcommands that use no socket
+abbrev pub local_app : App
+local_app = with_subcommand (with_subcommand (new_app (codes "rv")) book_app.top) play_app.top
+
 -- the program as `clap` reads it: its subcommands, with their options
 abbrev pub rv_app : App
-rv_app =
-    let books = with_subcommand (new_app (codes "rv")) book_app.top in
-    let plays = with_subcommand books play_app.top in
-    with_subcommand (with_subcommand plays serve_app.top) call_app.top
+rv_app = with_subcommand (with_subcommand local_app serve_app.top) call_app.top
 
 -- the value of an option is there, and is the digits of an identifier
 abbrev pub GivesIdentifier : Option Text → ℕ → Type 0

@@ -7,8 +7,8 @@ ghost use Rattle.clap.specs.Words.{shape_of, subcommand_of, subcommand_rows_of};
 ghost use Rattle.clap.specs.declared.Command.TheViews.{out-Command};
 ghost use Rattle.clap.specs.Walk.{texts};
 ghost use Rattle.rv_app.specs.Command.{FitsCommand, GivesBetween, GivesIdentifier, Names, NamesNone};
-ghost use Rattle.rv_app.specs.Command.{Says, book_app, call_app, play_app, required_option, rv_app};
-ghost use Rattle.rv_app.specs.Command.{serve_app};
+ghost use Rattle.rv_app.specs.Command.{Says, book_app, call_app, local_app, play_app, required_option};
+ghost use Rattle.rv_app.specs.Command.{rv_app, serve_app};
 ghost use Rattle.rv_app.specs.declared.command.CommandFault.TheVariants.{Bad, NoMemory};
 ghost use Rattle.clap.specs.declared.error.ErrorKind.TheVariants.{OutOfMemory};
 
@@ -205,11 +205,18 @@ fn matches_of<'a>(alloc: Global, words: &'a [&'a str]) -> Result<ArgMatches<'a>,
 fn program<'a>(alloc: Global) -> Result<clap::Command<'a>, AllocError>
     ensures { IfOk result (λ c. app_of c ≡ rv_app) }
 {
-    clap::Command::new(alloc, "rv")
-        .subcommand(book(alloc)?)?
-        .subcommand(play(alloc))?
+    local_program(alloc)?
         .subcommand(serve(alloc)?)?
         .subcommand(call(alloc)?)
+}
+
+// Those of its subcommands that use no socket.
+fn local_program<'a>(alloc: Global) -> Result<clap::Command<'a>, AllocError>
+    ensures { IfOk result (λ c. app_of c ≡ local_app) }
+{
+    clap::Command::new(alloc, "rv")
+        .subcommand(book(alloc)?)?
+        .subcommand(play(alloc))
 }
 
 // `book --epoch E`, as clap reads it.

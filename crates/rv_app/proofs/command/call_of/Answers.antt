@@ -1,14 +1,13 @@
 -- The options' values are those of the subcommand's rows.
 use Rattle.std.proofs.Common.{refl}
 use Rattle.clap.specs.Words.{found_of, rows_of}
-use Rattle.rv_app.proofs.Options.{call_alone}
+use Rattle.rv_app.proofs.Options.{call_alone, not_there}
 use Rattle.rv_app.proofs.command.call_of.Goals as goal
 
 pub returns-in_err-connect-clause-none : goal.returns-in_err-connect-clause-none
 returns-in_err-connect-clause-none c none command said =
     let given = call_alone (rows_of (found_of c.args.options.now)) command said in
-    let connect = given.4.to_connect in
-    cc
+    not_there _ given.0 c.in_err-connect.ensures given.4.to_connect
 
 pub returns-in_err-client-clause-none : goal.returns-in_err-client-clause-none
 returns-in_err-client-clause-none c none command said =

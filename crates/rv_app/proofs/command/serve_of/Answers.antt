@@ -1,14 +1,13 @@
 -- The options' values are those of the subcommand's rows.
 use Rattle.std.proofs.Common.{refl}
 use Rattle.clap.specs.Words.{found_of, rows_of}
-use Rattle.rv_app.proofs.Options.{serve_alone}
+use Rattle.rv_app.proofs.Options.{not_there, serve_alone}
 use Rattle.rv_app.proofs.command.serve_of.Goals as goal
 
 pub returns-in_err-listen-clause-none : goal.returns-in_err-listen-clause-none
 returns-in_err-listen-clause-none c none command said =
     let given = serve_alone (rows_of (found_of c.args.options.now)) command said in
-    let listen = given.4.to_listen in
-    cc
+    not_there _ given.0 c.in_err-listen.ensures given.4.to_listen
 
 pub returns-in_err-epoch-clause-none : goal.returns-in_err-epoch-clause-none
 returns-in_err-epoch-clause-none c none command said =
