@@ -64,6 +64,7 @@ def first_difference(program, accounts):
             for account, ran in zip(part, runs):
                 met[kind_of(account[2])] += 1
                 if not is_said(ran, account[2]):
+                    several.shutdown(wait=False, cancel_futures=True)
                     return met, (*account, ran)
     return met, None
 
