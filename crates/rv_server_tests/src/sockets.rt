@@ -2,7 +2,7 @@
 //! are served side by side.
 ghost use Rattle.std.specs.Prelude.{◌≡◌};
 
-use crate::meeting::Meeting;
+use crate::meeting::{Event, Meeting};
 use crate::run::{Still, all_are_asked_for};
 use crate::talks::{GIVES, POLLS, PUTS, TAKES, Talk};
 use rv_book::Book;
@@ -82,20 +82,21 @@ where
     served_both(rt, shared, ended)
 }
 
-// Two clients, each connected for as long as it takes. The second says nothing until the first one's worker pauses,
-// and that pause ends when the second has the item.
-fn hand_over<R>(rt: &R, address: SocketAddr, meeting: &Meeting<'_, R>)
+// Two clients are connected. The second says nothing until the first one's worker pauses, and that pause ends when
+// the second has the item.
+fn hand_over<R>(rt: &R, address: SocketAddr, paused: &Event, answered: &Event)
 where
     R: Threads + Net<Stream = TcpStream> + Abort + AllocGlobal + time::Clock + Sync,
 {
+    let first = connect(rt, address);
+    let second = connect(rt, address);
     thread::join(
         rt,
-        || converse(rt, &connect(rt, address), GIVES),
+        || converse(rt, &first, GIVES),
         || {
-            let stream = connect(rt, address);
-            meeting.paused.wait(rt);
-            converse(rt, &stream, TAKES);
-            meeting.answered.comes();
+            paused.wait(rt);
+            converse(rt, &second, TAKES);
+            answered.comes();
         },
     );
 }
@@ -117,7 +118,7 @@ where
     let (ended, ()) = thread::join(
         rt,
         || serve(rt, alloc, &shared, seats, &Still(0), &meeting, listener, 2),
-        || hand_over(rt, address, &meeting),
+        || hand_over(rt, address, &meeting.paused, &meeting.answered),
     );
     assert!(rt; !meeting.paused.is_late(), "no worker paused");
     assert!(rt; !meeting.answered.is_late(), "no answer came in a pause");
