@@ -33,6 +33,9 @@ use std::env;
 use std::io::ErrorKind;
 use std::net::{TcpListener, TcpStream};
 use std::process::ExitCode;
+use std::sync::Wait;
+use std::thread::Threads;
+use std::time;
 use thiserror::Error;
 
 // Why the program ends before its command is done.
@@ -83,7 +86,7 @@ impl From<ServeFault> for ProgramFault {
 
 // Where standard error takes nothing, the status alone tells the fault.
 fn main(rt: HostRuntime) -> ExitCode {
-    match run_program(&rt) {
+    match run_program(&rt, &rt) {
         Ok(code) => code,
         Err(fault) => {
             let _ = eprintln!(rt; "{fault}");
@@ -92,7 +95,11 @@ fn main(rt: HostRuntime) -> ExitCode {
     }
 }
 
-fn run_program(rt: &HostRuntime) -> Result<ExitCode, ProgramFault> {
+// What may start threads and wait is handed in beside what may not.
+fn run_program<T: Threads + Wait + AllocGlobal + time::Clock + Sync>(
+    rt: &HostRuntime,
+    threads: &T,
+) -> Result<ExitCode, ProgramFault> {
     let words = words_of(rt)?;
     let words: Vec<&str> = words.iter().map(|word| word.as_str()).collect(rt.alloc())?;
     match read_command(rt.alloc(), &words)? {
@@ -103,7 +110,7 @@ fn run_program(rt: &HostRuntime) -> Result<ExitCode, ProgramFault> {
             epoch,
             workers,
             connections,
-        } => run_serve(rt, listen, epoch, workers, connections)?,
+        } => run_serve(rt, threads, listen, epoch, workers, connections)?,
         Command::Call {
             connect,
             client,
@@ -138,8 +145,9 @@ fn run_play(rt: &HostRuntime) -> Result<(), RunFault> {
 }
 
 // Listens, and serves the connections that come.
-fn run_serve(
+fn run_serve<T: Threads + Wait + AllocGlobal + time::Clock + Sync>(
     rt: &HostRuntime,
+    threads: &T,
     listen: &str,
     epoch: u64,
     workers: usize,
@@ -152,7 +160,7 @@ fn run_serve(
     let Ok(listener) = TcpListener::bind(rt, listen) else {
         return Err(ProgramFault::Address);
     };
-    Ok(serve_epoch(rt, listener, epoch, workers, connections)?)
+    Ok(serve_epoch(threads, listener, epoch, workers, connections)?)
 }
 
 // Connects first, and then reads the lines. Where small frames are held back all goes on, slower.
