@@ -20,8 +20,8 @@ use Rattle.rv_app.specs.Word.{word_text}
 
 -- ---- what came of the lines
 
-module _ {R W : Type 0} (remaining : R → Option (List ℕ)) (contents : W → Option (List ℕ)) (starting : Starting)
-    (tries : ℕ) where
+module _ {R W : Type 0} (remaining : R → Option (List ℕ)) (contents : W → Option (List ℕ))
+    (starting : Starting) (tries : ℕ) where
   -- the client is welcome, and the calls of these lines were settled with these texts, from number 1 on
   pub record Settles (all texts : List (List ℕ)) (before after : Link R W) : Type 0 where
     pub epoch : ℕ
@@ -134,10 +134,12 @@ module _ {O R W : Type 0} (taken : O → Option (List ℕ)) (remaining : R → O
     pub took : TakesLines taken texts out out'
 
   -- what a run over the lines leaves, by what it answers
-  abbrev pub RunsCalls : List (List ℕ) → Link R W → Link R W → Sink O → Sink O → Result CallSaid RunFault → Type 0
+  abbrev pub RunsCalls : List (List ℕ) → Link R W → Link R W → Sink O → Sink O
+      → Result CallSaid RunFault → Type 0
   RunsCalls all before after out out' (Ok Whole) = RunsWhole all before after out out'
   RunsCalls all before after out out' (Ok Stopped) = RunsToWord all before after out out'
-  RunsCalls all before after out out' (Err (WriteFault fault)) = RunsToCut all before after out out' fault.sent
+  RunsCalls all before after out out' (Err (WriteFault fault)) =
+      RunsToCut all before after out out' fault.sent
   RunsCalls all before after out out' (Err NoMemory) = RunsShort all before out out'
   RunsCalls all before after out out' (Err ReadFault) = ⊥
   RunsCalls all before after out out' (Err TooLong) = ⊥
@@ -151,7 +153,8 @@ module _ {L O R W : Type 0} (given : L → Option (List ℕ)) (taken : O → Opt
       (result : Result CallSaid RunFault) : Type 0 where
     pub whole_input : ReadsAll given source source'
     pub runs : IfSome (source_remaining given source)
-        (λ input. RunsCalls taken remaining contents starting tries (lines input) before after out out' result)
+        (λ input. RunsCalls taken remaining contents starting tries (lines input) before after
+            out out' result)
 
 module _ {O R W : Type 0} where
   -- nothing was asked and nothing printed

@@ -1,5 +1,6 @@
 -- What a client asks over its link: its hellos, and then the calls that lines say.
-use Rattle.std.specs.Prelude.{ℕ, ◌≡◌, ◌<◌, ◌≤◌, ◌+◌, ◌⊎◌, [], ◌∷◌, List, Option, Some, Result, Ok, Err, length}
+use Rattle.std.specs.Prelude.{ℕ, ◌≡◌, ◌<◌, ◌≤◌, ◌+◌, ◌⊎◌, [], ◌∷◌, List, length}
+use Rattle.std.specs.Prelude.{Option, Some, Result, Ok, Err}
 use Rattle.rv_text.specs.Bodies.{IsCallBody, answer_text}
 use Rattle.rv_text.specs.Limits.{FitsIdentifier, FitsKey}
 use Rattle.rv_text.specs.declared.answer.Answer.{Answer}

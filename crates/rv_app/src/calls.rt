@@ -38,8 +38,8 @@ pub enum CallSaid {
 ///
 /// All lines are read before hello is said, and read faults, want of memory and too long an input are found
 /// before anything is written. The run ends where a line cannot be settled, with one word behind those that
-/// were: `refused N` and `not welcome` at the hello; `unsettled NUMBER`, where nothing final was heard and the
-/// request is given up; `epoch ended CURRENT`; `replaced CURRENT`; and `bad line` for a line that says no
+/// were: `refused N` and `not welcome` at the hello; `unsettled NUMBER`, where nothing final was heard, and
+/// the request is given up; `epoch ended CURRENT`; `replaced CURRENT`; and `bad line` for a line that says no
 /// call. Lines end by LF, which the last one may lack.
 ///
 /// [`RunFault::WriteFault`] tells of `out` alone: what becomes of the link is told by the word. A line whose

@@ -1,6 +1,7 @@
 //! The program `rv`: it reads its command line, and runs what the words name.
 #![tactic(auto)]
 
+ghost use Rattle.std.specs.Prelude.{◌≤◌};
 ghost use Rattle.rv_text.specs.Limits.{FitsIdentifier};
 
 mod calls;
@@ -14,6 +15,7 @@ mod number;
 mod output;
 mod play;
 mod run;
+mod server;
 mod told;
 mod turn;
 mod word;
@@ -24,11 +26,16 @@ pub use output::OutputFault;
 pub use play::play_run;
 pub use run::{RunFault, book_run};
 use rv_frame::{Sink, Source};
+use rv_server::ServeFault;
+use server::serve_epoch;
 use std::alloc::AllocError;
 use std::env;
 use std::io::ErrorKind;
-use std::net::TcpStream;
+use std::net::{TcpListener, TcpStream};
 use std::process::ExitCode;
+use std::sync::Wait;
+use std::thread::Threads;
+use std::time;
 use thiserror::Error;
 
 // Why the program ends before its command is done.
@@ -38,6 +45,8 @@ enum ProgramFault {
     Command(CommandFault),
     #[error("{0}")]
     Run(RunFault),
+    #[error("{0}")]
+    Serve(ServeFault),
     #[error("address fault")]
     Address,
 }
@@ -46,7 +55,7 @@ impl ProgramFault {
     fn status(&self) -> u8 {
         match self {
             ProgramFault::Command(_) => 2,
-            ProgramFault::Run(_) | ProgramFault::Address => 1,
+            ProgramFault::Run(_) | ProgramFault::Serve(_) | ProgramFault::Address => 1,
         }
     }
 }
@@ -69,9 +78,15 @@ impl From<RunFault> for ProgramFault {
     }
 }
 
+impl From<ServeFault> for ProgramFault {
+    fn from(fault: ServeFault) -> ProgramFault {
+        ProgramFault::Serve(fault)
+    }
+}
+
 // Where standard error takes nothing, the status alone tells the fault.
 fn main(rt: HostRuntime) -> ExitCode {
-    match run_program(&rt) {
+    match run_program(&rt, &rt) {
         Ok(code) => code,
         Err(fault) => {
             let _ = eprintln!(rt; "{fault}");
@@ -80,13 +95,22 @@ fn main(rt: HostRuntime) -> ExitCode {
     }
 }
 
-fn run_program(rt: &HostRuntime) -> Result<ExitCode, ProgramFault> {
+// What may start threads and wait is handed in beside what may not.
+fn run_program<T: Threads + Wait + AllocGlobal + time::Clock + Sync>(
+    rt: &HostRuntime,
+    threads: &T,
+) -> Result<ExitCode, ProgramFault> {
     let words = words_of(rt)?;
     let words: Vec<&str> = words.iter().map(|word| word.as_str()).collect(rt.alloc())?;
     match read_command(rt.alloc(), &words)? {
         Command::Book(epoch) => run_book(rt, epoch)?,
         Command::Play => run_play(rt)?,
-        Command::Serve { .. } => {}
+        Command::Serve {
+            listen,
+            epoch,
+            workers,
+            connections,
+        } => run_serve(rt, threads, listen, epoch, workers, connections)?,
         Command::Call {
             connect,
             client,
@@ -118,6 +142,25 @@ fn run_play(rt: &HostRuntime) -> Result<(), RunFault> {
     let mut source = Source::new(rt.stdin());
     let mut sink = Sink::new(rt.stdout());
     play_run(rt.alloc(), &mut source, &mut sink)
+}
+
+// Listens, and serves the connections that come.
+fn run_serve<T: Threads + Wait + AllocGlobal + time::Clock + Sync>(
+    rt: &HostRuntime,
+    threads: &T,
+    listen: &str,
+    epoch: u64,
+    workers: usize,
+    connections: u32,
+) -> Result<(), ProgramFault>
+    requires epoch { FitsIdentifier epoch }
+    requires some { 1 ≤ workers }
+    requires most { workers ≤ 64 }
+{
+    let Ok(listener) = TcpListener::bind(rt, listen) else {
+        return Err(ProgramFault::Address);
+    };
+    Ok(serve_epoch(threads, listener, epoch, workers, connections)?)
 }
 
 // Connects first, and then reads the lines. Where small frames are held back all goes on, slower.

@@ -13,10 +13,11 @@ use std::thread::Threads;
 use std::time;
 use std::time::{Duration, Instant};
 
-// How long a worker waits before it asks a waiting request again.
-const PAUSE: Duration = Duration::from_millis(5);
+// How many milliseconds a worker waits before it asks a waiting request again.
+const PAUSE_MILLIS: u64 = 5;
 
 // The machine's clock, in whole milliseconds since the server's start. A reading that fails counts as 0.
+#[derive(Drop)]
 struct SinceStart<'a, R> {
     rt: &'a R,
     start: Option<Instant>,
@@ -42,13 +43,14 @@ impl<'a, R: time::Clock> Clock for SinceStart<'a, R> {
 }
 
 // A gate that sleeps for a pause.
+#[derive(Drop)]
 struct Sleeping<'a, R> {
     rt: &'a R,
 }
 
 impl<'a, R: time::Clock> Gate for Sleeping<'a, R> {
     fn pause(&self) {
-        thread::sleep(self.rt, PAUSE);
+        thread::sleep(self.rt, Duration::from_millis(PAUSE_MILLIS));
     }
 }
 
