@@ -1,10 +1,10 @@
 //! The program `rv`: it reads its command line, and runs what the words name.
 #![tactic(auto)]
 
-ghost use Rattle.std.specs.Prelude.{IfOk};
 ghost use Rattle.rv_text.specs.Limits.{FitsIdentifier};
-ghost use Rattle.rv_app.specs.Command.{FitsCommand};
 
+mod calls;
+mod client;
 mod command;
 mod event;
 mod input;
@@ -16,40 +16,63 @@ mod play;
 mod run;
 mod told;
 mod turn;
+mod word;
 
+pub use calls::{CallSaid, call_run};
 pub use command::{Command, CommandFault, read_command};
 pub use output::OutputFault;
 pub use play::play_run;
 pub use run::{RunFault, book_run};
 use rv_frame::{Sink, Source};
-use std::alloc::Global;
+use std::alloc::AllocError;
 use std::env;
 use std::io::ErrorKind;
+use std::net::TcpStream;
 use std::process::ExitCode;
 use thiserror::Error;
 
-// Why the program ends with a status other than 0.
+// Why the program ends before its command is done.
 #[derive(Clone, Copy, Debug, Error)]
 enum ProgramFault {
     #[error("{0}")]
     Command(CommandFault),
     #[error("{0}")]
     Run(RunFault),
+    #[error("address fault")]
+    Address,
 }
 
 impl ProgramFault {
     fn status(&self) -> u8 {
         match self {
-            ProgramFault::Run(_) => 1,
             ProgramFault::Command(_) => 2,
+            ProgramFault::Run(_) | ProgramFault::Address => 1,
         }
+    }
+}
+
+impl From<CommandFault> for ProgramFault {
+    fn from(fault: CommandFault) -> ProgramFault {
+        ProgramFault::Command(fault)
+    }
+}
+
+impl From<AllocError> for ProgramFault {
+    fn from(_error: AllocError) -> ProgramFault {
+        ProgramFault::Command(CommandFault::NoMemory)
+    }
+}
+
+impl From<RunFault> for ProgramFault {
+    fn from(fault: RunFault) -> ProgramFault {
+        ProgramFault::Run(fault)
     }
 }
 
 // Where standard error takes nothing, the status alone tells the fault.
 fn main(rt: HostRuntime) -> ExitCode {
     match run_program(&rt) {
-        Ok(()) => ExitCode::SUCCESS,
+        Ok(code) => code,
         Err(fault) => {
             let _ = eprintln!(rt; "{fault}");
             ExitCode::from(fault.status())
@@ -57,10 +80,29 @@ fn main(rt: HostRuntime) -> ExitCode {
     }
 }
 
-fn run_program(rt: &HostRuntime) -> Result<(), ProgramFault> {
-    match command_of_words(rt).map_err(ProgramFault::Command)? {
-        Command::Book(epoch) => run_book(rt, epoch).map_err(ProgramFault::Run),
-        Command::Play => run_play(rt).map_err(ProgramFault::Run),
+fn run_program(rt: &HostRuntime) -> Result<ExitCode, ProgramFault> {
+    let words = words_of(rt)?;
+    let words: Vec<&str> = words.iter().map(|word| word.as_str()).collect(rt.alloc())?;
+    match read_command(rt.alloc(), &words)? {
+        Command::Book(epoch) => run_book(rt, epoch)?,
+        Command::Play => run_play(rt)?,
+        Command::Serve { .. } => {}
+        Command::Call {
+            connect,
+            client,
+            incarnation,
+            tries,
+        } => return run_call(rt, connect, client, incarnation, tries),
+    }
+    Ok(ExitCode::SUCCESS)
+}
+
+// The words of the command line. Those that are no UTF-8 name no command.
+fn words_of(rt: &HostRuntime) -> Result<Vec<String>, CommandFault> {
+    match env::args(rt) {
+        Ok(words) => Ok(words.collect(rt.alloc())?),
+        Err(error) if error.kind() == ErrorKind::OutOfMemory => Err(CommandFault::NoMemory),
+        Err(_) => Err(CommandFault::Bad),
     }
 }
 
@@ -78,16 +120,30 @@ fn run_play(rt: &HostRuntime) -> Result<(), RunFault> {
     play_run(rt.alloc(), &mut source, &mut sink)
 }
 
-// Words that are no UTF-8 name no command.
-fn command_of_words(rt: &HostRuntime) -> Result<Command, CommandFault>
-    ensures { IfOk result FitsCommand }
+// Connects first, and then reads the lines. Where small frames are held back all goes on, slower.
+fn run_call(
+    rt: &HostRuntime,
+    connect: &str,
+    client: u64,
+    incarnation: u64,
+    tries: u32,
+) -> Result<ExitCode, ProgramFault>
+    requires client { FitsIdentifier client }
+    requires incarnation { FitsIdentifier incarnation }
 {
-    let words = match env::args(rt) {
-        Ok(words) => words,
-        Err(error) if error.kind() == ErrorKind::OutOfMemory => return Err(CommandFault::NoMemory),
-        Err(_) => return Err(CommandFault::Bad),
+    let Ok(stream) = TcpStream::connect(rt, connect) else {
+        return Err(ProgramFault::Address);
     };
-    let words: Vec<String> = words.collect(rt.alloc())?;
-    let words: Vec<&str> = words.iter().map(|word| word.as_str()).collect(rt.alloc())?;
-    read_command(rt.alloc(), &words)
+    let _ = stream.set_nodelay(true);
+    let mut lines = Source::new(rt.stdin());
+    let mut out = Sink::new(rt.stdout());
+    let mut from = Source::new(&stream);
+    let mut to = Sink::new(&stream);
+    let alloc = rt.alloc();
+    match call_run(
+        alloc, &mut lines, &mut out, &mut from, &mut to, client, incarnation, tries,
+    )? {
+        CallSaid::Whole => Ok(ExitCode::SUCCESS),
+        CallSaid::Stopped => Ok(ExitCode::from(1)),
+    }
 }
