@@ -115,6 +115,29 @@ def started_again(program):
         server.ended()
 
 
+def started_while_it_waits(program):
+    """A second start of the same incarnation is told the same reply as the first, or nothing that settles where its
+    call is another; one of a greater incarnation ends the first."""
+    with Server(program, workers=4, connections=6) as server:
+        server.greeted(9).close()
+        with Caller(program, server.port, 1, lines(WISH)) as first:
+            time.sleep(0.3)
+            with Caller(program, server.port, 1, lines(WISH)) as second:
+                time.sleep(0.3)
+                with Caller(program, server.port, 1, lines(take("now")), tries=2) as other:
+                    other.judge(b"unsettled 1\n", 1)
+                with server.greeted(2) as peer:
+                    key = Key(1, 2, 1, 1)
+                    peer.expect(request(key, give("put", "a")), replied(key, reply="done"))
+                    for caller in (first, second):
+                        caller.judge(replied(Key(1, 1, 1, 1), reply="item", item="a") + b"\n")
+                    with Caller(program, server.port, 3, lines(WISH)) as old:
+                        time.sleep(0.3)
+                        peer.expect(hello(3, 2), welcome(3, 1, 2))
+                        old.judge(b"replaced 2\n", 1)
+        server.ended()
+
+
 class Scripted:
     """A listener that serves one connection: for each frame that it hears it sends the next bytes, and then it ends."""
 
@@ -250,5 +273,5 @@ def no_packet_waits(program):
     demand(took < EXCHANGES * DELAY / 2, f"{EXCHANGES} requests took {took:.1f} seconds")
 
 
-CASES = [two_callers, a_line_as_soon_as_it_is_settled, settled_in_turn, started_again, strange_servers, lines_of_calls,
-         no_packet_waits]
+CASES = [two_callers, a_line_as_soon_as_it_is_settled, settled_in_turn, started_again, started_while_it_waits,
+         strange_servers, lines_of_calls, no_packet_waits]
