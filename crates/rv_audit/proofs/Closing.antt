@@ -1,13 +1,13 @@
 -- What is left in an audit's tables when a place is taken out of them.
-use Rattle.std.proofs.Common.{◌≡◌, ◌⊎◌, inl, inr, ℕ, ◌<◌, ◌≤◌, Bool, true, false, cond, nat_eq, List, length, Option, Some, None, IfSome, IfNone, take, option_and_then, refl, sym, ap, subst, ◌∙◌, arith}
+use Rattle.std.proofs.Common.{◌≡◌, ◌⊎◌, inl, inr, ℕ, ◌<◌, Bool, true, false, cond, nat_eq, List, Option, Some, None, IfSome, IfNone, take, option_and_then, refl, sym, ap, subst, ◌∙◌, arith}
 use Rattle.std.proofs.lemmas.Bool.{false≢true}
 use Rattle.std.proofs.lemmas.Bool.Decides.{nat_tests}
-use Rattle.std.proofs.lemmas.Option.{none-some, same_Some}
+use Rattle.std.proofs.lemmas.Option.{same_Some}
 use Rattle.rv_text.specs.declared.call.Side.{Side}
 use Rattle.rv_book.specs.declared.account.Entry.{Entry}
-use Rattle.rv_book.specs.Account.{Account, call_at}
+use Rattle.rv_book.specs.Account.{Account}
 use Rattle.rv_book.specs.Legal.{IsDueAt}
-use Rattle.rv_book.specs.Waiting.{OpenAt, SideAt, Waiting, limit_at, limit_in}
+use Rattle.rv_book.specs.Waiting.{SideAt, limit_at, limit_in}
 use Rattle.rv_book.proofs.Deciding.{same_side}
 use Rattle.rv_book.proofs.Fronts.{read_whole}
 use Rattle.rv_book.proofs.Growing.{call_read}
@@ -15,7 +15,7 @@ use Rattle.rv_book.proofs.Numbers.{same_or_not}
 use Rattle.rv_book.proofs.Places.{get-take}
 use Rattle.rv_book.proofs.Sides.{one_side}
 use Rattle.rv_audit.specs.Lines.{Closes, stands_in}
-use Rattle.rv_audit.specs.Marks.{IsLeast, Loses, NoneUntil, count_of, marked}
+use Rattle.rv_audit.specs.Marks.{IsLeast, Loses, marked}
 use Rattle.rv_audit.specs.Passed.{AreLimits, AreLines, AreMet, AreSessions, AreTables, ClosesIf, Gone, IsArrived, IsFitting, IsFront, IsTakingOut, LosesIf, SameRest, TakesOut, gone_at, none_gone, passed, with_gone, with_tables}
 use Rattle.rv_audit.specs.declared.front.Front.{Front}
 use Rattle.rv_audit.specs.declared.lines.Lines.{Lines}

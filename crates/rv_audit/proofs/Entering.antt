@@ -1,23 +1,22 @@
 -- What each session has come to, when one more entry was passed.
-use Rattle.std.proofs.Common.{◌≡◌, ◌≢◌, ◌⊎◌, inl, inr, ℕ, ◌+◌, ◌<◌, ◌≤◌, List, [], ◌∷◌, ◌++◌, length, Option, Some, None, option_and_then, refl, sym, ap, subst, ◌∙◌, arith}
+use Rattle.std.proofs.Common.{◌≡◌, ◌⊎◌, inl, inr, ℕ, ◌+◌, ◌<◌, ◌≤◌, List, [], ◌∷◌, ◌++◌, length, Option, Some, None, option_and_then, refl, sym, ap, subst, ◌∙◌, arith}
 use Rattle.std.proofs.lemmas.Option.{none-some, same_Some}
 use Rattle.rv_text.specs.declared.message.Key.{Key}
 use Rattle.rv_text.specs.declared.call.Call.{Call}
 use Rattle.rv_book.specs.declared.account.Entry.{Entry}
 use Rattle.rv_book.specs.declared.account.Act.{Act}
 use Rattle.rv_book.specs.declared.account.Act.TheVariants.{Arrive, Cancel, Hello, Tick}
-use Rattle.rv_book.specs.Account.{Account, act_at, call_in, key_at, key_in, with_entry}
+use Rattle.rv_book.specs.Account.{Account, act_at, call_in, key_in}
 use Rattle.rv_book.specs.Calls.{IsPut}
-use Rattle.rv_book.specs.Legal.{HasWaiting, IsNextNumber, Legal, MayFollow, NamesFreePartner, WaitsUnder}
+use Rattle.rv_book.specs.Legal.{IsNextNumber, Legal, MayFollow, NamesFreePartner, WaitsUnder}
 use Rattle.rv_book.specs.Sessions.{HasIncarnation, LastHello, LastNumber, NamesKey, SaidHello}
-use Rattle.rv_book.specs.Waiting.{StoppedAt, Waiting}
+use Rattle.rv_book.specs.Waiting.{Waiting}
 use Rattle.rv_book.proofs.Growing.{act_read, call_read, reads_back, reads_within}
-use Rattle.rv_book.proofs.Histories.{one_last_number}
 use Rattle.rv_book.proofs.Keys.{NamesKey-back, NamesKey-on, act_called, client_of, key_read}
 use Rattle.rv_book.proofs.Numbers.{same_or_not}
 use Rattle.rv_book.proofs.Places.{get-append_end}
 use Rattle.rv_book.proofs.SessionTable.{IsApart, IsAt, IsAt-on, named_at, other_apart}
-use Rattle.rv_book.proofs.Sides.{IsNewRequest, IsRequestOf, IsRequestUnder, Waiting-back, WasWaiting, cancel_stops, hello_stops}
+use Rattle.rv_book.proofs.Sides.{IsNewRequest, Waiting-back, WasWaiting, cancel_stops, hello_stops}
 use Rattle.rv_book.proofs.Waits.{one_waits, waiting_is_last}
 use Rattle.rv_audit.specs.Passed.{AreSessions, EntersIf, IsSession, IsSessionOf, session_after}
 use Rattle.rv_audit.specs.Sessions.{Enters, session_in}

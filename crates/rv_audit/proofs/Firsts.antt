@@ -1,18 +1,16 @@
 -- From the first rule that an entry breaks to an account's first fault.
-use Rattle.std.proofs.Common.{◌≡◌, ◌⊎◌, inl, inr, ℕ, zero, suc, ◌<◌, ◌≤◌, List, [], ◌∷◌, length, take, Option, Some, None, IfSome, IfNone, refl, sym, ap, subst, ◌∙◌, arith}
+use Rattle.std.proofs.Common.{◌≡◌, ℕ, zero, suc, ◌<◌, List, [], ◌∷◌, length, take, Option, Some, None, IfSome, IfNone, refl, sym, ap, subst, ◌∙◌, arith}
 use Rattle.std.specs.List.{slice_get}
-use Rattle.std.proofs.lemmas.Bool.{cases_lt, cases_order}
 use Rattle.std.proofs.lemmas.List.{take-take}
-use Rattle.std.proofs.lemmas.Option.{none-some, same_Some, slice_get_past}
+use Rattle.std.proofs.lemmas.Option.{none-some, same_Some}
 use Rattle.rv_book.specs.declared.account.Entry.{Entry}
 use Rattle.rv_book.specs.Account.{Account, Stored}
 use Rattle.rv_book.specs.Legal.{Legal, MayFollow, before}
 use Rattle.rv_book.proofs.Fronts.{Legal-before}
-use Rattle.rv_book.proofs.Places.{get-take, within}
-use Rattle.rv_audit.specs.Breaking.{Breaks, BreaksBehind, FirstFault, IsToldOf, KeepsRules, rank_of}
+use Rattle.rv_book.proofs.Places.{get-take}
+use Rattle.rv_audit.specs.Breaking.{BreaksBehind, FirstFault, KeepsRules, rank_of}
 use Rattle.rv_audit.specs.Passed.{BreaksFirst, BreaksFirstOf, BreaksNone, BreaksNoneOf, IsFront, MayPass, passed}
 use Rattle.rv_audit.specs.declared.front.Front.{Front}
-use Rattle.rv_audit.specs.declared.rule.Audit.{Audit}
 use Rattle.rv_audit.specs.declared.rule.Audit.TheVariants as tells
 use Rattle.rv_audit.specs.declared.rule.Rule.{Rule}
 use Rattle.rv_audit.specs.declared.rule.Rule.TheVariants.{M1, M2, M3, N1, N2, N3, P1, P2, P3, P4, S1, S2}

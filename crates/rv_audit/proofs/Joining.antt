@@ -1,45 +1,36 @@
 -- What an audit's tables are when one more entry was passed.
-use Rattle.std.proofs.Common.{◌≡◌, ◌≢◌, ◌⊎◌, inl, inr, ℕ, zero, suc, ◌+◌, ◌-◌, ◌<◌, ◌≤◌, Bool, true, false, cond, nat_eq, List, [], ◌∷◌, ◌++◌, length, take, Option, Some, None, IfSome, IsSome, is_some, option_and_then, option_map, unwrap_or, refl, sym, ap, subst, ◌∙◌, arith, length-append}
+use Rattle.std.proofs.Common.{◌≡◌, ◌⊎◌, inl, inr, ℕ, zero, suc, ◌+◌, ◌-◌, ◌<◌, Bool, true, false, List, [], ◌∷◌, ◌++◌, length, take, Option, Some, None, IfSome, IsSome, is_some, option_and_then, unwrap_or, refl, sym, ap, subst, ◌∙◌, arith, length-append}
 use Rattle.std.specs.List.{slice_get}
 use Rattle.std.specs.Prelude.{slice_set}
 use Rattle.std.proofs.lemmas.Bool.{false≢true}
-use Rattle.std.proofs.lemmas.Bool.Decides.{nat_tests}
 use Rattle.std.proofs.lemmas.Option.{none-some, same_Some}
-use Rattle.rv_text.specs.declared.message.Key.{Key}
 use Rattle.rv_text.specs.declared.call.Call.{Call}
 use Rattle.rv_text.specs.declared.call.Side.{Side}
 use Rattle.rv_text.specs.declared.call.Side.TheVariants.{Gives, Takes, Looks, Exchanges}
 use Rattle.rv_text.specs.Calls.{side_of}
 use Rattle.rv_book.specs.declared.account.Entry.{Entry}
-use Rattle.rv_book.specs.declared.account.Act.{Act}
-use Rattle.rv_book.specs.declared.account.Act.TheVariants.{Arrive, Cancel, Hello, Tick}
-use Rattle.rv_book.specs.Account.{Account, act_at, call_at, call_in, key_in, moment_at, with_entry}
-use Rattle.rv_book.specs.Calls.{IsPut, Stays, opposite}
+use Rattle.rv_book.specs.declared.account.Act.TheVariants.{Arrive}
+use Rattle.rv_book.specs.Account.{Account, act_at, moment_at, with_entry}
+use Rattle.rv_book.specs.Calls.{Stays, opposite}
 use Rattle.rv_book.specs.Legal.{Legal, MayFollow, NamesFreePartner, before}
-use Rattle.rv_book.specs.Sessions.{HasIncarnation, LastHello, LastNumber, NamesKey, SaidHello}
 use Rattle.rv_book.specs.Steps.{own_moment}
-use Rattle.rv_book.specs.Waiting.{Met, NamesPartner, Open, OpenAt, SideAt, StoppedAt, Waiting, limit_at, limit_in}
+use Rattle.rv_book.specs.Waiting.{Met, Open, OpenAt, StoppedAt, Waiting, limit_at, limit_in}
 use Rattle.rv_book.proofs.Deciding.{same_side}
-use Rattle.rv_book.proofs.Growing.{Met-back, Met-on, act_read, call_read, limit_on, moment_read, partner_read, reads_back, reads_on, reads_within}
-use Rattle.rv_book.proofs.Histories.{one_last_number}
-use Rattle.rv_book.proofs.Keys.{NamesKey-back, NamesKey-on, act_called, client_of, key_read}
+use Rattle.rv_book.proofs.Growing.{Met-back, Met-on, call_read, limit_on, moment_read, partner_read}
+use Rattle.rv_book.proofs.Keys.{act_called}
 use Rattle.rv_book.proofs.Numbers.{same_or_not}
 use Rattle.rv_book.proofs.Places.{get-append, get-append_cases, get-append_end, get-set_other, get-set_same, within}
-use Rattle.rv_book.proofs.SessionTable.{IsApart, IsAt, IsAt-on, named_at, other_apart}
-use Rattle.rv_book.proofs.Sides.{OpenAt-back, OpenAt-last, OpenAt-on, Waiting-back, Waiting-last, Waiting-on, hello_stops, cancel_stops, last_unmet, names_last, waiting_is_open}
+use Rattle.rv_book.proofs.Sides.{OpenAt-back, OpenAt-last, OpenAt-on, Waiting-back, Waiting-last, Waiting-on, last_unmet, names_last, waiting_is_open}
 use Rattle.rv_book.proofs.Waiters.{met_last, open_inside}
-use Rattle.rv_book.proofs.Waits.{one_waits, waiting_is_last}
-use Rattle.rv_audit.specs.Lines.{IsOpenable, Opens, stands_in}
-use Rattle.rv_audit.specs.Marks.{Gains, marked}
-use Rattle.rv_audit.specs.Passed.{AreLimits, AreLines, AreMet, AreSessions, AreTouched, EntersIf, GainsIf, Gone, IsNewOn, IsNewRequest, IsSession, IsSessionOf, OpensIf, OpensOn, WaitsFor, WaitsUntil, flagged, none_gone, session_after}
+use Rattle.rv_audit.specs.Lines.{IsOpenable, stands_in}
+use Rattle.rv_audit.specs.Marks.{marked}
+use Rattle.rv_audit.specs.Passed.{AreLimits, AreLines, AreMet, AreTouched, EntersIf, GainsIf, Gone, IsNewOn, IsNewRequest, OpensIf, OpensOn, WaitsUntil, flagged, none_gone, session_after}
 use Rattle.rv_audit.specs.Passed.{AreTables, HasPassed, IsReadyFor, passed}
 use Rattle.rv_audit.specs.declared.front.Front.{Front}
 use Rattle.rv_audit.proofs.Entering.{sessions_joined}
 use Rattle.rv_book.proofs.Legality.{Legal-with_entry}
 use Rattle.rv_audit.specs.declared.lines.Lines.{Lines}
 use Rattle.rv_audit.specs.declared.marks.Marks.{Marks}
-use Rattle.rv_audit.specs.declared.sessions.Session.{Session}
-use Rattle.rv_audit.specs.declared.sessions.Sessions.{Sessions}
 
 -- ---- moments
 

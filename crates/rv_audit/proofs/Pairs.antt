@@ -1,5 +1,5 @@
 -- Pairs of a number and a place, in a set that is ordered by the number and then by the place.
-use Rattle.std.proofs.Common.{◌≡◌, ◌≢◌, ◌⊎◌, inl, inr, ℕ, ◌<◌, ◌≤◌, arith, Bool, true, false, cond, nat_eq, nat_le, List, [], ◌∷◌, Some, None, IfSome, IfNone, refl, sym, ap, ◌∙◌, subst}
+use Rattle.std.proofs.Common.{◌≡◌, ◌≢◌, ◌⊎◌, inl, inr, ℕ, ◌<◌, ◌≤◌, arith, Bool, true, false, cond, nat_eq, nat_le, List, [], ◌∷◌, IfSome, IfNone, refl, sym, ap, ◌∙◌, subst}
 use Rattle.std.specs.declared.cmp.Ordering.{Ordering}
 use Rattle.std.specs.declared.cmp.Ordering.TheVariants.{Less, Equal, Greater}
 use Rattle.std.specs.Ordering.{nat_cmp, ordering_then, is_eq, is_gt}
@@ -7,11 +7,11 @@ use Rattle.std.specs.BTreeSet.{BTreeSet, contains, IsKeyInRange, IsKeyRangeOf}
 use Rattle.std.specs.declared.ops.Bound.TheVariants.{Included, Unbounded}
 use Rattle.std.specs.Bool.{then_some}
 use Rattle.std.proofs.lemmas.Bool.Decides.{nat_tests}
-use Rattle.std.specs.Cmp.{IsTotalOrder, nat_cmp_total, then_total, on_total, nat_cmp_is, ranked, Equal-is, eq_by_cmp_equiv}
+use Rattle.std.specs.Cmp.{IsTotalOrder, nat_cmp_total, then_total, on_total, ranked, Equal-is, eq_by_cmp_equiv}
 use Rattle.std.proofs.lemmas.Bool.{false≢true}
 use Rattle.rv_audit.specs.declared.marks.Marks.{Marks}
 use Rattle.std.specs.Bool.{IsTrue}
-use Rattle.rv_audit.specs.Marks.{Gains, IsLeast, IsLowest, Loses, NoneUnder, NoneUntil, marked}
+use Rattle.rv_audit.specs.Marks.{Gains, IsLowest, Loses, NoneUnder, NoneUntil}
 
 abbrev pub Pair : Type 0
 Pair = ℕ × ℕ
@@ -116,7 +116,6 @@ none_until s limit k least above n p until = true_or_false _ (λ other. elim (no
   | inl under ↦ let less : k.0 < n = under in omega arith
   | inr same ↦ let equal : k.0 ≡ n = same.0 in omega arith
 ])
-
 
 -- ---- what is found
 

@@ -1,6 +1,5 @@
 -- What an audit's tables tell of the entries that were passed: who is due, who is oldest, and who waits.
-use Rattle.std.proofs.Common.{◌≡◌, ◌⊎◌, inl, inr, ℕ, ◌<◌, ◌≤◌, ◌^◌, Bool, true, false, List, length, take, Option, Some, None, IfSome, IfNone, is_some, option_and_then, refl, sym, ap, subst, ◌∙◌, arith}
-use Rattle.std.specs.List.{slice_get}
+use Rattle.std.proofs.Common.{◌≡◌, ℕ, ◌<◌, ◌≤◌, ◌^◌, Bool, true, false, List, take, Option, Some, None, IfSome, IfNone, is_some, option_and_then, refl, sym, ap, subst, ◌∙◌, arith}
 use Rattle.std.specs.Bool.{IsTrue, then_some}
 use Rattle.std.proofs.lemmas.Bool.{false≢true}
 use Rattle.std.proofs.lemmas.Option.{none-some, same_Some}
@@ -10,19 +9,19 @@ use Rattle.rv_text.specs.declared.call.Wait.{Wait}
 use Rattle.rv_text.specs.declared.call.Side.{Side}
 use Rattle.rv_text.specs.Calls.{side_of, wait_of}
 use Rattle.rv_book.specs.declared.account.Entry.{Entry}
-use Rattle.rv_book.specs.declared.account.Act.TheVariants.{Arrive, Hello}
-use Rattle.rv_book.specs.Account.{Account, act_at, call_at, call_in, key_in}
+use Rattle.rv_book.specs.declared.account.Act.TheVariants.{Hello}
+use Rattle.rv_book.specs.Account.{Account, act_at, call_at, key_in}
 use Rattle.rv_book.specs.Calls.{IsPut, Stays}
-use Rattle.rv_book.specs.Legal.{HasWaiting, IsDueAt, Legal, SomethingDue}
-use Rattle.rv_book.specs.Sessions.{NamesKey, SaidHello}
+use Rattle.rv_book.specs.Legal.{HasWaiting, Legal, SomethingDue}
+use Rattle.rv_book.specs.Sessions.{NamesKey}
 use Rattle.rv_book.specs.Waiting.{IsOldest, OpenAt, Waiting}
-use Rattle.rv_book.proofs.Fronts.{read_front, read_whole}
+use Rattle.rv_book.proofs.Fronts.{read_whole}
 use Rattle.rv_book.proofs.Growing.{call_read}
 use Rattle.rv_book.proofs.Keys.{act_called}
 use Rattle.rv_book.proofs.Sides.{waiting_is_open}
 use Rattle.rv_book.proofs.Waits.{waiting_is_last}
 use Rattle.rv_audit.specs.Lines.{IsFirstOn, NobodyOn, stands_in}
-use Rattle.rv_audit.specs.Marks.{IsLeast, NoneUntil, marked}
+use Rattle.rv_audit.specs.Marks.{IsLeast, NoneUntil}
 use Rattle.rv_audit.specs.Passed.{AreLimits, AreLines, IsSessionOf, WaitsOf, none_gone}
 use Rattle.rv_audit.specs.declared.lines.Lines.{Lines}
 use Rattle.rv_audit.specs.declared.marks.Marks.{Marks}

@@ -4,26 +4,25 @@ use Rattle.std.specs.List.{slice_get}
 use Rattle.std.specs.Bool.{IsTrue}
 use Rattle.std.proofs.lemmas.Bool.{cases_lt, false≢true}
 use Rattle.std.proofs.lemmas.Bool.Decides.{nat_tests}
-use Rattle.std.proofs.lemmas.Option.{none-some, same_Some}
+use Rattle.std.proofs.lemmas.Option.{same_Some}
 use Rattle.rv_text.specs.declared.message.Key.{Key}
 use Rattle.rv_text.specs.declared.call.Call.{Call}
 use Rattle.rv_text.specs.declared.call.Side.{Side}
 use Rattle.rv_text.specs.Calls.{side_of}
 use Rattle.rv_book.specs.declared.account.Entry.{Entry}
 use Rattle.rv_book.specs.declared.account.Act.TheVariants.{Arrive, Hello, Tick}
-use Rattle.rv_book.specs.Account.{Account, act_at, call_at, call_in, key_in, partner_at}
-use Rattle.rv_book.specs.Calls.{MayMeet, opposite}
-use Rattle.rv_book.specs.Legal.{HasWaiting, IsOpenOpposite, Legal, NothingDue, SomethingDue, WaitsUnder}
-use Rattle.rv_book.specs.Sessions.{HasIncarnation, LastNumber, NamesKey, SaidHello}
+use Rattle.rv_book.specs.Account.{Account, act_at, key_in, partner_at}
+use Rattle.rv_book.specs.Calls.{opposite}
+use Rattle.rv_book.specs.Legal.{HasWaiting, IsOpenOpposite, Legal, SomethingDue, WaitsUnder}
+use Rattle.rv_book.specs.Sessions.{LastNumber, NamesKey, SaidHello}
 use Rattle.rv_book.specs.Waiting.{IsOldest, Met, NamesPartner, OpenAt, SideAt, Waiting}
 use Rattle.rv_book.proofs.Fronts.{read_front, read_whole}
-use Rattle.rv_book.proofs.Growing.{act_read, call_read, partner_read, read_there, reads_within}
+use Rattle.rv_book.proofs.Growing.{act_read, call_read, partner_read, read_there}
 use Rattle.rv_book.proofs.Histories.{hellos_at_most, one_last_number}
-use Rattle.rv_book.proofs.Keys.{act_called}
 use Rattle.rv_book.proofs.Sides.{one_side}
 use Rattle.rv_book.proofs.Waits.{one_waits}
 use Rattle.rv_audit.specs.Breaking.{ArrivesAs, CountsTo, IsNoFreePlace, IsNotNext, IsOutOfTurn, IsPaired, Meets, MeetsNobody, NamesWrongly, PassesOver, StartsNoNewer, TicksForNothing}
-use Rattle.rv_audit.specs.Passed.{ArrivesWith, FindsOne, HasOlder, HasOne, IsPassedBy, IsSession, IsSessionOf, Leaves, WaitsOf}
+use Rattle.rv_audit.specs.Passed.{ArrivesWith, FindsOne, HasOlder, HasOne, IsPassedBy, IsSession, Leaves, WaitsOf}
 use Rattle.rv_audit.specs.declared.sessions.Session.{Session}
 
 abbrev pub Iff : Type 0 → Type 0 → Type 0
@@ -37,10 +36,13 @@ never A none = (λ t. absurd (false≢true t), λ h. absurd (none h))
 
 older_by : (es : List Entry) (side : Side) (first place : ℕ) (b : Bool) → nat_lt first place ≡ b → IsOldest es side first → Iff (IsTrue b) (HasOlder es side place)
 older_by es side first place true less is = (λ t. let below : first < place = grind (arith, nat_tests) in (first, below, is.there), λ has. refl)
-older_by es side first place false more is = (λ t. absurd (false≢true t), λ has.
-    let least : place ≤ first = grind (arith, nat_tests) in
-    let below : has.0 < place = has.1 in
-    absurd (is.oldest has.0 (omega arith) has.2))
+older_by es side first place false more is = (
+  λ t. absurd (false≢true t),
+  λ has.
+      let least : place ≤ first = grind (arith, nat_tests) in
+      let below : has.0 < place = has.1 in
+      absurd (is.oldest has.0 (omega arith) has.2),
+)
 
 pub older : (es : List Entry) (side : Side) (first place : ℕ) → IsOldest es side first → Iff (IsTrue (nat_lt first place)) (HasOlder es side place)
 older es side first place is = older_by es side first place (nat_lt first place) refl is
@@ -198,16 +200,22 @@ none_count es client n none (inr is) = is.1
 pub not_next : (es : List Entry) (key : Key) (s : Session) (b : Bool) → IsSession es key.client s → (b ≡ true → key.number ≢ s.last + 1) → (b ≡ false → key.number ≡ s.last + 1)
     → Iff (IsTrue b) (IsNotNext es key)
 not_next es key s true is other own = (λ t. record { last = s.last; counts_to = inl is.number; other = other refl }, λ breaks. refl)
-not_next es key s false is other own = (λ t. absurd (false≢true t), λ breaks.
-    let same : breaks.last ≡ s.last = one_count es key.client s.last breaks.last is.number breaks.counts_to in
-    absurd (breaks.other (own refl ∙ ap (λ n. n + 1) (sym same))))
+not_next es key s false is other own = (
+  λ t. absurd (false≢true t),
+  λ breaks.
+      let same : breaks.last ≡ s.last = one_count es key.client s.last breaks.last is.number breaks.counts_to in
+      absurd (breaks.other (own refl ∙ ap (λ n. n + 1) (sym same))),
+)
 
 pub not_first : (es : List Entry) (key : Key) (b : Bool) → (SaidHello es key.client → ⊥) → (b ≡ true → key.number ≢ 1) → (b ≡ false → key.number ≡ 1)
     → Iff (IsTrue b) (IsNotNext es key)
 not_first es key true none other own = (λ t. record { last = 0; counts_to = inr (none, refl); other = other refl }, λ breaks. refl)
-not_first es key false none other own = (λ t. absurd (false≢true t), λ breaks.
-    let same : breaks.last ≡ 0 = none_count es key.client breaks.last none breaks.counts_to in
-    absurd (breaks.other (own refl ∙ ap (λ n. n + 1) (sym same))))
+not_first es key false none other own = (
+  λ t. absurd (false≢true t),
+  λ breaks.
+      let same : breaks.last ≡ 0 = none_count es key.client breaks.last none breaks.counts_to in
+      absurd (breaks.other (own refl ∙ ap (λ n. n + 1) (sym same))),
+)
 
 pub not_next_low : (es : List Entry) (key : Key) (s : Session) → IsSession es key.client s → key.number ≤ s.last → Iff (IsTrue (nat_le key.number s.last)) (IsNotNext es key)
 not_next_low es key s is low = not_next es key s (nat_le key.number s.last) is (λ t same. omega arith) (λ f. absurd (let over : s.last < key.number = grind (arith, nat_tests) in omega arith))
@@ -235,10 +243,13 @@ not_one es key none = not_first es key (not (nat_eq key.number 1)) none (differs
 pub out_of_turn : (es : List Entry) (key : Key) (b : Bool) → b ≡ false → Iff (IsTrue b) (IsNotNext es key) → (o : Option ℕ)
     → IfSome o (WaitsOf es key.client) → IfNone o (HasWaiting es key.client → ⊥) → Iff (IsTrue (is_some o)) (IsOutOfTurn es key)
 out_of_turn es key b low next (Some place) some none = (λ t. inr (record { place = place; key = some.key; waits = some.waits; names = some.names }), λ out. refl)
-out_of_turn es key b low next None some none = (λ t. absurd (false≢true t), λ out. elim out [
-  | inl other ↦ absurd (false≢true (sym low ∙ next.1 other))
-  | inr waits ↦ absurd (none waits)
-])
+out_of_turn es key b low next None some none = (
+  λ t. absurd (false≢true t),
+  λ out. elim out [
+    | inl other ↦ absurd (false≢true (sym low ∙ next.1 other))
+    | inr waits ↦ absurd (none waits)
+  ],
+)
 
 pub under_some : (whole : List Entry) (a : Account) (n place : ℕ) (key : Key) (b : Bool) → a.entries ≡ take n whole → Legal a → WaitsOf a.entries key.client place
     → Iff (IsTrue b) (ArrivesWith whole key place) → Iff (IsTrue b) (WaitsUnder a.entries key)

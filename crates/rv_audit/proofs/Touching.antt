@@ -1,5 +1,5 @@
 -- Whom an entry takes out of an audit's tables: who is gone is who it names or stops.
-use Rattle.std.proofs.Common.{◌≡◌, ◌⊎◌, inl, inr, ℕ, ◌<◌, ◌≤◌, Bool, true, false, nat_eq, List, [], ◌∷◌, ◌++◌, length, Option, Some, None, IfSome, IfNone, take, option_and_then, refl, sym, ap, subst, ◌∙◌, arith}
+use Rattle.std.proofs.Common.{◌≡◌, inl, inr, ℕ, ◌<◌, ◌≤◌, Bool, true, false, nat_eq, List, Option, Some, None, IfSome, IfNone, take, option_and_then, refl, sym, ap, subst, ◌∙◌, arith}
 use Rattle.std.proofs.lemmas.Bool.{false≢true}
 use Rattle.std.proofs.lemmas.Bool.Decides.{nat_tests}
 use Rattle.std.proofs.lemmas.Option.{none-some, same_Some}
@@ -11,16 +11,16 @@ use Rattle.rv_book.specs.declared.account.Act.{Act}
 use Rattle.rv_book.specs.declared.account.Act.TheVariants.{Arrive, Cancel, Hello, Tick}
 use Rattle.rv_book.specs.Account.{Account, act_at, call_in, key_in}
 use Rattle.rv_book.specs.Calls.{IsPut}
-use Rattle.rv_book.specs.Legal.{HasWaiting, IsDueAt, Legal, MayFollow, WaitsUnder}
+use Rattle.rv_book.specs.Legal.{HasWaiting, Legal, MayFollow, WaitsUnder}
 use Rattle.rv_book.specs.Sessions.{NamesKey}
-use Rattle.rv_book.specs.Waiting.{Open, StoppedAt, Waiting}
+use Rattle.rv_book.specs.Waiting.{Open, Waiting}
 use Rattle.rv_book.proofs.Fronts.{read_front, read_whole}
 use Rattle.rv_book.proofs.Growing.{act_read, call_read}
 use Rattle.rv_book.proofs.Keys.{act_called}
 use Rattle.rv_book.proofs.Sides.{IsRequestOf, IsRequestUnder, arrival_stops_nobody, cancel_stops, due_until, hello_stops, stopped_by_cancel, stopped_by_hello, stopped_by_tick, tick_stops, until_due}
 use Rattle.rv_book.proofs.Waits.{one_waits}
-use Rattle.rv_audit.specs.Marks.{NoneUntil, marked}
-use Rattle.rv_audit.specs.Passed.{AreTouched, ArrivesWith, Gone, IsArrived, IsFront, IsTakingOut, TakesTouched, Touches, WaitsOf, WaitsWith, gone_at, passed}
+use Rattle.rv_audit.specs.Marks.{NoneUntil}
+use Rattle.rv_audit.specs.Passed.{AreTouched, ArrivesWith, IsArrived, IsTakingOut, TakesTouched, WaitsOf, WaitsWith, gone_at, passed}
 use Rattle.rv_audit.specs.declared.front.Front.{Front}
 
 at_gone : (o : Option ℕ) (r : ℕ) → gone_at o r ≡ true → o ≡ Some r

@@ -1,5 +1,5 @@
 -- Who is open on each side, as a table keeps it: who stands there, and what changes when one comes or goes.
-use Rattle.std.specs.Prelude.{◌≡◌, ◌⊎◌, ◌≢◌, ◌<◌, ℕ, Bool, true, false}
+use Rattle.std.specs.Prelude.{◌≡◌, ◌⊎◌, ◌≢◌, ◌<◌, ℕ, Bool, true, false, Option, None, Some}
 use Rattle.rv_text.specs.declared.call.Side.{Side}
 use Rattle.rv_text.specs.declared.call.Side.TheVariants.{Gives, Takes, Looks, Exchanges}
 use Rattle.rv_audit.specs.Marks.{marked}
@@ -36,3 +36,12 @@ pub record IsFirstOn (lines : Lines) (side : Side) (place : ℕ) : Type 0 where
 
 abbrev pub NobodyOn : Lines → Side → Type 0
 NobodyOn lines side = (p : ℕ) → stands_in lines side p ≡ false
+
+-- the same of a side, if one is handed in
+abbrev pub OpensIf : Lines → Lines → Option Side → ℕ → Type 0
+OpensIf old new None place = new ≡ old
+OpensIf old new (Some side) place = Opens old new side place
+
+abbrev pub ClosesIf : Lines → Lines → Option Side → ℕ → Type 0
+ClosesIf old new None place = new ≡ old
+ClosesIf old new (Some side) place = Closes old new side place

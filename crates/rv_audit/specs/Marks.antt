@@ -1,7 +1,7 @@
 -- Sets of places, each under a number: what one has marked, and what one more or one less changes.
-use Rattle.std.specs.Prelude.{◌≡◌, ◌⊎◌, ◌≢◌, ◌≤◌, ◌<◌, ◌^◌, ℕ, Bool, true, false}
+use Rattle.std.specs.Prelude.{◌≡◌, ◌⊎◌, ◌≢◌, ◌≤◌, ◌<◌, ℕ, Bool, true, false, Option, None, Some}
 use Rattle.std.specs.Ordering.{ordering_then, nat_cmp}
-use Rattle.std.specs.BTreeSet.{BTreeSet, btree_set_len, contains}
+use Rattle.std.specs.BTreeSet.{btree_set_len, contains}
 use Rattle.rv_audit.specs.declared.marks.Marks.{Marks}
 
 -- whether the place is marked under the number
@@ -38,3 +38,12 @@ pub record IsLeast (m : Marks) (limit : ℕ) (mark : ℕ × ℕ) : Type 0 where
 
 abbrev pub NoneUntil : Marks → ℕ → Type 0
 NoneUntil m limit = (n p : ℕ) → n ≤ limit → marked m n p ≡ false
+
+-- the same of a number, if one is handed in
+abbrev pub GainsIf : Marks → Marks → Option ℕ → ℕ → Type 0
+GainsIf old new None place = new ≡ old
+GainsIf old new (Some limit) place = Gains old new limit place
+
+abbrev pub LosesIf : Marks → Marks → Option ℕ → ℕ → Type 0
+LosesIf old new None place = new ≡ old
+LosesIf old new (Some limit) place = Loses old new limit place

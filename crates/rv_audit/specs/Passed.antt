@@ -16,9 +16,12 @@ use Rattle.rv_text.specs.Calls.{side_of}
 use Rattle.rv_book.specs.Waiting.{Met, Open, OpenAt, SideAt, StoppedAt, Waiting, limit_at, limit_in}
 use Rattle.rv_audit.specs.Breaking.{BreaksBehind, IsPaired, rank_of}
 use Rattle.rv_audit.specs.declared.rule.Rule.{Rule}
-use Rattle.rv_audit.specs.Lines.{Closes, Opens, stands_in}
-use Rattle.rv_audit.specs.Marks.{Gains, Loses, count_of, marked}
-use Rattle.rv_audit.specs.Sessions.{Enters, session_in}
+use Rattle.rv_audit.specs.Lines.{stands_in}
+pub use Rattle.rv_audit.specs.Lines.{ClosesIf, OpensIf}
+use Rattle.rv_audit.specs.Marks.{count_of, marked}
+pub use Rattle.rv_audit.specs.Marks.{GainsIf, LosesIf}
+use Rattle.rv_audit.specs.Sessions.{session_in}
+pub use Rattle.rv_audit.specs.Sessions.{EntersIf}
 use Rattle.rv_audit.specs.declared.front.Front.{Front}
 use Rattle.rv_audit.specs.declared.lines.Lines.{Lines}
 use Rattle.rv_audit.specs.declared.marks.Marks.{Marks}
@@ -153,14 +156,6 @@ abbrev pub IsFitting : Option ℕ → Option ℕ → Type 0
 IsFitting has None = (limit : ℕ) → limit < 2 ^ 64 → ¬ (has ≡ Some limit)
 IsFitting has (Some limit) = (has ≡ Some limit) × (limit < 2 ^ 64)
 
-abbrev pub ClosesIf : Lines → Lines → Option Side → ℕ → Type 0
-ClosesIf old new None place = new ≡ old
-ClosesIf old new (Some side) place = Closes old new side place
-
-abbrev pub LosesIf : Marks → Marks → Option ℕ → ℕ → Type 0
-LosesIf old new None place = new ≡ old
-LosesIf old new (Some limit) place = Loses old new limit place
-
 -- nothing changed but the lines and the limits
 abbrev pub with_tables : Front → Lines → Marks → Front
 with_tables front lines limits = record {
@@ -233,14 +228,6 @@ abbrev pub WaitsUntil : Entry → Option ℕ → Type 0
 WaitsUntil e None = (limit : ℕ) → ¬ WaitsFor e limit
 WaitsUntil e (Some limit) = WaitsFor e limit
 
-abbrev pub OpensIf : Lines → Lines → Option Side → ℕ → Type 0
-OpensIf old new None place = new ≡ old
-OpensIf old new (Some side) place = Opens old new side place
-
-abbrev pub GainsIf : Marks → Marks → Option ℕ → ℕ → Type 0
-GainsIf old new None place = new ≡ old
-GainsIf old new (Some limit) place = Gains old new limit place
-
 -- what an act makes of its client's session
 abbrev pub session_after : Act → ℕ → Option (ℕ × Session)
 session_after (Hello client incarnation) place =
@@ -250,10 +237,6 @@ session_after (Arrive key call) place =
 session_after (Cancel key) place =
     Some (key.client, record { incarnation = key.incarnation; last = key.number; request = None })
 session_after Tick place = None
-
-abbrev pub EntersIf : Sessions → Sessions → Option (ℕ × Session) → Type 0
-EntersIf old new None = new ≡ old
-EntersIf old new (Some entry) = Enters old new entry.0 entry.1
 
 -- the entry may be passed next, and all that it touches was taken out
 pub record MayPass (front : Front) (e : Entry) : Type 0 where

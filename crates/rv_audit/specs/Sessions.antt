@@ -1,5 +1,5 @@
 -- What each session has come to, as a table keeps it.
-use Rattle.std.specs.Prelude.{◌≡◌, ◌≢◌, ℕ, Option, Some}
+use Rattle.std.specs.Prelude.{◌≡◌, ◌≢◌, ℕ, Option, None, Some}
 use Rattle.std.specs.Ordering.{nat_cmp}
 use Rattle.std.specs.BTreeMap.{get}
 use Rattle.rv_audit.specs.declared.sessions.Session.{Session}
@@ -13,3 +13,8 @@ session_in t client = get nat_cmp t.sessions client
 pub record Enters (old new : Sessions) (client : ℕ) (session : Session) : Type 0 where
   pub own : session_in new client ≡ Some session
   pub others : (other : ℕ) → other ≢ client → session_in new other ≡ session_in old other
+
+-- the same of a session, if one is handed in
+abbrev pub EntersIf : Sessions → Sessions → Option (ℕ × Session) → Type 0
+EntersIf old new None = new ≡ old
+EntersIf old new (Some entry) = Enters old new entry.0 entry.1

@@ -2,7 +2,8 @@
 ghost use Rattle.std.specs.Prelude.{◌≡◌, ◌↔◌, IfNone, IfOk, IfSome};
 ghost use Rattle.rv_book.specs.Legal.{Legal};
 ghost use Rattle.rv_audit.specs.Breaking.{IsToldOf};
-ghost use Rattle.rv_audit.specs.Passed.{BreaksFirst, BreaksFirstOf, BreaksNone, BreaksNoneOf, IsFront, passed};
+ghost use Rattle.rv_audit.specs.Passed.{BreaksFirst, BreaksFirstOf, BreaksNone, BreaksNoneOf};
+ghost use Rattle.rv_audit.specs.Passed.{IsFront, passed};
 ghost use Rattle.rv_audit.specs.declared.rule.Audit.TheVariants as tells;
 
 use crate::front::Front;
@@ -49,10 +50,11 @@ fn first_broken(front: &Front<'_>, entry: &Entry) -> Option<Rule>
     first_of(front, &rules, entry)
 }
 
-/// Audits an account, which may be any: whether it is legal; or the first place at which a rule is broken,
-/// and the first rule that is broken there. It fails only where memory was refused. The account stays as it is.
+/// Audits an account, which may be any: tells that it is legal; or else the first place at which a rule is
+/// broken, and of the rules that are broken there the first in their order. It fails only where memory was
+/// refused. The account stays as it is.
 ///
-/// It takes time near linear in the entries, and about 200 bytes of memory for each.
+/// Whatever the account, an entry takes time logarithmic in the number of entries before it.
 pub fn audit(alloc: Global, account: &Account) -> Result<Audit, NoMemory>
     ensures told { IfOk result (IsToldOf account.now.account) }
     ensures legal { IfOk result (λ told. (told ≡ tells.Legal) ↔ Legal account.now.account) }

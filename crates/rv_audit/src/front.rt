@@ -1,29 +1,27 @@
 //! What an audit keeps of the entries that it has passed.
-ghost use Rattle.std.specs.Prelude.{◌≡◌, ◌↔◌, ◌<◌, ◌^◌, ◌++◌, ◌∷◌, [], ℕ, Some, true, false, None, option_and_then, option_map, IfNone, IfSome, IsTrue, OnOk, is_some, length};
-ghost use Rattle.rv_book.specs.Calls.{Lasts, MayMeet, Stays};
-ghost use Rattle.rv_book.specs.Legal.{HasWaiting, MayFollow, SomethingDue, WaitsUnder};
-ghost use Rattle.rv_book.specs.declared.account.Act.TheVariants.{Hello, Tick};
-ghost use Rattle.rv_audit.specs.Breaking.{IsNotNext, StartsNoNewer};
-ghost use Rattle.rv_book.specs.Steps.{own_moment};
-ghost use Rattle.rv_book.specs.Account.{call_at};
-ghost use Rattle.rv_book.specs.Waiting.{IsOldest, Met, OpenAt, SideAt, Waiting, limit_at, limit_in};
+ghost use Rattle.std.specs.Prelude.{◌≡◌, ◌↔◌, ◌<◌, ◌^◌, ◌++◌, ◌∷◌, [], ℕ, Some, None, true, false, is_some};
+ghost use Rattle.std.specs.Prelude.{option_and_then, option_map, length, IfNone, IfSome, IsTrue, OnOk};
 ghost use Rattle.rv_text.specs.declared.call.Side.{Side};
-ghost use Rattle.rv_audit.specs.Passed.{ArrivesWith, HasOlder, HasOne, IsArrivalOf, IsFront, IsSessionOf};
-ghost use Rattle.rv_audit.specs.Passed.{IsOfSessionOf, WaitsOf, passed};
-ghost use Rattle.rv_audit.specs.Passed.{AreTables, AreTouched, ClosesIf, EntersIf, GainsIf, HasPassed, IsArrived};
-ghost use Rattle.rv_audit.specs.Passed.{IsFitting, IsReadyFor, IsTakingOut, IsUnderway, LosesIf, MayPass, OpensIf};
-ghost use Rattle.rv_audit.specs.Passed.{OpensOn, SameRest, TakesOut, TakesTouched, WaitsUntil, WaitsWith};
-ghost use Rattle.rv_audit.specs.Passed.{flagged, gone_at, session_after};
-ghost use Rattle.rv_audit.specs.Marks.{NoneUntil, count_of, marked};
-ghost use Rattle.rv_audit.specs.declared.front.Front.{Front as FrontOf};
-ghost use Rattle.rv_text.specs.Calls.{side_of};
+ghost use Rattle.rv_book.specs.declared.account.Act.TheVariants.{Hello, Tick};
+ghost use Rattle.rv_book.specs.Account.{call_at};
+ghost use Rattle.rv_book.specs.Legal.{HasWaiting, MayFollow, SomethingDue, WaitsUnder};
+ghost use Rattle.rv_book.specs.Steps.{own_moment};
+ghost use Rattle.rv_book.specs.Waiting.{IsOldest, Met, OpenAt, SideAt, Waiting, limit_at};
+ghost use Rattle.rv_audit.specs.Breaking.{IsNotNext, StartsNoNewer};
+ghost use Rattle.rv_audit.specs.Marks.{NoneUntil, count_of};
 ghost use Rattle.rv_audit.specs.Sessions.{session_in};
+ghost use Rattle.rv_audit.specs.Passed.{AreTables, AreTouched, ArrivesWith, HasOlder, HasOne, HasPassed};
+ghost use Rattle.rv_audit.specs.Passed.{IsArrivalOf, IsArrived, IsFitting, IsFront, IsOfSessionOf, IsReadyFor};
+ghost use Rattle.rv_audit.specs.Passed.{IsTakingOut, IsUnderway, MayPass, SameRest, TakesOut, TakesTouched};
+ghost use Rattle.rv_audit.specs.Passed.{WaitsOf, WaitsWith, flagged, gone_at, passed};
+ghost use Rattle.rv_audit.specs.declared.front.Front.{Front as FrontOf};
 
-use crate::lines::Lines;
-use crate::marks::Marks;
-use crate::sessions::{Session, Sessions};
+use crate::brings::{limit_of, opening, session_after, waiting_until};
+use crate::lines::{Lines, close_line, open_line};
+use crate::marks::{Marks, add_limit, drop_limit};
+use crate::sessions::{Sessions, enter_session};
 use rv_book::{Account, Act, Entry, Place};
-use rv_text::{Call, Key, NoMemory, Side, Wait};
+use rv_text::{Call, Key, NoMemory, Side};
 use std::alloc::{AllocError, Global};
 
 // The entries that an audit has passed, as far as it has come: a legal account.
@@ -50,113 +48,6 @@ fn is_arrival_of(act: &Act, key: &Key) -> bool
     }
 }
 
-// The limit of an arrival, if it has one that fits a moment.
-fn limit_of(entry: &Entry) -> Option<u64>
-    ensures { IsFitting (limit_in entry.now) result }
-{
-    match &entry.act {
-        Act::Arrive { call, .. } => match call.wait() {
-            Some(Wait::Millis(millis)) => entry.moment.checked_add(millis),
-            Some(Wait::Now) => None,
-            Some(Wait::Forever) => None,
-            None => None,
-        },
-        Act::Hello { .. } | Act::Cancel { .. } | Act::Tick => None,
-    }
-}
-
-// Whether a wait goes on past the moment of arrival; what never waits lies there.
-fn lasts(wait: Option<Wait>) -> bool
-    ensures { IsTrue result ↔ Lasts wait }
-{
-    match wait {
-        None => true,
-        Some(Wait::Now) => false,
-        Some(Wait::Millis(millis)) => millis > 0,
-        Some(Wait::Forever) => true,
-    }
-}
-
-// The side of a call that may be met.
-fn meeting_side(call: &Call) -> Option<Side>
-    ensures some { IfSome result (λ side. (side_of call.now ≡ side) × MayMeet call.now) }
-    ensures none { IfNone result (¬ MayMeet call.now) }
-{
-    match call.side() {
-        Side::Gives(queue) => Some(Side::Gives(queue)),
-        Side::Takes(queue) => Some(Side::Takes(queue)),
-        Side::Exchanges(exchanger) => Some(Side::Exchanges(exchanger)),
-        Side::Looks(_) => None,
-    }
-}
-
-// The side on which a call stays, if it does where nobody is met.
-fn staying_on(call: &Call) -> Option<Side>
-    ensures some { IfSome result (λ side. (side_of call.now ≡ side) × Stays call.now) }
-    ensures none { IfNone result (¬ Stays call.now) }
-{
-    match meeting_side(call) {
-        Some(side) if lasts(call.wait()) => Some(side),
-        _ => None,
-    }
-}
-
-// The side on which an entry opens, if it does.
-fn opening(entry: &Entry) -> Option<Side>
-    ensures { OpensOn entry.now result }
-{
-    match (&entry.act, entry.partner) {
-        (Act::Arrive { call, .. }, None) => staying_on(call),
-        _ => None,
-    }
-}
-
-// The limit until which an entry waits, if it does and the limit fits a moment.
-fn waiting_until(entry: &Entry) -> Option<u64>
-    ensures { WaitsUntil entry.now result }
-{
-    match opening(entry) {
-        Some(_) => limit_of(entry),
-        None => None,
-    }
-}
-
-// What an act makes of its client's session.
-fn session_after(act: &Act, place: Place) -> Option<(u64, Session)>
-    ensures { result ≡ session_after act.now place }
-{
-    match act {
-        Act::Hello {
-            client,
-            incarnation,
-        } => Some((
-            *client,
-            Session {
-                incarnation: *incarnation,
-                last: 0,
-                request: None,
-            },
-        )),
-        Act::Arrive { key, .. } => Some((
-            key.client,
-            Session {
-                incarnation: key.incarnation,
-                last: key.number,
-                request: Some(place),
-            },
-        )),
-        Act::Cancel { key } => Some((
-            key.client,
-            Session {
-                incarnation: key.incarnation,
-                last: key.number,
-                request: None,
-            },
-        )),
-        Act::Tick => None,
-    }
-}
-
 // Flags the partner, if there is one, and the entry that names it.
 fn flag(met: &mut Vec<bool>, partner: Option<Place>) -> Result<(), NoMemory>
     requires { IfSome partner (λ place. place < length met.old.items) }
@@ -168,56 +59,7 @@ fn flag(met: &mut Vec<bool>, partner: Option<Place>) -> Result<(), NoMemory>
     met.push(partner.is_some()).map_err(AllocError::from)
 }
 
-fn close_line(lines: &mut Lines, side: Option<Side>, place: Place)
-    ensures { ClosesIf lines.old lines.new side place }
-{
-    if let Some(side) = side {
-        lines.close(side, place);
-    }
-}
-
-fn drop_limit(limits: &mut Marks, limit: Option<u64>, place: Place)
-    ensures loses { LosesIf limits.old limits.new limit place }
-    ensures fewer { (n : ℕ) → limit ≡ Some n → marked limits.old n place ≡ true
-        → count_of limits.new < count_of limits.old }
-{
-    if let Some(limit) = limit {
-        limits.remove(limit, place);
-    }
-}
-
-fn open_line(lines: &mut Lines, side: Option<Side>, place: Place) -> Result<(), NoMemory>
-    ensures { OnOk result (OpensIf lines.old lines.new side place) }
-{
-    match side {
-        Some(side) => lines.open(side, place),
-        None => Ok(()),
-    }
-}
-
-fn add_limit(limits: &mut Marks, limit: Option<u64>, place: Place) -> Result<(), NoMemory>
-    ensures { OnOk result (GainsIf limits.old limits.new limit place) }
-{
-    match limit {
-        Some(limit) => limits.add(limit, place),
-        None => Ok(()),
-    }
-}
-
-fn enter_session(
-    sessions: &mut Sessions,
-    entry: Option<(u64, Session)>,
-) -> Result<(), NoMemory>
-    ensures { OnOk result (EntersIf sessions.old sessions.new entry) }
-{
-    match entry {
-        Some((client, session)) => sessions.enter(client, session),
-        None => Ok(()),
-    }
-}
-
 impl<'a> Front<'a> {
-
     // Nothing was passed yet. It takes no memory yet.
     pub(crate) fn empty(alloc: Global, account: &'a Account) -> Front<'a>
         ensures account { result.account.now ≡ account.now }
@@ -274,7 +116,7 @@ impl<'a> Front<'a> {
     }
 
     // The oldest open arrival of the side.
-    pub(crate) fn oldest(&self, side: Side) -> Option<Place>
+    fn oldest(&self, side: Side) -> Option<Place>
         requires { IsFront self.now }
         ensures some { IfSome result (IsOldest (passed self.now).entries side) }
         ensures none { IfNone result ((place : ℕ)
@@ -283,16 +125,8 @@ impl<'a> Front<'a> {
         self.lines.oldest(side)
     }
 
-    // The client's session, if it said a hello.
-    pub(crate) fn session(&self, client: u64) -> Option<Session>
-        requires { IsFront self.now }
-        ensures { IsSessionOf (passed self.now).entries client result }
-    {
-        self.sessions.of(client)
-    }
-
     // The call of the arrival at a place, if one stands there.
-    pub(crate) fn call(&self, place: Place) -> Option<&Call>
+    fn call(&self, place: Place) -> Option<&Call>
         ensures { option_map (λ c. c.now) result ≡ call_at self.now.account.now.account.entries place }
     {
         match &self.account.entry(place)?.act {
@@ -302,7 +136,7 @@ impl<'a> Front<'a> {
     }
 
     // Whether a request waits at the place.
-    pub(crate) fn is_waiting(&self, place: Place) -> bool
+    fn is_waiting(&self, place: Place) -> bool
         requires { IsFront self.now }
         ensures { IsTrue result ↔ Waiting (passed self.now).entries place }
     {
@@ -369,7 +203,8 @@ impl<'a> Front<'a> {
         ensures { IsTrue result ↔ IsOfSessionOf (passed self.now) key.now }
     {
         match self.sessions.of(key.client) {
-            Some(session) => key.epoch == self.account.epoch() && key.incarnation == session.incarnation,
+            Some(session) => key.epoch == self.account.epoch()
+                && key.incarnation == session.incarnation,
             None => false,
         }
     }
@@ -486,7 +321,8 @@ impl<'a> Front<'a> {
     fn touched(&self, entry: &Entry) -> Option<Place>
         requires front { IsFront self.now }
         requires follows { MayFollow (passed self.now) entry.now }
-        ensures touched { ¬ (entry.now.act ≡ Tick) → AreTouched (passed self.now).entries entry.now (gone_at result) }
+        ensures touched { ¬ (entry.now.act ≡ Tick)
+            → AreTouched (passed self.now).entries entry.now (gone_at result) }
         ensures arrived { IfSome result (IsArrived (passed self.now).entries) }
     {
         match &entry.act {

@@ -3,6 +3,7 @@
 #![tactic(auto)]
 
 mod auditing;
+mod brings;
 mod front;
 pub mod laws;
 mod lines;

@@ -1,5 +1,6 @@
 //! What each session has come to: a client's incarnation, its last number, and its request that may wait.
 ghost use Rattle.std.specs.Prelude.{◌≡◌, ℕ, None, OnOk};
+ghost use Rattle.rv_audit.specs.Sessions.{EntersIf};
 
 use rv_book::Place;
 use rv_text::NoMemory;
@@ -49,5 +50,18 @@ impl Sessions {
             Ok(_) => Ok(()),
             Err(refused) => Err(AllocError::from(refused)),
         }
+    }
+}
+
+// The client's session is this one, if one is handed in.
+pub(crate) fn enter_session(
+    sessions: &mut Sessions,
+    entry: Option<(u64, Session)>,
+) -> Result<(), NoMemory>
+    ensures { OnOk result (EntersIf sessions.old sessions.new entry) }
+{
+    match entry {
+        Some((client, session)) => sessions.enter(client, session),
+        None => Ok(()),
     }
 }

@@ -1,4 +1,3 @@
-use Rattle.std.proofs.Common.{◌≡◌, ℕ, IfNone, IfSome, IsTrue, Some, None, refl, sym, ap, ◌∙◌, subst, arith}
 use Rattle.rv_audit.proofs.Firsts.{fault_told, legal_told, next_may, told_fault, told_legal}
 use Rattle.rv_audit.proofs.auditing.audit.Goals as goal
 

@@ -1,4 +1,3 @@
-use Rattle.std.proofs.Common.{◌≡◌, ℕ, IfNone, IfSome, IsTrue, Some, None, refl, sym, ap, ◌∙◌, subst, arith}
 use Rattle.rv_audit.proofs.Firsts.{first_by_rank, none_by_rank}
 use Rattle.rv_audit.specs.Passed.{passed}
 use Rattle.rv_audit.proofs.auditing.first_broken.Goals as goal

@@ -1,4 +1,4 @@
-use Rattle.std.proofs.Common.{◌≡◌, ℕ, IfNone, IfSome, IsTrue, refl, sym, ap, ◌∙◌, subst, arith}
+use Rattle.std.proofs.Common.{sym, ap, ◌∙◌}
 use Rattle.rv_audit.proofs.Telling.{finds}
 use Rattle.rv_book.specs.Calls.{opposite}
 use Rattle.rv_audit.proofs.rules.finds_one.Goals as goal

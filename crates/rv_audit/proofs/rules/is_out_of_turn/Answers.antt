@@ -1,4 +1,4 @@
-use Rattle.std.proofs.Common.{◌≡◌, ℕ, IfNone, IfSome, IsTrue, refl, sym, ap, ◌∙◌, subst, arith}
+use Rattle.std.proofs.Common.{IsTrue, sym, subst}
 use Rattle.rv_audit.proofs.Telling.{out_of_turn}
 use Rattle.rv_audit.specs.Breaking.{IsOutOfTurn}
 use Rattle.rv_audit.specs.Passed.{passed}

@@ -1,4 +1,3 @@
-use Rattle.std.proofs.Common.{◌≡◌, ℕ, IfNone, IfSome, IsTrue, refl, sym, ap, ◌∙◌, subst, arith}
 use Rattle.rv_audit.proofs.Telling.{nobody_passed, not_passed, passed_by}
 use Rattle.rv_audit.proofs.rules.is_passed_by.Goals as goal
 

@@ -1,4 +1,3 @@
-use Rattle.std.proofs.Common.{◌≡◌, ℕ, IfNone, IfSome, IsTrue, refl, sym, ap, ◌∙◌, subst, arith}
 use Rattle.rv_audit.proofs.Telling.{wrongly}
 use Rattle.rv_book.proofs.Deciding.{met_or_not}
 use Rattle.rv_audit.specs.Passed.{passed}

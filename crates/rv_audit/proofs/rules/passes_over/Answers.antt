@@ -1,4 +1,3 @@
-use Rattle.std.proofs.Common.{◌≡◌, ℕ, IfNone, IfSome, IsTrue, refl, sym, ap, ◌∙◌, subst, arith}
 use Rattle.rv_audit.proofs.Telling.{over}
 use Rattle.rv_audit.proofs.rules.passes_over.Goals as goal
 

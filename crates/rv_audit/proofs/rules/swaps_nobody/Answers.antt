@@ -1,4 +1,3 @@
-use Rattle.std.proofs.Common.{◌≡◌, ℕ, IfNone, IfSome, IsTrue, refl, sym, ap, ◌∙◌, subst, arith}
 use Rattle.rv_audit.proofs.Telling.{nobody_met}
 use Rattle.rv_audit.proofs.rules.swaps_nobody.Goals as goal
 

@@ -1,4 +1,3 @@
-use Rattle.std.proofs.Common.{◌≡◌, ℕ, IfNone, IfSome, IsTrue, refl, sym, ap, ◌∙◌, subst, arith}
 use Rattle.rv_audit.proofs.Telling.{for_nothing}
 use Rattle.rv_audit.proofs.rules.ticks_for_nothing.Goals as goal
 

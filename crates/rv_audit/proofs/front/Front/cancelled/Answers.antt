@@ -1,4 +1,4 @@
-use Rattle.std.proofs.Common.{◌≡◌, ℕ, IfNone, IfSome, IsTrue, Some, None, refl, sym, ap, ◌∙◌, subst, arith}
+use Rattle.std.proofs.Common.{IfNone, IfSome, refl, sym, ap, subst}
 use Rattle.rv_audit.proofs.Touching.{front_arrives, waits_with, waits_without, whole_arrives}
 use Rattle.rv_audit.specs.Passed.{passed, WaitsWith}
 use Rattle.std.proofs.Common.{option_and_then}

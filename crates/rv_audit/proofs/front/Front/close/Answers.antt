@@ -1,4 +1,4 @@
-use Rattle.std.proofs.Common.{◌≡◌, ℕ, IfNone, IfSome, IsTrue, Some, None, refl, sym, ap, ◌∙◌, subst, arith}
+use Rattle.std.proofs.Common.{ℕ, refl, sym, subst}
 use Rattle.rv_audit.proofs.Closing.{found_limit, limits_lost, lines_closed, passed_limit, tables_with}
 use Rattle.rv_audit.specs.Passed.{IsFitting, passed, with_gone}
 use Rattle.std.proofs.Common.{Option}

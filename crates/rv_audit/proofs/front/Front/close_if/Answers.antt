@@ -1,4 +1,4 @@
-use Rattle.std.proofs.Common.{◌≡◌, ℕ, IfNone, IfSome, IsTrue, Some, None, refl, sym, ap, ◌∙◌, subst, arith}
+use Rattle.std.proofs.Common.{ℕ, Some, sym, subst}
 use Rattle.rv_audit.proofs.Closing.{gone_one, same_gone}
 use Rattle.rv_audit.specs.Passed.{AreTables, gone_at, none_gone, passed, with_gone}
 use Rattle.std.proofs.Common.{Option}

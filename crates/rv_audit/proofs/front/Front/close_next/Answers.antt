@@ -1,4 +1,3 @@
-use Rattle.std.proofs.Common.{◌≡◌, ℕ, IfNone, IfSome, IsTrue, Some, None, refl, sym, ap, ◌∙◌, subst, arith}
 use Rattle.rv_audit.proofs.Closing.{marked_due, took_out}
 use Rattle.rv_audit.specs.Passed.{passed}
 use Rattle.rv_audit.proofs.front.Front.close_next.Goals as goal

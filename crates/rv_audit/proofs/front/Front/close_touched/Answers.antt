@@ -1,4 +1,3 @@
-use Rattle.std.proofs.Common.{◌≡◌, ℕ, IfNone, IfSome, IsTrue, Some, None, refl, sym, ap, ◌∙◌, subst, arith}
 use Rattle.rv_audit.proofs.Touching.{tick_touches}
 use Rattle.rv_audit.proofs.front.Front.close_touched.Goals as goal
 

@@ -1,4 +1,3 @@
-use Rattle.std.proofs.Common.{◌≡◌, ℕ, IfNone, IfSome, IsTrue, refl, sym, ap, ◌∙◌, subst, arith}
 use Rattle.rv_audit.proofs.Telling.{no_one}
 use Rattle.rv_audit.proofs.front.Front.has_one.Goals as goal
 

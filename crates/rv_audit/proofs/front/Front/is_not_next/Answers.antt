@@ -1,4 +1,4 @@
-use Rattle.std.proofs.Common.{◌≡◌, ℕ, IfNone, IfSome, IsTrue, refl, sym, ap, ◌∙◌, subst, arith}
+use Rattle.std.proofs.Common.{sym, subst}
 use Rattle.rv_audit.proofs.Telling.{not_next_high, not_next_low, not_one}
 use Rattle.rv_audit.specs.Passed.{IsSessionOf, passed}
 use Rattle.rv_audit.proofs.front.Front.is_not_next.Goals as goal

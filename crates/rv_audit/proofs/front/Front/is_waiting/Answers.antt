@@ -1,10 +1,8 @@
-use Rattle.std.proofs.Common.{◌≡◌, ℕ, IfNone, IfSome, IsTrue, refl, sym, ap, ◌∙◌, subst}
-use Rattle.rv_book.specs.Legal.{HasWaiting}
+use Rattle.std.proofs.Common.{IsTrue, sym, ap, ◌∙◌, subst}
 use Rattle.rv_book.specs.Waiting.{Waiting}
-use Rattle.rv_audit.specs.Passed.{WaitsOf, passed}
+use Rattle.rv_audit.specs.Passed.{passed}
 use Rattle.rv_audit.specs.Lines.{stands_in}
 use Rattle.std.specs.Option.{is_some}
-use Rattle.rv_text.specs.Calls.{side_of}
 use Rattle.rv_audit.proofs.Queries.{waits_else, waits_none, waits_then}
 use Rattle.rv_audit.proofs.front.Front.is_waiting.Goals as goal
 

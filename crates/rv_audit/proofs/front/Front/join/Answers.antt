@@ -1,4 +1,4 @@
-use Rattle.std.proofs.Common.{◌≡◌, ℕ, IfNone, IfSome, IsTrue, Some, None, refl, sym, ap, ◌∙◌, subst, arith}
+use Rattle.std.proofs.Common.{refl, ◌∙◌, subst}
 use Rattle.rv_audit.proofs.Joining.{all_joined, partner_within}
 use Rattle.rv_audit.specs.Passed.{EntersIf}
 use Rattle.rv_audit.proofs.front.Front.join.Goals as goal

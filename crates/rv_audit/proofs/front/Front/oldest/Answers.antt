@@ -1,4 +1,3 @@
-use Rattle.std.proofs.Common.{◌≡◌, ℕ, IfNone, IfSome, refl, sym, subst}
 use Rattle.rv_audit.proofs.Queries.{nobody_there, oldest_there}
 use Rattle.rv_audit.proofs.front.Front.oldest.Goals as goal
 

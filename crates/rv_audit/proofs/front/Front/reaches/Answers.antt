@@ -1,4 +1,4 @@
-use Rattle.std.proofs.Common.{◌≡◌, ℕ, IfNone, IfSome, IsTrue, refl, sym, ap, ◌∙◌, subst, arith}
+use Rattle.std.proofs.Common.{refl, sym, subst}
 use Rattle.rv_audit.proofs.Telling.{reached}
 use Rattle.rv_audit.specs.Passed.{IsSessionOf, passed}
 use Rattle.rv_audit.proofs.front.Front.reaches.Goals as goal

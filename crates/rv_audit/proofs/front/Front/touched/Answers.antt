@@ -1,4 +1,3 @@
-use Rattle.std.proofs.Common.{◌≡◌, ℕ, IfNone, IfSome, IsTrue, Some, None, refl, sym, ap, ◌∙◌, subst, arith}
 use Rattle.rv_audit.proofs.Touching.{arrival_touches, cancel_touches, hello_touches, partner_arrived}
 use Rattle.rv_audit.specs.Passed.{passed}
 use Rattle.rv_audit.proofs.front.Front.touched.Goals as goal

@@ -1,6 +1,5 @@
-use Rattle.std.proofs.Common.{◌≡◌, ℕ, IfNone, IfSome, IsTrue, refl, sym, ap, ◌∙◌, subst}
+use Rattle.std.proofs.Common.{IfNone, IfSome, sym, subst}
 use Rattle.rv_book.specs.Legal.{HasWaiting}
-use Rattle.rv_book.specs.Waiting.{Waiting}
 use Rattle.rv_audit.specs.Passed.{WaitsOf, passed}
 use Rattle.rv_audit.proofs.Queries.{none_waits, nobody_waits, some_waits}
 use Rattle.rv_audit.proofs.front.Front.waiting.Goals as goal

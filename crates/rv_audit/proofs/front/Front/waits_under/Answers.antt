@@ -1,4 +1,4 @@
-use Rattle.std.proofs.Common.{◌≡◌, ℕ, IfNone, IfSome, IsTrue, refl, sym, ap, ◌∙◌, subst, arith}
+use Rattle.std.proofs.Common.{refl}
 use Rattle.rv_audit.proofs.Telling.{under_none, under_some}
 use Rattle.rv_audit.specs.Passed.{passed}
 use Rattle.rv_audit.proofs.front.Front.waits_under.Goals as goal

@@ -1,5 +1,3 @@
-use Rattle.std.proofs.Common.{rules, ◌≡◌, ℕ, false, IfNone, IfSome, OnErr, OnOk, ◌+◌, ◌-◌, ◌*◌, ◌<◌, ◌≤◌, length, Bool, true}
-use Rattle.rv_audit.specs.Marks.{Gains, IsLeast, IsLowest, Loses, NoneUnder, NoneUntil, marked}
 use Rattle.rv_audit.proofs.Pairs.{gains}
 use Rattle.rv_audit.proofs.marks.Marks.add.Goals as goal
 

@@ -1,5 +1,5 @@
-use Rattle.std.proofs.Common.{◌≡◌, IfNone, IfSome, refl, sym, subst}
-use Rattle.rv_audit.specs.Marks.{IsLowest, NoneUnder, NoneUntil}
+use Rattle.std.proofs.Common.{IfNone, refl, sym, subst}
+use Rattle.rv_audit.specs.Marks.{NoneUntil}
 use Rattle.rv_audit.proofs.Pairs.{found_until}
 use Rattle.rv_audit.proofs.marks.Marks.least_until.Goals as goal
 

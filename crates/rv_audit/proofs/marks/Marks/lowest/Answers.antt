@@ -1,5 +1,5 @@
-use Rattle.std.proofs.Common.{◌≡◌, IfNone, IfSome, refl, sym, subst}
-use Rattle.rv_audit.specs.Marks.{IsLowest, NoneUnder, NoneUntil}
+use Rattle.std.proofs.Common.{IfNone, IfSome, refl, sym, subst}
+use Rattle.rv_audit.specs.Marks.{IsLowest, NoneUnder}
 use Rattle.rv_audit.proofs.Pairs.{found_lowest, found_none, nothing_found}
 use Rattle.rv_audit.proofs.marks.Marks.lowest.Goals as goal
 
