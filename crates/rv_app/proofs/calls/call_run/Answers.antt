@@ -1,5 +1,5 @@
 -- What the run over the lines leaves is told of the input's bytes.
-use Rattle.std.proofs.Common.{◌≡◌, Err, List, Ok, inr, subst, ℕ}
+use Rattle.std.proofs.Common.{Err, List, Ok, inr, subst, ℕ}
 use Rattle.rv_client.specs.Link.{link}
 use Rattle.rv_client.specs.Process.{Starting}
 use Rattle.rv_app.specs.CallRuns.{RunsCalls}
