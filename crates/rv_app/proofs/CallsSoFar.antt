@@ -50,7 +50,7 @@ module _ {O : Type 0} (taken : O → Option (List ℕ)) where
       let whole : length (printed (texts ++ text ∷ [])) ≡ before + length text + 1 = omega (arith, ap length joined, length-append (printed texts) (text ++ 10 ∷ []), length-append text (10 ∷ []), count) in
       let places : sent ≡ length (printed texts) + (sent - before) = omega (arith, count, cut.past_others) in
       let front : take sent (printed (texts ++ text ∷ [])) ≡ printed texts ++ take (sent - before) (text ++ 10 ∷ []) =
-          ap (λ n. take n (printed (texts ++ text ∷ []))) places ∙ ap (take (length (printed texts) + (sent - before))) joined ∙ take-append-add (printed texts) (text ++ 10 ∷ []) (sent - before) in
+      ap (λ n. take n (printed (texts ++ text ∷ []))) places ∙ ap (take (length (printed texts) + (sent - before))) joined ∙ take-append-add (printed texts) (text ++ 10 ∷ []) (sent - before) in
       record {
         past_others = omega (arith, count, cut.past_others);
         not_all = omega (arith, whole, cut.not_all);
@@ -166,19 +166,19 @@ module _ {O R W : Type 0} (taken : O → Option (List ℕ)) (remaining : R → O
     runs_to_word line later word after c result cut stops said out short =
         let here = subst (λ (i : Option Key). IfSome i (λ key. StopsAt remaining contents tries key line word at after)) so_far.next stops in
         runs_by_word all so_far.texts word before at after count a b c result
-            (inr (record {
-              first = so_far.first;
-              line = line;
-              later = lines later;
-              cut = so_far.cut ∙ ap (λ l. so_far.first ++ l) cut;
-              epoch = epoch;
-              greeted = greeted;
-              welcomed = welcomed;
-              between = at;
-              settled = so_far.settled;
-              stops = here;
-            }))
-            (inr settles_first) so_far.took so_far.counted said out short
+        (inr (record {
+          first = so_far.first;
+          line = line;
+          later = lines later;
+          cut = so_far.cut ∙ ap (λ l. so_far.first ++ l) cut;
+          epoch = epoch;
+          greeted = greeted;
+          welcomed = welcomed;
+          between = at;
+          settled = so_far.settled;
+          stops = here;
+        }))
+        (inr settles_first) so_far.took so_far.counted said out short
 
     -- the next line is settled, and its text does not go out
     pub runs_to_cut : (line later text : List ℕ) (after : Link R W) (c : Sink O) (fault : RunFault) → lines rest ≡ line ∷ lines later

@@ -1,8 +1,8 @@
 -- Words name at most one command.
-use Rattle.std.proofs.Common.{ap, arith, refl, sym, ◌≡◌, ◌∙◌, ℕ, List, Option, Some, None, get_or}
+use Rattle.std.proofs.Common.{ap, arith, refl, sym, ◌≡◌, ◌∙◌, ℕ, List, Option, Some, None}
 use Rattle.std.specs.Option.{IsSomeAnd}
 use Rattle.clap.specs.Words.{Row, Text, subcommand_of}
-use Rattle.rv_app.specs.Command.{GivesBetween, GivesIdentifier, Says, SaysCall, SaysServe, rv_app}
+use Rattle.rv_app.specs.Command.{GivesBetween, GivesIdentifier, Says, rv_app}
 use Rattle.rv_app.specs.Laws.{OneCommand, SameCommand}
 use Rattle.rv_app.proofs.Options.{first_letter, letter_of}
 use Rattle.rv_app.specs.declared.command.Command.{Command}

@@ -1,13 +1,12 @@
 -- How far hellos have come, and the calls of lines.
-use Rattle.std.proofs.Common.{◌≡◌, ◌∙◌, ◌<◌, ◌≤◌, ◌+◌, ◌++◌, ◌∷◌, if◌then◌else◌, [], ℕ, List, Option, Some, None, Result, Ok, Err, IfSome, add-zero, ap, arith, inl, inr, length, length-append, refl, subst, sym}
+use Rattle.std.proofs.Common.{◌≡◌, ◌∙◌, ◌<◌, ◌≤◌, ◌+◌, ◌++◌, ◌∷◌, if◌then◌else◌, [], ℕ, List, Option, Some, None, Result, Ok, Err, IfSome, add-zero, ap, arith, inl, length, length-append, refl, subst}
 use Rattle.std.proofs.lemmas.Bool.{lt-ltb}
-use Rattle.rv_text.specs.Limits.{FitsIdentifier, FitsKey}
+use Rattle.rv_text.specs.Limits.{FitsIdentifier}
 use Rattle.rv_text.specs.declared.answer.Answer.{Answer}
-use Rattle.rv_text.specs.declared.answer.Answer.TheVariants as answers
 use Rattle.rv_text.specs.declared.message.Key.{Key}
 use Rattle.rv_client.specs.Link.{Link}
 use Rattle.rv_client.specs.Process.{PassesBy, Starting, first_key, key_after, max_number}
-use Rattle.rv_app.specs.Calling.{AllInVain, HasNumbers, HelloEnds, HellosInVain, IsPassedBy, LastHello, SaysHello, SettlesLine, SettlesLines, WelcomesOrNot, key_behind}
+use Rattle.rv_app.specs.Calling.{AllInVain, HasNumbers, HelloEnds, HellosInVain, IsPassedBy, SaysHello, SettlesLine, SettlesLines, WelcomesOrNot, key_behind}
 use Rattle.rv_app.specs.declared.word.Word.{Word}
 use Rattle.rv_app.specs.declared.word.Word.TheVariants.{BadLine, EpochEnded, NotWelcome, Refused, Replaced, Unsettled}
 

@@ -154,7 +154,7 @@ module _ {L O R W : Type 0} (given : L → Option (List ℕ)) (taken : O → Opt
     pub whole_input : ReadsAll given source source'
     pub runs : IfSome (source_remaining given source)
         (λ input. RunsCalls taken remaining contents starting tries (lines input) before after
-            out out' result)
+        out out' result)
 
 module _ {O R W : Type 0} where
   -- nothing was asked and nothing printed

@@ -72,7 +72,7 @@ pub fn call_run<L: Read, O: Write, R: Read, W: Write>(
     // The lines before the one that found no memory are settled and have their texts, or nothing was done.
     ensures lacked_memory { result ≡ Err RunFault.NoMemory →
         ((source_failed lines.new ≡ false)
-            × DidNothing (link from.old to.old) (link from.new to.new) out.old out.new)
+        × DidNothing (link from.old to.old) (link from.new to.new) out.old out.new)
         ⊎ RanCalls L.remaining O.contents R.remaining W.contents
         (record { client = client; incarnation = incarnation }) tries lines.old lines.new
         (link from.old to.old) (link from.new to.new) out.old out.new (Err RunFault.NoMemory) }
@@ -107,7 +107,7 @@ fn call_lines<O: Write, R: Read, W: Write>(
         → IsWelcomed R.remaining W.contents starting tries epoch before (link from.old to.old)
         → idle ≡ Some (first_key starting epoch)
         → RunsCalls O.contents R.remaining W.contents starting tries (lines input.now)
-            before (link from.new to.new) out.old out.new result }
+        before (link from.new to.new) out.old out.new result }
 {
     let mut idle = idle;
     let mut printed = 0;

@@ -29,13 +29,12 @@ use rv_frame::{Sink, Source};
 use rv_server::ServeFault;
 use server::serve_epoch;
 use std::alloc::AllocError;
-use std::env;
 use std::io::ErrorKind;
 use std::net::{TcpListener, TcpStream};
 use std::process::ExitCode;
 use std::sync::Wait;
 use std::thread::Threads;
-use std::time;
+use std::{env, time};
 use thiserror::Error;
 
 // Why the program ends before its command is done.
@@ -184,7 +183,14 @@ fn run_call(
     let mut to = Sink::new(&stream);
     let alloc = rt.alloc();
     match call_run(
-        alloc, &mut lines, &mut out, &mut from, &mut to, client, incarnation, tries,
+        alloc,
+        &mut lines,
+        &mut out,
+        &mut from,
+        &mut to,
+        client,
+        incarnation,
+        tries,
     )? {
         CallSaid::Whole => Ok(ExitCode::SUCCESS),
         CallSaid::Stopped => Ok(ExitCode::from(1)),

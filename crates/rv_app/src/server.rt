@@ -8,10 +8,9 @@ use std::marker::Brand;
 use std::net::TcpListener;
 use std::sync::Wait;
 use std::sync::ledger::{Blank, Ledger};
-use std::thread;
 use std::thread::Threads;
-use std::time;
 use std::time::{Duration, Instant};
+use std::{thread, time};
 
 // How many milliseconds a worker waits before it asks a waiting request again.
 const PAUSE_MILLIS: u64 = 5;
@@ -92,7 +91,16 @@ fn serve_book<L: Ledger + Send + Sync, R: Threads + Wait + AllocGlobal + time::C
     let gate = Sleeping { rt };
     let book = Book::open(alloc, epoch, 0)?;
     let (shared, seats) = Shared::<Book, L>::open(alloc, blank, book, workers)?;
-    let (seats, ended) = match serve(rt, alloc, &shared, seats, &clock, &gate, listener, connections) {
+    let (seats, ended) = match serve(
+        rt,
+        alloc,
+        &shared,
+        seats,
+        &clock,
+        &gate,
+        listener,
+        connections,
+    ) {
         Ok(report) => (report.seats, Ok(())),
         Err((report, fault)) => (report.seats, Err(fault)),
     };

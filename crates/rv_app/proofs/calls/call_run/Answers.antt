@@ -1,5 +1,5 @@
 -- What the run over the lines leaves is told of the input's bytes.
-use Rattle.std.proofs.Common.{◌≡◌, Err, List, Ok, inr, subst, ℕ}
+use Rattle.std.proofs.Common.{Err, List, Ok, inr, subst, ℕ}
 use Rattle.rv_client.specs.Link.{link}
 use Rattle.rv_client.specs.Process.{Starting}
 use Rattle.rv_app.specs.CallRuns.{RunsCalls}
@@ -17,7 +17,7 @@ returns-in-Ok g c =
     let items = c.in_ok-input.input.items in
     let welcomes = subst (λ (s : Starting). WelcomesOrNot g.R.Read.remaining g.W.Write.contents s c.args.tries before (link c.say_hello.new.from c.say_hello.new.to) (Ok c.in-Ok.idle)) c.start.ensures c.in-Ok.ensures in
     let runs = subst (λ (bytes : List ℕ). RunsCalls g.O.Write.contents g.R.Read.remaining g.W.Write.contents starting c.args.tries (lines bytes) before after c.args.out.now c.call_lines.new.out c.call_lines.result)
-        c.deref.ensures.value (c.call_lines.ensures starting welcomes.0 before welcomes.1 welcomes.2) in
+    c.deref.ensures.value (c.call_lines.ensures starting welcomes.0 before welcomes.1 welcomes.2) in
     let read = c.in_ok-input.ensures.all in
     let same = c.in_ok-input.ensures.bytes in
     record {
@@ -36,7 +36,7 @@ returns g c =
     let items = c.in_ok-input.input.items in
     let turned = subst (λ (s : Starting). WelcomesOrNot g.R.Read.remaining g.W.Write.contents s c.args.tries before after (Err c.in-Err.word)) c.start.ensures c.in-Err.ensures in
     let runs = runs_at_once g.O.Write.contents g.R.Read.remaining g.W.Write.contents starting c.args.tries (lines items) c.in-Err.word before after c.args.out.now c.print_word.new.out c.print_word.result
-        turned c.print_word.ensures.said c.print_word.ensures.took c.print_word.ensures.cut in
+    turned c.print_word.ensures.said c.print_word.ensures.took c.print_word.ensures.cut in
     let read = c.in_ok-input.ensures.all in
     let same = c.in_ok-input.ensures.bytes in
     record {

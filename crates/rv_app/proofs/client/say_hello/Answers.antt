@@ -1,9 +1,9 @@
 -- One more hello follows those in vain, or ends them.
-use Rattle.std.proofs.Common.{◌∙◌, inr, refl, subst, sym}
+use Rattle.std.proofs.Common.{◌∙◌, refl, subst, sym}
 use Rattle.rv_text.specs.Limits.{FitsIdentifier}
 use Rattle.rv_client.specs.Link.{link}
 use Rattle.rv_client.specs.Process.{Starting}
-use Rattle.rv_app.specs.Calling.{AllInVain, HelloEnds, IsPassedBy}
+use Rattle.rv_app.specs.Calling.{HelloEnds, IsPassedBy}
 use Rattle.rv_app.proofs.Settling.{hello_ended, none_in_vain, one_more_in_vain}
 use Rattle.rv_app.proofs.client.say_hello.Goals as goal
 
