@@ -7,7 +7,7 @@ from model_parts.account import Key
 from model_parts.texts import written
 from serve_parts.programs import Caller, Server
 from serve_parts.wire import (
-    BAD_TEXT, PATIENCE, Peer, demand, frame, give, hello, replied, request, take, until, waits, welcome)
+    BAD_TEXT, PATIENCE, Peer, Wrong, demand, frame, give, hello, replied, request, take, until, waits, welcome)
 
 ONE = Key(1, 2, 1, 1)
 WISH = take("forever")
@@ -171,8 +171,11 @@ class Scripted:
                     peer.end()
                 while (further := peer.hear()) is not None:
                     self.heard.append(further)
-        except OSError as fault:
+        except (TimeoutError, Wrong) as fault:
             self.fault = fault
+        except OSError:
+            # Who ends with bytes unread resets the connection.
+            pass
 
 
 # What is sent for each frame that comes, what is printed, the status, and what was heard; tries are 3.

@@ -9,7 +9,7 @@ from model_parts.account import Key
 from model_parts.texts import KEY, read_json, written
 
 # How long a client waits for bytes, for room, or for a server that is to end, in seconds.
-PATIENCE = 15
+PATIENCE = 30
 MAX_FRAME = 4096
 BAD_TEXT = b'{"code":1,"kind":"refused"}'
 
