@@ -13,7 +13,7 @@ test:
 	@command -v python3 > /dev/null || { echo "python3 is missing: the gate is written in it" >&2; exit 1; }
 	@tests/all
 
-# the edits beside the gate's, each of which the prover must refuse; NAMES="rv_text .." tries those of some crates
+# the edits beside the gate's, each of which the prover must refuse, and those that a test must see; NAMES="rv_text .." tries those of some crates
 edits:
 	@command -v python3 > /dev/null || { echo "python3 is missing: the script is written in it" >&2; exit 1; }
 	@tests/edits $(NAMES)

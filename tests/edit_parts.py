@@ -1,18 +1,24 @@
-"""Edits that the prover must refuse, and the functions that they change."""
+"""Edits that the prover must refuse or that a test must see, and the functions that they change."""
 import pathlib
 import re
 
 
 class Edit:
-    """An edit: a file's name, and for each file that it changes its pairs of old and new text."""
+    """An edit: a file's name, for each file that it changes its pairs of old and new text, and the test that must see it.
+
+    The test stands as CRATE::MODULE::NAME on a line 'test: ..'; there is none where the prover must refuse the edit.
+    """
 
     def __init__(self, path, folder):
         self.name = path.stem
         self.folder = folder
         self.pairs = []
+        self.test = None
         at, old = None, None
         for line in path.read_text(encoding="utf-8").split("\n"):
-            if line.startswith("file: "):
+            if line.startswith("test: "):
+                self.test = line[len("test: "):].strip()
+            elif line.startswith("file: "):
                 at = line[len("file: "):].strip()
             elif line.startswith("old: "):
                 old = line[len("old: "):]
@@ -29,6 +35,14 @@ class Edit:
                 return None
             texts[at] = text.replace(old, new)
         return texts if self.pairs else None
+
+    def test_stands(self):
+        """Whether the test that must see it stands in its crate."""
+        crate, *modules, name = (self.test or "::").split("::")
+        path = self.folder.parent / crate / "src" / "/".join(modules)
+        path = path.with_suffix(".rt") if modules else path
+        form = rf"^#\[test\]\nfn {re.escape(name)}\("
+        return path.is_file() and re.search(form, path.read_text(encoding="utf-8"), re.M) is not None
 
     def functions(self):
         """Patterns of the prover's names of the functions that this edit changes."""

@@ -161,7 +161,8 @@ def incarnation(entries, client):
 
 def last_number(entries, client):
     """The greatest number of an arrival or cancel of the client since its last hello; else 0."""
-    since = entries[hellos(entries, client)[-1] :]
+    places = hellos(entries, client)
+    since = entries[places[-1] :] if places else ()
     keys = [entry.act.key for entry in since if isinstance(entry.act, (Request, Cancel))]
     return max((key.number for key in keys if key.client == client), default=0)
 
@@ -234,78 +235,3 @@ def reply_unmet(entries, r):
         case Entry(act=Tick()):
             return {"reply": "timedout"}
     return {"reply": "cancelled"}
-
-
-def broken_rule(account, j):
-    """The first rule of legal accounts that is broken at a place, by its short name; none where all hold."""
-    before, entry = account.entries[:j], account.entries[j]
-    tests = [*broken_moments(account, before, entry), *broken_numbers(account, before, entry)]
-    for name, is_broken in tests:
-        if is_broken():
-            return name
-    return broken_pair(before, entry)
-
-
-def broken_moments(account, before, entry):
-    """The rules on moments, each with a test whether it is broken."""
-    is_tick = isinstance(entry.act, Tick)
-    yield "M1", lambda: entry.moment < (before[-1].moment if before else account.opened)
-    yield "M2", lambda: not is_tick and overdue(before, entry.moment)
-    yield "M3", lambda: is_tick and not overdue(before, entry.moment)
-
-
-def broken_numbers(account, before, entry):
-    """The rules on numbers, each with a test whether it is broken."""
-    match entry.act:
-        case Hello(client, number):
-            yield "N1", lambda: any(before[r].act.incarnation >= number for r in hellos(before, client))
-        case Request(key, _):
-            yield "N2", lambda: not is_of_session(account, before, key)
-            yield "N3", lambda: waiting_of(before, key.client) is not None or not is_next(before, key)
-        case Cancel(key):
-            yield "N2", lambda: not is_of_session(account, before, key)
-            yield "N3", lambda: not is_due(before, key)
-
-
-def is_of_session(account, before, key):
-    """Whether a key has the account's epoch and its client's last incarnation."""
-    return key.epoch == account.epoch and incarnation(before, key.client) == key.incarnation
-
-
-def is_next(before, key):
-    """Whether a key has its session's last number plus one."""
-    return key.number == last_number(before, key.client) + 1
-
-
-def is_due(before, key):
-    """Whether a cancel may have the key: that of its session's waiting request, or else the next one."""
-    waits = waiting_of(before, key.client)
-    return waits == key if waits else is_next(before, key)
-
-
-def broken_pair(before, entry):
-    """The first rule on pairs and swaps that is broken by an entry."""
-    call = entry.act.call if isinstance(entry.act, Request) else None
-    other = OTHER_SIDE.get(call.side) if call else None
-    partner = entry.partner
-    if partner is not None:
-        named = any(earlier.partner == partner for earlier in before)
-        if other is None or partner >= len(before) or named or before[partner].partner is not None:
-            return "P1"
-    if other is None:
-        return None
-    opposites = open_at(before, other, call.at)
-    opposite, first, possible = ("S1", None, "S2") if call.side == "exchanging" else ("P2", "P3", "P4")
-    if partner is not None and partner not in opposites:
-        return opposite
-    if partner is not None and first and partner != opposites[0]:
-        return first
-    if partner is None and opposites:
-        return possible
-    return None
-
-
-def first_fault(account):
-    """The first place at which a rule is broken, and the rule; none where the account is legal."""
-    faults = ((j, broken_rule(account, j)) for j in range(len(account.entries)))
-    return next((fault for fault in faults if fault[1]), None)

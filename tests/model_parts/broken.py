@@ -1,7 +1,10 @@
-"""Accounts that are broken by hand: behind entries that make a legal account, each last entry breaks this rule, or none."""
+"""Accounts that are broken by hand: behind entries that make a legal account, each last entry breaks this rule, or
+none. Where it breaks several, the first of them in their order is given."""
 from dataclasses import replace
 
-from .account import Account, Call, Cancel, Entry, Hello, Key, Request, Tick, first_fault
+from .account import Account, Call, Cancel, Entry, Hello, Key, Request, Tick
+from .lines import account_text
+from .verdicts import verdict
 
 
 def hello(client, incarnation):
@@ -74,8 +77,19 @@ BROKEN = [
         (meeting(take(3, 1), 2), "N2"),
         (meeting(hello(3, 1), 2), "P1"),
         (hello(2, 1), "N1"),
+        (meeting(hello(2, 1), 2), "N1"),
+        (keyed(POLL, epoch=2, number=9), "N2"),
+        (meeting(keyed(POLL, incarnation=2), 4), "N2"),
+        (meeting(keyed(POLL, number=3), 3), "N3"),
+        (keyed(POLL, number=3), "N3"),
+        (meeting(keyed(POLL, number=3), 4), "N3"),
+        (meeting(cancel(2, 1), 2), "P1"),
+        (meeting(count(2, 1), 2), "P1"),
+        (at(take(2, 1, at=4), 1), None),
+        (meeting(swap(2, 1, "c"), 2), "S1"),
     ]),
     (0, [ONE], [(ONE, "N1")]),
+    (3, [], [(at(ONE, 3), None), (tick(2), "M1"), (tick(3), "M3"), (at(POLL, 2), "M1"), (at(POLL, 3), "N2")]),
     (1, [], [(ONE, "M1")]),
     (0, [ONE, TWO, A, B, meeting(POLL, 2), at(hello(1, 3), 1)], [
         (meeting(at(take(2, 2), 1), 3), None),
@@ -133,6 +147,13 @@ BROKEN = [
         (at(take(2, 1), 10), "M2"),
         (at(ENDED, 10), "M2"),
         (at(hello(1, 2), 11), "M2"),
+        (at(hello(2, 1), 10), "M2"),
+        (at(keyed(ENDED, epoch=2), 10), "M2"),
+        (at(keyed(take(2, 1), epoch=2), 10), "M2"),
+        (meeting(at(count(2, 9), 10), 2), "M2"),
+        (at(hello(1, 2), 9), None),
+        (at(ENDED, 9), None),
+        (meeting(tick(9), 2), "M3"),
         (tick(9), "M3"),
         (tick(10), None),
         (tick(11), None),
@@ -146,6 +167,37 @@ BROKEN = [
         (at(ENDED, 10), "N3"),
         (at(B, 10), None),
     ]),
+    (0, [ONE, TWO, transfer(1, 1, "a", 10), transfer(2, 1, "b", 5)], [
+        (tick(4), "M3"),
+        (tick(5), None),
+        (at(count(1, 2), 5), "M2"),
+        (at(count(1, 2), 4), "N3"),
+    ]),
+    (0, [ONE, TWO, transfer(1, 1, "a", 10), transfer(2, 1, "b", 5), tick(5)], [
+        (meeting(at(take(2, 2), 5), 2), None),
+        (meeting(at(take(2, 2), 5), 3), "P2"),
+        (at(take(2, 2), 5), "P4"),
+        (tick(9), "M3"),
+        (tick(10), None),
+    ]),
+    (0, [ONE, TWO, transfer(1, 1, "a", 10), hello(1, 2)], [(tick(10), "M3"), (at(take(2, 1), 10), None)]),
+    (0, [ONE, TWO, transfer(1, 1, "a", 10), meeting(take(2, 1), 2)], [(tick(10), "M3"), (at(count(2, 2), 10), None)]),
+    (0, [ONE, TWO, A, hello(1, 2)], [(meeting(take(2, 1), 2), None), (take(2, 1), "P4")]),
+    (0, [ONE, TWO, A, B, meeting(take(2, 1), 2)], [
+        (meeting(take(2, 2), 2), "P1"),
+        (meeting(take(2, 2), 4), "P1"),
+        (meeting(take(2, 2), 3), None),
+    ]),
+    (0, [ONE, TWO, THREE, transfer(1, 1, "a", "forever"), transfer(2, 1, "b", "forever"), cancel(1, 1)], [
+        (meeting(take(3, 1), 3), "P2"),
+        (meeting(take(3, 1), 4), None),
+    ]),
+    (0, [ONE, TWO, THREE, transfer(1, 1, "a", "forever"), transfer(2, 1, "b", "forever"), cancel(2, 1)], [
+        (meeting(take(3, 1), 4), "P2"),
+        (meeting(take(3, 1), 3), None),
+        (meeting(put(3, 1, "c"), 4), "P2"),
+        (put(3, 1, "c"), None),
+    ]),
     (0, [ONE, TWO, take(2, 1, 0)], [(tick(0), "M3"), (put(1, 1, "b"), None)]),
     (0, [ONE, TWO, THREE, swap(1, 1, "a")], [
         (meeting(swap(2, 1, "b"), 3), None),
@@ -155,6 +207,14 @@ BROKEN = [
         (meeting(swap(2, 1, "b"), 2), "S1"),
         (meeting(swap(2, 1, "b"), 4), "P1"),
         (meeting(take(2, 1), 3), "P2"),
+        (swap(2, 2, "b"), "N3"),
+        (meeting(swap(2, 2, "b", 4), 3), "N3"),
+        (meeting(put(2, 1, "b"), 3), "P2"),
+        (put(2, 1, "b"), None),
+    ]),
+    (0, [ONE, TWO, THREE, swap(1, 1, "a"), hello(1, 2)], [
+        (meeting(swap(2, 1, "b"), 3), "S1"),
+        (swap(2, 1, "b"), None),
     ]),
     (0, [ONE, TWO, THREE, swap(1, 1, "a"), meeting(swap(2, 1, "b"), 3)], [
         (meeting(swap(3, 1, "c"), 3), "P1"),
@@ -164,10 +224,16 @@ BROKEN = [
 ]
 
 
-def broken_faults():
-    """Each account by its last entry, with what is wrong with the rule that is found, if something is."""
+def broken_texts():
+    """The lines of each account, with their verdict."""
     for opened, first, lasts in BROKEN:
         for last, rule in lasts:
-            found = first_fault(Account(1, opened, (*first, last)))
-            expected = rule and (len(first), rule)
-            yield f"behind {len(first)} entries, {last}", None if found == expected else f"got {found}, not {rule}"
+            text = account_text(Account(1, opened, (*first, last)))
+            yield text, f"fault {len(first)} {rule}" if rule else "legal"
+
+
+def broken_faults():
+    """Each account by its number, with what is wrong with the verdict that is found, if something is."""
+    for number, (text, expected) in enumerate(broken_texts(), 1):
+        found = verdict(text)
+        yield f"broken account {number}", None if found == expected else f"{text}: got {found}, not {expected}"

@@ -9,9 +9,11 @@ a reply's word and members, or `{..`, the text itself.
 import json
 import re
 
-from model_parts.account import Account, Call, Entry, Hello, Key, Request, Tick, first_fault
+from model_parts.account import Account, Key
+from model_parts.lines import account_text
 from model_parts.steps import WHOLE, told
 from model_parts.texts import written
+from model_parts.verdicts import verdict
 from model_parts.world import World, world_fault
 
 THREE = "hello 1/1 => welcome\nhello 2/1 => welcome\nhello 3/1 => welcome\n"
@@ -339,18 +341,6 @@ PLAY = """
     epoch 1 => refused 5
     """
 
-# The partner of the take, the take's number, the second hello's client, whether a tick follows; and the fault.
-AUDITS = [
-    (2, 1, 2, False, None),
-    (3, 1, 2, False, (4, "P3")),
-    (None, 1, 2, False, (4, "P4")),
-    (1, 1, 2, False, (4, "P2")),
-    (4, 1, 2, False, (4, "P1")),
-    (2, 1, 2, True, (5, "M3")),
-    (2, 2, 2, False, (4, "N3")),
-    (2, 1, 1, False, (1, "N1")),
-]
-
 KEY = re.compile(r"(?:(\d+):)?(\d+)(?:/(\d+))?#(\d+)$")
 
 
@@ -448,7 +438,8 @@ def play_row_fault():
     [account] = world.accounts
     if [entry.partner for entry in account.entries] != [None, None, None, 2, None] or len(world.held) != 3:
         return f"left: {account}, {world.held}"
-    return world_fault(world)
+    said = verdict(account_text(account))
+    return world_fault(world) if said == "legal" else f"the account breaks a rule: {said}"
 
 
 def row_fault(epoch, lines):
@@ -458,27 +449,11 @@ def row_fault(epoch, lines):
         account, got = told(account, line.encode(), WHOLE)
         if got != expected:
             return f"{line}: got {got}"
-    fault = first_fault(account) if len(account.entries) < 100 else None
-    return f"the account breaks a rule: {fault}" if fault else None
-
-
-def audited(partner, number, second, has_tick):
-    """The account of an audit: two hellos, two puts and a take, and perhaps a tick."""
-    acts = [
-        Hello(1, 1),
-        Hello(second, 1),
-        Request(Key(1, 1, 1, 1), Call("put", 3, "a")),
-        Request(Key(1, 1, 1, 2), Call("put", 3, "b")),
-    ]
-    take = Request(Key(1, 2, 1, number), Call("take", 3, wait="now"))
-    ticks = [Entry(1, Tick())] if has_tick else []
-    return Account(1, 0, (*(Entry(0, act) for act in acts), Entry(1, take, partner), *ticks))
+    said = verdict(account_text(account))
+    return None if said == "legal" else f"the account breaks a rule: {said}"
 
 
 def row_faults():
-    """Each row and audit by its name, with what is wrong with it, if something is."""
+    """Each row by its name, with what is wrong with it, if something is."""
     for name, epoch, lines in ROWS:
         yield name, row_fault(epoch, lines)
-    for *change, expected in AUDITS:
-        got = first_fault(audited(*change))
-        yield f"audit {change}", None if got == expected else f"got {got}, not {expected}"

@@ -2,9 +2,10 @@
 import json
 
 from model_parts.account import (
-    MAX_CLIENTS, Account, Key, Request, first_fault, incarnation, last_number, limit, reply, waiting, waiting_of)
+    MAX_CLIENTS, Account, Key, Request, incarnation, last_number, limit, reply, waiting, waiting_of)
+from model_parts.audit import audit
 from model_parts.steps import TODAY, WHOLE, replied, told
-from model_parts.texts import KEY, MAX_BODY_BYTES, MAX_IDENTIFIER, written
+from model_parts.texts import KEY, MAX_BODY_BYTES, MAX_IDENTIFIER, members_of_call, written
 
 LETTERS = ["a", "b", "x", " ", "/", '"', "\\", "\0", "\x01", "\b", "\t", "\n", "\f", "\r", "\x1f", "\x7f", "\x80",
            "é", "߿", "ࠀ", "\u2028", "\ud7ff", "\ue000", "�", "\uffff", "𝄞", "\U0010ffff"]
@@ -154,10 +155,7 @@ class Script:
         """The members of the call that arrived under these key members, if one did."""
         for entry in self.account.entries:
             if isinstance(entry.act, Request) and vars(entry.act.key) == key:
-                call = entry.act.call
-                members = {"call": call.word, "exchanger" if call.word == "swap" else "queue": call.at}
-                more = {"item": call.item, "wait": call.wait}
-                return {**members, **{name: value for name, value in more.items() if value is not None}}
+                return members_of_call(entry.act.call)
         return None
 
     def change(self, call):
@@ -284,8 +282,8 @@ def law_fault(chance):
     """What is wrong with a random book of the whole model, if something is: it must be legal, and replies must stay."""
     script = Script(chance, 1, WHOLE)
     answers = [json.loads(script.line()[1]) for _ in range(200)]
-    if first_fault(script.account):
-        return f"the account breaks a rule: {first_fault(script.account)}"
+    if audit(script.account):
+        return f"the account breaks a rule: {audit(script.account)}"
     for answer in answers:
         key = Key(*(answer.get(name) for name in KEY))
         if answer["kind"] == "reply" and replied(key, reply(script.account.entries, key)) != answer:

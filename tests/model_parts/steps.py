@@ -1,7 +1,8 @@
 """One step of an account by a moment and a message (docs/MODEL.md, section 9), and the lines that exist today."""
 from model_parts.account import (
-    MAX_CLIENTS, MAX_ENTRIES, MAX_MOMENT, OTHER_SIDE, Cancel, Entry, Hello, Request, Tick, arrival_of, broken_rule,
-    incarnation, last_number, open_at, overdue, reply, stays, waiting, waiting_of)
+    MAX_CLIENTS, MAX_ENTRIES, MAX_MOMENT, OTHER_SIDE, Cancel, Entry, Hello, Request, Tick, arrival_of, incarnation,
+    last_number, open_at, overdue, reply, stays, waiting, waiting_of)
+from model_parts.audit import broken_rule
 from model_parts.texts import NoReading, demand, read_line, written
 
 # What the whole model has. `kept replies` are lines 5 to 8 of the step, `client limit` is line 13.

@@ -29,6 +29,23 @@ def written(members):
     return json.dumps(members, sort_keys=True, separators=(",", ":"), ensure_ascii=False)
 
 
+def members_of(message):
+    """The members of a message."""
+    match message:
+        case Hello():
+            return {"kind": "hello", **vars(message)}
+        case Cancel(key):
+            return {"kind": "cancel", **vars(key)}
+    return {"kind": "request", **vars(message.key), **members_of_call(message.call)}
+
+
+def members_of_call(call):
+    """The members of a call."""
+    more = {"item": call.item, "wait": call.wait}
+    present = {name: value for name, value in more.items() if value is not None}
+    return {"call": call.word, "exchanger" if call.word == "swap" else "queue": call.at, **present}
+
+
 def demand(condition):
     """Ends the reading unless the condition holds."""
     if not condition:

@@ -3,7 +3,8 @@ of a world after every list of events. Each epoch's account is that of the steps
 from dataclasses import dataclass, field
 
 from model_parts.account import (
-    Account, Call, Cancel, Hello, Key, Request, arrival_of, arrivals, first_fault, met_with, open_at, reply)
+    Account, Call, Cancel, Hello, Key, Request, arrival_of, arrivals, met_with, open_at, reply)
+from model_parts.audit import audit
 from model_parts.steps import exists, refused, replied, step
 from model_parts.texts import (
     KEY, MAX_BODY_BYTES, MAX_IDENTIFIER, NoReading, demand, read_call, read_json, written)
@@ -252,8 +253,8 @@ def two_replies(world):
 def illegal(world):
     """An account that is not legal, or an arrival that was not asked."""
     for account in world.accounts:
-        if first_fault(account):
-            return f"epoch {account.epoch}: {first_fault(account)}"
+        if audit(account):
+            return f"epoch {account.epoch}: {audit(account)}"
         for r in arrivals(account.entries):
             act = account.entries[r].act
             if (act.key, act.call) not in world.asked:

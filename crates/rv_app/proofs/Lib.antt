@@ -7,3 +7,5 @@ pub mod Forms
 pub mod Progress
 pub mod Playing
 pub mod Results
+pub mod Settling
+pub mod CallsSoFar

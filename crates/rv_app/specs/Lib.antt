@@ -1,5 +1,7 @@
 -- The definitions that the contracts of this crate cite.
 pub mod Body
+pub mod CallRuns
+pub mod Calling
 pub mod Command
 pub mod Faults
 pub mod Laws
@@ -10,3 +12,4 @@ pub mod Output
 pub mod Plays
 pub mod Run
 pub mod Told
+pub mod Word

@@ -8,7 +8,7 @@ use Rattle.rv_dual.specs.declared.giver.Offer.{Offer}
 use Rattle.rv_dual.specs.declared.giver.Offer.TheVariants.{Waits}
 use Rattle.rv_dual.specs.Offers.{is_at, waits_at, IsEarlier, IsEarlierTaker}
 use Rattle.rv_dual.specs.Entries.{PassesNowhere}
-use Rattle.rv_dual.specs.Queue.{Queue, IsDual}
+use Rattle.rv_dual.specs.Queue.{Queue, IsDual, KeepsRoom}
 use Rattle.rv_dual.specs.Withdrawing.{TakesAt, WaitsAt, Withdraws, without_giver, without_taker}
 use Rattle.rv_dual.proofs.Found.{other_place}
 
@@ -53,10 +53,11 @@ nobody_waits q place (Some duty) no_giver no_taker = tt
 
 pub withdraws_taker : (old new : Queue) (place : ℕ) (result : Option Owed) → PassesNowhere (waits_at place) old.givers → IfSome result (TakesAt old.takers place)
     → IfNone result (PassesNowhere (is_at place) old.takers) → new.givers ≡ without_giver place old.givers → new.takers ≡ without_taker place old.takers
-    → Withdraws old new place result
-withdraws_taker old new place result no_giver takes no_taker givers takers = record {
+    → KeepsRoom old new → Withdraws old new place result
+withdraws_taker old new place result no_giver takes no_taker givers takers room = record {
   some = taker_waits old place result takes;
   none = nobody_waits old place result no_giver no_taker;
   givers = givers;
   takers = takers;
+  room = room;
 }

@@ -3,3 +3,4 @@ pub mod Queue
 pub mod Meanings
 pub mod Withdrawing
 pub mod Entries
+pub mod Room

@@ -10,43 +10,49 @@ use Rattle.rv_dual.specs.declared.pair.Taken as taken
 use Rattle.rv_dual.specs.declared.pair.Tried.{Tried}
 use Rattle.rv_dual.specs.declared.pair.Tried as tried
 use Rattle.rv_dual.specs.Offers.{Meeting}
-use Rattle.rv_dual.specs.Queue.{Queue, SameLists}
+use Rattle.rv_dual.specs.Queue.{Queue, KeepsRoom, SameLists, UsesRoom}
 
 -- the offer met the first of the takers, which left
 pub record MeetsTaker (old new : Queue) (offer : Offer) (pair : Meeting) : Type 0 where
   pub giver : pair.giver ≡ offer
   pub oldest : old.takers ≡ pair.taker ∷ new.takers
   pub givers : new.givers ≡ old.givers
+  pub room : KeepsRoom old new
 
 -- the taker met the first of the items, which left
 pub record MeetsGiver (old new : Queue) (duty : Owed) (pair : Meeting) : Type 0 where
   pub taker : pair.taker ≡ duty
   pub oldest : old.givers ≡ pair.giver ∷ new.givers
   pub takers : new.takers ≡ old.takers
+  pub room : KeepsRoom old new
 
--- no taker was there, and the offer is the last of the items
+-- no taker was there, and the offer is the last of the items, in the room of one
 pub record ParksGiver (old new : Queue) (offer : Offer) : Type 0 where
   pub nobody : old.takers ≡ []
   pub givers : new.givers ≡ old.givers ++ offer ∷ []
   pub takers : new.takers ≡ old.takers
+  pub room : UsesRoom old new
 
--- no item was there, and the duty is the last of the takers
+-- no item was there, and the duty is the last of the takers, in the room of one
 pub record ParksTaker (old new : Queue) (duty : Owed) : Type 0 where
   pub nobody : old.givers ≡ []
   pub takers : new.takers ≡ old.takers ++ duty ∷ []
   pub givers : new.givers ≡ old.givers
+  pub room : UsesRoom old new
 
 -- no taker was there, the duty came back, and all that wait stay
 pub record FindsNoTaker (old new : Queue) (duty returned : Owed) : Type 0 where
   pub nobody : old.takers ≡ []
   pub back : returned ≡ duty
   pub same : SameLists old new
+  pub room : KeepsRoom old new
 
 -- the same where no item was there
 pub record FindsNoGiver (old new : Queue) (duty returned : Owed) : Type 0 where
   pub nobody : old.givers ≡ []
   pub back : returned ≡ duty
   pub same : SameLists old new
+  pub room : KeepsRoom old new
 
 abbrev pub GivenMeans : Queue → Queue → Offer → Given → Type 0
 GivenMeans old new offer (given.TheVariants.Met pair) = MeetsTaker old new offer pair

@@ -1,5 +1,5 @@
 -- A dual queue: a list of items or a list of consumers, the oldest first.
-use Rattle.std.specs.Prelude.{◌≡◌, ◌<◌, ◌⊎◌, ℕ, List, []}
+use Rattle.std.specs.Prelude.{◌≡◌, ◌<◌, ◌≤◌, ◌+◌, ◌⊎◌, ℕ, List, []}
 use Rattle.std.specs.List.{All, AllPairs}
 use Rattle.rv_session.specs.Owed.{Owed}
 use Rattle.rv_dual.specs.declared.giver.Offer.{Offer}
@@ -29,3 +29,11 @@ pub record IsAbove (q : Queue) (place : ℕ) : Type 0 where
 pub record SameLists (old new : Queue) : Type 0 where
   pub givers : new.givers ≡ old.givers
   pub takers : new.takers ≡ old.takers
+
+-- the room that was made stays
+abbrev pub KeepsRoom : Queue → Queue → Type 0
+KeepsRoom old new = old.room ≤ new.room
+
+-- the room for one is used, and no more
+abbrev pub UsesRoom : Queue → Queue → Type 0
+UsesRoom old new = old.room ≤ new.room + 1

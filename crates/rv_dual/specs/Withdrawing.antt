@@ -5,7 +5,7 @@ use Rattle.rv_session.specs.Owed.{Owed}
 use Rattle.rv_dual.specs.declared.giver.Offer.{Offer}
 use Rattle.rv_dual.specs.declared.giver.Offer.TheVariants.{Waits}
 use Rattle.rv_dual.specs.Offers.{is_at, waits_at}
-use Rattle.rv_dual.specs.Queue.{Queue}
+use Rattle.rv_dual.specs.Queue.{KeepsRoom, Queue}
 
 -- all but the request at the place, in their order; a put stays
 abbrev pub without_giver : ℕ → List Offer → List Offer
@@ -25,9 +25,11 @@ TakesAt takers place duty = Contains takers duty × (duty.place ≡ place)
 abbrev pub WaitsAt : Queue → ℕ → Owed → Type 0
 WaitsAt q place duty = GivesAt q.givers place duty ⊎ TakesAt q.takers place duty
 
--- the result is the duty that waits at the place, if there is one, and all others stay, in their order
+-- the result is the duty that waits at the place, if there is one, and all others stay, in their order; so does the
+-- room
 pub record Withdraws (old new : Queue) (place : ℕ) (result : Option Owed) : Type 0 where
   pub some : IfSome result (WaitsAt old place)
   pub none : IfNone result ((duty : Owed) → ¬ WaitsAt old place duty)
   pub givers : new.givers ≡ without_giver place old.givers
   pub takers : new.takers ≡ without_taker place old.takers
+  pub room : KeepsRoom old new

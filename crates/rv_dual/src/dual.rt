@@ -1,14 +1,14 @@
 //! The queue of one side at a time.
-ghost use Rattle.std.specs.Prelude.{◌≡◌, ◌<◌, [], OnOk, IfSome, IfNone, Some, length, remove, slice_get};
+ghost use Rattle.std.specs.Prelude.{◌≡◌, ◌<◌, [], OnErr, OnOk, IfSome, IfNone, Some, length, remove, slice_get};
 ghost use Rattle.std.specs.List.{AllPairs};
 ghost use Rattle.rv_dual.specs.Offers.{place_of, waits_at, is_at, IsEarlier, IsEarlierTaker};
 ghost use Rattle.rv_dual.specs.Withdrawing.{GivesAt, TakesAt, without_giver, without_taker};
 ghost use Rattle.rv_dual.specs.Entries.{PassesAt, PassesNowhere};
+ghost use Rattle.rv_dual.specs.Room.{KeepsSpare};
 
 use crate::giver::{Giver, Offer};
 use crate::pair::{Given, Pair, Taken, Tried};
-use crate::waiter::Waiter;
-use rv_session::{Duty, Place};
+use rv_session::{Duty, Parked, Place};
 use rv_text::NoMemory;
 use std::alloc::Global;
 use std::collections::VecDeque;
@@ -23,21 +23,20 @@ use std::marker::Model;
 #[derive(Drop)]
 pub struct Dual {
     givers: VecDeque<Offer>,
-    takers: VecDeque<Waiter>,
+    takers: VecDeque<Parked>,
 }
 
 impl Model for Dual {
-    ghost use Rattle.std.specs.Prelude.{◌-◌, min};
-    ghost use Rattle.std.specs.VecDeque.{deque_capacity, deque_len};
+    ghost use Rattle.std.specs.Prelude.{min};
     ghost use Rattle.rv_dual.specs.Queue.{Queue, IsDual};
+    ghost use Rattle.rv_dual.specs.Room.{spare};
 
     ghost Value = { Queue };
 
     ghost view = { λ d. record {
       givers = d.givers.items;
       takers = d.takers.items;
-      room = min (deque_capacity d.givers - deque_len d.givers)
-          (deque_capacity d.takers - deque_len d.takers);
+      room = min (spare d.givers) (spare d.takers);
     } };
 
     ghost invariant = { λ d. IsDual d.givers.items d.takers.items };
@@ -52,7 +51,7 @@ fn index_of_giver(givers: &VecDeque<Offer>, place: Place) -> Option<usize>
 }
 
 // The index of the consumer at a place.
-fn index_of_taker(takers: &VecDeque<Waiter>, place: Place) -> Option<usize>
+fn index_of_taker(takers: &VecDeque<Parked>, place: Place) -> Option<usize>
     ensures found { IfSome result (PassesAt (is_at place) takers.now.items) }
     ensures none { IfNone result (PassesNowhere (is_at place) takers.now.items) }
 {
@@ -64,6 +63,7 @@ fn take_out<T>(queue: &mut VecDeque<T>, index: usize) -> T
     requires { index < length queue.old.items }
     ensures there { slice_get queue.old.items index ≡ Some result }
     ensures rest { queue.new.items ≡ remove queue.old.items index }
+    ensures room { KeepsSpare queue.old queue.new }
 {
     queue.remove(index).unwrap()
 }
@@ -74,17 +74,19 @@ fn withdraw_giver(givers: &mut VecDeque<Offer>, place: Place) -> Option<Duty>
     ensures some { IfSome result (GivesAt givers.old.items place) }
     ensures none { IfNone result (PassesNowhere (waits_at place) givers.old.items) }
     ensures rest { givers.new.items ≡ without_giver place givers.old.items }
+    ensures room { KeepsSpare givers.old givers.new }
 {
     let index = index_of_giver(givers, place)?;
     take_out(givers, index).duty()
 }
 
 // Takes out the consumer at a place, and gives its duty.
-fn withdraw_taker(takers: &mut VecDeque<Waiter>, place: Place) -> Option<Duty>
+fn withdraw_taker(takers: &mut VecDeque<Parked>, place: Place) -> Option<Duty>
     requires { AllPairs IsEarlierTaker takers.old.items }
     ensures some { IfSome result (TakesAt takers.old.items place) }
     ensures none { IfNone result (PassesNowhere (is_at place) takers.old.items) }
     ensures rest { takers.new.items ≡ without_taker place takers.old.items }
+    ensures room { KeepsSpare takers.old takers.new }
 {
     let index = index_of_taker(takers, place)?;
     Some(take_out(takers, index).wake())
@@ -92,7 +94,7 @@ fn withdraw_taker(takers: &mut VecDeque<Waiter>, place: Place) -> Option<Duty>
 
 impl Dual {
     ghost use Rattle.rv_dual.specs.Offers.{offer_of, places_of};
-    ghost use Rattle.rv_dual.specs.Queue.{IsQueue, IsAbove, SameLists};
+    ghost use Rattle.rv_dual.specs.Queue.{IsQueue, IsAbove, KeepsRoom, SameLists};
     ghost use Rattle.rv_dual.specs.Meanings.{GivenMeans, TakenMeans, TriedGive, TriedTake};
     ghost use Rattle.rv_dual.specs.Withdrawing.{Withdraws};
 
@@ -107,11 +109,13 @@ impl Dual {
         }
     }
 
-    /// Makes room for one more of either side, so that the next that waits takes no memory. Where memory
-    /// is refused, as where it isn't, all that wait stay.
+    /// Makes room for one more of either side, so that the next that waits takes no memory. It fails only
+    /// where no room was left and memory is refused. Either way all that wait stay, and so does the room.
     pub fn reserve(&mut self) -> Result<(), NoMemory>
         ensures same { SameLists self.old self.new }
+        ensures kept { KeepsRoom self.old self.new }
         ensures room { OnOk result (0 < self.new.room) }
+        ensures full { OnErr result (self.old.room ≡ 0) }
     {
         self.givers.reserve(1)?;
         self.takers.reserve(1)
@@ -144,7 +148,7 @@ impl Dual {
         match self.givers.pop_front() {
             Some(offer) => Taken::Met(Pair::new(offer.wake(), duty)),
             None => {
-                self.takers.push_back(Waiter::park(duty)).unwrap();
+                self.takers.push_back(duty.park()).unwrap();
                 Taken::Parked
             }
         }

@@ -2,8 +2,7 @@
 ghost use Rattle.std.specs.Prelude.{◌≡◌};
 ghost use Rattle.rv_dual.specs.Offers.{offer_of, place_of, duty_of, waits_at};
 
-use crate::waiter::Waiter;
-use rv_session::{Duty, Place};
+use rv_session::{Duty, Parked, Place};
 
 /// An arrival that brings an item. It can't be dropped: it may hold a duty.
 pub enum Giver {
@@ -19,7 +18,7 @@ pub enum Offer {
     /// The item of the put at this place.
     Put(Place),
     /// The item of a request that waits.
-    Waits(Waiter),
+    Waits(Parked),
 }
 
 impl Giver {
@@ -29,7 +28,7 @@ impl Giver {
     {
         match self {
             Giver::Put(place) => Offer::Put(place),
-            Giver::Waits(duty) => Offer::Waits(Waiter::park(duty)),
+            Giver::Waits(duty) => Offer::Waits(duty.park()),
         }
     }
 
@@ -55,7 +54,7 @@ impl Offer {
     {
         match self {
             Offer::Put(place) => *place,
-            Offer::Waits(waiter) => waiter.place(),
+            Offer::Waits(parked) => parked.place(),
         }
     }
 
@@ -65,7 +64,7 @@ impl Offer {
     {
         match self {
             Offer::Put(_) => false,
-            Offer::Waits(waiter) => waiter.place() == place,
+            Offer::Waits(parked) => parked.place() == place,
         }
     }
 
@@ -75,7 +74,7 @@ impl Offer {
     {
         match self {
             Offer::Put(place) => Giver::Put(place),
-            Offer::Waits(waiter) => Giver::Waits(waiter.wake()),
+            Offer::Waits(parked) => Giver::Waits(parked.wake()),
         }
     }
 
@@ -85,7 +84,7 @@ impl Offer {
     {
         match self {
             Offer::Put(_) => None,
-            Offer::Waits(waiter) => Some(waiter.wake()),
+            Offer::Waits(parked) => Some(parked.wake()),
         }
     }
 }

@@ -6,9 +6,7 @@
 mod dual;
 mod giver;
 mod pair;
-mod waiter;
 
 pub use dual::Dual;
 pub use giver::{Giver, Offer};
 pub use pair::{Given, Pair, Taken, Tried};
-pub use waiter::Waiter;

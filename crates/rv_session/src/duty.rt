@@ -69,6 +69,14 @@ impl Duty {
 }
 
 impl Parked {
+    /// The place of the request's arrival.
+    pub fn place(&self) -> Place
+        ensures { result ≡ self.now.place }
+    {
+        let Parked { place, .. } = self;
+        *place
+    }
+
     /// The duty again, of the same place and session.
     pub fn wake(self) -> Duty
         ensures { result ≡ self }

@@ -2,6 +2,5 @@
 #![tactic(auto)]
 
 mod swap;
-mod waiting;
 
 pub use swap::{Arrived, Swap, Tried};

@@ -1,8 +1,7 @@
 //! The exchanger.
 ghost use Rattle.std.specs.Prelude.{◌≡◌};
 
-use crate::waiting::Waiting;
-use rv_session::{Duty, Place};
+use rv_session::{Duty, Parked, Place};
 use std::marker::Model;
 
 /// An exchanger, which contracts see as the duty that waits at it, if there is one: its place and the
@@ -11,7 +10,7 @@ use std::marker::Model;
 /// No call takes memory, and each is done in constant time.
 #[derive(Drop)]
 pub struct Swap {
-    waiting: Option<Waiting>,
+    waiting: Option<Parked>,
 }
 
 impl Model for Swap {
@@ -58,7 +57,7 @@ impl Swap {
         match self.waiting.take() {
             Some(earlier) => Arrived::Met(earlier.wake(), duty),
             None => {
-                self.waiting = Some(Waiting::new(duty));
+                self.waiting = Some(duty.park());
                 Arrived::Parked
             }
         }
@@ -84,7 +83,7 @@ impl Swap {
         if self.waiting() != Some(place) {
             return None;
         }
-        self.waiting.take().map(Waiting::wake)
+        self.waiting.take().map(Parked::wake)
     }
 
     /// The place of the duty that waits, if there is one.
@@ -92,7 +91,7 @@ impl Swap {
         ensures { result ≡ option_map (λ duty. duty.place) self.now }
     {
         match &self.waiting {
-            Some(waiting) => Some(waiting.place()),
+            Some(parked) => Some(parked.place()),
             None => None,
         }
     }

@@ -178,7 +178,27 @@ fn a_call_tells_what_was_wrong_with_its_answer(rt: HostRuntime) -> Result<(), Fa
     calls(&rt, alloc, &bytes, 3, want, 2, 0)
 }
 
-// The longest body, and one byte behind its frame: a frame takes 4,098 reads where each gives one byte.
+// Asks over these bytes, of which a read gives one: what is answered, how many reads it took, and what went out.
+fn asks(
+    alloc: Global,
+    bytes: &[u8],
+    message: &Message,
+) -> (Result<Answer, LinkFault>, u64, TestWriter)
+    requires { FitsMessage message.now }
+{
+    let mut reader = TestReader::new(bytes, 1);
+    let mut device = TestWriter::new(alloc, 10_000);
+    let answer = ask(
+        alloc,
+        &mut Source::new(&mut reader),
+        &mut Sink::new(&mut device),
+        message,
+    );
+    (answer, reader.reads(), device)
+}
+
+// The longest body, and one byte behind its frame: a frame takes 4,098 reads where each gives one byte, and so does
+// one without its last byte, with the read of the end.
 #[test]
 fn an_answer_is_read_to_its_last_byte_and_no_further(rt: HostRuntime) -> Result<(), Fail> {
     let alloc = rt.alloc();
@@ -188,22 +208,68 @@ fn an_answer_is_read_to_its_last_byte_and_no_further(rt: HostRuntime) -> Result<
     }
     let mut bytes = frames(alloc, [body.as_slice()].as_slice())?;
     bytes.push(0)?;
-    let mut reader = TestReader::new(&bytes, 1);
-    let mut device = TestWriter::new(alloc, 10_000);
     let hello = New::start(1, 1).message();
-    let answer = ask(
+    let request = frames(alloc, [HELLO].as_slice())?;
+    let waiting = Ok(Answer::Waiting { key: key(2, 1, 1) });
+    for (count, want) in [(4_099, waiting), (4_097, Err(LinkFault::Closed))] {
+        let given = bytes.get(..count).unwrap_or(b"");
+        let (answer, reads, device) = asks(alloc, given, &hello);
+        assert!(rt; answer == want, "{count}");
+        assert_eq!(rt; reads, 4_098);
+        assert_eq!(rt; device.taken(), request.as_slice());
+        assert_eq!(rt; device.writes(), 1);
+    }
+    Ok(())
+}
+
+// 512 letters between these bytes.
+fn with_letters(alloc: Global, before: &[u8], after: &[u8]) -> Result<Vec<u8>, AllocError> {
+    let mut bytes = before.to_vec(alloc)?;
+    bytes.extend_from_slice(&[b'x'; 512])?;
+    bytes.extend_from_slice(after)?;
+    Ok(bytes)
+}
+
+// An item of 512 letters.
+fn letters(alloc: Global) -> Result<Item, Fail> {
+    let mut text = String::new(alloc);
+    for _ in 0..512 {
+        text.push('x')?;
+    }
+    Ok(Item::from_text(text))
+}
+
+#[test]
+fn the_longest_items_are_sent_and_heard(rt: HostRuntime) -> Result<(), Fail> {
+    let alloc = rt.alloc();
+    let call = Call::Put {
+        queue: 3,
+        item: letters(alloc)?,
+    };
+    let message = Message::Request {
+        key: key(2, 1, 1),
+        call,
+    };
+    if !message.fits() {
+        return Err(Fail::new("the item is too long"));
+    }
+    let answer = with_letters(
         alloc,
-        &mut Source::new(&mut reader),
-        &mut Sink::new(&mut device),
-        &hello,
-    );
-    assert!(rt; answer == Ok(Answer::Waiting { key: key(2, 1, 1) }));
-    assert_eq!(rt; reader.reads(), 4_098);
-    assert_eq!(rt; unread(&mut Source::new(&mut reader)), 1);
-    assert_eq!(rt;
-        device.taken(),
-        frames(alloc, [HELLO].as_slice())?.as_slice()
-    );
+        b"\x02\x59{\"client\":2,\"epoch\":1,\"incarnation\":1,\"item\":\"",
+        b"\",\"kind\":\"reply\",\"number\":1,\"reply\":\"item\"}",
+    )?;
+    let request = with_letters(
+        alloc,
+        b"\x02\x63{\"call\":\"put\",\"client\":2,\"epoch\":1,\"incarnation\":1,\"item\":\"",
+        b"\",\"kind\":\"request\",\"number\":1,\"queue\":3}",
+    )?;
+    let (heard, _, device) = asks(alloc, &answer, &message);
+    let want = Answer::Replied {
+        key: key(2, 1, 1),
+        reply: Reply::Item(letters(alloc)?),
+    };
+    assert!(rt; heard == Ok(want));
+    assert_eq!(rt; device.taken(), request.as_slice());
     Ok(())
 }
 

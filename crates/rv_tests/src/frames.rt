@@ -86,6 +86,25 @@ fn a_bad_length_ends_the_frames(rt: HostRuntime) {
     assert_eq!(rt; frames.feed(b"\x10\x01"), Err(FrameFault::BadLength(4097)));
 }
 
+// The length bytes of the longest frame, and then in one piece its body, two frames, and a byte.
+#[test]
+fn a_piece_is_longer_than_a_frame(rt: HostRuntime) -> Result<(), Fail> {
+    let body = [b'x'; 4_096];
+    let mut piece = body.to_vec(rt.alloc())?;
+    piece.extend_from_slice(TWO_FRAMES)?;
+    piece.push(0)?;
+    let mut frames = Frames::new(rt.alloc());
+    assert_eq!(rt; frames.feed(b"\x10\x00"), Ok(()));
+    assert_eq!(rt; frames.rest(), 2);
+    assert_eq!(rt; frames.feed(&piece), Ok(()));
+    assert_eq!(rt; frames.rest(), 1);
+    for body in [body.as_slice(), b"A", b"BC"] {
+        gives(&rt, &mut frames, body);
+    }
+    gives_none(&rt, &mut frames);
+    Ok(())
+}
+
 // Where memory is refused, the same call once more.
 fn feed_again(frames: &mut Frames, piece: &[u8]) -> Result<(), FrameFault> {
     match frames.feed(piece) {
@@ -142,4 +161,21 @@ fn a_frame_is_written(rt: HostRuntime) {
     for room in 0..4 {
         stops(&rt, rt.alloc(), b"BC", b"\x00\x02BC", room);
     }
+}
+
+// A device that takes all that it is given is asked once for this frame.
+fn leaves_at_once(rt: &impl Abort, alloc: Global, body: &[u8])
+    requires { IsBody body.now }
+{
+    let mut device = TestWriter::new(alloc, 10_000);
+    let mut sink = Sink::new(&mut device);
+    assert_eq!(rt; write_frame(&mut sink, body), Ok(()));
+    assert_eq!(rt; device.writes(), 1);
+    assert_eq!(rt; device.taken().len(), body.len() + 2);
+}
+
+#[test]
+fn a_frame_is_one_write(rt: HostRuntime) {
+    leaves_at_once(&rt, rt.alloc(), b"A");
+    leaves_at_once(&rt, rt.alloc(), &[b'x'; 4_096]);
 }

@@ -4,14 +4,9 @@ pub mod Limits
 pub mod Events
 pub mod Runs
 pub mod Headline
-pub mod Breaking
 pub mod Laws
 -- What only private clauses and proofs cite.
 pub mod Processes
 pub mod Table
 pub mod Sound
 pub mod Parts
-pub mod Marks
-pub mod Lines
-pub mod Sessions
-pub mod Passed

@@ -1,0 +1,5 @@
+use Rattle.rv_audit.proofs.Telling.{nobody_met}
+use Rattle.rv_audit.proofs.rules.swaps_nobody.Goals as goal
+
+pub returns-in-Some : goal.returns-in-Some
+returns-in-Some c = nobody_met _ _ c.args.entry.now c.in-Some.call.now c.leaves.result c.in-Some.ensures.some c.leaves.ensures

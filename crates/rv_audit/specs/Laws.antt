@@ -1,0 +1,14 @@
+-- The laws of audits, over the definitions alone.
+use Rattle.std.specs.Prelude.{◌≡◌, ◌↔◌, ℕ}
+use Rattle.rv_book.specs.Account.{Account}
+use Rattle.rv_book.specs.Legal.{Legal}
+use Rattle.rv_audit.specs.declared.rule.Audit.{Audit}
+use Rattle.rv_audit.specs.Breaking.{IsToldOf, KeepsRules}
+
+-- an account is legal exactly where no rule is broken at any place
+abbrev pub LegalByRules : Type 0
+LegalByRules = (a : Account) → Legal a ↔ ((place : ℕ) → KeepsRules a place)
+
+-- what an audit tells of an account is one thing
+abbrev pub OneAudit : Type 0
+OneAudit = (a : Account) (told other : Audit) → IsToldOf a told → IsToldOf a other → told ≡ other

@@ -1,0 +1,8 @@
+-- What a reader must agree with: all that the public contracts and the laws cite.
+pub mod Breaking
+pub mod Laws
+-- What only private clauses and proofs cite.
+pub mod Marks
+pub mod Lines
+pub mod Sessions
+pub mod Passed

@@ -1,0 +1,118 @@
+//! What an entry brings to those who wait, where it breaks no rule: the side on which it opens, the limit until
+//! which it waits, and what it makes of its client's session.
+ghost use Rattle.std.specs.Prelude.{◌≡◌, ◌↔◌, IfNone, IfSome, IsTrue};
+ghost use Rattle.rv_text.specs.Calls.{side_of};
+ghost use Rattle.rv_book.specs.Calls.{Lasts, MayMeet, Stays};
+ghost use Rattle.rv_book.specs.Waiting.{limit_in};
+ghost use Rattle.rv_audit.specs.Passed.{IsFitting, OpensOn, WaitsUntil, session_after};
+
+use crate::sessions::Session;
+use rv_book::{Act, Entry, Place};
+use rv_text::{Call, Side, Wait};
+
+// The limit of an arrival, if it has one that fits a moment.
+pub(crate) fn limit_of(entry: &Entry) -> Option<u64>
+    ensures { IsFitting (limit_in entry.now) result }
+{
+    match &entry.act {
+        Act::Arrive { call, .. } => match call.wait() {
+            Some(Wait::Millis(millis)) => entry.moment.checked_add(millis),
+            Some(Wait::Now) => None,
+            Some(Wait::Forever) => None,
+            None => None,
+        },
+        Act::Hello { .. } | Act::Cancel { .. } | Act::Tick => None,
+    }
+}
+
+// Whether a wait goes on past the moment of arrival; what never waits lies there.
+fn lasts(wait: Option<Wait>) -> bool
+    ensures { IsTrue result ↔ Lasts wait }
+{
+    match wait {
+        None => true,
+        Some(Wait::Now) => false,
+        Some(Wait::Millis(millis)) => millis > 0,
+        Some(Wait::Forever) => true,
+    }
+}
+
+// The side of a call that may be met.
+fn meeting_side(call: &Call) -> Option<Side>
+    ensures some { IfSome result (λ side. (side_of call.now ≡ side) × MayMeet call.now) }
+    ensures none { IfNone result (¬ MayMeet call.now) }
+{
+    match call.side() {
+        Side::Gives(queue) => Some(Side::Gives(queue)),
+        Side::Takes(queue) => Some(Side::Takes(queue)),
+        Side::Exchanges(exchanger) => Some(Side::Exchanges(exchanger)),
+        Side::Looks(_) => None,
+    }
+}
+
+// The side on which a call stays, if it does where nobody is met.
+fn staying_on(call: &Call) -> Option<Side>
+    ensures some { IfSome result (λ side. (side_of call.now ≡ side) × Stays call.now) }
+    ensures none { IfNone result (¬ Stays call.now) }
+{
+    match meeting_side(call) {
+        Some(side) if lasts(call.wait()) => Some(side),
+        _ => None,
+    }
+}
+
+// The side on which an entry opens, if it does.
+pub(crate) fn opening(entry: &Entry) -> Option<Side>
+    ensures { OpensOn entry.now result }
+{
+    match (&entry.act, entry.partner) {
+        (Act::Arrive { call, .. }, None) => staying_on(call),
+        _ => None,
+    }
+}
+
+// The limit until which an entry waits, if it does and the limit fits a moment.
+pub(crate) fn waiting_until(entry: &Entry) -> Option<u64>
+    ensures { WaitsUntil entry.now result }
+{
+    match opening(entry) {
+        Some(_) => limit_of(entry),
+        None => None,
+    }
+}
+
+// What an act makes of its client's session.
+pub(crate) fn session_after(act: &Act, place: Place) -> Option<(u64, Session)>
+    ensures { result ≡ session_after act.now place }
+{
+    match act {
+        Act::Hello {
+            client,
+            incarnation,
+        } => Some((
+            *client,
+            Session {
+                incarnation: *incarnation,
+                last: 0,
+                request: None,
+            },
+        )),
+        Act::Arrive { key, .. } => Some((
+            key.client,
+            Session {
+                incarnation: key.incarnation,
+                last: key.number,
+                request: Some(place),
+            },
+        )),
+        Act::Cancel { key } => Some((
+            key.client,
+            Session {
+                incarnation: key.incarnation,
+                last: key.number,
+                request: None,
+            },
+        )),
+        Act::Tick => None,
+    }
+}

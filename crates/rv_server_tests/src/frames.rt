@@ -1,0 +1,157 @@
+//! Frames that are cut, bad, long or too many, and long items, through a worker.
+use crate::run::{Row, Still, one_worker};
+use rv_server::{Item, WorkFault};
+use std::alloc::{AllocError, Global};
+use std::test::Fail;
+
+const HELLO: &[u8] = b"{\"client\":1,\"incarnation\":1,\"kind\":\"hello\"}";
+
+const WELCOME: &[u8] = b"\x00\x37{\"client\":1,\"epoch\":1,\"incarnation\":1,\"kind\":\"welcome\"}";
+
+const BAD_TEXT: &[u8] = b"\x00\x1b{\"code\":1,\"kind\":\"refused\"}";
+
+const IS_CUT: Row<'static> = Row {
+    sent: b"\x00\x2b{\"client\":1,\"incarnation\":1,\"kind\":\"hello\"}\x00\x2b{",
+    answers: WELCOME,
+    items: &[Item::Said],
+    stamps: 1,
+    fault: Some(WorkFault::CutFrame),
+};
+
+const NO_MESSAGE: Row<'static> = Row {
+    sent: b"\x00\x02{}\x00\x2b{\"client\":1,\"incarnation\":1,\"kind\":\"hello\"}",
+    answers: b"\x00\x1b{\"code\":1,\"kind\":\"refused\"}\
+        \x00\x37{\"client\":1,\"epoch\":1,\"incarnation\":1,\"kind\":\"welcome\"}",
+    items: &[Item::BadText, Item::Said],
+    stamps: 1,
+    fault: None,
+};
+
+const NO_JSON: Row<'static> = Row {
+    sent: b"\x00\x2b{\"client\":1,\"incarnation\":1,\"kind\":\"hello\"}\x00\x01{",
+    answers: b"\x00\x37{\"client\":1,\"epoch\":1,\"incarnation\":1,\"kind\":\"welcome\"}\
+        \x00\x1b{\"code\":1,\"kind\":\"refused\"}",
+    items: &[Item::Said, Item::BadText],
+    stamps: 1,
+    fault: None,
+};
+
+#[test]
+fn other_frames_are_answered_at_once(rt: HostRuntime) -> Result<(), Fail> {
+    for row in [IS_CUT, NO_MESSAGE, NO_JSON] {
+        one_worker(&rt, &Still(7), &row, 0, [7].as_slice())?;
+    }
+    Ok(())
+}
+
+// A body of the longest length: these bytes, and spaces behind them.
+fn long_frame(alloc: Global, body: &[u8]) -> Result<Vec<u8>, AllocError> {
+    let mut frame = Vec::new(alloc);
+    frame.extend_from_slice(b"\x10\x00")?;
+    frame.extend_from_slice(body)?;
+    for _ in body.len()..4_096 {
+        frame.push(b' ')?;
+    }
+    Ok(frame)
+}
+
+// The last of the three lacks one byte: it takes 4,098 reads, with that of the end.
+#[test]
+fn the_longest_frames_are_read_to_their_ends(rt: HostRuntime) -> Result<(), Fail> {
+    let alloc = rt.alloc();
+    let hello = long_frame(alloc, HELLO)?;
+    let welcomed = Row {
+        sent: hello.as_slice(),
+        answers: WELCOME,
+        items: &[Item::Said],
+        stamps: 1,
+        fault: None,
+    };
+    one_worker(&rt, &Still(7), &welcomed, 0, [7].as_slice())?;
+    let letter = long_frame(alloc, b"x")?;
+    let refused = Row {
+        sent: letter.as_slice(),
+        answers: BAD_TEXT,
+        items: &[Item::BadText],
+        stamps: 0,
+        fault: None,
+    };
+    one_worker(&rt, &Still(7), &refused, 0, [].as_slice())?;
+    let cut = Row {
+        sent: hello.get(..4_097).unwrap_or(b""),
+        answers: b"",
+        items: &[],
+        stamps: 0,
+        fault: Some(WorkFault::CutFrame),
+    };
+    one_worker(&rt, &Still(7), &cut, 0, [].as_slice())
+}
+
+// 512 letters between these bytes.
+fn with_letters(alloc: Global, before: &[u8], after: &[u8]) -> Result<Vec<u8>, AllocError> {
+    let mut bytes = before.to_vec(alloc)?;
+    bytes.extend_from_slice(&[b'x'; 512])?;
+    bytes.extend_from_slice(after)?;
+    Ok(bytes)
+}
+
+#[test]
+fn the_longest_item_is_given_whole(rt: HostRuntime) -> Result<(), Fail> {
+    let alloc = rt.alloc();
+    let sent = with_letters(
+        alloc,
+        b"\x00\x2b{\"client\":1,\"incarnation\":1,\"kind\":\"hello\"}\
+            \x02\x63{\"call\":\"put\",\"client\":1,\"epoch\":1,\"incarnation\":1,\"item\":\"",
+        b"\",\"kind\":\"request\",\"number\":1,\"queue\":3}\
+            \x00\x67{\"call\":\"take\",\"client\":1,\"epoch\":1,\"incarnation\":1,\
+            \"kind\":\"request\",\"number\":2,\"queue\":3,\"wait\":\"now\"}",
+    )?;
+    let answers = with_letters(
+        alloc,
+        b"\x00\x37{\"client\":1,\"epoch\":1,\"incarnation\":1,\"kind\":\"welcome\"}\
+            \x00\x4f{\"client\":1,\"epoch\":1,\"incarnation\":1,\"kind\":\"reply\",\"number\":1,\
+            \"reply\":\"done\"}\
+            \x02\x59{\"client\":1,\"epoch\":1,\"incarnation\":1,\"item\":\"",
+        b"\",\"kind\":\"reply\",\"number\":2,\"reply\":\"item\"}",
+    )?;
+    let row = Row {
+        sent: sent.as_slice(),
+        answers: answers.as_slice(),
+        items: &[Item::Said, Item::Said, Item::Said],
+        stamps: 3,
+        fault: None,
+    };
+    one_worker(&rt, &Still(0), &row, 0, [0, 0, 0].as_slice())
+}
+
+// These bytes, so many times.
+fn repeated(alloc: Global, bytes: &[u8], times: u32) -> Result<Vec<u8>, AllocError> {
+    let mut all = Vec::new(alloc);
+    for _ in 0..times {
+        all.extend_from_slice(bytes)?;
+    }
+    Ok(all)
+}
+
+// 65,536 frames are answered, one by one; one more isn't.
+#[test]
+fn a_connection_has_65536_frames_at_most(rt: HostRuntime) -> Result<(), Fail> {
+    let alloc = rt.alloc();
+    let answers = repeated(alloc, BAD_TEXT, 65_536)?;
+    let mut items = Vec::new(alloc);
+    for _ in 0..65_536 {
+        items.push(Item::BadText)?;
+    }
+    for (times, fault) in [(65_536, None), (65_537, Some(WorkFault::TooLong))] {
+        let sent = repeated(alloc, b"\x00\x01{", times)?;
+        let row = Row {
+            sent: sent.as_slice(),
+            answers: answers.as_slice(),
+            items: items.as_slice(),
+            stamps: 0,
+            fault,
+        };
+        one_worker(&rt, &Still(0), &row, 0, [].as_slice())?;
+    }
+    Ok(())
+}

@@ -1,0 +1,18 @@
+//! What no clause says of a server: what its workers answer over memory, how often they ask, pause and read,
+//! that a pause leaves the lock free, and that connections on sockets are served side by side.
+#![tactic(auto)]
+
+#[cfg(test)]
+mod frames;
+#[cfg(test)]
+mod meeting;
+#[cfg(test)]
+mod pauses;
+#[cfg(test)]
+mod run;
+#[cfg(test)]
+mod sockets;
+#[cfg(test)]
+mod talks;
+#[cfg(test)]
+mod threads;

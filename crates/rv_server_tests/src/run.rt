@@ -1,0 +1,185 @@
+//! A server of one worker, run over bytes in memory.
+ghost use Rattle.std.specs.Prelude.{◌≡◌};
+
+use rv_book::Book;
+use rv_frame::testing::{TestReader, TestWriter};
+use rv_frame::{Sink, Source};
+use rv_server::{Clock, ForeignSeat, Gate, Item, Seat, Served, Shared, WorkFault, finish, work};
+use std::alloc::AllocGlobal;
+use std::io::{Read, Write};
+use std::marker::Brand;
+use std::process::Abort;
+use std::sync::Wait;
+use std::sync::atomic::{AtomicU64, Ordering};
+use std::sync::ledger::{Blank, Ledger};
+use std::test::Fail;
+
+/// A clock that stands at a moment.
+#[derive(Clone, Copy)]
+pub(crate) struct Still(pub(crate) u64);
+
+impl Clock for Still {
+    fn now(&self) -> u64 {
+        self.0
+    }
+}
+
+/// A clock that tells 1 at its first reading, and a millisecond more at each further one.
+#[derive(Drop)]
+pub(crate) struct Rising {
+    next: AtomicU64,
+}
+
+impl Rising {
+    pub(crate) fn new() -> Rising {
+        Rising {
+            next: AtomicU64::new(1),
+        }
+    }
+}
+
+impl Clock for Rising {
+    fn now(&self) -> u64 {
+        self.next.fetch_add(1, Ordering::SeqCst)
+    }
+}
+
+// A gate that counts its pauses.
+#[derive(Drop)]
+struct Counting {
+    pauses: AtomicU64,
+}
+
+impl Gate for Counting {
+    fn pause(&self) {
+        self.pauses.fetch_add(1, Ordering::SeqCst);
+    }
+}
+
+/// What comes to one worker, and what is to become of it.
+#[derive(Clone, Copy)]
+pub(crate) struct Row<'a> {
+    pub(crate) sent: &'a [u8],
+    pub(crate) answers: &'a [u8],
+    pub(crate) items: &'a [Item],
+    pub(crate) stamps: usize,
+    pub(crate) fault: Option<WorkFault>,
+}
+
+/// What a worker ended with.
+pub(crate) type Ended = Result<Served<Book>, (Served<Book>, WorkFault)>;
+
+impl Row<'_> {
+    /// A worker ended with this, and wrote this.
+    pub(crate) fn came(&self, rt: &impl Abort, ended: &Ended, written: &[u8]) {
+        let (served, fault) = match ended {
+            Ok(served) => (served, None),
+            Err((served, fault)) => (served, Some(*fault)),
+        };
+        assert_eq!(rt; written, self.answers);
+        assert_eq!(rt; served.items.as_slice(), self.items);
+        assert_eq!(rt; served.stamps.len(), self.stamps);
+        assert_eq!(rt; fault, self.fault);
+    }
+}
+
+/// One worker answers what the reader gives.
+pub(crate) fn answer<T: Wait + AllocGlobal, L: Ledger, C: Clock, G: Gate, R: Read + Drop, W: Write>(
+    rt: &T,
+    shared: &Shared<Book, L>,
+    seat: &mut Seat<L>,
+    clock: &C,
+    gate: &G,
+    reader: R,
+    writer: &mut W,
+) -> Ended {
+    let alloc = rt.alloc();
+    let mut source = Source::new(reader);
+    let mut sink = Sink::new(writer);
+    work(rt, alloc, shared, seat, clock, gate, &mut source, &mut sink)
+}
+
+/// The server's entries are those of its seats, and of these moments.
+pub(crate) fn closes<L: Ledger>(
+    rt: &impl Abort,
+    shared: Shared<Book, L>,
+    seats: Vec<Seat<L>>,
+    moments: &[u64],
+) {
+    match finish(shared, seats) {
+        Ok(closing) => {
+            assert_eq!(rt; closing.total, moments.len() as u64);
+            for (place, moment) in moments.iter().enumerate() {
+                let entry = closing.desk.account().entry(place);
+                assert!(rt;
+                    entry.is_some_and(|entry| entry.moment == *moment),
+                    "{place}"
+                );
+            }
+        }
+        Err(_) => assert!(rt; false, "a seat is missing"),
+    }
+}
+
+/// With a seat left out the server doesn't end; with all seats its entries are of these moments.
+pub(crate) fn all_are_asked_for<L: Ledger>(
+    rt: &impl Abort,
+    shared: Shared<Book, L>,
+    seats: Vec<Seat<L>>,
+    moments: &[u64],
+) -> Result<(), Fail> {
+    let mut seats = seats;
+    let Some(left_out) = seats.pop() else {
+        return Err(Fail::new("there is no seat"));
+    };
+    match finish(shared, seats) {
+        Ok(_) => Err(Fail::new("a seat was left out")),
+        Err((shared, mut seats, ForeignSeat)) => {
+            seats.push(left_out)?;
+            closes(rt, shared, seats, moments);
+            Ok(())
+        }
+    }
+}
+
+// A server of one worker over a ledger answers as the row says. Each read asks for one byte, and none is made past
+// the end.
+fn one<L: Ledger, R: Wait + Abort + AllocGlobal, C: Clock>(
+    rt: &R,
+    blank: Blank,
+    clock: &C,
+    row: &Row<'_>,
+    pauses: u64,
+    moments: &[u64],
+) -> Result<(), Fail>
+    requires name { blank.name ≡ L.name }
+    requires parts { blank.parts ≡ L.parts }
+    requires made { blank.parts ≡ 1 }
+{
+    let alloc = rt.alloc();
+    let desk = Book::open(alloc, 1, 0)?;
+    let (shared, mut seats) = Shared::<Book, L>::open(alloc, blank, desk, 1)?;
+    let gate = Counting {
+        pauses: AtomicU64::new(0),
+    };
+    let mut reader = TestReader::new(row.sent, 1);
+    let mut writer = TestWriter::new(alloc, 50);
+    let seat = &mut seats[0];
+    let ended = answer(rt, &shared, seat, clock, &gate, &mut reader, &mut writer);
+    row.came(rt, &ended, writer.taken());
+    assert!(rt; reader.reads() <= (row.sent.len() as u64).saturating_add(1));
+    assert_eq!(rt; gate.pauses.load(Ordering::SeqCst), pauses);
+    closes(rt, shared, seats, moments);
+    Ok(())
+}
+
+/// A server of one worker answers as the row says, with so many pauses, and ends with entries of these moments.
+pub(crate) fn one_worker<R: Wait + Abort + AllocGlobal, C: Clock>(
+    rt: &R,
+    clock: &C,
+    row: &Row<'_>,
+    pauses: u64,
+    moments: &[u64],
+) -> Result<(), Fail> {
+    one::<Brand, R, C>(rt, Blank::new(1), clock, row, pauses, moments)
+}

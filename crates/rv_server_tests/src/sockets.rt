@@ -1,0 +1,163 @@
+//! Servers on sockets of this machine, with clients in threads of the test: what is served, and that two connections
+//! are served side by side.
+ghost use Rattle.std.specs.Prelude.{◌≡◌};
+
+use crate::meeting::{Event, Meeting};
+use crate::run::{Still, all_are_asked_for};
+use crate::talks::{GIVES, POLLS, PUTS, TAKES, Talk};
+use rv_book::Book;
+use rv_server::{Report, Seat, ServeFault, Shared, serve};
+use std::alloc::AllocGlobal;
+use std::io::{Read, Write};
+use std::marker::Brand;
+use std::net::{Net, SocketAddr, TcpListener, TcpStream};
+use std::process::Abort;
+use std::sync::Wait;
+use std::sync::ledger::{Blank, Ledger};
+use std::test::Fail;
+use std::thread::Threads;
+use std::time::Duration;
+use std::{thread, time};
+
+// A client that is connected, and waits for its next byte 20 seconds at most.
+fn connect<R: Net<Stream = TcpStream> + Abort>(rt: &R, address: SocketAddr) -> TcpStream {
+    let stream = TcpStream::connect(rt, address).expect(rt, "no connection");
+    let patience = Some(Duration::from_secs(20));
+    assert!(rt; stream.set_read_timeout(patience).is_ok());
+    stream
+}
+
+// The client sends its frames, and reads these answers.
+fn converse<R: Abort + AllocGlobal>(rt: &R, stream: &TcpStream, talk: Talk) {
+    let mut link = stream;
+    assert!(rt; link.write_all(talk.sent).is_ok());
+    let mut answers = vec![in rt.alloc(); 0u8; talk.answers.len()].expect(rt, "no memory");
+    let read = link.read_exact(answers.as_mut_slice());
+    assert_eq!(rt; answers.as_slice(), talk.answers);
+    assert!(rt; read.is_ok());
+}
+
+// What serving ended with.
+type Ended<L> = Result<Report<L>, (Report<L>, ServeFault)>;
+
+// Both connections were served, and left four entries. All seats are asked for.
+fn served_both<L: Ledger>(
+    rt: &impl Abort,
+    shared: Shared<Book, L>,
+    ended: Ended<L>,
+) -> Result<(), Fail> {
+    match ended {
+        Ok(report) => {
+            assert_eq!(rt; (report.served, report.faults), (2, 0));
+            let Report { seats, .. } = report;
+            all_are_asked_for(rt, shared, seats, [0, 0, 0, 0].as_slice())
+        }
+        Err((_, _)) => Err(Fail::new("no connection was accepted")),
+    }
+}
+
+// One client puts an item and closes; then another polls it, and closes.
+fn one_by_one<L, R>(
+    rt: &R,
+    shared: Shared<Book, L>,
+    seats: Vec<Seat<L>>,
+    listener: TcpListener,
+    address: SocketAddr,
+) -> Result<(), Fail>
+where
+    L: Ledger + Send + Sync,
+    R: Wait + Threads + Net<Stream = TcpStream> + Abort + AllocGlobal + time::Clock + Sync,
+{
+    let alloc = rt.alloc();
+    let meeting = Meeting::new(rt);
+    let (ended, ()) = thread::join(
+        rt,
+        || serve(rt, alloc, &shared, seats, &Still(0), &meeting, listener, 2),
+        || {
+            for talk in [PUTS, POLLS] {
+                converse(rt, &connect(rt, address), talk);
+            }
+        },
+    );
+    served_both(rt, shared, ended)
+}
+
+// Two clients are connected. The second says nothing until the first one's worker pauses, and that pause ends when
+// the second has the item.
+fn hand_over<R>(rt: &R, address: SocketAddr, paused: &Event, answered: &Event)
+where
+    R: Threads + Net<Stream = TcpStream> + Abort + AllocGlobal + time::Clock + Sync,
+{
+    let first = connect(rt, address);
+    let second = connect(rt, address);
+    thread::join(
+        rt,
+        || converse(rt, &first, GIVES),
+        || {
+            paused.wait(rt);
+            converse(rt, &second, TAKES);
+            answered.comes();
+        },
+    );
+}
+
+// One client hands an item over while its worker waits, and the other takes it.
+fn side_by_side<L, R>(
+    rt: &R,
+    shared: Shared<Book, L>,
+    seats: Vec<Seat<L>>,
+    listener: TcpListener,
+    address: SocketAddr,
+) -> Result<(), Fail>
+where
+    L: Ledger + Send + Sync,
+    R: Wait + Threads + Net<Stream = TcpStream> + Abort + AllocGlobal + time::Clock + Sync,
+{
+    let alloc = rt.alloc();
+    let meeting = Meeting::new(rt);
+    let (ended, ()) = thread::join(
+        rt,
+        || serve(rt, alloc, &shared, seats, &Still(0), &meeting, listener, 2),
+        || hand_over(rt, address, &meeting.paused, &meeting.answered),
+    );
+    assert!(rt; !meeting.paused.is_late(), "no worker paused");
+    assert!(rt; !meeting.answered.is_late(), "no answer came in a pause");
+    served_both(rt, shared, ended)
+}
+
+// A server of two workers on a socket of its own, for clients one by one or side by side.
+fn on_sockets<L, R>(rt: &R, blank: Blank, at_once: bool) -> Result<(), Fail>
+where
+    L: Ledger + Send + Sync,
+    R: Wait
+        + Threads
+        + Net<Stream = TcpStream, Listener = TcpListener>
+        + Abort
+        + AllocGlobal
+        + time::Clock
+        + Sync,
+    requires name { blank.name ≡ L.name }
+    requires parts { blank.parts ≡ L.parts }
+    requires made { blank.parts ≡ 2 }
+{
+    let alloc = rt.alloc();
+    let desk = Book::open(alloc, 1, 0)?;
+    let (shared, seats) = Shared::<Book, L>::open(alloc, blank, desk, 2)?;
+    let listener = TcpListener::bind(rt, "127.0.0.1:0")?;
+    let address = listener.local_addr()?;
+    if at_once {
+        side_by_side(rt, shared, seats, listener, address)
+    } else {
+        one_by_one(rt, shared, seats, listener, address)
+    }
+}
+
+#[test]
+fn connections_are_served_one_by_one(rt: HostRuntime) -> Result<(), Fail> {
+    on_sockets::<Brand, HostRuntime>(&rt, Blank::new(2), false)
+}
+
+#[test]
+fn connections_are_served_side_by_side(rt: HostRuntime) -> Result<(), Fail> {
+    on_sockets::<Brand, HostRuntime>(&rt, Blank::new(2), true)
+}

@@ -1,0 +1,201 @@
+"""Measures `rv serve` by clients that put and take, beside `redis-server` by clients that push and pop, over as many
+connections and by the same loop: each client is a process of its own, with one connection, and asks one request at a time.
+
+As a program, it is one such client: it connects, says so, waits for a line, and then tells its times.
+
+usage: tests/bench_server.py rv|redis PORT CLIENT REQUESTS
+"""
+import array
+import json
+import pathlib
+import shutil
+import socket
+import subprocess
+import sys
+import tempfile
+import time
+
+sys.dont_write_bytecode = True
+from serve_parts.programs import PATIENCE, Server, free_port  # noqa: E402
+
+# Connections, and the requests of each. An epoch has room for 100,000 entries.
+LOADS = [(1, 20_000), (8, 10_000)]
+RUNS = 3
+MOST_WORKERS = 8
+
+
+def item(number):
+    """The item of a put, as short as the keys are."""
+    return f"item {number}"
+
+
+class Rv:
+    """A client of rv: it says hello, and puts an item into a queue of its own and takes it, again and again."""
+
+    def __init__(self, client, requests):
+        self.hello = self.frame({"client": client, "incarnation": 1, "kind": "hello"})
+        self.requests = [self.request(client, number) for number in range(1, requests + 1)]
+
+    def frame(self, members):
+        body = json.dumps(members, sort_keys=True, separators=(",", ":")).encode()
+        return len(body).to_bytes(2) + body
+
+    def request(self, client, number):
+        key = {"kind": "request", "client": client, "epoch": 1, "incarnation": 1, "number": number, "queue": client % 64}
+        call = {"call": "put", "item": item(number)} if number % 2 else {"call": "take", "wait": "now"}
+        return self.frame({**key, **call})
+
+    def whole(self, data):
+        return len(data) >= 2 and len(data) == 2 + int.from_bytes(data[:2])
+
+    def good(self, number, data):
+        """Whether this is the answer to the request of a number; 0 is the hello."""
+        members = json.loads(data[2:])
+        if number == 0:
+            return members["kind"] == "welcome"
+        wanted = {"reply": "done"} if number % 2 else {"reply": "item", "item": item(number - 1)}
+        return members["number"] == number and wanted.items() <= members.items()
+
+
+class Redis:
+    """A client of Redis: it pushes an item to a list of its own and pops it, again and again."""
+
+    def __init__(self, client, requests):
+        self.hello = b"*1\r\n$4\r\nPING\r\n"
+        self.requests = [self.request(client, number) for number in range(1, requests + 1)]
+
+    def request(self, client, number):
+        words = ["LPUSH", f"queue {client}", item(number)] if number % 2 else ["RPOP", f"queue {client}"]
+        return b"*%d\r\n" % len(words) + b"".join(b"$%d\r\n%s\r\n" % (len(word), word.encode()) for word in words)
+
+    def whole(self, data):
+        return data[-2:] == b"\r\n" and (data[:1] != b"$" or data.count(b"\r\n") == 2)
+
+    def good(self, number, data):
+        """Whether this is the answer to the request of a number; 0 is the ping."""
+        text = item(number - 1).encode()
+        return data == (b"+PONG\r\n" if number == 0 else b":1\r\n" if number % 2 else b"$%d\r\n%s\r\n" % (len(text), text))
+
+
+KINDS = {"rv": Rv, "redis": Redis}
+
+
+def client_main(kind, port, client, requests):
+    """Connects, says so, waits for a line, asks, and tells the moments of each request and of its answer."""
+    load = KINDS[kind](int(client), int(requests))
+    connection = socket.create_connection(("127.0.0.1", int(port)), PATIENCE)
+    connection.settimeout(4 * PATIENCE)
+    connection.setsockopt(socket.IPPROTO_TCP, socket.TCP_NODELAY, 1)
+    _, answers = ask_all(connection, load, [load.hello])
+    print("ready", flush=True)
+    sys.stdin.readline()
+    times, told = ask_all(connection, load, load.requests)
+    good = all(load.good(number, data) for number, data in enumerate(answers + told))
+    sys.stdout.buffer.write(times.tobytes() if good else b"")
+
+
+def ask_all(connection, load, requests):
+    """The moments, in nanoseconds, before the first request and behind each answer; and the answers."""
+    clock, whole, send, receive = time.monotonic_ns, load.whole, connection.sendall, connection.recv
+    times, answers = array.array("q", [clock()]), []
+    for request in requests:
+        send(request)
+        data = receive(65_536)
+        while not whole(data):
+            data += receive(65_536)
+        times.append(clock())
+        answers.append(data)
+    return times, answers
+
+
+def load_once(kind, port, connections, requests):
+    """The seconds of a load by so many clients at once, and the seconds of each request, sorted."""
+    words = [sys.executable, __file__, kind, str(port)]
+    clients = [subprocess.Popen([*words, str(client), str(requests)], stdin=subprocess.PIPE, stdout=subprocess.PIPE)
+               for client in range(1, connections + 1)]
+    try:
+        if any(client.stdout.readline() != b"ready\n" for client in clients):
+            sys.exit(f"a client of {kind} did not connect")
+        for client in clients:
+            client.stdin.write(b"\n")
+            client.stdin.flush()
+        times = [array.array("q", client.communicate(timeout=300)[0]) for client in clients]
+    finally:
+        for client in clients:
+            client.kill()
+            client.wait()
+    if not all(len(own) == requests + 1 for own in times):
+        sys.exit(f"a client of {kind} was answered wrongly")
+    seconds = (max(own[-1] for own in times) - min(own[0] for own in times)) / 1e9
+    return seconds, sorted((after - before) / 1e9 for own in times for before, after in zip(own, own[1:]))
+
+
+def rv_load(program, connections, requests):
+    """A load of a server of rv that was just started."""
+    with Server(program, workers=MOST_WORKERS, connections=connections + 1) as server:
+        server.connect().close()
+        return load_once("rv", server.port, connections, requests)
+
+
+def redis_load(program, connections, requests):
+    """A load of a server of Redis that was just started, and that keeps nothing on disk."""
+    port = free_port()
+    with tempfile.TemporaryDirectory() as folder:
+        words = [program, "--port", str(port), "--bind", "127.0.0.1", "--save", "", "--appendonly", "no", "--dir", folder,
+                 "--daemonize", "no", "--loglevel", "warning"]
+        server = subprocess.Popen(words, stdin=subprocess.DEVNULL, stdout=subprocess.DEVNULL)
+        try:
+            wait_for(port)
+            return load_once("redis", port, connections, requests)
+        finally:
+            server.terminate()
+            server.wait()
+
+
+def wait_for(port):
+    """Waits until somebody listens at a port."""
+    ends = time.monotonic() + PATIENCE
+    while True:
+        try:
+            socket.create_connection(("127.0.0.1", port), PATIENCE).close()
+            return
+        except ConnectionRefusedError:
+            if time.monotonic() > ends:
+                sys.exit("redis-server does not listen")
+            time.sleep(0.01)
+
+
+def figures(runs, count):
+    """Requests a second, and seconds at the median and at the 99th percentile: each the middle one of the runs."""
+    middle = lambda values: sorted(values)[len(values) // 2]
+    return (count / middle([seconds for seconds, _ in runs]), middle([each[len(each) // 2] for _, each in runs]),
+            middle([each[len(each) * 99 // 100] for _, each in runs]))
+
+
+def tell(name, rate, median, late):
+    print(f"  {name:9} {rate:7.0f} requests a second, {median * 1e6:.0f} µs at the median, "
+          f"{late * 1e6:.0f} µs at the 99th percentile")
+
+
+def beside_redis(program):
+    """What the server takes, and Redis where it is installed. They run in turn, so that both meet the same machine."""
+    redis = shutil.which("redis-server")
+    if not redis:
+        print("redis-server is missing: rv serve is measured alone")
+    for connections, requests in LOADS:
+        count, ours, theirs = connections * requests, [], []
+        for _ in range(RUNS):
+            ours.append(rv_load(program, connections, requests))
+            theirs += [redis_load(redis, connections, requests)] if redis else []
+        print(f"{connections} connection{'s' * (connections > 1)}, {count} requests, one at a time on each:")
+        rate, median, late = figures(ours, count)
+        tell("rv serve", rate, median, late)
+        if redis:
+            other_rate, other_median, other_late = figures(theirs, count)
+            tell("redis", other_rate, other_median, other_late)
+            print(f"  ratio     rv serve takes {other_rate / rate:.2f} times the time of redis, "
+                  f"{median / other_median:.2f} at the median, {late / other_late:.2f} at the 99th percentile")
+
+
+if __name__ == "__main__":
+    client_main(*sys.argv[1:])

@@ -1,0 +1,105 @@
+"""Account lines by hand: an example with changes, forms that are read and forms that are not; each with its verdict."""
+from model_parts.verdicts import verdict
+
+EXAMPLE = b"""\
+epoch 1 opened 0
+0 - {"client":1,"incarnation":1,"kind":"hello"}
+0 - {"client":2,"incarnation":1,"kind":"hello"}
+0 - {"call":"put","client":1,"epoch":1,"incarnation":1,"item":"a","kind":"request","number":1,"queue":3}
+0 - {"call":"put","client":1,"epoch":1,"incarnation":1,"item":"b","kind":"request","number":2,"queue":3}
+1 2 {"call":"take","client":2,"epoch":1,"incarnation":1,"kind":"request","number":1,"queue":3,"wait":"now"}
+"""
+TAKE = b'{"call":"take","client":2,'
+HEAD = b"epoch 1 opened 0\n"
+HELLO = b'{"client":1,"incarnation":1,"kind":"hello"}'
+LONG = HELLO + b" " * (4_096 - len(HELLO))
+
+# What of the example is replaced by what, and the verdict.
+CHANGES = [
+    (b"", b"", "legal"),
+    (b"1 2 " + TAKE, b"1 3 " + TAKE, "fault 4 P3"),
+    (b"1 2 " + TAKE, b"1 - " + TAKE, "fault 4 P4"),
+    (b"1 2 " + TAKE, b"1 1 " + TAKE, "fault 4 P2"),
+    (b"1 2 " + TAKE, b"1 4 " + TAKE, "fault 4 P1"),
+    (b"1 2 " + TAKE, b"1 5 " + TAKE, "fault 4 P1"),
+    (b"1 2 " + TAKE, b"1 99999 " + TAKE, "fault 4 P1"),
+    (b"1 2 " + TAKE, b"1 100000 " + TAKE, "bad line 6"),
+    (b"1 2 " + TAKE, b"0 2 " + TAKE, "legal"),
+    (b"1 2 " + TAKE, b"4611686018427387904 2 " + TAKE, "legal"),
+    (b"1 2 " + TAKE, b"4611686018427387905 2 " + TAKE, "bad line 6"),
+    (b'"wait":"now"}\n', b'"wait":"now"}\n1 - tick\n', "fault 5 M3"),
+    (b'"number":1,"queue":3,"wait"', b'"number":2,"queue":3,"wait"', "fault 4 N3"),
+    (b'0 - {"client":2', b'0 - {"client":1', "fault 1 N1"),
+    (b'0 - {"client":2', b'0 - {"client":3', "fault 4 N2"),
+    (b'"number":2,"queue":3}', b'"number":2,"queue":3}\n', "bad line 6"),
+    (b'"wait":"now"}\n', b'"wait":"now"}', "legal"),
+    (b'"wait":"now"}\n', b'"wait":"now"}\n\n', "bad line 7"),
+    (b'"wait":"now"}\n', b'"wait":"now"}\r\n', "legal"),
+    (b"\n", b"\r\n", "bad line 1"),
+    (b"opened 0", b"opened 1", "fault 0 M1"),
+    (b"epoch 1 ", b"epoch 2 ", "fault 2 N2"),
+    (b'0 - {"client":2', b'00 - {"client":2', "bad line 3"),
+    (b'0 - {"client":2', b'0 0 {"client":2', "fault 1 P1"),
+    (b'0 - {"client":2', b'0 00 {"client":2', "bad line 3"),
+    (b'0 - {"client":2', b'0 -0 {"client":2', "bad line 3"),
+]
+
+# A text and its verdict.
+TEXTS = [
+    (b"", "bad line 1"),
+    (b"\n", "bad line 1"),
+    (b"\n" + HEAD, "bad line 1"),
+    (HEAD, "legal"),
+    (HEAD[:-1], "legal"),
+    (HEAD + b"\n", "bad line 2"),
+    (HEAD + HEAD, "bad line 2"),
+    (b"0 - " + HELLO, "bad line 1"),
+    (b"epoch 9007199254740991 opened 4611686018427387904", "legal"),
+    (b"epoch 9007199254740992 opened 0", "bad line 1"),
+    (b"epoch 0 opened 0", "bad line 1"),
+    (b"epoch 01 opened 0", "bad line 1"),
+    (b"epoch 1 opened 00", "bad line 1"),
+    (b"epoch 1 opened 4611686018427387905", "bad line 1"),
+    (b"epoch 1 opened -", "bad line 1"),
+    (b"epoch 1 opened 0 ", "bad line 1"),
+    (b"epoch 1 opened  0", "bad line 1"),
+    (b"epoch 1 opened", "bad line 1"),
+    (HEAD + b"0 - " + HELLO, "legal"),
+    (HEAD + b"0 -  " + HELLO + b" \r\t", "legal"),
+    (HEAD + b"0 - " + LONG, "legal"),
+    (HEAD + b"0 - " + LONG + b" ", "bad line 2"),
+    (HEAD + b'0 - {"kind":"hello","incarnation":7,"incarnation":1,"client":1}', "legal"),
+    (HEAD + b"0  - " + HELLO, "bad line 2"),
+    (HEAD + b" 0 - " + HELLO, "bad line 2"),
+    (HEAD + b"0 -\t" + HELLO, "bad line 2"),
+    (HEAD + b"0 " + HELLO, "bad line 2"),
+    (HEAD + b"- - " + HELLO, "bad line 2"),
+    (HEAD + b"0 -", "bad line 2"),
+    (HEAD + b"0 - ", "bad line 2"),
+    (HEAD + b"+0 - " + HELLO, "bad line 2"),
+    (HEAD + b"0 - tick", "fault 0 M3"),
+    (HEAD + b"0 0 tick", "fault 0 M3"),
+    (HEAD + b"0 - tick ", "bad line 2"),
+    (HEAD + b"0 - tick\r", "bad line 2"),
+    (HEAD + b"0 -  tick", "bad line 2"),
+    (HEAD + b'0 - "tick"', "bad line 2"),
+    (HEAD + b'0 - {"client":1,"epoch":1,"incarnation":1,"kind":"welcome"}', "bad line 2"),
+    (HEAD + b"0 0 " + HELLO, "fault 0 P1"),
+    (HEAD + b"0 99999 " + HELLO, "fault 0 P1"),
+    (HEAD + b"0 100000 " + HELLO, "bad line 2"),
+    (HEAD + b"0 - tick\n0 - tack", "bad line 3"),
+    (HEAD + b"0 - tick\n\n", "bad line 3"),
+]
+
+
+def line_texts():
+    """Each text, with its verdict."""
+    changed = [(EXAMPLE.replace(old, new, 1) if old else EXAMPLE, expected) for old, new, expected in CHANGES]
+    return changed + TEXTS
+
+
+def line_faults():
+    """Each text by its number, with what is wrong with the verdict that is found, if something is."""
+    for number, (text, expected) in enumerate(line_texts(), 1):
+        found = verdict(text)
+        yield f"account lines {number}", None if found == expected else f"{text}: got {found}, not {expected}"

@@ -1,0 +1,1 @@
+"""The parts of tests/serve: real clients of a server of rv, over sockets of one machine."""

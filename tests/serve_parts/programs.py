@@ -1,0 +1,196 @@
+"""The program's processes: a server on a port of this machine, and a caller. None is left running."""
+import random
+import socket
+import subprocess
+import threading
+import time
+
+from serve_parts.accounts import account_fault, read_account
+from serve_parts.wire import PATIENCE, Peer, Wrong, demand, members_of, welcome, hello
+
+PORTS = range(20_000, 32_000)
+# How often another free port is tried, where somebody takes the one that was free.
+TRIES = 5
+
+
+def free_port():
+    """A port that nobody listens at. Below those that the machine gives to clients, so that no client gets it."""
+    while True:
+        port = random.choice(PORTS)
+        with socket.socket() as probe:
+            try:
+                probe.bind(("127.0.0.1", port))
+            except OSError:
+                continue
+        return port
+
+
+class Process:
+    """A process of the program. At the end of its block it is killed where it still runs."""
+
+    def __init__(self, words):
+        self.words = words
+        self.process = subprocess.Popen(words, stdin=subprocess.PIPE, stdout=subprocess.PIPE, stderr=subprocess.PIPE)
+        self.printed, self.said = b"", b""
+        self.readers = [threading.Thread(target=read, daemon=True) for read in (self.read_printed, self.read_said)]
+        for reader in self.readers:
+            reader.start()
+
+    def read_printed(self):
+        while piece := self.process.stdout.read1(65_536):
+            self.printed += piece
+
+    def read_said(self):
+        while piece := self.process.stderr.read1(65_536):
+            self.said += piece
+
+    def __enter__(self):
+        return self
+
+    def __exit__(self, *_):
+        self.kill()
+
+    def kill(self):
+        """Ends the process, if it runs."""
+        if self.process.poll() is None:
+            self.process.kill()
+        self.process.wait()
+        for reader in self.readers:
+            reader.join(PATIENCE)
+        for stream in (self.process.stdin, self.process.stdout, self.process.stderr):
+            try:
+                stream.close()
+            except OSError:
+                pass
+
+    def runs(self):
+        """Whether the process has not ended."""
+        return self.process.poll() is None
+
+    def status(self, patience=PATIENCE):
+        """The exit status; all that was printed and said is there then."""
+        try:
+            status = self.process.wait(patience)
+        except subprocess.TimeoutExpired:
+            raise Wrong(f"{self.words[1]} did not end within {patience} seconds") from None
+        for reader in self.readers:
+            reader.join(PATIENCE)
+        return status
+
+
+class Server(Process):
+    """A server, on a port that was free. A client that comes before it listens tries again."""
+
+    def __init__(self, program, workers, connections, epoch=1):
+        self.program, self.epoch, self.connections, self.listens = program, epoch, connections, False
+        self.made, self.lock = 0, threading.Lock()
+        for _ in range(TRIES):
+            self.port = free_port()
+            super().__init__([program, "serve", "--listen", f"127.0.0.1:{self.port}", "--epoch", str(epoch),
+                              "--workers", str(workers), "--connections", str(connections)])
+            if not self.taken():
+                return
+            self.kill()
+        raise Wrong("no port is free")
+
+    def taken(self):
+        """Whether somebody took the port before the server did: then it ends soon."""
+        try:
+            self.process.wait(0.05)
+        except subprocess.TimeoutExpired:
+            return False
+        return self.status() == 1 and self.said == b"address fault\n"
+
+    def connect(self, receive=None):
+        """A connection to the server; `receive` is how many bytes the system is to keep for the client, at least."""
+        ends = time.monotonic() + PATIENCE
+        while True:
+            connection = socket.socket()
+            if receive:
+                connection.setsockopt(socket.SOL_SOCKET, socket.SO_RCVBUF, receive)
+            connection.settimeout(PATIENCE)
+            listened = self.listens
+            try:
+                connection.connect(("127.0.0.1", self.port))
+            except ConnectionRefusedError:
+                connection.close()
+                if listened or not self.runs() or time.monotonic() > ends:
+                    raise
+                time.sleep(0.005)
+                continue
+            self.listens = True
+            with self.lock:
+                self.made += 1
+            return Peer(connection)
+
+    def greeted(self, client, incarnation=1):
+        """A connection whose client was welcomed."""
+        peer = self.connect()
+        peer.expect(hello(client, incarnation), welcome(client, self.epoch, incarnation))
+        return peer
+
+    def use_up(self):
+        """Makes the connections that are left, one by one, so that the server ends: it must serve these and no more."""
+        ends, served = time.monotonic() + 4 * PATIENCE, self.made
+        while True:
+            demand(time.monotonic() < ends, f"{self.connections - served} connections are left and not served")
+            try:
+                with self.connect() as peer:
+                    peer.end()
+                    demand(not peer.more(), f"a connection that asked nothing was answered {peer.got!r}")
+            except ConnectionError:
+                break
+            served += 1
+        demand(served == self.connections, f"{served} connections were served, not {self.connections}")
+
+    def ended(self, patience=PATIENCE):
+        """The account that the server printed at its end, which must be a good one; None where it prints none."""
+        status = self.status(patience)
+        demand((status, self.said) == (0, b""), f"serve ended with status {status} and said {self.said!r}")
+        if not self.printed:
+            return None
+        account = read_account(self.printed)
+        demand(account.epoch == self.epoch and account.opened == 0, "the account's first line is another")
+        return account
+
+    def judged(self, asked, told, patience=PATIENCE):
+        """Ends with an account, if it is printed, in which all that was told stands; `asked` has each key's call."""
+        account = self.ended(patience)
+        if account is not None:
+            fault = account_fault(account, asked, told)
+            demand(not fault, f"the account: {fault}")
+            self.audited()
+        return account
+
+    def audited(self):
+        """The program's own audit, where it has one, must find the account legal."""
+        ran = subprocess.run([self.program, "audit"], input=self.printed, capture_output=True, timeout=4 * PATIENCE)
+        known = (ran.returncode, ran.stderr) != (2, b"command fault 1\n")
+        demand(not known or ran.stdout == b"legal\n", f"rv audit says {ran.stdout!r} {ran.stderr!r} of the account")
+
+
+class Caller(Process):
+    """A caller, with these lines for its input."""
+
+    def __init__(self, program, port, client, lines, incarnation=1, tries=20):
+        super().__init__([program, "call", "--connect", f"127.0.0.1:{port}", "--client", str(client),
+                          "--incarnation", str(incarnation), "--tries", str(tries)])
+        try:
+            self.process.stdin.write(lines)
+            self.process.stdin.close()
+        except BrokenPipeError:
+            pass
+
+    def lines(self):
+        """The whole lines that were printed so far."""
+        return self.printed.split(b"\n")[:-1]
+
+    def judge(self, printed, status=0, said=b""):
+        """It must end so."""
+        ended = self.status()
+        got = (self.printed, ended, self.said)
+        demand(got == (printed, status, said), f"call printed, ended with and said {got}, not {(printed, status, said)}")
+
+    def replies(self):
+        """The members of the answers that were printed."""
+        return [members_of(line) for line in self.lines()]
