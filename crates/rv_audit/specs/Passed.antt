@@ -1,6 +1,6 @@
 -- What an audit's tables are to the entries that it has passed.
-use Rattle.std.specs.Prelude.{◌≡◌, ◌⊎◌, ◌↔◌, ◌<◌, ◌+◌, ◌++◌, ◌∷◌, [], ◌^◌, ℕ, Bool, true, false, cond, nat_eq, List, length, Option, Some, None}
-use Rattle.std.specs.Prelude.{slice_get, slice_set}
+use Rattle.std.specs.Prelude.{◌≡◌, ◌⊎◌, ◌↔◌, ◌<◌, ◌+◌, ◌++◌, ◌∷◌, [], ◌^◌, ℕ, Bool, true, false, cond, nat_eq}
+use Rattle.std.specs.Prelude.{List, length, Option, Some, None, slice_get, slice_set}
 use Rattle.rv_text.specs.declared.message.Key.{Key}
 use Rattle.rv_text.specs.declared.call.Side.{Side}
 use Rattle.rv_text.specs.declared.call.Call.{Call}
@@ -60,8 +60,8 @@ pub record AreLimits (entries : List Entry) (gone : Gone) (limits : Marks) : Typ
   pub are : (limit r : ℕ) → marked limits limit r ≡ true → IsLimitOf entries gone limit r
   pub each : (limit r : ℕ) → IsLimitOf entries gone limit r → marked limits limit r ≡ true
 
--- what a session has come to is what the entries say of its client: its incarnation, its last number, and where
--- alone a request of it may wait
+-- what a session has come to is what the entries say of its client: its incarnation, its last number, and
+-- where alone a request of it may wait
 pub record IsSession (entries : List Entry) (client : ℕ) (s : Session) : Type 0 where
   pub incarnation : HasIncarnation entries client s.incarnation
   pub number : LastNumber entries client s.last
@@ -128,7 +128,8 @@ Leaves entries call partner = (partner ≡ None) × FindsOne entries call
 
 -- before the place, which is that of one that gives or takes, an open arrival of its side stands
 abbrev pub IsPassedBy : List Entry → ℕ → Type 0
-IsPassedBy entries place = (side : Side) × IsPaired side × SideAt entries side place × HasOlder entries side place
+IsPassedBy entries place =
+    (side : Side) × IsPaired side × SideAt entries side place × HasOlder entries side place
 
 -- ---- what an entry takes out of the tables
 
@@ -173,8 +174,10 @@ SameRest old new = new ≡ with_tables old new.lines new.limits
 -- the place was taken out
 pub record TakesOut (old new : Front) (place : ℕ) : Type 0 where
   pub rest : SameRest old new
-  pub tables : (gone : Gone) → AreTables (passed old) gone old → AreTables (passed old) (with_gone gone place) new
-  pub fewer : (limit : ℕ) → limit < 2 ^ 64 → limit_at (passed old).entries place ≡ Some limit → marked old.limits limit place ≡ true
+  pub tables : (gone : Gone) → AreTables (passed old) gone old
+      → AreTables (passed old) (with_gone gone place) new
+  pub fewer : (limit : ℕ) → limit < 2 ^ 64 → limit_at (passed old).entries place ≡ Some limit
+      → marked old.limits limit place ≡ true
       → count_of new.limits < count_of old.limits
 
 -- since a front requests were taken out that are due at the moment

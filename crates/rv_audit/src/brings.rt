@@ -1,5 +1,5 @@
-//! What an entry brings to those who wait, where it breaks no rule: the side on which it opens, the limit until
-//! which it waits, and what it makes of its client's session.
+//! What an entry brings, where it breaks no rule: the side on which it opens, the limit until which it waits,
+//! and what it makes of its client's session.
 ghost use Rattle.std.specs.Prelude.{◌≡◌, ◌↔◌, IfNone, IfSome, IsTrue};
 ghost use Rattle.rv_text.specs.Calls.{side_of};
 ghost use Rattle.rv_book.specs.Calls.{Lasts, MayMeet, Stays};

@@ -11,8 +11,9 @@ ghost use Rattle.rv_audit.specs.Breaking.{IsNotNext, StartsNoNewer};
 ghost use Rattle.rv_audit.specs.Marks.{NoneUntil, count_of};
 ghost use Rattle.rv_audit.specs.Sessions.{session_in};
 ghost use Rattle.rv_audit.specs.Passed.{AreTables, AreTouched, ArrivesWith, HasOlder, HasOne, HasPassed};
-ghost use Rattle.rv_audit.specs.Passed.{IsArrivalOf, IsArrived, IsFitting, IsFront, IsOfSessionOf, IsReadyFor};
-ghost use Rattle.rv_audit.specs.Passed.{IsTakingOut, IsUnderway, MayPass, SameRest, TakesOut, TakesTouched};
+ghost use Rattle.rv_audit.specs.Passed.{IsArrivalOf, IsArrived, IsFitting, IsFront, IsOfSessionOf};
+ghost use Rattle.rv_audit.specs.Passed.{IsReadyFor, IsTakingOut, IsUnderway, MayPass, SameRest};
+ghost use Rattle.rv_audit.specs.Passed.{TakesOut, TakesTouched};
 ghost use Rattle.rv_audit.specs.Passed.{WaitsOf, WaitsWith, flagged, gone_at, passed};
 ghost use Rattle.rv_audit.specs.declared.front.Front.{Front as FrontOf};
 

@@ -1,7 +1,7 @@
 //! Sets of places, each under a number: that of a queue, of an exchanger, or a limit.
 ghost use Rattle.std.specs.Prelude.{◌≡◌, ◌<◌, ℕ, Some, false, true, IfNone, IfSome, OnErr, OnOk};
-ghost use Rattle.rv_audit.specs.Marks.{Gains, GainsIf, IsLeast, IsLowest, Loses, LosesIf, NoneUnder, NoneUntil};
-ghost use Rattle.rv_audit.specs.Marks.{count_of, marked};
+ghost use Rattle.rv_audit.specs.Marks.{Gains, GainsIf, IsLeast, IsLowest, Loses, LosesIf};
+ghost use Rattle.rv_audit.specs.Marks.{NoneUnder, NoneUntil, count_of, marked};
 
 use rv_book::Place;
 use rv_text::NoMemory;
