@@ -1,5 +1,6 @@
 //! The auditor: it tells of any account whether it is legal, and else the first place and the rule that is
-//! broken there. It knows no queue, no session and no book, only what each entry may be behind those before it.
+//! broken there. It knows no queue, no session and no book, only what each entry may be behind those before
+//! it.
 #![tactic(auto)]
 
 mod auditing;
