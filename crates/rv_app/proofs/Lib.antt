@@ -1,5 +1,4 @@
 -- The lemmas that the proofs of this crate share.
-pub mod Numbers
 pub mod Options
 pub mod Commands
 pub mod Cutting
