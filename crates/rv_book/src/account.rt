@@ -1,5 +1,5 @@
 //! The account of an epoch: what came to the book, in order, and who met whom.
-ghost use Rattle.std.specs.Prelude.{◌≡◌, ◌↔◌, ◌<◌, ◌≤◌, ◌+◌, ◌==◌, [], Some, IsSome, IsTrue, OnOk};
+ghost use Rattle.std.specs.Prelude.{◌≡◌, ◌↔◌, ◌<◌, ◌≤◌, ◌+◌, ◌==◌, [], Some, IfOk, IsSome, IsTrue, OnOk};
 ghost use Rattle.std.specs.Prelude.{length, option_map, slice_get};
 ghost use Rattle.std.specs.Option.{option_copied};
 ghost use Rattle.rv_text.specs.Members.{FitsWait};
@@ -38,6 +38,42 @@ pub struct Entry {
     pub act: Act,
     /// On the later arrival of a pair or swap, the place of the earlier.
     pub partner: Option<Place>,
+}
+
+impl Act {
+    // A copy. It fails only where memory for the item of its call was refused.
+    fn copy(&self, alloc: Global) -> Result<Act, NoMemory>
+        ensures { IfOk result (λ act. act ≡ self.now) }
+    {
+        match self {
+            Act::Hello {
+                client,
+                incarnation,
+            } => Ok(Act::Hello {
+                client: *client,
+                incarnation: *incarnation,
+            }),
+            Act::Arrive { key, call } => Ok(Act::Arrive {
+                key: *key,
+                call: call.copy(alloc)?,
+            }),
+            Act::Cancel { key } => Ok(Act::Cancel { key: *key }),
+            Act::Tick => Ok(Act::Tick),
+        }
+    }
+}
+
+impl Entry {
+    // A copy. It fails only where memory for its act was refused.
+    fn copy(&self, alloc: Global) -> Result<Entry, NoMemory>
+        ensures { IfOk result (λ entry. entry ≡ self.now) }
+    {
+        Ok(Entry {
+            moment: self.moment,
+            act: self.act.copy(alloc)?,
+            partner: self.partner,
+        })
+    }
 }
 
 // The moment at which a wait that begins at a moment has elapsed, if it ends by itself.
@@ -111,7 +147,7 @@ impl Account {
     }
 
     // The call of the arrival at a place, if one stands there.
-    fn call(&self, place: Place) -> Option<&Call>
+    pub(crate) fn call(&self, place: Place) -> Option<&Call>
         ensures { option_map (λ c. c.now) result ≡ call_at self.now.account.entries place }
     {
         match &self.entry(place)?.act {
@@ -124,18 +160,7 @@ impl Account {
     pub(crate) fn has_call(&self, place: Place, call: &Call) -> bool
         ensures { IsTrue result ↔ (call_at self.now.account.entries place ≡ Some call.now) }
     {
-        match self.call(place) {
-            Some(other) => other.is_same(call),
-            None => false,
-        }
-    }
-
-    // The call of the arrival that stands at a place.
-    pub(crate) fn call_of(&self, place: Place) -> &Call
-        requires { IsSome (call_at self.now.account.entries place) }
-        ensures { call_at self.now.account.entries place ≡ Some result.now }
-    {
-        self.call(place).unwrap()
+        self.call(place).is_some_and(|other| other.is_same(call))
     }
 
     // The limit of the request that arrived at a place, if it has one.
@@ -144,10 +169,7 @@ impl Account {
         ensures { result ≡ limit_at self.now.account.entries place }
     {
         let entry = self.entry(place)?;
-        match &entry.act {
-            Act::Arrive { call, .. } => limit_after(entry.moment, call.wait()?),
-            Act::Hello { .. } | Act::Cancel { .. } | Act::Tick => None,
-        }
+        limit_after(entry.moment, self.call(place)?.wait()?)
     }
 
     // The item that the arrival at a place hands over.
@@ -162,10 +184,9 @@ impl Account {
     pub(crate) fn own_moment(&self) -> u64
         ensures { result ≡ own_moment self.now.account }
     {
-        match self.entries.last() {
-            Some(entry) => entry.moment,
-            None => self.opened,
-        }
+        self.entries
+            .last()
+            .map_or(self.opened, |entry| entry.moment)
     }
 
     // An empty account.
@@ -174,11 +195,7 @@ impl Account {
         ensures opened { result.account.opened ≡ opened }
         ensures entries { result.account.entries ≡ [] }
     {
-        Account {
-            epoch,
-            opened,
-            entries: Vec::new(alloc),
-        }
+        Account::from_entries(epoch, opened, Vec::new(alloc))
     }
 
     // Makes room for so many entries more. Where that is refused the account and the room that it had stay.
@@ -216,5 +233,17 @@ impl Account {
             opened,
             entries,
         }
+    }
+
+    /// A copy, legal or not, by the allocator that the account keeps. It fails only where memory was refused.
+    pub fn clone_out(&self) -> Result<Account, NoMemory>
+        ensures { IfOk result (λ copy. copy.account ≡ self.now.account) }
+    {
+        let alloc = *self.entries.allocator();
+        let mut entries = Vec::with_capacity(alloc, self.len())?;
+        for entry in &self.entries {
+            entries.push(entry.copy(alloc)?)?;
+        }
+        Ok(Account::from_entries(self.epoch, self.opened, entries))
     }
 }

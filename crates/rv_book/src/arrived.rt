@@ -45,10 +45,7 @@ impl Arrived {
     pub(crate) fn told(&self, kept: Kept) -> Option<Kept>
         ensures { result ≡ option_map (λ own. kept) self.now.own }
     {
-        match self.own {
-            Some(_) => Some(kept),
-            None => None,
-        }
+        self.own.is_some().then_some(kept)
     }
 
     /// How many requests wait after it, where so many did before.

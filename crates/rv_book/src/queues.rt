@@ -76,18 +76,6 @@ fn transfer(queue: &mut Dual, wait: Wait, duty: Duty) -> Arrived
     }
 }
 
-// Who gives arrives.
-fn give(queue: &mut Dual, wait: Option<Wait>, duty: Duty) -> Arrived
-    requires room { 0 < queue.old.room }
-    requires above { IsAbove queue.old duty.place }
-    ensures { Gave queue.old queue.new wait duty result }
-{
-    match wait {
-        None => put(queue, duty),
-        Some(wait) => transfer(queue, wait, duty),
-    }
-}
-
 // Who takes arrives: where no item is there it waits, or goes.
 fn receive(queue: &mut Dual, wait: Wait, duty: Duty) -> Arrived
     requires room { 0 < queue.old.room }
@@ -137,20 +125,12 @@ impl Queues {
         Ok(Queues { queues })
     }
 
-    // The queue of this number.
-    fn queue(&self, queue: u64) -> &Dual
-        requires { FitsQueue queue }
-        ensures { result.now ≡ queue_at self.now queue }
-    {
-        &self.queues[queue as usize]
-    }
-
     /// The place of the oldest item of a queue.
     pub(crate) fn front(&self, queue: u64) -> Option<Place>
         requires { FitsQueue queue }
         ensures { result ≡ slice_get (places_of (queue_at self.now queue).givers) 0 }
     {
-        self.queue(queue).front()
+        self.queues[queue as usize].front()
     }
 
     /// How many items and how many consumers wait in a queue.
@@ -159,7 +139,7 @@ impl Queues {
         ensures items { result.0 ≡ length (queue_at self.now queue).givers }
         ensures consumers { result.1 ≡ length (queue_at self.now queue).takers }
     {
-        let dual = self.queue(queue);
+        let dual = &self.queues[queue as usize];
         (dual.items(), dual.consumers())
     }
 
@@ -181,7 +161,11 @@ impl Queues {
         ensures gave { Gave (queue_at self.old queue) (queue_at self.new queue) wait duty result }
         ensures others { OnlyQueue queue self.old self.new }
     {
-        give(&mut self.queues[queue as usize], wait, duty)
+        let dual = &mut self.queues[queue as usize];
+        match wait {
+            None => put(dual, duty),
+            Some(wait) => transfer(dual, wait, duty),
+        }
     }
 
     /// Who takes arrives in a queue: it meets the oldest item, which leaves; or, where none is there, waits

@@ -41,10 +41,7 @@ fn needed(call: &Call) -> usize
     ensures exact { result ≡ need_of call.now }
     ensures small { result ≤ 2 }
 {
-    match call.wait() {
-        None => 1,
-        Some(wait) => 1 + usize::from(lasts(wait)),
-    }
+    1 + usize::from(call.wait().is_some_and(|wait| lasts(wait)))
 }
 
 // The deadline of a wait that begins at a moment: its limit, if it has one and isn't over at once.
@@ -281,13 +278,9 @@ impl State {
         ensures err { IfErr result (λ refusal. (refusal ≡ OtherCall)
             × ¬ IsRepeat (account_of self.now) place call.now) }
     {
-        let Some(place) = place else {
-            return Ok(kept);
-        };
-        if self.account.has_call(place, call) {
-            Ok(kept)
-        } else {
-            Err(Refusal::OtherCall)
+        match place {
+            Some(place) if !self.account.has_call(place, call) => Err(Refusal::OtherCall),
+            _ => Ok(kept),
         }
     }
 
@@ -314,7 +307,7 @@ impl State {
         ensures account { self.new.account ≡ self.old.account }
         ensures ended { EndsAt self.old self.new place kept }
     {
-        let side = self.account.call_of(place).side();
+        let side = self.account.call(place).unwrap().side();
         let duty = self.stations.withdraw(side, place);
         self.settle(duty, kept);
         self.waiting -= 1;

@@ -79,15 +79,12 @@ impl Stations {
     {
         match call.side() {
             Side::Gives(queue) => self.queues.give(queue, call.wait(), duty),
-            Side::Takes(queue) => match call.wait() {
-                Some(wait) => self.queues.receive(queue, wait, duty),
-                None => unreachable!(),
-            },
+            Side::Takes(queue) => self.queues.receive(queue, call.wait().unwrap(), duty),
             Side::Looks(_) => Arrived::alone(Some(duty)),
-            Side::Exchanges(exchanger) => match call.wait() {
-                Some(wait) => self.exchangers.exchange(exchanger, wait, duty),
-                None => unreachable!(),
-            },
+            Side::Exchanges(exchanger) => {
+                self.exchangers
+                    .exchange(exchanger, call.wait().unwrap(), duty)
+            }
         }
     }
 

@@ -17,3 +17,6 @@ pub mod EventLists
 pub mod Partners
 pub mod TheHeadline
 pub mod Roomy
+pub mod RulesKept
+pub mod RulesSuffice
+pub mod ByRules

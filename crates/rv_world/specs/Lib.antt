@@ -4,6 +4,7 @@ pub mod Limits
 pub mod Events
 pub mod Runs
 pub mod Headline
+pub mod Breaking
 pub mod Laws
 -- What only private clauses and proofs cite.
 pub mod Processes

@@ -7,6 +7,7 @@ mod event;
 pub mod laws;
 mod packet;
 mod process;
+mod rule;
 mod runs;
 mod seen;
 mod state;
@@ -14,6 +15,7 @@ mod world;
 
 pub use event::Event;
 pub use packet::Packet;
+pub use rule::{Audit, Rule};
 pub use runs::run;
 pub use seen::{Seen, WorldRefusal};
 pub use world::World;

@@ -1,5 +1,5 @@
 -- The request that waited was taken out of its queue, and its session was settled.
-use Rattle.std.proofs.Common.{◌≡◌, ◌≤◌, Option, Some, IfSome, sym, subst, ap, ◌∙◌, arith}
+use Rattle.std.proofs.Common.{◌≡◌, ◌≤◌, Option, Some, IfSome, option_map, sym, subst, ap, ◌∙◌, arith}
 use Rattle.std.proofs.lemmas.Option.{same_Some}
 use Rattle.rv_session.specs.Owed.{Owed}
 use Rattle.rv_session.specs.Table.{OnlySettles}
@@ -16,7 +16,7 @@ pub settle-requires-clause-waits : goal.settle-requires-clause-waits
 settle-requires-clause-waits c =
     let old = c.args.self.now in
     let may = c.requires in
-    let call : may.call ≡ c.call_of.result.now = same_Some _ _ (sym may.arrived ∙ c.call_of.ensures) in
+    let call : may.call ≡ c.unwrap.result.now = same_Some _ _ (sym may.arrived ∙ sym c.call.ensures ∙ ap (option_map (λ r. r.now)) c.unwrap.ensures) in
     let stands = subst (λ side. StandsOn old.stations side c.args.place) (ap side_of call ∙ sym c.side-side.ensures) may.stands in
     let leaves = c.withdraw-duty.ensures (account_of old).entries may.duty may.parked stands may.owed in
     subst (λ (o : Option Owed). IfSome o (IsOwedIn old.sessions)) (sym leaves.is) may.due_in
@@ -26,7 +26,7 @@ returns-clause-ended c =
     let old = c.args.self.now in
     let es = (account_of old).entries in
     let may = c.requires in
-    let call : may.call ≡ c.call_of.result.now = same_Some _ _ (sym may.arrived ∙ c.call_of.ensures) in
+    let call : may.call ≡ c.unwrap.result.now = same_Some _ _ (sym may.arrived ∙ sym c.call.ensures ∙ ap (option_map (λ r. r.now)) c.unwrap.ensures) in
     let side = ap side_of call ∙ sym c.side-side.ensures in
     let stands = subst (λ s. StandsOn old.stations s c.args.place) side may.stands in
     let leaves = c.withdraw-duty.ensures es may.duty may.parked stands may.owed in

@@ -28,22 +28,22 @@ returns-in-Gives c =
     (subst (λ s. ArrivedOn old new s (wait_of c.args.call.now) c.args.duty c.give.result) (sym (sym c.side.ensures ∙ c.in-Gives.is))
     (subst (λ w. ArrivedOn old new (Gives queue) w c.args.duty c.give.result) c.wait.ensures arrived))
 
-pub returns-in-Some : goal.returns-in-Some
-returns-in-Some c =
+pub returns-in-Takes : goal.returns-in-Takes
+returns-in-Takes c =
     let old : Stations = record { queues = c.self.inside.queues; exchangers = c.self.inside.exchangers } in
     let new : Stations = record { queues = c.receive.new.self; exchangers = c.self.inside.exchangers } in
     let queue = c.in-Takes.queue in
-    let arrived = arrived_takes old new queue (record { others = c.receive.ensures.others; exchangers = refl }) c.args.duty c.in-Some.wait c.receive.result c.receive.ensures.took in
+    let arrived = arrived_takes old new queue (record { others = c.receive.ensures.others; exchangers = refl }) c.args.duty c.unwrap.result c.receive.result c.receive.ensures.took in
     subst (λ (s : Stations). ArrivedOn s new (side_of c.args.call.now) (wait_of c.args.call.now) c.args.duty c.receive.result) c.self.view_is
     (subst (λ s. ArrivedOn old new s (wait_of c.args.call.now) c.args.duty c.receive.result) (sym (sym c.side.ensures ∙ c.in-Takes.is))
-    (subst (λ w. ArrivedOn old new (Takes queue) w c.args.duty c.receive.result) (sym c.in-Some.is ∙ c.wait-in-Takes.ensures) arrived))
+    (subst (λ w. ArrivedOn old new (Takes queue) w c.args.duty c.receive.result) (sym c.unwrap.ensures ∙ c.wait-in-Takes.ensures) arrived))
 
-pub returns-in-Some-wait : goal.returns-in-Some-wait
-returns-in-Some-wait c =
+pub returns-in-Exchanges : goal.returns-in-Exchanges
+returns-in-Exchanges c =
     let old : Stations = record { queues = c.self.inside.queues; exchangers = c.self.inside.exchangers } in
     let new : Stations = record { queues = c.self.inside.queues; exchangers = c.exchange.new.self } in
     let exchanger = c.in-Exchanges.exchanger in
-    let arrived = arrived_exchanges old new exchanger (record { others = c.exchange.ensures.others; queues = refl }) c.in-Some-wait.wait c.args.duty c.exchange.result c.exchange.ensures.exchanged in
+    let arrived = arrived_exchanges old new exchanger (record { others = c.exchange.ensures.others; queues = refl }) c.unwrap-in-Exchanges.result c.args.duty c.exchange.result c.exchange.ensures.exchanged in
     subst (λ (s : Stations). ArrivedOn s new (side_of c.args.call.now) (wait_of c.args.call.now) c.args.duty c.exchange.result) c.self.view_is
     (subst (λ s. ArrivedOn old new s (wait_of c.args.call.now) c.args.duty c.exchange.result) (sym (sym c.side.ensures ∙ c.in-Exchanges.is))
-    (subst (λ w. ArrivedOn old new (Exchanges exchanger) w c.args.duty c.exchange.result) (sym c.in-Some-wait.is ∙ c.wait-in-Exchanges.ensures) arrived))
+    (subst (λ w. ArrivedOn old new (Exchanges exchanger) w c.args.duty c.exchange.result) (sym c.unwrap-in-Exchanges.ensures ∙ c.wait-in-Exchanges.ensures) arrived))

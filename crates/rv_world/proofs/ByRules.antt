@@ -1,0 +1,104 @@
+-- An account is legal exactly where no rule is broken at any place, and an audit tells one thing of it.
+use Rattle.std.proofs.Common.{◌≡◌, inl, inr, ℕ, zero, suc, ◌<◌, List, [], ◌∷◌, Some, refl, sym, ap, subst, ◌∙◌, arith}
+use Rattle.std.specs.List.{slice_get}
+use Rattle.std.proofs.lemmas.Bool.{cases_lt, cases_order}
+use Rattle.std.proofs.lemmas.List.{take-take}
+use Rattle.std.proofs.lemmas.Option.{same_Some}
+use Rattle.rv_book.specs.declared.account.Entry.{Entry}
+use Rattle.rv_book.specs.Account.{Account}
+use Rattle.rv_book.specs.Legal.{before, Legal, MayFollow}
+use Rattle.rv_book.proofs.Fronts.{Legal-before, read_whole}
+use Rattle.rv_world.specs.declared.rule.Audit.TheVariants as tells
+use Rattle.rv_world.specs.declared.rule.Rule.{Rule}
+use Rattle.rv_world.specs.declared.rule.Rule.TheVariants.{M1, M2, M3, N1, N2, N3, P1, P2, P3, P4, S1, S2}
+use Rattle.rv_world.specs.Breaking.{FirstFault, KeepsRules, rank_of}
+use Rattle.rv_world.specs.Laws.{LegalByRules, OneAudit}
+use Rattle.rv_world.proofs.RulesKept.{breaks_nothing}
+use Rattle.rv_world.proofs.RulesSuffice.{may_follow}
+
+pub keeps_rules : (a : Account) → Legal a → (place : ℕ) → KeepsRules a place
+keeps_rules a legal place rule broken = breaks_nothing (before a place) broken.entry (Legal-before a place legal) (legal place broken.entry broken.there) rule broken.breaks
+
+-- each entry before the bound may follow those before it
+abbrev FollowsBelow : Account → ℕ → Type 0
+FollowsBelow a n = (j : ℕ) (e : Entry) → j < n → slice_get a.entries j ≡ Some e → MayFollow (before a j) e
+
+front_by : (a : Account) (n : ℕ) → FollowsBelow a n → Legal (before a n)
+front_by a n follows j e there =
+    let whole = read_whole (λ o. o) refl a.entries n j e there in
+    let less : j < n = whole.0 in
+    let P : List Entry → Type 0 = λ entries. MayFollow (record { epoch = a.epoch; opened = a.opened; entries = entries }) e in
+    subst P (sym (take-take j n a.entries (omega arith))) (follows j e less whole.1)
+
+follows_below : (a : Account) (n : ℕ) → ((r : ℕ) → r < n → KeepsRules a r) → FollowsBelow a n
+follows_below a zero keeps j e less there = absurd (omega arith)
+follows_below a (suc n) keeps j e less there =
+    let earlier : FollowsBelow a n = follows_below a n (λ r below. keeps r (omega arith)) in
+    elim (cases_lt j n) [
+      | inl below ↦ earlier j e below there
+      | inr above ↦
+          let is : j ≡ n = omega arith in
+          let legal : Legal (before a j) = front_by a j (subst (FollowsBelow a) (sym is) earlier) in
+          may_follow (before a j) e legal (λ rule breaks. keeps j less rule (record { entry = e; there = there; breaks = breaks }))
+    ]
+
+-- where no rule is broken before a place, the account up to there is legal
+pub legal_front : (a : Account) (n : ℕ) → ((r : ℕ) → r < n → KeepsRules a r) → Legal (before a n)
+legal_front a n keeps = front_by a n (follows_below a n keeps)
+
+pub legal_by_rules : LegalByRules
+legal_by_rules a = (keeps_rules a, λ keeps j e there. follows_below a (suc j) (λ r less. keeps r) j e (omega arith) there)
+
+-- ---- one audit
+
+-- the rules in their order
+rules : List Rule
+rules = M1 ∷ M2 ∷ M3 ∷ N1 ∷ N2 ∷ N3 ∷ P1 ∷ P2 ∷ P3 ∷ P4 ∷ S1 ∷ S2 ∷ []
+
+stands_at : (rule : Rule) → slice_get rules (rank_of rule) ≡ Some rule
+unfolding rules
+stands_at M1 = refl
+stands_at M2 = refl
+stands_at M3 = refl
+stands_at N1 = refl
+stands_at N2 = refl
+stands_at N3 = refl
+stands_at P1 = refl
+stands_at P2 = refl
+stands_at P3 = refl
+stands_at P4 = refl
+stands_at S1 = refl
+stands_at S2 = refl
+
+one_rank : (r s : Rule) → rank_of r ≡ rank_of s → r ≡ s
+one_rank r s same = same_Some _ _ (sym (stands_at r) ∙ ap (slice_get rules) same ∙ stands_at s)
+
+one_place : (a : Account) (p q : ℕ) (r s : Rule) → FirstFault a p r → FirstFault a q s → p ≡ q
+one_place a p q r s first second = elim (cases_order p q) [
+  | inl same ↦ same
+  | inr differ ↦ elim differ [
+    | inl less ↦ absurd (second.kept_before p less r first.broken)
+    | inr more ↦ absurd (first.kept_before q more s second.broken)
+  ]
+]
+
+one_rule : (a : Account) (p : ℕ) (r s : Rule) → FirstFault a p r → FirstFault a p s → r ≡ s
+one_rule a p r s first second = elim (cases_order (rank_of r) (rank_of s)) [
+  | inl same ↦ one_rank r s same
+  | inr differ ↦ elim differ [
+    | inl less ↦ absurd (second.first r less first.broken)
+    | inr more ↦ absurd (first.first s more second.broken)
+  ]
+]
+
+one_fault : (a : Account) (p q : ℕ) (r s : Rule) → FirstFault a p r → FirstFault a q s → tells.Fault p r ≡ tells.Fault q s
+one_fault a p q r s first second =
+    let place : p ≡ q = one_place a p q r s first second in
+    let rule : r ≡ s = one_rule a q r s (subst (λ n. FirstFault a n r) place first) second in
+    ap (λ n. tells.Fault n r) place ∙ ap (tells.Fault q) rule
+
+pub one_audit : OneAudit
+one_audit a tells.Legal tells.Legal first second = refl
+one_audit a tells.Legal (tells.Fault q s) legal fault = absurd (keeps_rules a legal q s fault.broken)
+one_audit a (tells.Fault p r) tells.Legal fault legal = absurd (keeps_rules a legal p r fault.broken)
+one_audit a (tells.Fault p r) (tells.Fault q s) first second = one_fault a p q r s first second

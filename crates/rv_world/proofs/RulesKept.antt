@@ -1,0 +1,144 @@
+-- An entry that may follow those of a legal account breaks no rule behind them: of each rule what keeps it.
+use Rattle.std.proofs.Common.{◌≡◌, ◌≢◌, ◌⊎◌, inl, inr, ℕ, ◌+◌, ◌-◌, ◌<◌, ◌≤◌, List, length, Option, Some, None, IsSome, refl, ap, subst, ◌∙◌, arith}
+use Rattle.std.specs.Prelude.{unwrap_or}
+use Rattle.std.specs.List.{slice_get}
+use Rattle.rv_text.specs.declared.message.Key.{Key}
+use Rattle.rv_text.specs.declared.call.Side.{Side}
+use Rattle.rv_text.specs.declared.call.Side.TheVariants.{Gives, Takes, Looks, Exchanges}
+use Rattle.rv_text.specs.Calls.{side_of}
+use Rattle.rv_book.specs.declared.account.Entry.{Entry}
+use Rattle.rv_book.specs.declared.account.Act.{Act}
+use Rattle.rv_book.specs.declared.account.Act.TheVariants.{Hello, Arrive, Cancel, Tick}
+use Rattle.rv_book.specs.Account.{Account, moment_at, partner_at}
+use Rattle.rv_book.specs.Calls.{opposite}
+use Rattle.rv_book.specs.Waiting.{Met, NamesPartner}
+use Rattle.rv_book.specs.Legal.{CancelsInTurn, CountsUp, IsNextNumber, IsOfSession, KeepsLimits, KeepsTime, Legal, MayFollow, NamesFreePartner}
+use Rattle.rv_book.specs.Legal.{PairsOldest, PairsOpposites, PairsWherePossible, RaisesIncarnation, SomethingDue}
+use Rattle.rv_book.specs.Steps.{own_moment}
+use Rattle.rv_book.proofs.Growing.{call_read, partner_read, read_there}
+use Rattle.rv_book.proofs.Histories.{one_last_number}
+use Rattle.rv_world.specs.declared.rule.Rule.{Rule}
+use Rattle.rv_world.specs.declared.rule.Rule.TheVariants.{M1, M2, M3, N1, N2, N3, P1, P2, P3, P4, S1, S2}
+use Rattle.rv_world.specs.Breaking.{BreaksBehind, BreaksCount, FallsBack, IsNoFreePlace, IsOfNoSession, IsOutOfTurn, IsPaired, IsSwapped}
+use Rattle.rv_world.specs.Breaking.{MeetsNobody, MeetsWrongly, NamesOne, NamesWrongly, PassesLimit, PassesOver, StartsNoNewer, TicksForNothing, WasNamed}
+
+-- ---- moments
+
+own_at_most : (o : Option ℕ) (opened moment : ℕ) → opened ≤ moment → ((earlier : ℕ) → o ≡ Some earlier → earlier ≤ moment) → unwrap_or o opened ≤ moment
+own_at_most None opened moment least since = least
+own_at_most (Some earlier) opened moment least since = since earlier refl
+
+pub falls_not_back : (a : Account) (e : Entry) → KeepsTime a e.moment → FallsBack a e → ⊥
+falls_not_back a e time falls =
+    let most : own_moment a ≤ e.moment = own_at_most (moment_at a.entries (length a.entries - 1)) a.opened e.moment time.opened (time.since (length a.entries - 1)) in
+    omega arith
+
+nothing_past : (es : List Entry) (moment : ℕ) (act : Act) → KeepsLimits es moment act → act ≢ Tick → SomethingDue es moment → ⊥
+nothing_past es moment (Hello client incarnation) nothing no_tick due = nothing due.0 due.1
+nothing_past es moment (Arrive key call) nothing no_tick due = nothing due.0 due.1
+nothing_past es moment (Cancel key) nothing no_tick due = nothing due.0 due.1
+nothing_past es moment Tick something no_tick due = no_tick refl
+
+pub passes_no_limit : (es : List Entry) (e : Entry) → KeepsLimits es e.moment e.act → PassesLimit es e → ⊥
+passes_no_limit es e keeps passes = nothing_past es e.moment e.act keeps passes.no_tick passes.due
+
+pub ticks_for_something : (es : List Entry) (e : Entry) → KeepsLimits es e.moment e.act → TicksForNothing es e → ⊥
+ticks_for_something es e keeps ticks =
+    let something : SomethingDue es e.moment = subst (λ act. KeepsLimits es e.moment act) ticks.ticks keeps in
+    ticks.nothing_due something.0 something.1
+
+-- ---- numbers
+
+pub starts_newer : (es : List Entry) (does : Act) → RaisesIncarnation es does → StartsNoNewer es does → ⊥
+starts_newer es does raises starts =
+    let newer : starts.reached < starts.incarnation = raises starts.client starts.incarnation starts.hello starts.place starts.reached starts.earlier in
+    let no_newer : starts.incarnation ≤ starts.reached = starts.no_newer in
+    omega arith
+
+pub is_of_session : (a : Account) (does : Act) → IsOfSession a does → IsOfNoSession a does → ⊥
+is_of_session a does session strange = elim strange.no_session [
+  | inl epoch ↦ epoch (session strange.key strange.names).0
+  | inr incarnation ↦ incarnation (session strange.key strange.names).1
+]
+
+next_in_turn : (es : List Entry) (key : Key) → IsNextNumber es key → IsOutOfTurn es key → ⊥
+next_in_turn es key next (inl not_next) = elim not_next.counts_to [
+  | inl last ↦ not_next.other (next.next ∙ ap (λ n. n + 1) (one_last_number es key.client next.last not_next.last next.is_last last))
+  | inr none ↦ none.0 (next.is_last.h, next.is_last.incarnation, next.is_last.hello.hello)
+]
+next_in_turn es key next (inr waits) = next.idle waits
+
+pub counts_in_turn : (es : List Entry) (does : Act) → CountsUp es does → CancelsInTurn es does → BreaksCount es does → ⊥
+counts_in_turn es (Hello client incarnation) counts cancels breaks = breaks
+counts_in_turn es (Arrive key call) counts cancels breaks = next_in_turn es key (counts key call refl) breaks
+counts_in_turn es (Cancel key) counts cancels breaks = elim (cancels key refl) [
+  | inl waits ↦ breaks.0 waits
+  | inr next ↦ next_in_turn es key next breaks.1
+]
+counts_in_turn es Tick counts cancels breaks = breaks
+
+-- ---- partners
+
+-- in a legal account only arrivals that may meet name partners
+pub names_partner : (a : Account) (r q : ℕ) → Legal a → partner_at a.entries r ≡ Some q → NamesPartner a.entries r q
+names_partner a r q legal named =
+    let at = read_there partner_read refl (slice_get a.entries r) q named in
+    let free = (legal r at.0 at.1).pairs.names_free_partner q at.2 in
+    record { call = free.call; arrived = ap call_read at.1 ∙ free.arrives; meets = free.meets; named = named }
+
+-- so who was named, or named a partner itself, is in a pair or swap
+pub named_is_met : (a : Account) (p : ℕ) → Legal a → WasNamed a.entries p ⊎ NamesOne a.entries p → Met a.entries p
+named_is_met a p legal (inl named) = record { later = named.0; earlier = p; names = names_partner a named.0 p legal named.1; part = inr refl }
+named_is_met a p legal (inr names) = record { later = p; earlier = names.0; names = names_partner a p names.0 legal names.1; part = inl refl }
+
+pub names_rightly : (a : Account) (e : Entry) → Legal a → NamesFreePartner a.entries e → NamesWrongly a.entries e → ⊥
+names_rightly a e legal names wrongly =
+    let free = names wrongly.partner wrongly.names in
+    elim wrongly.wrong [
+      | inl nobody ↦ nobody (free.call, free.arrives, free.meets)
+      | inr no_free ↦ taken free.earlier (λ named. free.unmet (named_is_met a wrongly.partner legal named)) no_free
+    ]
+  where
+    taken : {p : ℕ} → p < length a.entries → (WasNamed a.entries p ⊎ NamesOne a.entries p → ⊥) → IsNoFreePlace a.entries p → ⊥
+    taken earlier unnamed (inl later) = omega arith
+    taken earlier unnamed (inr named) = unnamed named
+
+pub paired_meets : (side : Side) → IsPaired side → IsSome (opposite side)
+paired_meets (Gives queue) paired = refl
+paired_meets (Takes queue) paired = refl
+paired_meets (Looks queue) paired = absurd paired
+paired_meets (Exchanges exchanger) paired = absurd paired
+
+pub swapped_meets : (side : Side) → IsSwapped side → IsSome (opposite side)
+swapped_meets (Gives queue) swapped = absurd swapped
+swapped_meets (Takes queue) swapped = absurd swapped
+swapped_meets (Looks queue) swapped = absurd swapped
+swapped_meets (Exchanges exchanger) swapped = refl
+
+module _ (Is : Side → Type 0) (es : List Entry) (e : Entry) where
+  pub meets_rightly : ((side : Side) → Is side → IsSome (opposite side)) → PairsOpposites es e → MeetsWrongly Is es e → ⊥
+  meets_rightly meets pairs wrongly =
+      let own = wrongly.arrives in
+      wrongly.no_opposite (pairs wrongly.partner wrongly.call wrongly.names own.arrives (meets (side_of wrongly.call) own.is))
+
+  pub meets_somebody : PairsWherePossible es e → MeetsNobody Is es e → ⊥
+  meets_somebody possible nobody = possible nobody.other nobody.call nobody.alone nobody.arrives.arrives nobody.opposite_there
+
+pub passes_nobody_over : (es : List Entry) (e : Entry) → PairsOldest es e → PassesOver es e → ⊥
+passes_nobody_over es e oldest passes = oldest passes.partner passes.passed passes.side passes.names passes.is_partners passes.earlier passes.there
+
+-- ---- all rules
+
+pub breaks_nothing : (a : Account) (e : Entry) → Legal a → MayFollow a e → (rule : Rule) → BreaksBehind rule a e → ⊥
+breaks_nothing a e legal follows M1 breaks = falls_not_back a e follows.moments.keeps_time breaks
+breaks_nothing a e legal follows M2 breaks = passes_no_limit a.entries e follows.moments.keeps_limits breaks
+breaks_nothing a e legal follows M3 breaks = ticks_for_something a.entries e follows.moments.keeps_limits breaks
+breaks_nothing a e legal follows N1 breaks = starts_newer a.entries e.act follows.numbers.raises_incarnation breaks
+breaks_nothing a e legal follows N2 breaks = is_of_session a e.act follows.numbers.of_session breaks
+breaks_nothing a e legal follows N3 breaks = counts_in_turn a.entries e.act follows.numbers.counts_up follows.numbers.cancels breaks
+breaks_nothing a e legal follows P1 breaks = names_rightly a e legal follows.pairs.names_free_partner breaks
+breaks_nothing a e legal follows P2 breaks = meets_rightly IsPaired a.entries e paired_meets follows.pairs.pairs_opposites breaks
+breaks_nothing a e legal follows P3 breaks = passes_nobody_over a.entries e follows.pairs.pairs_oldest breaks
+breaks_nothing a e legal follows P4 breaks = meets_somebody IsPaired a.entries e follows.pairs.pairs_where_possible breaks
+breaks_nothing a e legal follows S1 breaks = meets_rightly IsSwapped a.entries e swapped_meets follows.pairs.pairs_opposites breaks
+breaks_nothing a e legal follows S2 breaks = meets_somebody IsSwapped a.entries e follows.pairs.pairs_where_possible breaks

@@ -1,0 +1,323 @@
+-- An entry that breaks no rule behind those of a legal account may follow them: of each rule what it gives.
+use Rattle.std.proofs.Common.{◌≡◌, ◌≢◌, ◌⊎◌, inl, inr, ℕ, ◌+◌, ◌<◌, ◌≤◌, List, length, take, Option, Some, None, IsSome, refl, sym, ap, subst, ◌∙◌, arith}
+use Rattle.std.specs.Prelude.{is_some}
+use Rattle.std.specs.List.{slice_get}
+use Rattle.std.proofs.lemmas.Bool.{cases_lt}
+use Rattle.std.proofs.lemmas.Option.{none-some, same_Some}
+use Rattle.rv_text.specs.declared.message.Key.{Key}
+use Rattle.rv_text.specs.declared.call.Call.{Call}
+use Rattle.rv_text.specs.declared.call.Side.{Side}
+use Rattle.rv_text.specs.declared.call.Side.TheVariants.{Gives, Takes, Looks, Exchanges}
+use Rattle.rv_text.specs.Calls.{side_of}
+use Rattle.rv_book.specs.declared.account.Entry.{Entry}
+use Rattle.rv_book.specs.declared.account.Act.{Act}
+use Rattle.rv_book.specs.declared.account.Act.TheVariants.{Hello, Arrive, Cancel, Tick}
+use Rattle.rv_book.specs.Account.{Account, act_at, call_at, call_in, key_in, partner_at}
+use Rattle.rv_book.specs.Calls.{MayMeet, opposite}
+use Rattle.rv_book.specs.Sessions.{HasIncarnation}
+use Rattle.rv_book.specs.Waiting.{Met, OpenAt, Waiting}
+use Rattle.rv_book.specs.Legal.{CancelsInTurn, CountsUp, IsFreePartner, IsNextNumber, IsOfSession, IsOpenOpposite, KeepsLimits, KeepsTime, Legal}
+use Rattle.rv_book.specs.Legal.{MayFollow, NamesFreePartner, NothingDue, PairsOldest, PairsOpposites, PairsWherePossible, RaisesIncarnation}
+use Rattle.rv_book.specs.Legal.{SomethingDue, WaitsUnder}
+use Rattle.rv_book.specs.Steps.{own_moment}
+use Rattle.rv_book.proofs.Deciding.{find_hello, find_last, key_or_other, open_by, waits_or_not}
+use Rattle.rv_book.proofs.Entering.{step_keeps_time}
+use Rattle.rv_book.proofs.Fronts.{open_in_front, read_front}
+use Rattle.rv_book.proofs.Growing.{act_read, call_read, partner_read, read_there, reads_within}
+use Rattle.rv_book.proofs.Histories.{one_incarnation}
+use Rattle.rv_book.proofs.Keys.{act_called}
+use Rattle.rv_book.proofs.Numbers.{first_below, same_or_not}
+use Rattle.rv_book.proofs.Opposites.{looks_alone}
+use Rattle.rv_book.proofs.Sides.{one_side}
+use Rattle.rv_book.proofs.Ticking.{something_or_nothing}
+use Rattle.rv_world.specs.declared.rule.Rule.{Rule}
+use Rattle.rv_world.specs.declared.rule.Rule.TheVariants.{M1, M2, M3, N1, N2, N3, P1, P2, P3, P4, S1, S2}
+use Rattle.rv_world.specs.Breaking.{BreaksBehind, BreaksCount, FallsBack, IsOfNoSession, IsOutOfTurn, IsPaired, IsSwapped}
+use Rattle.rv_world.specs.Breaking.{MeetsNobody, MeetsWrongly, NamesOne, NamesWrongly, PassesOver, StartsNoNewer, WasNamed}
+
+-- ---- moments
+
+pub keeps_time : (a : Account) (e : Entry) → Legal a → (FallsBack a e → ⊥) → KeepsTime a e.moment
+keeps_time a e legal stays =
+    let least : own_moment a ≤ e.moment = elim (cases_lt e.moment (own_moment a)) [ inl falls ↦ absurd (stays falls) | inr least ↦ least ] in
+    let own = step_keeps_time a 0 legal in
+    record {
+      opened = let opened = own.opened in omega arith;
+      since = λ r moment there. let most = own.since r moment there in omega arith;
+    }
+
+hello_no_tick : (client incarnation : ℕ) → Hello client incarnation ≡ Tick → ⊥
+hello_no_tick client incarnation is = cc
+
+arrival_no_tick : (key : Key) (call : Call) → Arrive key call ≡ Tick → ⊥
+arrival_no_tick key call is = cc
+
+cancel_no_tick : (key : Key) → Cancel key ≡ Tick → ⊥
+cancel_no_tick key is = cc
+
+pub keeps_limits : (es : List Entry) (moment : ℕ) (does : Act) → (does ≢ Tick → SomethingDue es moment → ⊥) → (does ≡ Tick → NothingDue es moment → ⊥) → KeepsLimits es moment does
+keeps_limits es moment (Hello client incarnation) past idle = λ r due. past (hello_no_tick client incarnation) (r, due)
+keeps_limits es moment (Arrive key call) past idle = λ r due. past (arrival_no_tick key call) (r, due)
+keeps_limits es moment (Cancel key) past idle = λ r due. past (cancel_no_tick key) (r, due)
+keeps_limits es moment Tick past idle = elim (something_or_nothing es moment) [ inl something ↦ something | inr nothing ↦ absurd (idle refl nothing) ]
+
+-- ---- numbers
+
+pub raises_incarnation : (es : List Entry) (does : Act) → (StartsNoNewer es does → ⊥) → RaisesIncarnation es does
+raises_incarnation es does newer client incarnation hello r reached earlier = elim (cases_lt reached incarnation) [
+  | inl less ↦ less
+  | inr most ↦ absurd (newer (record {
+    client = client;
+    incarnation = incarnation;
+    hello = hello;
+    place = r;
+    reached = reached;
+    earlier = earlier;
+    no_newer = most;
+  }))
+]
+
+incarnation_or_not : (es : List Entry) (client incarnation : ℕ) → HasIncarnation es client incarnation ⊎ (HasIncarnation es client incarnation → ⊥)
+incarnation_or_not es client incarnation = elim (find_hello es client) [
+  | inr none ↦ inr (λ has. none has.0 incarnation has.1.hello)
+  | inl found ↦ elim (same_or_not found.0 incarnation) [
+    | inl same ↦ inl (subst (HasIncarnation es client) same found.1)
+    | inr other ↦ inr (λ has. other (one_incarnation es client found.0 incarnation found.1 has))
+  ]
+]
+
+pub of_session : (a : Account) (does : Act) → (IsOfNoSession a does → ⊥) → IsOfSession a does
+of_session a does known key names = (
+  elim (same_or_not key.epoch a.epoch) [
+    | inl same ↦ same
+    | inr other ↦ absurd (known (record { key = key; names = names; no_session = inl other }))
+  ],
+  elim (incarnation_or_not a.entries key.client key.incarnation) [
+    | inl has ↦ has
+    | inr none ↦ absurd (known (record { key = key; names = names; no_session = inr none }))
+  ],
+)
+
+in_turn : (es : List Entry) (key : Key) → HasIncarnation es key.client key.incarnation → (IsOutOfTurn es key → ⊥) → IsNextNumber es key
+in_turn es key has turn =
+    let last = find_last es key.client key.incarnation has.0 has.1 in record {
+      last = last.0;
+      is_last = last.1;
+      next = elim (same_or_not key.number (last.0 + 1)) [
+        | inl next ↦ next
+        | inr other ↦ absurd (turn (inl (record { last = last.0; counts_to = inl last.1; other = other })))
+      ];
+      idle = λ waits. turn (inr waits);
+    }
+
+pub counts_up : (a : Account) (does : Act) → IsOfSession a does → (BreaksCount a.entries does → ⊥) → CountsUp a.entries does
+counts_up a does session keeps key call arrives =
+    in_turn a.entries key (session key (ap key_in arrives)).1 (λ out. keeps (subst (BreaksCount a.entries) (sym arrives) out))
+
+-- the request with this key arrived at r, and it waits
+abbrev WaitsUnderAt : List Entry → Key → ℕ → Type 0
+WaitsUnderAt es key r = (call : Call) × (act_at es r ≡ Some (Arrive key call)) × Waiting es r
+
+one_key : (key other : Key) (call more : Call) → Some (Arrive key call) ≡ Some (Arrive other more) → key ≡ other
+one_key key other call more is = cc
+
+waits_under_at : (es : List Entry) (key : Key) (r : ℕ) → WaitsUnderAt es key r ⊎ (WaitsUnderAt es key r → ⊥)
+waits_under_at es key r = elim (waits_or_not es r) [
+  | inr goes ↦ inr (λ h. goes h.2)
+  | inl waits ↦
+      let own = act_called (act_at es r) waits.is_open.call waits.is_open.arrived in
+      elim (key_or_other own.0 key) [
+        | inl same ↦ inl (waits.is_open.call, subst (λ (k : Key). act_at es r ≡ Some (Arrive k waits.is_open.call)) same own.1, waits)
+        | inr other ↦ inr (λ h. other (one_key own.0 key waits.is_open.call h.0 (sym own.1 ∙ h.1)))
+      ]
+]
+
+pub waits_under_or_not : (es : List Entry) (key : Key) → WaitsUnder es key ⊎ (WaitsUnder es key → ⊥)
+waits_under_or_not es key = elim (first_below (WaitsUnderAt es key) (waits_under_at es key) (length es)) [
+  | inl found ↦ inl (record { place = found.0; call = found.2.0; arrived = found.2.1; waits = found.2.2 })
+  | inr none ↦ inr (λ h. none h.place (reads_within act_read refl es h.place (Arrive key h.call) h.arrived) (h.call, h.arrived, h.waits))
+]
+
+pub cancels_in_turn : (a : Account) (does : Act) → IsOfSession a does → (BreaksCount a.entries does → ⊥) → CancelsInTurn a.entries does
+cancels_in_turn a does session keeps key cancels = elim (waits_under_or_not a.entries key) [
+  | inl waits ↦ inl waits
+  | inr none ↦ inr (in_turn a.entries key (session key (ap key_in cancels)).1 (λ out. keeps (subst (BreaksCount a.entries) (sym cancels) (none, out))))
+]
+
+-- ---- partners
+
+-- a side that meets another is one of pairs or one of swaps
+pub paired_or_swapped : (side : Side) → IsSome (opposite side) → IsPaired side ⊎ IsSwapped side
+paired_or_swapped (Gives queue) meets = inl tt
+paired_or_swapped (Takes queue) meets = inl tt
+paired_or_swapped (Looks queue) meets = absurd (looks_alone queue meets)
+paired_or_swapped (Exchanges exchanger) meets = inr tt
+
+-- and so is the other
+pub paired_opposite : (side other : Side) → opposite side ≡ Some other → IsPaired side → IsPaired other
+paired_opposite (Gives queue) other opposes paired = subst IsPaired (same_Some _ _ opposes) tt
+paired_opposite (Takes queue) other opposes paired = subst IsPaired (same_Some _ _ opposes) tt
+paired_opposite (Looks queue) other opposes paired = absurd paired
+paired_opposite (Exchanges exchanger) other opposes paired = absurd paired
+
+-- who exchanges meets its own side
+pub swapped_opposite : (side : Side) → IsSwapped side → opposite side ≡ Some side
+swapped_opposite (Gives queue) swapped = absurd swapped
+swapped_opposite (Takes queue) swapped = absurd swapped
+swapped_opposite (Looks queue) swapped = absurd swapped
+swapped_opposite (Exchanges exchanger) swapped = refl
+
+side_meets : (side : Side) → IsSome (opposite side) ⊎ (IsSome (opposite side) → ⊥)
+side_meets (Gives queue) = inl refl
+side_meets (Takes queue) = inl refl
+side_meets (Looks queue) = inr (looks_alone queue)
+side_meets (Exchanges exchanger) = inl refl
+
+meets_or_not : (o : Option Call) → ((call : Call) × (o ≡ Some call) × MayMeet call) ⊎ ((call : Call) × (o ≡ Some call) × MayMeet call → ⊥)
+meets_or_not None = inr (λ h. none-some h.0 h.1)
+meets_or_not (Some call) = elim (side_meets (side_of call)) [
+  | inl meets ↦ inl (call, refl, meets)
+  | inr alone ↦ inr (λ h. alone (subst MayMeet (same_Some _ _ (sym h.1)) h.2))
+]
+
+-- who is in a pair or swap was named, or named a partner itself
+pub met_is_named : (es : List Entry) (p : ℕ) → Met es p → WasNamed es p ⊎ NamesOne es p
+met_is_named es p met = elim met.part [
+  | inl later ↦ inr (met.earlier, ap (partner_at es) later ∙ met.names.named)
+  | inr earlier ↦ inl (met.later, met.names.named ∙ ap Some (sym earlier))
+]
+
+pub names_free_partner : (es : List Entry) (e : Entry) → (NamesWrongly es e → ⊥) → NamesFreePartner es e
+names_free_partner es e rightly p names = elim (meets_or_not (call_in e.act)) [
+  | inr nobody ↦ absurd (rightly (record { partner = p; names = names; wrong = inl nobody }))
+  | inl meets ↦ record {
+    call = meets.0;
+    arrives = meets.1;
+    meets = meets.2;
+    earlier = elim (cases_lt p (length es)) [
+      | inl less ↦ less
+      | inr most ↦ absurd (rightly (record { partner = p; names = names; wrong = inr (inl most) }))
+    ];
+    unmet = λ met. rightly (record { partner = p; names = names; wrong = inr (inr (met_is_named es p met)) });
+  }
+]
+
+opposite_by : (es : List Entry) (call : Call) (p : ℕ) (o : Option Side) → opposite (side_of call) ≡ o → IsOpenOpposite es call p ⊎ (IsOpenOpposite es call p → ⊥)
+opposite_by es call p None opposes = inr (λ h. none-some h.side (sym opposes ∙ h.opposes))
+opposite_by es call p (Some side) opposes = elim (open_by es side p (call_at es p) refl) [
+  | inl there ↦ inl (record { side = side; opposes = opposes; there = there })
+  | inr closed ↦ inr (λ h. closed (subst (λ s. OpenAt es s p) (same_Some _ _ (sym h.opposes ∙ opposes)) h.there))
+]
+
+pub opposite_or_not : (es : List Entry) (call : Call) (p : ℕ) → IsOpenOpposite es call p ⊎ (IsOpenOpposite es call p → ⊥)
+opposite_or_not es call p = opposite_by es call p (opposite (side_of call)) refl
+
+pub pairs_opposites : (es : List Entry) (e : Entry) → (MeetsWrongly IsPaired es e → ⊥) → (MeetsWrongly IsSwapped es e → ⊥) → PairsOpposites es e
+pairs_opposites es e pairs swaps p call names arrives meets = elim (opposite_or_not es call p) [
+  | inl is ↦ is
+  | inr none ↦ elim (paired_or_swapped (side_of call) meets) [
+    | inl paired ↦ absurd (pairs (record { call = call; arrives = record { arrives = arrives; is = paired }; partner = p; names = names; no_opposite = none }))
+    | inr swapped ↦ absurd (swaps (record { call = call; arrives = record { arrives = arrives; is = swapped }; partner = p; names = names; no_opposite = none }))
+  ]
+]
+
+pub pairs_where_possible : (es : List Entry) (e : Entry) → (MeetsNobody IsPaired es e → ⊥) → (MeetsNobody IsSwapped es e → ⊥) → PairsWherePossible es e
+pairs_where_possible es e pairs swaps r call alone arrives there = elim (paired_or_swapped (side_of call) (ap is_some there.opposes)) [
+  | inl paired ↦ pairs (record { call = call; arrives = record { arrives = arrives; is = paired }; alone = alone; other = r; opposite_there = there })
+  | inr swapped ↦ swaps (record { call = call; arrives = record { arrives = arrives; is = swapped }; alone = alone; other = r; opposite_there = there })
+]
+
+-- ---- the oldest
+
+-- at the later of two that are open at one exchanger stands an entry that names no partner, and none that names one
+module _ (a : Account) (side : Side) (r s : ℕ) (first : OpenAt a.entries side r) (second : OpenAt a.entries side s) (less : r < s) where
+  named_there : (e : Entry) (q : ℕ) → slice_get a.entries s ≡ Some e → e.partner ≡ Some q → ⊥
+  named_there e q there named =
+      let own = second.is_open in
+      own.unmet (record {
+        later = s;
+        earlier = q;
+        names = record { call = own.call; arrived = own.arrived; meets = own.stays.0; named = ap partner_read there ∙ named };
+        part = inl refl;
+      })
+
+  open_before : OpenAt (take s a.entries) side r
+  open_before = record {
+    of_side = record {
+      call = first.of_side.call;
+      arrived = read_front call_read a.entries s r first.of_side.call less first.of_side.arrived;
+      is = first.of_side.is;
+    };
+    is_open = open_in_front a.entries s r less first.is_open;
+  }
+
+  alone_there : (e : Entry) → IsSwapped side → MayFollow (record { epoch = a.epoch; opened = a.opened; entries = take s a.entries }) e → call_in e.act ≡ Some second.of_side.call → e.partner ≡ None → ⊥
+  alone_there e swapped follows arrives alone =
+      follows.pairs.pairs_where_possible r second.of_side.call alone arrives (record {
+        side = side;
+        opposes = ap opposite second.of_side.is ∙ swapped_opposite side swapped;
+        there = open_before;
+      })
+
+  one_at_exchanger_by : (e : Entry) (o : Option ℕ) → IsSwapped side → MayFollow (record { epoch = a.epoch; opened = a.opened; entries = take s a.entries }) e → slice_get a.entries s ≡ Some e
+      → call_in e.act ≡ Some second.of_side.call → e.partner ≡ o → ⊥
+  one_at_exchanger_by e None swapped follows there arrives partner = alone_there e swapped follows arrives partner
+  one_at_exchanger_by e (Some q) swapped follows there arrives partner = named_there e q there partner
+
+  -- in a legal account one at most is open at an exchanger
+  pub one_at_exchanger : Legal a → IsSwapped side → ⊥
+  one_at_exchanger legal swapped =
+      let at = read_there call_read refl (slice_get a.entries s) second.of_side.call second.of_side.arrived in
+      one_at_exchanger_by at.0 at.0.partner swapped (legal s at.0 at.1) at.1 at.2 refl
+
+-- an open arrival that stands before the partner, on its side
+pub pairs_oldest : (a : Account) (e : Entry) → Legal a → NamesFreePartner a.entries e → PairsOpposites a.entries e → (PassesOver a.entries e → ⊥) → PairsOldest a.entries e
+pairs_oldest a e legal names_free pairs passes p r side names of_side less there =
+    let free : IsFreePartner a.entries e p = names_free p names in
+    let meets : IsOpenOpposite a.entries free.call p = pairs p free.call names free.arrives free.meets in
+    let same : meets.side ≡ side = one_side a.entries meets.side side p meets.there.of_side of_side in
+    let opposes : opposite (side_of free.call) ≡ Some side = meets.opposes ∙ ap Some same in
+    elim (paired_or_swapped (side_of free.call) free.meets) [
+      | inl paired ↦ passes (record {
+        call = free.call;
+        arrives = record { arrives = free.arrives; is = paired };
+        partner = p;
+        names = names;
+        side = side;
+        of_queue = paired_opposite (side_of free.call) side opposes paired;
+        is_partners = of_side;
+        passed = r;
+        earlier = less;
+        there = there;
+      })
+      | inr swapped ↦
+          let own : side_of free.call ≡ side = same_Some _ _ (sym (swapped_opposite (side_of free.call) swapped) ∙ opposes) in
+          one_at_exchanger a side r p there (subst (λ s. OpenAt a.entries s p) same meets.there) less legal (subst IsSwapped own swapped)
+    ]
+
+-- ---- all rules
+
+pub may_follow : (a : Account) (e : Entry) → Legal a → ((rule : Rule) → BreaksBehind rule a e → ⊥) → MayFollow a e
+may_follow a e legal keeps =
+    let session : IsOfSession a e.act = of_session a e.act (keeps N2) in
+    let free : NamesFreePartner a.entries e = names_free_partner a.entries e (keeps P1) in
+    let opposites : PairsOpposites a.entries e = pairs_opposites a.entries e (keeps P2) (keeps S1) in
+    record {
+      moments = record {
+        keeps_time = keeps_time a e legal (keeps M1);
+        keeps_limits = keeps_limits a.entries e.moment e.act (λ no_tick due. keeps M2 (record { no_tick = no_tick; due = due }))
+            (λ ticks nothing. keeps M3 (record { ticks = ticks; nothing_due = nothing }));
+      };
+      numbers = record {
+        raises_incarnation = raises_incarnation a.entries e.act (keeps N1);
+        of_session = session;
+        counts_up = counts_up a e.act session (keeps N3);
+        cancels = cancels_in_turn a e.act session (keeps N3);
+      };
+      pairs = record {
+        names_free_partner = free;
+        pairs_opposites = opposites;
+        pairs_oldest = pairs_oldest a e legal free opposites (keeps P3);
+        pairs_where_possible = pairs_where_possible a.entries e (keeps P4) (keeps S2);
+      };
+    }

@@ -1,0 +1,220 @@
+-- What breaks each rule of an audit at a place, and which fault of an account is its first.
+--
+-- An entry is looked at behind the account of those before it, in the words in which rv_book says which entry
+-- may stand where. Of each rule is said what breaks it, whether another is broken there or not. Who is open is
+-- said by pairs and swaps, which only arrivals that may meet make; in a legal account no other names a partner.
+use Rattle.std.specs.Prelude.{◌≡◌, ◌≢◌, ◌⊎◌, ◌<◌, ◌≤◌, ◌+◌, ℕ, List, length, Some, None, slice_get, codes}
+use Rattle.rv_text.specs.declared.message.Key.{Key}
+use Rattle.rv_text.specs.declared.call.Call.{Call}
+use Rattle.rv_text.specs.declared.call.Side.{Side}
+use Rattle.rv_text.specs.declared.call.Side.TheVariants.{Gives, Takes, Looks, Exchanges}
+use Rattle.rv_text.specs.Calls.{side_of}
+use Rattle.rv_book.specs.declared.account.Entry.{Entry}
+use Rattle.rv_book.specs.declared.account.Act.{Act}
+use Rattle.rv_book.specs.declared.account.Act.TheVariants.{Hello, Arrive, Cancel, Tick}
+use Rattle.rv_book.specs.Account.{Account, act_at, partner_at, call_in, key_in}
+use Rattle.rv_book.specs.Calls.{MayMeet}
+use Rattle.rv_book.specs.Sessions.{HasIncarnation, LastNumber, SaidHello}
+use Rattle.rv_book.specs.Waiting.{OpenAt, SideAt}
+use Rattle.rv_book.specs.Legal.{before, HasWaiting, IsOpenOpposite, Legal, NothingDue}
+use Rattle.rv_book.specs.Legal.{SomethingDue, WaitsUnder}
+use Rattle.rv_book.specs.Steps.{own_moment}
+use Rattle.rv_world.specs.declared.rule.Rule.{Rule}
+use Rattle.rv_world.specs.declared.rule.Audit.{Audit}
+use Rattle.rv_world.specs.declared.rule.Audit.TheVariants as tells
+use Rattle.rv_world.specs.declared.rule.Rule.TheVariants.{M1, M2, M3, N1, N2, N3, P1, P2, P3, P4, S1, S2}
+
+-- ---- moments
+
+-- the entry's moment is below that of the entry before it, or, at the first place, below the opening moment
+abbrev pub FallsBack : Account → Entry → Type 0
+FallsBack a e = e.moment < own_moment a
+
+-- it is no tick, and a waiting request has a limit at or below its moment
+pub record PassesLimit (entries : List Entry) (e : Entry) : Type 0 where
+  pub no_tick : e.act ≢ Tick
+  pub due : SomethingDue entries e.moment
+
+-- it is a tick, and no waiting request has a limit at or below its moment
+pub record TicksForNothing (entries : List Entry) (e : Entry) : Type 0 where
+  pub ticks : e.act ≡ Tick
+  pub nothing_due : NothingDue entries e.moment
+
+-- ---- numbers
+
+-- it is a hello, and an earlier one of its client has that incarnation or a greater one
+pub record StartsNoNewer (entries : List Entry) (does : Act) : Type 0 where
+  pub client : ℕ
+  pub incarnation : ℕ
+  pub hello : does ≡ Hello client incarnation
+  pub place : ℕ
+  pub reached : ℕ
+  pub earlier : act_at entries place ≡ Some (Hello client reached)
+  pub no_newer : incarnation ≤ reached
+
+-- it is an arrival or a cancel with another epoch than the account's, or its client's last hello isn't of its
+-- incarnation, or there is none
+pub record IsOfNoSession (a : Account) (does : Act) : Type 0 where
+  pub key : Key
+  pub names : key_in does ≡ Some key
+  pub no_session : (key.epoch ≢ a.epoch) ⊎ (¬ HasIncarnation a.entries key.client key.incarnation)
+
+-- the client's greatest number since its last hello is n, and 0 where it has none, or said no hello
+abbrev pub CountsTo : List Entry → ℕ → ℕ → Type 0
+CountsTo entries client n = LastNumber entries client n ⊎ ((¬ SaidHello entries client) × (n ≡ 0))
+
+-- the key's number isn't its session's last plus one
+pub record IsNotNext (entries : List Entry) (key : Key) : Type 0 where
+  pub last : ℕ
+  pub counts_to : CountsTo entries key.client last
+  pub other : key.number ≢ last + 1
+
+-- that, or a request of its session waits
+abbrev pub IsOutOfTurn : List Entry → Key → Type 0
+IsOutOfTurn entries key = IsNotNext entries key ⊎ HasWaiting entries key.client
+
+-- an arrival is out of turn; or a cancel is, and doesn't name the request that waits in its session
+abbrev pub BreaksCount : List Entry → Act → Type 0
+BreaksCount entries (Hello client incarnation) = ⊥
+BreaksCount entries (Arrive key call) = IsOutOfTurn entries key
+BreaksCount entries (Cancel key) = (¬ WaitsUnder entries key) × IsOutOfTurn entries key
+BreaksCount entries Tick = ⊥
+
+-- ---- partners
+
+-- the entry gives, takes or exchanges
+abbrev pub Meets : Entry → Type 0
+Meets e = (call : Call) × (call_in e.act ≡ Some call) × MayMeet call
+
+-- an entry names this place as its partner; the entry at this place names a partner
+abbrev pub WasNamed : List Entry → ℕ → Type 0
+WasNamed entries place = (r : ℕ) × (partner_at entries r ≡ Some place)
+
+abbrev pub NamesOne : List Entry → ℕ → Type 0
+NamesOne entries place = (q : ℕ) × (partner_at entries place ≡ Some q)
+
+-- the place isn't that of an earlier entry, or was named already, or named a partner itself
+abbrev pub IsNoFreePlace : List Entry → ℕ → Type 0
+IsNoFreePlace entries place = (length entries ≤ place) ⊎ (WasNamed entries place ⊎ NamesOne entries place)
+
+-- the entry names a partner, and may name none, or not this one
+pub record NamesWrongly (entries : List Entry) (e : Entry) : Type 0 where
+  pub partner : ℕ
+  pub names : e.partner ≡ Some partner
+  pub wrong : (¬ Meets e) ⊎ IsNoFreePlace entries partner
+
+-- the side gives or takes; the side exchanges
+abbrev pub IsPaired : Side → Type 0
+IsPaired (Gives queue) = Unit {0}
+IsPaired (Takes queue) = Unit {0}
+IsPaired (Looks queue) = ⊥
+IsPaired (Exchanges exchanger) = ⊥
+
+abbrev pub IsSwapped : Side → Type 0
+IsSwapped (Gives queue) = ⊥
+IsSwapped (Takes queue) = ⊥
+IsSwapped (Looks queue) = ⊥
+IsSwapped (Exchanges exchanger) = Unit {0}
+
+-- the entry is an arrival of such a side, with this call
+pub record ArrivesAs (Is : Side → Type 0) (e : Entry) (call : Call) : Type 0 where
+  pub arrives : call_in e.act ≡ Some call
+  pub is : Is (side_of call)
+
+-- the entry is an arrival of such a side, and the partner that it names isn't an open arrival of the other
+-- side of its queue, or at its exchanger
+pub record MeetsWrongly (Is : Side → Type 0) (entries : List Entry) (e : Entry) : Type 0 where
+  pub call : Call
+  pub arrives : ArrivesAs Is e call
+  pub partner : ℕ
+  pub names : e.partner ≡ Some partner
+  pub no_opposite : ¬ IsOpenOpposite entries call partner
+
+-- the entry gives or takes, and an open arrival of its partner's side and queue stands before its partner
+pub record PassesOver (entries : List Entry) (e : Entry) : Type 0 where
+  pub call : Call
+  pub arrives : ArrivesAs IsPaired e call
+  pub partner : ℕ
+  pub names : e.partner ≡ Some partner
+  pub side : Side
+  pub of_queue : IsPaired side
+  pub is_partners : SideAt entries side partner
+  pub passed : ℕ
+  pub earlier : passed < partner
+  pub there : OpenAt entries side passed
+
+-- the entry is an arrival of such a side and names no partner, and an open arrival of the other side of its
+-- queue, or at its exchanger, is there
+pub record MeetsNobody (Is : Side → Type 0) (entries : List Entry) (e : Entry) : Type 0 where
+  pub call : Call
+  pub arrives : ArrivesAs Is e call
+  pub alone : e.partner ≡ None
+  pub other : ℕ
+  pub opposite_there : IsOpenOpposite entries call other
+
+-- ---- the rules
+
+-- an entry behind those of an account breaks the rule
+abbrev pub BreaksBehind : Rule → Account → Entry → Type 0
+BreaksBehind M1 a e = FallsBack a e
+BreaksBehind M2 a e = PassesLimit a.entries e
+BreaksBehind M3 a e = TicksForNothing a.entries e
+BreaksBehind N1 a e = StartsNoNewer a.entries e.act
+BreaksBehind N2 a e = IsOfNoSession a e.act
+BreaksBehind N3 a e = BreaksCount a.entries e.act
+BreaksBehind P1 a e = NamesWrongly a.entries e
+BreaksBehind P2 a e = MeetsWrongly IsPaired a.entries e
+BreaksBehind P3 a e = PassesOver a.entries e
+BreaksBehind P4 a e = MeetsNobody IsPaired a.entries e
+BreaksBehind S1 a e = MeetsWrongly IsSwapped a.entries e
+BreaksBehind S2 a e = MeetsNobody IsSwapped a.entries e
+
+-- the entry at the place breaks the rule, behind those before it
+pub record Breaks (rule : Rule) (a : Account) (place : ℕ) : Type 0 where
+  pub entry : Entry
+  pub there : slice_get a.entries place ≡ Some entry
+  pub breaks : BreaksBehind rule (before a place) entry
+
+-- where the rule stands in the order in which they are asked at one place
+abbrev pub rank_of : Rule → ℕ
+rank_of M1 = 0
+rank_of M2 = 1
+rank_of M3 = 2
+rank_of N1 = 3
+rank_of N2 = 4
+rank_of N3 = 5
+rank_of P1 = 6
+rank_of P2 = 7
+rank_of P3 = 8
+rank_of P4 = 9
+rank_of S1 = 10
+rank_of S2 = 11
+
+abbrev pub name_of : Rule → List ℕ
+name_of M1 = codes "M1"
+name_of M2 = codes "M2"
+name_of M3 = codes "M3"
+name_of N1 = codes "N1"
+name_of N2 = codes "N2"
+name_of N3 = codes "N3"
+name_of P1 = codes "P1"
+name_of P2 = codes "P2"
+name_of P3 = codes "P3"
+name_of P4 = codes "P4"
+name_of S1 = codes "S1"
+name_of S2 = codes "S2"
+
+-- no rule is broken at the place
+abbrev pub KeepsRules : Account → ℕ → Type 0
+KeepsRules a place = (rule : Rule) → ¬ Breaks rule a place
+
+-- the rule is broken at the place, none is before it, and of those before it in the order none is there
+pub record FirstFault (a : Account) (place : ℕ) (rule : Rule) : Type 0 where
+  pub broken : Breaks rule a place
+  pub kept_before : (r : ℕ) → r < place → KeepsRules a r
+  pub first : (other : Rule) → rank_of other < rank_of rule → ¬ Breaks other a place
+
+-- what an audit tells of the account is so: that it is legal, or its first fault
+abbrev pub IsToldOf : Account → Audit → Type 0
+IsToldOf a tells.Legal = Legal a
+IsToldOf a (tells.Fault place rule) = FirstFault a place rule
