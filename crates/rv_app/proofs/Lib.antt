@@ -6,3 +6,4 @@ pub mod Forms
 pub mod Progress
 pub mod Playing
 pub mod Results
+pub mod Writing

@@ -1,2 +1,2 @@
 -- Numbers that are written in decimal digits.
-pub use Rattle.rv_lines.specs.Number.{IsDigits, Writes, WritesIdentifier, value_of_digits}
+pub use Rattle.rv_lines.specs.Number.{IsDigits, Writes, WritesBetween, WritesIdentifier, value_of_digits}

@@ -5,6 +5,8 @@ ghost use Rattle.std.specs.Prelude.{IfOk};
 ghost use Rattle.rv_text.specs.Limits.{FitsIdentifier};
 ghost use Rattle.rv_app.specs.Command.{FitsCommand};
 
+mod account;
+mod audit;
 mod command;
 mod event;
 mod input;
@@ -17,6 +19,8 @@ mod run;
 mod told;
 mod turn;
 
+pub use account::write_account;
+pub use audit::{AuditSaid, audit_run};
 pub use command::{Command, CommandFault, read_command};
 pub use output::OutputFault;
 pub use play::play_run;

@@ -19,6 +19,10 @@ value_of_digits = digits_value 10
 abbrev pub Writes : List ℕ → ℕ → Type 0
 Writes text n = IsDigits text × (n ≡ value_of_digits text)
 
+-- the text is the digits of a number within these limits
+abbrev pub WritesBetween : ℕ → ℕ → List ℕ → ℕ → Type 0
+WritesBetween least most text n = Writes text n × (least ≤ n) × (n ≤ most)
+
 -- the text is an identifier's digits
 abbrev pub WritesIdentifier : List ℕ → ℕ → Type 0
 WritesIdentifier text n = Writes text n × FitsIdentifier n

@@ -12,5 +12,5 @@ mod written;
 pub use account::read_account;
 pub use fault::{AccountFault, LineFault};
 pub use line::{cut_at, first_line};
-pub use number::{read_identifier, read_number};
+pub use number::{read_between, read_identifier, read_number};
 pub use written::{entry_line, head_line};

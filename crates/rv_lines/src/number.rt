@@ -1,6 +1,7 @@
 //! Reads a number that is written in decimal digits.
 ghost use Rattle.std.specs.Prelude.{IfSome, IsSome, None, ℕ, ◌↔◌, ◌≡◌};
-ghost use Rattle.rv_lines.specs.Number.{IsDigits, WritesIdentifier, WritesUpTo, value_of_digits};
+ghost use Rattle.rv_lines.specs.Number.{IsDigits, WritesBetween, WritesIdentifier, WritesUpTo};
+ghost use Rattle.rv_lines.specs.Number.{value_of_digits};
 
 use rv_text::MAX_IDENTIFIER;
 
@@ -31,8 +32,16 @@ pub fn read_identifier(text: &[u8]) -> Option<u64>
     ensures some { IfSome result (WritesIdentifier text.now) }
     ensures none { result ≡ None → (n : ℕ) → ¬ WritesIdentifier text.now n }
 {
+    read_between(text, 1, MAX_IDENTIFIER)
+}
+
+/// The number that `text` writes, where it is at least `least` and at most `most`.
+pub fn read_between(text: &[u8], least: u64, most: u64) -> Option<u64>
+    ensures some { IfSome result (WritesBetween least most text.now) }
+    ensures none { result ≡ None → (n : ℕ) → ¬ WritesBetween least most text.now n }
+{
     let n = read_number(text)?;
-    if 1 <= n && n <= MAX_IDENTIFIER {
+    if least <= n && n <= most {
         Some(n)
     } else {
         None
