@@ -7,3 +7,4 @@ pub mod Progress
 pub mod Playing
 pub mod Results
 pub mod Writing
+pub mod Telling

@@ -1,5 +1,5 @@
 -- How far the lines of an account are written.
-use Rattle.std.proofs.Common.{◌≡◌, ◌<◌, ◌≤◌, ◌+◌, ◌*◌, ℕ, zero, suc, List, [], ◌∷◌, ◌++◌, Option, Some, None, true, option_map, refl, sym, ap, subst, ◌∙◌, length, take, drop, map, arith, length-append}
+use Rattle.std.proofs.Common.{◌≡◌, ◌≤◌, ◌<◌, ◌+◌, ◌*◌, ℕ, zero, suc, List, [], ◌∷◌, ◌++◌, Option, Some, None, true, option_map, refl, sym, ap, subst, ◌∙◌, length, take, drop, map, arith, length-append}
 use Rattle.std.specs.Prelude.{slice_get}
 use Rattle.std.proofs.lemmas.List.{length-map, take-append-drop, take-append-le, take_all}
 use Rattle.std.specs.Io.KnownBytes.{Appends, append_known}
@@ -10,11 +10,11 @@ use Rattle.rv_book.specs.declared.account.Entry.{Entry}
 use Rattle.rv_book.specs.Account.{Account}
 use Rattle.rv_book.proofs.Places.{within}
 use Rattle.rv_lines.specs.Lines.{printed}
-use Rattle.rv_lines.specs.Written.{account_lines, entry_text, head_text}
+use Rattle.rv_lines.specs.Written.{account_lines, entry_text}
 use Rattle.rv_app.specs.Accounts.{WritesAll, WritesFront, WritesSome}
 use Rattle.rv_app.specs.declared.output.Output.{Output}
 use Rattle.rv_app.specs.Output.{StopsAfter}
-use Rattle.rv_app.proofs.Progress.{Appends-nothing, all_out, part_out, printed_append}
+use Rattle.rv_app.proofs.Progress.{all_out, part_out, printed_append}
 
 -- ---- the next line
 
@@ -49,18 +49,6 @@ pub record Wrote (contents : Option (List ℕ)) (a : Account) (now : Option (Lis
   pub took : Appends contents (append_known now gathered) (printed (take many (account_lines a)))
   pub count : sent + length gathered ≡ length (printed (take many (account_lines a)))
   pub small : sent + length gathered ≤ 4160 * (place + 1)
-
-pub wrote_head : (contents : Option (List ℕ)) (a : Account) (now : Option (List ℕ)) (none gathered head : List ℕ) (sent : ℕ) → none ≡ [] → head ≡ head_text a.epoch a.opened
-    → Appends (append_known contents none) (append_known now gathered) (head ++ 10 ∷ []) → sent + length gathered ≡ length head + 1 → length head < 4160 → Wrote contents a now 0 gathered sent
-wrote_head contents a now none gathered head sent nothing is took count short = record {
-  many = 1;
-  many_is = refl;
-  inside = omega arith;
-  took = subst (λ (h : List ℕ). Appends contents (append_known now gathered) (h ++ 10 ∷ [])) is
-      (Appends-trans contents (append_known contents none) (append_known now gathered) [] (head ++ 10 ∷ []) (Appends-nothing contents none nothing) took);
-  count = omega (arith, count, length-append (head_text a.epoch a.opened) (10 ∷ []), ap length is);
-  small = omega arith;
-}
 
 module _ {contents : Option (List ℕ)} {a : Account} {now : Option (List ℕ)} {place : ℕ} {gathered : List ℕ} {sent : ℕ} (so_far : Wrote contents a now place gathered sent) where
   pub wrote_more : (now' : Option (List ℕ)) (gathered' text : List ℕ) (e : Entry) (sent' : ℕ) → slice_get a.entries place ≡ Some e → text ≡ entry_text e
