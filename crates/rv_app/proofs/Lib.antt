@@ -8,3 +8,5 @@ pub mod Playing
 pub mod Results
 pub mod Writing
 pub mod Telling
+pub mod Settling
+pub mod CallsSoFar

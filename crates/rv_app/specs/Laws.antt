@@ -3,11 +3,22 @@ use Rattle.std.specs.Prelude.{codes, List, [], ◌∷◌, ◌≡◌}
 use Rattle.clap.specs.Words.{Text}
 use Rattle.rv_app.specs.Command.{Names}
 use Rattle.rv_app.specs.declared.command.Command.{Command}
-use Rattle.rv_app.specs.declared.command.Command.TheVariants.{Book}
+use Rattle.rv_app.specs.declared.command.Command.TheVariants.{Book, Call, Play, Serve}
+
+-- the commands are the same; addresses are, where their bytes are
+abbrev pub SameCommand : Command → Command → Type 0
+SameCommand (Serve listen epoch workers connections) (Serve other epoch' workers' connections') =
+    (listen.now ≡ other.now) × (epoch ≡ epoch') × (workers ≡ workers') × (connections ≡ connections')
+SameCommand (Serve listen epoch workers connections) d = ⊥
+SameCommand (Call connect client incarnation tries) (Call other client' incarnation' tries') =
+    (connect.now ≡ other.now) × (client ≡ client') × (incarnation ≡ incarnation') × (tries ≡ tries')
+SameCommand (Call connect client incarnation tries) d = ⊥
+SameCommand (Book epoch) d = Book epoch ≡ d
+SameCommand Play d = Play ≡ d
 
 -- words name at most one command
 abbrev pub OneCommand : Type 0
-OneCommand = (words : List Text) (c d : Command) → Names words c → Names words d → c ≡ d
+OneCommand = (words : List Text) (c d : Command) → Names words c → Names words d → SameCommand c d
 
 -- the words of `rv book --epoch 1`
 abbrev pub book_one : List Text

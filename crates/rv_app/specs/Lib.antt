@@ -2,6 +2,8 @@
 pub mod Accounts
 pub mod Audits
 pub mod Body
+pub mod CallRuns
+pub mod Calling
 pub mod Command
 pub mod Faults
 pub mod Laws
@@ -12,3 +14,4 @@ pub mod Output
 pub mod Plays
 pub mod Run
 pub mod Told
+pub mod Word

@@ -1,12 +1,13 @@
 //! The program `rv`: it reads its command line, and runs what the words name.
 #![tactic(auto)]
 
-ghost use Rattle.std.specs.Prelude.{IfOk};
+ghost use Rattle.std.specs.Prelude.{◌≤◌};
 ghost use Rattle.rv_text.specs.Limits.{FitsIdentifier};
-ghost use Rattle.rv_app.specs.Command.{FitsCommand};
 
 mod account;
 mod audit;
+mod calls;
+mod client;
 mod command;
 mod event;
 mod input;
@@ -16,44 +17,81 @@ mod number;
 mod output;
 mod play;
 mod run;
+mod server;
 mod told;
 mod turn;
+mod word;
 
 pub use account::write_account;
 pub use audit::{AuditSaid, audit_run};
+pub use calls::{CallSaid, call_run};
 pub use command::{Command, CommandFault, read_command};
 pub use output::OutputFault;
 pub use play::play_run;
 pub use run::{RunFault, book_run};
 use rv_frame::{Sink, Source};
-use std::alloc::Global;
+use rv_server::ServeFault;
+use server::serve_epoch;
+use std::alloc::AllocError;
 use std::env;
 use std::io::ErrorKind;
+use std::net::{TcpListener, TcpStream};
 use std::process::ExitCode;
+use std::sync::Wait;
+use std::thread::Threads;
+use std::time;
 use thiserror::Error;
 
-// Why the program ends with a status other than 0.
+// Why the program ends before its command is done.
 #[derive(Clone, Copy, Debug, Error)]
 enum ProgramFault {
     #[error("{0}")]
     Command(CommandFault),
     #[error("{0}")]
     Run(RunFault),
+    #[error("{0}")]
+    Serve(ServeFault),
+    #[error("address fault")]
+    Address,
 }
 
 impl ProgramFault {
     fn status(&self) -> u8 {
         match self {
-            ProgramFault::Run(_) => 1,
             ProgramFault::Command(_) => 2,
+            ProgramFault::Run(_) | ProgramFault::Serve(_) | ProgramFault::Address => 1,
         }
+    }
+}
+
+impl From<CommandFault> for ProgramFault {
+    fn from(fault: CommandFault) -> ProgramFault {
+        ProgramFault::Command(fault)
+    }
+}
+
+impl From<AllocError> for ProgramFault {
+    fn from(_error: AllocError) -> ProgramFault {
+        ProgramFault::Command(CommandFault::NoMemory)
+    }
+}
+
+impl From<RunFault> for ProgramFault {
+    fn from(fault: RunFault) -> ProgramFault {
+        ProgramFault::Run(fault)
+    }
+}
+
+impl From<ServeFault> for ProgramFault {
+    fn from(fault: ServeFault) -> ProgramFault {
+        ProgramFault::Serve(fault)
     }
 }
 
 // Where standard error takes nothing, the status alone tells the fault.
 fn main(rt: HostRuntime) -> ExitCode {
-    match run_program(&rt) {
-        Ok(()) => ExitCode::SUCCESS,
+    match run_program(&rt, &rt) {
+        Ok(code) => code,
         Err(fault) => {
             let _ = eprintln!(rt; "{fault}");
             ExitCode::from(fault.status())
@@ -61,10 +99,38 @@ fn main(rt: HostRuntime) -> ExitCode {
     }
 }
 
-fn run_program(rt: &HostRuntime) -> Result<(), ProgramFault> {
-    match command_of_words(rt).map_err(ProgramFault::Command)? {
-        Command::Book(epoch) => run_book(rt, epoch).map_err(ProgramFault::Run),
-        Command::Play => run_play(rt).map_err(ProgramFault::Run),
+// What may start threads and wait is handed in beside what may not.
+fn run_program<T: Threads + Wait + AllocGlobal + time::Clock + Sync>(
+    rt: &HostRuntime,
+    threads: &T,
+) -> Result<ExitCode, ProgramFault> {
+    let words = words_of(rt)?;
+    let words: Vec<&str> = words.iter().map(|word| word.as_str()).collect(rt.alloc())?;
+    match read_command(rt.alloc(), &words)? {
+        Command::Book(epoch) => run_book(rt, epoch)?,
+        Command::Play => run_play(rt)?,
+        Command::Serve {
+            listen,
+            epoch,
+            workers,
+            connections,
+        } => run_serve(rt, threads, listen, epoch, workers, connections)?,
+        Command::Call {
+            connect,
+            client,
+            incarnation,
+            tries,
+        } => return run_call(rt, connect, client, incarnation, tries),
+    }
+    Ok(ExitCode::SUCCESS)
+}
+
+// The words of the command line. Those that are no UTF-8 name no command.
+fn words_of(rt: &HostRuntime) -> Result<Vec<String>, CommandFault> {
+    match env::args(rt) {
+        Ok(words) => Ok(words.collect(rt.alloc())?),
+        Err(error) if error.kind() == ErrorKind::OutOfMemory => Err(CommandFault::NoMemory),
+        Err(_) => Err(CommandFault::Bad),
     }
 }
 
@@ -82,16 +148,49 @@ fn run_play(rt: &HostRuntime) -> Result<(), RunFault> {
     play_run(rt.alloc(), &mut source, &mut sink)
 }
 
-// Words that are no UTF-8 name no command.
-fn command_of_words(rt: &HostRuntime) -> Result<Command, CommandFault>
-    ensures { IfOk result FitsCommand }
+// Listens, and serves the connections that come.
+fn run_serve<T: Threads + Wait + AllocGlobal + time::Clock + Sync>(
+    rt: &HostRuntime,
+    threads: &T,
+    listen: &str,
+    epoch: u64,
+    workers: usize,
+    connections: u32,
+) -> Result<(), ProgramFault>
+    requires epoch { FitsIdentifier epoch }
+    requires some { 1 ≤ workers }
+    requires most { workers ≤ 64 }
 {
-    let words = match env::args(rt) {
-        Ok(words) => words,
-        Err(error) if error.kind() == ErrorKind::OutOfMemory => return Err(CommandFault::NoMemory),
-        Err(_) => return Err(CommandFault::Bad),
+    let Ok(listener) = TcpListener::bind(rt, listen) else {
+        return Err(ProgramFault::Address);
     };
-    let words: Vec<String> = words.collect(rt.alloc())?;
-    let words: Vec<&str> = words.iter().map(|word| word.as_str()).collect(rt.alloc())?;
-    read_command(rt.alloc(), &words)
+    Ok(serve_epoch(threads, listener, epoch, workers, connections)?)
+}
+
+// Connects first, and then reads the lines. Where small frames are held back all goes on, slower.
+fn run_call(
+    rt: &HostRuntime,
+    connect: &str,
+    client: u64,
+    incarnation: u64,
+    tries: u32,
+) -> Result<ExitCode, ProgramFault>
+    requires client { FitsIdentifier client }
+    requires incarnation { FitsIdentifier incarnation }
+{
+    let Ok(stream) = TcpStream::connect(rt, connect) else {
+        return Err(ProgramFault::Address);
+    };
+    let _ = stream.set_nodelay(true);
+    let mut lines = Source::new(rt.stdin());
+    let mut out = Sink::new(rt.stdout());
+    let mut from = Source::new(&stream);
+    let mut to = Sink::new(&stream);
+    let alloc = rt.alloc();
+    match call_run(
+        alloc, &mut lines, &mut out, &mut from, &mut to, client, incarnation, tries,
+    )? {
+        CallSaid::Whole => Ok(ExitCode::SUCCESS),
+        CallSaid::Stopped => Ok(ExitCode::from(1)),
+    }
 }

@@ -2,6 +2,7 @@
 pub mod Stamps
 pub mod Turns
 pub mod Works
+pub mod Serving
 -- What only private clauses and proofs cite.
 pub mod Reading
 pub mod Asking

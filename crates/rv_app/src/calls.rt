@@ -1,0 +1,162 @@
+//! Makes the calls of a whole input, and prints one line for each as soon as it is settled.
+ghost use Rattle.std.specs.Prelude.{◌≡◌, ◌≤◌, ◌<◌, ◌+◌, ◌^◌, ◌⊎◌, ℕ, length, string_bytes, true, false};
+ghost use Rattle.std.specs.Prelude.{Err, IfErr, IfOk, Ok, OnOk, Some};
+ghost use Rattle.rv_text.specs.Limits.{FitsIdentifier};
+ghost use Rattle.rv_frame.specs.Source.{source_failed};
+ghost use Rattle.rv_client.specs.Link.{Link, link};
+ghost use Rattle.rv_client.specs.Process.{Starting, first_key};
+ghost use Rattle.rv_app.specs.Calling.{HasNumbers, IsWelcomed};
+ghost use Rattle.rv_app.specs.CallRuns.{DidNothing, RanCalls, RunsCalls, StopsText, TakesText};
+ghost use Rattle.rv_app.specs.Lines.{lines};
+ghost use Rattle.rv_app.specs.Outcomes.{FoundTooLong, max_input};
+ghost use Rattle.rv_app.specs.Told.{IsShortText};
+ghost use Rattle.rv_app.specs.Word.{word_text};
+
+use crate::client::{Halt, call_line, say_hello};
+use crate::input::read_input;
+use crate::line::first_line;
+use crate::output::OutputFault;
+use crate::run::RunFault;
+use crate::word::Word;
+use rv_client::{Idle, New};
+use rv_frame::{Sink, Source};
+use std::alloc::Global;
+use std::io::{Read, Write};
+
+/// How a run of calls ended.
+#[derive(Clone, Copy, Debug, PartialEq, Eq)]
+pub enum CallSaid {
+    /// The call of each line was settled.
+    Whole,
+    /// The last line that was printed is a word, and no call was made behind it.
+    Stopped,
+}
+
+/// Says hello over a link, makes the calls that the lines say, one after the other, and writes the body of
+/// the reply's answer and LF to `out` for each as soon as it is settled. The client and its incarnation keep
+/// their limits. Hello is said, and each request asked, at most `tries` times.
+///
+/// All lines are read before hello is said, and read faults, want of memory and too long an input are found
+/// before anything is written. The run ends where a line cannot be settled, with one word behind those that
+/// were: `refused N` and `not welcome` at the hello; `unsettled NUMBER`, where nothing final was heard, and
+/// the request is given up; `epoch ended CURRENT`; `replaced CURRENT`; and `bad line` for a line that says no
+/// call. Lines end by LF, which the last one may lack.
+///
+/// [`RunFault::WriteFault`] tells of `out` alone: what becomes of the link is told by the word. A line whose
+/// reading or text finds no memory ends the run, and the lines before it are printed; its call may have
+/// been settled.
+pub fn call_run<L: Read, O: Write, R: Read, W: Write>(
+    alloc: Global,
+    lines: &mut Source<L>,
+    out: &mut Sink<O>,
+    from: &mut Source<R>,
+    to: &mut Sink<W>,
+    client: u64,
+    incarnation: u64,
+    tries: u32,
+) -> Result<CallSaid, RunFault>
+    requires client { FitsIdentifier client }
+    requires incarnation { FitsIdentifier incarnation }
+
+    // Each line of an input that keeps the limit is settled and has its text, or a word ends the run.
+    ensures ran { IfOk result (λ said. RanCalls L.remaining O.contents R.remaining W.contents
+        (record { client = client; incarnation = incarnation }) tries lines.old lines.new
+        (link from.old to.old) (link from.new to.new) out.old out.new (Ok said)) }
+
+    // Exactly the first `sent` bytes of such lines went out, and not the whole of the last.
+    ensures stopped_writing { (fault : _) → result ≡ Err (RunFault.WriteFault fault) →
+        RanCalls L.remaining O.contents R.remaining W.contents
+        (record { client = client; incarnation = incarnation }) tries lines.old lines.new
+        (link from.old to.old) (link from.new to.new) out.old out.new (Err (RunFault.WriteFault fault)) }
+
+    // The lines before the one that found no memory are settled and have their texts, or nothing was done.
+    ensures lacked_memory { result ≡ Err RunFault.NoMemory →
+        ((source_failed lines.new ≡ false)
+            × DidNothing (link from.old to.old) (link from.new to.new) out.old out.new)
+        ⊎ RanCalls L.remaining O.contents R.remaining W.contents
+        (record { client = client; incarnation = incarnation }) tries lines.old lines.new
+        (link from.old to.old) (link from.new to.new) out.old out.new (Err RunFault.NoMemory) }
+
+    // The other faults write nothing and ask nothing.
+    ensures failed_reading { result ≡ Err RunFault.ReadFault → (source_failed lines.new ≡ true)
+        × DidNothing (link from.old to.old) (link from.new to.new) out.old out.new }
+    ensures found_too_long { result ≡ Err RunFault.TooLong →
+        FoundTooLong L.remaining lines.old lines.new out.old out.new
+        × DidNothing (link from.old to.old) (link from.new to.new) out.old out.new }
+{
+    let input = read_input(alloc, lines)?;
+    match say_hello(alloc, New::start(client, incarnation), from, to, tries) {
+        Ok(idle) => call_lines(alloc, idle, &input, out, from, to, tries),
+        Err(word) => print_word(alloc, word, out, 0),
+    }
+}
+
+// Makes the call of each line, and prints its text.
+fn call_lines<O: Write, R: Read, W: Write>(
+    alloc: Global,
+    idle: Idle,
+    input: &[u8],
+    out: &mut Sink<O>,
+    from: &mut Source<R>,
+    to: &mut Sink<W>,
+    tries: u32,
+) -> Result<CallSaid, RunFault>
+    requires within { length input.now ≤ max_input }
+    requires numbers { HasNumbers idle (length input.now) }
+    ensures { (starting : Starting) (epoch : ℕ) (before : Link R W)
+        → IsWelcomed R.remaining W.contents starting tries epoch before (link from.old to.old)
+        → idle ≡ Some (first_key starting epoch)
+        → RunsCalls O.contents R.remaining W.contents starting tries (lines input.now)
+            before (link from.new to.new) out.old out.new result }
+{
+    let mut idle = idle;
+    let mut printed = 0;
+    let mut rest = input;
+    while let Some((line, after)) = first_line(rest) {
+        match call_line(alloc, idle, line, from, to, tries) {
+            Ok((next, text)) => {
+                printed = print_line(out, text, printed)?;
+                idle = next;
+                rest = after;
+            }
+            Err(Halt::Word(word)) => return print_word(alloc, word, out, printed),
+            Err(Halt::NoMemory) => return Err(RunFault::NoMemory),
+        }
+    }
+    Ok(CallSaid::Whole)
+}
+
+// Prints the word that ends the run, behind so many bytes.
+fn print_word<O: Write>(
+    alloc: Global,
+    word: Word,
+    out: &mut Sink<O>,
+    printed: u64,
+) -> Result<CallSaid, RunFault>
+    requires { printed < 2 ^ 63 }
+    ensures said { IfOk result (λ said. said ≡ CallSaid.Stopped) }
+    ensures took { OnOk result (TakesText O.contents (word_text word) out.old out.new) }
+    ensures cut { IfErr result (StopsText O.contents (word_text word) printed out.old out.new) }
+{
+    let text = word.text(alloc)?;
+    print_line(out, text, printed)?;
+    Ok(CallSaid::Stopped)
+}
+
+// Prints a text and LF behind so many bytes, in one write, and gives how many there are then.
+fn print_line<O: Write>(out: &mut Sink<O>, text: String, printed: u64) -> Result<u64, RunFault>
+    requires short { IsShortText text }
+    requires countable { printed < 2 ^ 63 }
+    ensures count { IfOk result (λ count. count ≡ printed + length (string_bytes text) + 1) }
+    ensures took { OnOk result (TakesText O.contents (string_bytes text) out.old out.new) }
+    ensures cut { IfErr result (StopsText O.contents (string_bytes text) printed out.old out.new) }
+{
+    let mut line = text;
+    line.push('\n')?;
+    match out.write_all(line.as_bytes()) {
+        Ok(()) => Ok(printed + line.len() as u64),
+        Err(fault) => Err(RunFault::WriteFault(OutputFault {
+            sent: printed + fault.sent as u64,
+        })),
+    }
+}

@@ -1,0 +1,104 @@
+//! Serves the book of an epoch over the connections of a listener, from its opening to its end.
+ghost use Rattle.std.specs.Prelude.{◌≡◌, ◌≤◌};
+ghost use Rattle.rv_text.specs.Limits.{FitsIdentifier};
+
+use rv_book::Book;
+use rv_server::{Clock, Closing, Gate, ServeFault, Shared, finish, serve};
+use std::marker::Brand;
+use std::net::TcpListener;
+use std::sync::Wait;
+use std::sync::ledger::{Blank, Ledger};
+use std::thread;
+use std::thread::Threads;
+use std::time;
+use std::time::{Duration, Instant};
+
+// How many milliseconds a worker waits before it asks a waiting request again.
+const PAUSE_MILLIS: u64 = 5;
+
+// The machine's clock, in whole milliseconds since the server's start. A reading that fails counts as 0.
+#[derive(Drop)]
+struct SinceStart<'a, R> {
+    rt: &'a R,
+    start: Option<Instant>,
+}
+
+impl<'a, R: time::Clock> SinceStart<'a, R> {
+    fn new(rt: &'a R) -> SinceStart<'a, R> {
+        let start = Instant::now(rt).ok();
+        SinceStart { rt, start }
+    }
+}
+
+impl<'a, R: time::Clock> Clock for SinceStart<'a, R> {
+    fn now(&self) -> u64 {
+        let Some(start) = self.start else {
+            return 0;
+        };
+        match start.elapsed(self.rt) {
+            Ok(since) => u64::try_from(since.as_millis()).unwrap_or(u64::MAX),
+            Err(_) => 0,
+        }
+    }
+}
+
+// A gate that sleeps for a pause.
+#[derive(Drop)]
+struct Sleeping<'a, R> {
+    rt: &'a R,
+}
+
+impl<'a, R: time::Clock> Gate for Sleeping<'a, R> {
+    fn pause(&self) {
+        thread::sleep(self.rt, Duration::from_millis(PAUSE_MILLIS));
+    }
+}
+
+/// Opens the book of an epoch at moment 0 and serves so many connections, by at most so many workers at once.
+/// It ends when all were served.
+pub(crate) fn serve_epoch<R: Threads + Wait + AllocGlobal + time::Clock + Sync>(
+    rt: &R,
+    listener: TcpListener,
+    epoch: u64,
+    workers: usize,
+    connections: u32,
+) -> Result<(), ServeFault>
+    requires epoch { FitsIdentifier epoch }
+    requires some { 1 ≤ workers }
+    requires most { workers ≤ 64 }
+{
+    let blank = Blank::new(workers as u64);
+    serve_book::<Brand, R>(rt, blank, listener, epoch, workers, connections)
+}
+
+// The whole life of a server, under the name of its ledger.
+fn serve_book<L: Ledger + Send + Sync, R: Threads + Wait + AllocGlobal + time::Clock + Sync>(
+    rt: &R,
+    blank: Blank,
+    listener: TcpListener,
+    epoch: u64,
+    workers: usize,
+    connections: u32,
+) -> Result<(), ServeFault>
+    requires name { blank.name ≡ L.name }
+    requires parts { blank.parts ≡ L.parts }
+    requires made { blank.parts ≡ workers }
+    requires epoch { FitsIdentifier epoch }
+    requires some { 1 ≤ workers }
+    requires most { workers ≤ 64 }
+{
+    let alloc = rt.alloc();
+    let clock = SinceStart::new(rt);
+    let gate = Sleeping { rt };
+    let book = Book::open(alloc, epoch, 0)?;
+    let (shared, seats) = Shared::<Book, L>::open(alloc, blank, book, workers)?;
+    let (seats, ended) = match serve(rt, alloc, &shared, seats, &clock, &gate, listener, connections) {
+        Ok(report) => (report.seats, Ok(())),
+        Err((report, fault)) => (report.seats, Err(fault)),
+    };
+    match finish(shared, seats) {
+        // The book as the last connection left it: here is its account.
+        Ok(Closing { desk: _, total: _ }) => ended,
+        Err(_) => unreachable!(),
+    }
+}

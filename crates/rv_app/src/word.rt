@@ -1,0 +1,41 @@
+//! The words that end a run of calls.
+ghost use Rattle.std.specs.Prelude.{◌≡◌, IfOk, string_bytes};
+ghost use Rattle.rv_app.specs.Told.{IsShortText};
+ghost use Rattle.rv_app.specs.Word.{word_text};
+
+use rv_text::{NoMemory, Refusal};
+use std::alloc::Global;
+
+// Why a run of calls ends before its lines do.
+#[derive(Clone, Copy, Debug)]
+pub(crate) enum Word {
+    // No welcome came: the link failed, or no answer said anything to the client.
+    NotWelcome,
+    // The hello was refused, for this reason.
+    Refused(Refusal),
+    // Nothing final was heard of the request of this number.
+    Unsettled(u64),
+    // A later epoch is there, which is given.
+    EpochEnded(u64),
+    // The client has a later incarnation, which is given.
+    Replaced(u64),
+    // The line says no call.
+    BadLine,
+}
+
+impl Word {
+    /// The line that tells the word.
+    pub(crate) fn text(self, alloc: Global) -> Result<String, NoMemory>
+        ensures text { IfOk result (λ text. string_bytes text ≡ word_text self) }
+        ensures short { IfOk result IsShortText }
+    {
+        match self {
+            Word::NotWelcome => String::from_str(alloc, "not welcome"),
+            Word::Refused(refusal) => format!(in alloc; "refused {}", refusal.code()),
+            Word::Unsettled(number) => format!(in alloc; "unsettled {number}"),
+            Word::EpochEnded(current) => format!(in alloc; "epoch ended {current}"),
+            Word::Replaced(current) => format!(in alloc; "replaced {current}"),
+            Word::BadLine => String::from_str(alloc, "bad line"),
+        }
+    }
+}

@@ -1,0 +1,12 @@
+-- Each worker's seat is back, or the worker is still there.
+use Rattle.std.proofs.Common.{◌≡◌, ◌+◌, vec_len}
+use Rattle.std.specs.Vec.{vec_capacity}
+use Rattle.rv_server.proofs.sockets.unseated.Given as goal
+
+abbrev pub invariant-loop-seat : goal.invariant-loop-seat
+invariant-loop-seat g l =
+    (vec_len l.seats + vec_len l.workers ≡ vec_len l.initial.seats + vec_len l.initial.workers)
+    × (vec_capacity l.seats ≡ vec_capacity l.initial.seats)
+
+abbrev pub decreases-loop-seat : goal.decreases-loop-seat
+decreases-loop-seat g l = vec_len l.workers

@@ -1,0 +1,266 @@
+//! Serves the connections of a listener, by one thread for each seat.
+ghost use Rattle.std.specs.Prelude.{◌≡◌, ◌<◌, ◌≤◌, ◌+◌, length, vec_len, Err, IfErr, IfOk, OnErr, OnOk};
+ghost use Rattle.std.specs.Vec.{vec_capacity};
+ghost use Rattle.rv_server.specs.declared.sockets.ServeFault.TheVariants.{NoMemory, NoWorker};
+
+use crate::asking::Post;
+use crate::desk::{Clock, Desk, Gate};
+use crate::shared::{Seat, Shared};
+use crate::worker::work;
+use crossbeam_channel::{Receiver, Sender};
+use rv_frame::{Sink, Source};
+use std::alloc::{AllocError, Global};
+use std::net::{TcpListener, TcpStream};
+use std::sync::Wait;
+use std::sync::ledger::Ledger;
+use std::thread;
+use std::thread::Threads;
+use thiserror::Error;
+
+/// What came of the connections of a listener, and the seats of those who served them.
+#[derive(Drop)]
+pub struct Report<L: Ledger> {
+    /// All the seats that were handed in.
+    pub seats: Vec<Seat<L>>,
+    /// How many connections were answered to their end.
+    pub served: u32,
+    /// How many were not: their worker stopped by a [`WorkFault`](crate::WorkFault), accepting them failed, or
+    /// their hand-over to a worker found no memory.
+    pub faults: u32,
+}
+
+/// Why no connection was accepted. Whoever had connected finds the connection closed.
+#[derive(Clone, Copy, Debug, PartialEq, Eq, Error)]
+#[error("serve fault {}", self.number())]
+pub enum ServeFault {
+    /// 1: no seat was handed in, or no thread could be started.
+    NoWorker,
+    /// 2: a growth of memory was refused, before the first thread was started.
+    NoMemory,
+}
+
+impl ServeFault {
+    ghost use Rattle.rv_server.specs.Serving.{serve_fault_number};
+
+    /// The fault's number, as the program prints it.
+    pub fn number(&self) -> u8
+        ensures { result ≡ serve_fault_number self.now }
+    {
+        match self {
+            ServeFault::NoWorker => 1,
+            ServeFault::NoMemory => 2,
+        }
+    }
+}
+
+impl From<AllocError> for ServeFault {
+    ghost from_gives = { λ _ fault. fault ≡ NoMemory };
+
+    fn from(_refused: AllocError) -> ServeFault {
+        ServeFault::NoMemory
+    }
+}
+
+// A worker while it serves: its seat, and how many connections it answered to their end.
+#[derive(Drop)]
+struct Worker<L: Ledger> {
+    seat: Seat<L>,
+    served: u32,
+}
+
+// Gives each seat to a worker. Where memory is refused the seats stay.
+fn seated<L: Ledger>(alloc: Global, seats: &mut Vec<Seat<L>>) -> Result<Vec<Worker<L>>, AllocError>
+    ensures all { IfOk result (λ workers. vec_len workers ≡ vec_len seats.old) }
+    ensures taken { OnOk result (vec_len seats.new ≡ 0) }
+    ensures room { vec_capacity seats.new ≡ vec_capacity seats.old }
+    ensures refused { OnErr result (vec_len seats.new ≡ vec_len seats.old) }
+{
+    let mut workers = Vec::with_capacity(alloc, seats.len())?;
+    while let Some(seat) = seats.pop() {
+        workers.push_reserved(Worker { seat, served: 0 });
+    }
+    Ok(workers)
+}
+
+// Takes the seats back, and tells how many connections came to their end.
+fn unseated<L: Ledger>(workers: Vec<Worker<L>>, seats: &mut Vec<Seat<L>>) -> u32
+    requires { vec_len seats.old + vec_len workers ≤ vec_capacity seats.old }
+    ensures { vec_len seats.new ≡ vec_len seats.old + vec_len workers }
+{
+    let mut workers = workers;
+    let mut all = 0u32;
+    while let Some(Worker { seat, served }) = workers.pop() {
+        seats.push_reserved(seat);
+        all = all.saturating_add(served);
+    }
+    all
+}
+
+// Accepts so many connections, and hands each to the next worker that is free. Then no more can come: the
+// listener goes, so that who comes late is refused, and so does the way to the workers.
+fn accept_all<T: Wait>(rt: &T, listener: TcpListener, to: Sender<TcpStream>, connections: u32) {
+    for _ in 0..connections {
+        if let Ok((stream, _)) = listener.accept() {
+            // Where this finds no memory the connection is closed.
+            let _ = to.send(rt, stream);
+        }
+    }
+}
+
+impl<'a, T: Wait, D: Desk, L: Ledger, C: Clock, G: Gate> Post<'a, T, D, L, C, G> {
+    // Answers the frames of a connection, and tells whether it came to its end.
+    fn serve_connection(&self, seat: &mut Seat<L>, stream: TcpStream) -> bool {
+        // A connection that won't send at once is served all the same.
+        let _ = stream.set_nodelay(true);
+        let mut source = Source::new(&stream);
+        let mut sink = Sink::new(&stream);
+        let served = work(
+            self.rt,
+            self.alloc,
+            self.shared,
+            seat,
+            self.clock,
+            self.gate,
+            &mut source,
+            &mut sink,
+        );
+        served.is_ok()
+    }
+
+    // Serves what is handed over, one connection after the other, until no more can come.
+    fn serve_handed(&self, worker: &mut Worker<L>, handed: &Receiver<TcpStream>) {
+        for _ in self.rt.forever() {
+            let Ok(stream) = handed.recv(self.rt) else {
+                break;
+            };
+            if self.serve_connection(&mut worker.seat, stream) {
+                worker.served = worker.served.saturating_add(1);
+            }
+        }
+    }
+}
+
+impl<'a, T, D, L, C, G> Post<'a, T, D, L, C, G>
+where
+    T: Threads + Wait + Sync,
+    D: Desk + Send,
+    D::Stamp: Send,
+    L: Ledger + Send + Sync,
+    C: Clock + Sync,
+    G: Gate + Sync,
+{
+    // Starts a thread for each worker, accepts so many connections, and returns when all of them were served.
+    // False where no thread could be started: then none is accepted.
+    fn run(
+        &self,
+        workers: &mut [Worker<L>],
+        handed: &Receiver<TcpStream>,
+        to: Sender<TcpStream>,
+        listener: TcpListener,
+        connections: u32,
+    ) -> bool
+        ensures { length workers.new ≡ length workers.old }
+    {
+        thread::scope(thread::scope_env(), self.rt, move |scope| {
+            let mut started = false;
+            for worker in workers.iter_mut() {
+                let thread = scope.spawn(move || self.serve_handed(worker, handed));
+                started = started || thread.is_ok();
+            }
+            if started {
+                accept_all(self.rt, listener, to, connections);
+            }
+            started
+        })
+    }
+
+    // Serves so many connections, and tells how many came to their end. The seats come back, whatever happens.
+    fn serve_all(
+        &self,
+        seats: &mut Vec<Seat<L>>,
+        listener: TcpListener,
+        connections: u32,
+    ) -> Result<u32, ServeFault>
+        ensures seats { vec_len seats.new ≡ vec_len seats.old }
+        ensures none { vec_len seats.old ≡ 0 → result ≡ Err NoWorker }
+    {
+        if seats.is_empty() {
+            return Err(ServeFault::NoWorker);
+        }
+        let (to, handed) = crossbeam_channel::bounded(self.alloc, seats.len())?;
+        let mut workers = seated(self.alloc, seats)?;
+        let started = self.run(workers.as_mut_slice(), &handed, to, listener, connections);
+        let served = unseated(workers, seats);
+        if started {
+            Ok(served)
+        } else {
+            Err(ServeFault::NoWorker)
+        }
+    }
+}
+
+/// Serves so many connections of the listener, by one thread for each seat, and ends when all of them were
+/// served. A worker answers a connection as [`work`] does, until it ends, and then takes the next; an accepted
+/// connection waits while all workers are busy, and while as many as there are workers wait so, no further one
+/// is accepted.
+///
+/// A thread that can't be started is left out, and its seat stays. An accept that fails counts as a
+/// connection. After the last one was accepted the listener is closed, so that whoever comes late is refused.
+///
+/// The report has as many seats as were handed in, on a fault too, and each connection counts once: as served,
+/// where its frames were answered to its end, or as a fault. A [`ServeFault`] comes before the first accept
+/// alone. It waits for connections, for their bytes, for the lock and for the gate.
+pub fn serve<T, D, L, C, G>(
+    rt: &T,
+    alloc: Global,
+    shared: &Shared<D, L>,
+    seats: Vec<Seat<L>>,
+    clock: &C,
+    gate: &G,
+    listener: TcpListener,
+    connections: u32,
+) -> Result<Report<L>, (Report<L>, ServeFault)>
+where
+    T: Threads + Wait + Sync,
+    D: Desk + Send,
+    D::Stamp: Send,
+    L: Ledger + Send + Sync,
+    C: Clock + Sync,
+    G: Gate + Sync,
+    ensures seats { IfOk result (λ report. vec_len report.seats ≡ vec_len seats) }
+    ensures counts { IfOk result (λ report. report.served + report.faults ≡ connections) }
+    ensures some_seat { OnOk result (0 < vec_len seats) }
+    ensures seats_back { IfErr result (λ stopped. vec_len stopped.0.seats ≡ vec_len seats) }
+    ensures none_served { IfErr result (λ stopped. stopped.0.served ≡ 0) }
+    ensures none_failed { IfErr result (λ stopped. stopped.0.faults ≡ 0) }
+    ensures no_seat { vec_len seats ≡ 0 → IfErr result (λ stopped. stopped.1 ≡ NoWorker) }
+{
+    let post = Post {
+        rt,
+        alloc,
+        shared,
+        clock,
+        gate,
+    };
+    let mut seats = seats;
+    match post.serve_all(&mut seats, listener, connections) {
+        Ok(ended) => {
+            // no more than were accepted came to their end
+            let served = ended.min(connections);
+            let faults = connections - served;
+            Ok(Report {
+                seats,
+                served,
+                faults,
+            })
+        }
+        Err(fault) => {
+            let report = Report {
+                seats,
+                served: 0,
+                faults: 0,
+            };
+            Err((report, fault))
+        }
+    }
+}
