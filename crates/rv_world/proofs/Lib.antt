@@ -17,6 +17,14 @@ pub mod EventLists
 pub mod Partners
 pub mod TheHeadline
 pub mod Roomy
+pub mod Pairs
+pub mod Queries
+pub mod Telling
 pub mod RulesKept
 pub mod RulesSuffice
 pub mod ByRules
+pub mod Closing
+pub mod Joining
+pub mod Firsts
+pub mod Touching
+pub mod Entering

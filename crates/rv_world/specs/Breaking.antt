@@ -1,8 +1,9 @@
 -- What breaks each rule of an audit at a place, and which fault of an account is its first.
 --
--- An entry is looked at behind the account of those before it, in the words in which rv_book says which entry
--- may stand where. Of each rule is said what breaks it, whether another is broken there or not. Who is open is
--- said by pairs and swaps, which only arrivals that may meet make; in a legal account no other names a partner.
+-- An entry is looked at behind the account of those before it, in the words in which rv_book says which
+-- entry may stand where. Of each rule is said what breaks it, whether another is broken there or not. Who is
+-- open is said by pairs and swaps, which only arrivals that may meet make; in a legal account no others name
+-- partners.
 use Rattle.std.specs.Prelude.{◌≡◌, ◌≢◌, ◌⊎◌, ◌<◌, ◌≤◌, ◌+◌, ℕ, List, length, Some, None, slice_get, codes}
 use Rattle.rv_text.specs.declared.message.Key.{Key}
 use Rattle.rv_text.specs.declared.call.Call.{Call}
@@ -30,19 +31,19 @@ use Rattle.rv_world.specs.declared.rule.Rule.TheVariants.{M1, M2, M3, N1, N2, N3
 abbrev pub FallsBack : Account → Entry → Type 0
 FallsBack a e = e.moment < own_moment a
 
--- it is no tick, and a waiting request has a limit at or below its moment
+-- the limit of a request that waits has come, and the entry is no tick
 pub record PassesLimit (entries : List Entry) (e : Entry) : Type 0 where
   pub no_tick : e.act ≢ Tick
   pub due : SomethingDue entries e.moment
 
--- it is a tick, and no waiting request has a limit at or below its moment
+-- the entry is a tick, though nothing is due: no limit of a request that waits has come
 pub record TicksForNothing (entries : List Entry) (e : Entry) : Type 0 where
   pub ticks : e.act ≡ Tick
   pub nothing_due : NothingDue entries e.moment
 
 -- ---- numbers
 
--- it is a hello, and an earlier one of its client has that incarnation or a greater one
+-- it is a hello, and an earlier one of its client has the same incarnation or a greater one
 pub record StartsNoNewer (entries : List Entry) (does : Act) : Type 0 where
   pub client : ℕ
   pub incarnation : ℕ
@@ -52,8 +53,8 @@ pub record StartsNoNewer (entries : List Entry) (does : Act) : Type 0 where
   pub earlier : act_at entries place ≡ Some (Hello client reached)
   pub no_newer : incarnation ≤ reached
 
--- it is an arrival or a cancel with another epoch than the account's, or its client's last hello isn't of its
--- incarnation, or there is none
+-- the entry names a key of another epoch than the account's, or of another incarnation than that of the
+-- client's last hello, or of a client that said none
 pub record IsOfNoSession (a : Account) (does : Act) : Type 0 where
   pub key : Key
   pub names : key_in does ≡ Some key
@@ -121,8 +122,8 @@ pub record ArrivesAs (Is : Side → Type 0) (e : Entry) (call : Call) : Type 0 w
   pub arrives : call_in e.act ≡ Some call
   pub is : Is (side_of call)
 
--- the entry is an arrival of such a side, and the partner that it names isn't an open arrival of the other
--- side of its queue, or at its exchanger
+-- the entry is an arrival of such a side, and names a partner that isn't an open arrival which it meets: one of
+-- its queue's other side, or at its exchanger
 pub record MeetsWrongly (Is : Side → Type 0) (entries : List Entry) (e : Entry) : Type 0 where
   pub call : Call
   pub arrives : ArrivesAs Is e call
@@ -143,8 +144,7 @@ pub record PassesOver (entries : List Entry) (e : Entry) : Type 0 where
   pub earlier : passed < partner
   pub there : OpenAt entries side passed
 
--- the entry is an arrival of such a side and names no partner, and an open arrival of the other side of its
--- queue, or at its exchanger, is there
+-- the entry is an arrival of such a side and names no partner, though an open arrival which it meets is there
 pub record MeetsNobody (Is : Side → Type 0) (entries : List Entry) (e : Entry) : Type 0 where
   pub call : Call
   pub arrives : ArrivesAs Is e call

@@ -11,3 +11,7 @@ pub mod Processes
 pub mod Table
 pub mod Sound
 pub mod Parts
+pub mod Marks
+pub mod Lines
+pub mod Sessions
+pub mod Passed

@@ -22,8 +22,7 @@ pub enum Rule {
     /// A session counts its requests up by one, with one waiting at most; a cancel is of that one, or of the
     /// next.
     N3,
-    /// A partner is an earlier place that was not named and names none; who gives, takes or exchanges alone
-    /// has one.
+    /// Only who gives, takes or exchanges has a partner: an earlier place that was not named and names none.
     P1,
     /// Who gives is paired with who takes of that queue, and the other way round, while the partner is open.
     P2,

@@ -1,0 +1,261 @@
+-- What one test on an audit's tables tells, of what the rules ask.
+use Rattle.std.proofs.Common.{◌≡◌, ◌≢◌, ◌⊎◌, inl, inr, ℕ, ◌+◌, ◌-◌, ◌<◌, ◌≤◌, Bool, true, false, not, nat_eq, nat_lt, nat_le, List, length, take, Option, Some, None, IfSome, IfNone, is_some, option_and_then, refl, sym, ap, subst, ◌∙◌, arith}
+use Rattle.std.specs.List.{slice_get}
+use Rattle.std.specs.Bool.{IsTrue}
+use Rattle.std.proofs.lemmas.Bool.{cases_lt, false≢true}
+use Rattle.std.proofs.lemmas.Bool.Decides.{nat_tests}
+use Rattle.std.proofs.lemmas.Option.{none-some, same_Some}
+use Rattle.rv_text.specs.declared.message.Key.{Key}
+use Rattle.rv_text.specs.declared.call.Call.{Call}
+use Rattle.rv_text.specs.declared.call.Side.{Side}
+use Rattle.rv_text.specs.Calls.{side_of}
+use Rattle.rv_book.specs.declared.account.Entry.{Entry}
+use Rattle.rv_book.specs.declared.account.Act.TheVariants.{Arrive, Hello, Tick}
+use Rattle.rv_book.specs.Account.{Account, act_at, call_at, call_in, key_in, partner_at}
+use Rattle.rv_book.specs.Calls.{MayMeet, opposite}
+use Rattle.rv_book.specs.Legal.{HasWaiting, IsOpenOpposite, Legal, NothingDue, SomethingDue, WaitsUnder}
+use Rattle.rv_book.specs.Sessions.{HasIncarnation, LastNumber, NamesKey, SaidHello}
+use Rattle.rv_book.specs.Waiting.{IsOldest, Met, NamesPartner, OpenAt, SideAt, Waiting}
+use Rattle.rv_book.proofs.Fronts.{read_front, read_whole}
+use Rattle.rv_book.proofs.Growing.{act_read, call_read, partner_read, read_there, reads_within}
+use Rattle.rv_book.proofs.Histories.{hellos_at_most, one_last_number}
+use Rattle.rv_book.proofs.Keys.{act_called}
+use Rattle.rv_book.proofs.Sides.{one_side}
+use Rattle.rv_book.proofs.Waits.{one_waits}
+use Rattle.rv_world.specs.Breaking.{ArrivesAs, CountsTo, IsNoFreePlace, IsNotNext, IsOutOfTurn, IsPaired, Meets, MeetsNobody, NamesWrongly, PassesOver, StartsNoNewer, TicksForNothing}
+use Rattle.rv_world.specs.Passed.{ArrivesWith, FindsOne, HasOlder, HasOne, IsPassedBy, IsSession, IsSessionOf, Leaves, WaitsOf}
+use Rattle.rv_world.specs.declared.sessions.Session.{Session}
+
+abbrev pub Iff : Type 0 → Type 0 → Type 0
+Iff A B = (A → B) × (B → A)
+
+-- what never holds is told by no
+pub never : (A : Type 0) → (A → ⊥) → Iff (IsTrue false) A
+never A none = (λ t. absurd (false≢true t), λ h. absurd (none h))
+
+-- ---- lines
+
+older_by : (es : List Entry) (side : Side) (first place : ℕ) (b : Bool) → nat_lt first place ≡ b → IsOldest es side first → Iff (IsTrue b) (HasOlder es side place)
+older_by es side first place true less is = (λ t. let below : first < place = grind (arith, nat_tests) in (first, below, is.there), λ has. refl)
+older_by es side first place false more is = (λ t. absurd (false≢true t), λ has.
+    let least : place ≤ first = grind (arith, nat_tests) in
+    let below : has.0 < place = has.1 in
+    absurd (is.oldest has.0 (omega arith) has.2))
+
+pub older : (es : List Entry) (side : Side) (first place : ℕ) → IsOldest es side first → Iff (IsTrue (nat_lt first place)) (HasOlder es side place)
+older es side first place is = older_by es side first place (nat_lt first place) refl is
+
+pub no_older : (es : List Entry) (side : Side) (place : ℕ) → ((r : ℕ) → OpenAt es side r → ⊥) → Iff (IsTrue false) (HasOlder es side place)
+no_older es side place none = never (HasOlder es side place) (λ has. none has.0 has.2)
+
+pub no_one : (es : List Entry) (side : Side) → ((r : ℕ) → OpenAt es side r → ⊥) → Iff (IsTrue false) (HasOne es side)
+no_one es side none = never (HasOne es side) (λ has. none has.0 has.1)
+
+-- ---- partners
+
+pub finds : (es : List Entry) (call : Call) (side : Side) (b : Bool) → opposite (side_of call) ≡ Some side → Iff (IsTrue b) (HasOne es side) → Iff (IsTrue b) (FindsOne es call)
+finds es call side b opposes has = (
+  λ t. let one = has.0 t in (one.0, record { side = side; opposes = opposes; there = one.1 }),
+  λ found. has.1 (found.0, subst (λ s. OpenAt es s found.0) (same_Some _ _ (sym found.1.opposes ∙ opposes)) found.1.there),
+)
+
+pub passed_by : (es : List Entry) (side : Side) (place : ℕ) (b : Bool) → SideAt es side place → IsPaired side → Iff (IsTrue b) (HasOlder es side place)
+    → Iff (IsTrue b) (IsPassedBy es place)
+passed_by es side place b at is has = (
+  λ t. (side, is, at, has.0 t),
+  λ passed. has.1 (subst (λ s. HasOlder es s place) (one_side es passed.0 side place passed.2 at) passed.3),
+)
+
+pub not_passed : (es : List Entry) (side : Side) (place : ℕ) (b : Bool) → b ≡ false → SideAt es side place → (IsPaired side → IsTrue b) → Iff (IsTrue b) (IsPassedBy es place)
+not_passed es side place b low at is = (
+  λ t. absurd (false≢true (sym low ∙ t)),
+  λ passed. is (subst IsPaired (one_side es passed.0 side place passed.2 at) passed.1),
+)
+
+pub nobody_passed : (es : List Entry) (place : ℕ) → ((side : Side) → SideAt es side place → ⊥) → Iff (IsTrue false) (IsPassedBy es place)
+nobody_passed es place none = never (IsPassedBy es place) (λ passed. none passed.0 passed.2)
+
+pub over : (es : List Entry) (e : Entry) (call : Call) (place : ℕ) (b : Bool) → ArrivesAs IsPaired e call → e.partner ≡ Some place → Iff (IsTrue b) (IsPassedBy es place) → Iff (IsTrue b) (PassesOver es e)
+over es e call place b arrives names is = (
+  λ t.
+      let passed = is.0 t in
+      record {
+        call = call;
+        arrives = arrives;
+        partner = place;
+        names = names;
+        side = passed.0;
+        of_queue = passed.1;
+        is_partners = passed.2;
+        passed = passed.3.0;
+        earlier = passed.3.1;
+        there = passed.3.2;
+      },
+  λ breaks.
+      let same : breaks.partner ≡ place = same_Some _ _ (sym breaks.names ∙ names) in
+      is.1 (subst (IsPassedBy es) same (breaks.side, breaks.of_queue, breaks.is_partners, (breaks.passed, breaks.earlier, breaks.there))),
+)
+
+pub nobody_met : (Is : Side → Type 0) (es : List Entry) (e : Entry) (call : Call) (b : Bool) → ArrivesAs Is e call → Iff (IsTrue b) (Leaves es call e.partner) → Iff (IsTrue b) (MeetsNobody Is es e)
+nobody_met Is es e call b arrives is = (
+  λ t. let leaves = is.0 t in record { call = call; arrives = arrives; alone = leaves.0; other = leaves.1.0; opposite_there = leaves.1.1 },
+  λ breaks.
+      let same : breaks.call ≡ call = same_Some _ _ (sym breaks.arrives.arrives ∙ arrives.arrives) in
+      is.1 (breaks.alone, (breaks.other, subst (λ c. IsOpenOpposite es c breaks.other) same breaks.opposite_there)),
+)
+
+-- in a legal account a place is in a pair or swap where it was named, or names one
+named_met : (a : Account) (p r : ℕ) → Legal a → partner_at a.entries r ≡ Some p → NamesPartner a.entries r p
+named_met a p r legal named =
+    let at = read_there partner_read refl (slice_get a.entries r) p named in
+    let free = (legal r at.0 at.1).pairs.names_free_partner p at.2 in
+    record { call = free.call; arrived = ap call_read at.1 ∙ free.arrives; meets = free.meets; named = named }
+
+pub no_free_met : (a : Account) (p : ℕ) → Legal a → IsNoFreePlace a.entries p → (length a.entries ≤ p) ⊎ Met a.entries p
+no_free_met a p legal (inl past) = inl past
+no_free_met a p legal (inr (inl was)) = inr (record { later = was.0; earlier = p; names = named_met a p was.0 legal was.1; part = inr refl })
+no_free_met a p legal (inr (inr names)) = inr (record { later = p; earlier = names.0; names = named_met a names.0 p legal names.1; part = inl refl })
+
+met_no_free : (es : List Entry) (p : ℕ) → Met es p → IsNoFreePlace es p
+met_no_free es p met = elim met.part [
+  | inl is ↦ inr (inr (met.earlier, ap (partner_at es) is ∙ met.names.named))
+  | inr is ↦ inr (inl (met.later, met.names.named ∙ ap Some (sym is)))
+]
+
+-- who meets names wrongly where the place isn't free
+pub wrongly : (a : Account) (e : Entry) (p : ℕ) (b : Bool) → Legal a → e.partner ≡ Some p → Meets e → ((Met a.entries p) ⊎ (Met a.entries p → ⊥))
+    → Iff (IsTrue b) ((p < length a.entries) × (Met a.entries p → ⊥)) → Iff (IsTrue (not b)) (NamesWrongly a.entries e)
+wrongly a e p true legal names meets met free = (
+  λ t. absurd (false≢true t),
+  λ breaks. elim breaks.wrong [
+    | inl meets_not ↦ absurd (meets_not meets)
+    | inr taken ↦
+        let same : breaks.partner ≡ p = same_Some _ _ (sym breaks.names ∙ names) in
+        elim (no_free_met a p legal (subst (IsNoFreePlace a.entries) same taken)) [
+          | inl past ↦ let inside : p < length a.entries = (free.0 refl).0 in absurd (omega arith)
+          | inr is ↦ absurd ((free.0 refl).1 is)
+        ]
+  ],
+)
+wrongly a e p false legal names meets met free = (
+  λ t. record { partner = p; names = names; wrong = inr (taken met) },
+  λ breaks. refl,
+)
+  where
+    past : (p < length a.entries) ⊎ (length a.entries ≤ p) → (Met a.entries p → ⊥) → IsNoFreePlace a.entries p
+    past (inl inside) unmet = absurd (false≢true (free.1 (inside, unmet)))
+    past (inr outside) unmet = inl outside
+
+    taken : (Met a.entries p) ⊎ (Met a.entries p → ⊥) → IsNoFreePlace a.entries p
+    taken (inl is) = met_no_free a.entries p is
+    taken (inr unmet) = past (cases_lt p (length a.entries)) unmet
+
+-- ---- moments
+
+pub for_nothing : (es : List Entry) (e : Entry) (b : Bool) → e.act ≡ Tick → Iff (IsTrue b) (SomethingDue es e.moment) → Iff (IsTrue (not b)) (TicksForNothing es e)
+for_nothing es e true ticks due = (λ t. absurd (false≢true t), λ breaks. let some = due.0 refl in absurd (breaks.nothing_due some.0 some.1))
+for_nothing es e false ticks due = (λ t. record { ticks = ticks; nothing_due = λ r is. false≢true (due.1 (r, is)) }, λ breaks. refl)
+
+-- ---- sessions
+
+pub reached : (a : Account) (client incarnation : ℕ) (s : Session) (b : Bool) → nat_le incarnation s.incarnation ≡ b → Legal a → IsSession a.entries client s
+    → Iff (IsTrue b) (StartsNoNewer a.entries (Hello client incarnation))
+reached a client incarnation s true most legal is = (
+  λ t. record {
+    client = client;
+    incarnation = incarnation;
+    hello = refl;
+    place = is.incarnation.0;
+    reached = s.incarnation;
+    earlier = is.incarnation.1.hello;
+    no_newer = grind (arith, nat_tests);
+  },
+  λ breaks. refl,
+)
+reached a client incarnation s false above legal is = (
+  λ t. absurd (false≢true t),
+  λ breaks.
+      let over : s.incarnation < incarnation = grind (arith, nat_tests) in
+      let same = same_hello_parts client incarnation breaks.client breaks.incarnation breaks.hello in
+      let earlier = subst (λ c. act_at a.entries breaks.place ≡ Some (Hello c breaks.reached)) (sym same.0) breaks.earlier in
+      let at_most : breaks.reached ≤ s.incarnation = hellos_at_most a client s.incarnation breaks.place breaks.reached legal is.incarnation earlier in
+      let own : incarnation ≡ breaks.incarnation = same.1 in
+      let no_newer : breaks.incarnation ≤ breaks.reached = breaks.no_newer in
+      absurd (omega arith),
+)
+  where
+    same_hello_parts : (c i d j : ℕ) → Hello c i ≡ Hello d j → (c ≡ d) × (i ≡ j)
+    same_hello_parts c i d j e = (let f : c ≡ d = cc in f, let f : i ≡ j = cc in f)
+
+one_count : (es : List Entry) (client m n : ℕ) → LastNumber es client m → CountsTo es client n → n ≡ m
+one_count es client m n is (inl last) = one_last_number es client n m last is
+one_count es client m n is (inr none) = absurd (none.0 (is.h, is.incarnation, is.hello.hello))
+
+none_count : (es : List Entry) (client n : ℕ) → (SaidHello es client → ⊥) → CountsTo es client n → n ≡ 0
+none_count es client n none (inl last) = absurd (none (last.h, last.incarnation, last.hello.hello))
+none_count es client n none (inr is) = is.1
+
+pub not_next : (es : List Entry) (key : Key) (s : Session) (b : Bool) → IsSession es key.client s → (b ≡ true → key.number ≢ s.last + 1) → (b ≡ false → key.number ≡ s.last + 1)
+    → Iff (IsTrue b) (IsNotNext es key)
+not_next es key s true is other own = (λ t. record { last = s.last; counts_to = inl is.number; other = other refl }, λ breaks. refl)
+not_next es key s false is other own = (λ t. absurd (false≢true t), λ breaks.
+    let same : breaks.last ≡ s.last = one_count es key.client s.last breaks.last is.number breaks.counts_to in
+    absurd (breaks.other (own refl ∙ ap (λ n. n + 1) (sym same))))
+
+pub not_first : (es : List Entry) (key : Key) (b : Bool) → (SaidHello es key.client → ⊥) → (b ≡ true → key.number ≢ 1) → (b ≡ false → key.number ≡ 1)
+    → Iff (IsTrue b) (IsNotNext es key)
+not_first es key true none other own = (λ t. record { last = 0; counts_to = inr (none, refl); other = other refl }, λ breaks. refl)
+not_first es key false none other own = (λ t. absurd (false≢true t), λ breaks.
+    let same : breaks.last ≡ 0 = none_count es key.client breaks.last none breaks.counts_to in
+    absurd (breaks.other (own refl ∙ ap (λ n. n + 1) (sym same))))
+
+pub not_next_low : (es : List Entry) (key : Key) (s : Session) → IsSession es key.client s → key.number ≤ s.last → Iff (IsTrue (nat_le key.number s.last)) (IsNotNext es key)
+not_next_low es key s is low = not_next es key s (nat_le key.number s.last) is (λ t same. omega arith) (λ f. absurd (let over : s.last < key.number = grind (arith, nat_tests) in omega arith))
+
+differs : (n : ℕ) → not (nat_eq n 1) ≡ true → n ≢ 1
+differs n t same = grind (arith, nat_tests)
+
+agrees : (n : ℕ) → not (nat_eq n 1) ≡ false → n ≡ 1
+agrees n f = by_value (nat_eq n 1) refl f
+  where
+    by_value : (b : Bool) → nat_eq n 1 ≡ b → not b ≡ false → n ≡ 1
+    by_value true is f = grind (arith, nat_tests)
+    by_value false is f = absurd (false≢true (sym f))
+
+pub not_next_high : (es : List Entry) (key : Key) (s : Session) → IsSession es key.client s → s.last < key.number → Iff (IsTrue (not (nat_eq (key.number - s.last) 1))) (IsNotNext es key)
+not_next_high es key s is high = not_next es key s (not (nat_eq (key.number - s.last) 1)) is
+    (λ t same. differs (key.number - s.last) t (omega arith))
+    (λ f. let one : key.number - s.last ≡ 1 = agrees (key.number - s.last) f in omega arith)
+
+pub not_one : (es : List Entry) (key : Key) → (SaidHello es key.client → ⊥) → Iff (IsTrue (not (nat_eq key.number 1))) (IsNotNext es key)
+not_one es key none = not_first es key (not (nat_eq key.number 1)) none (differs key.number) (agrees key.number)
+
+-- ---- who waits
+
+pub out_of_turn : (es : List Entry) (key : Key) (b : Bool) → b ≡ false → Iff (IsTrue b) (IsNotNext es key) → (o : Option ℕ)
+    → IfSome o (WaitsOf es key.client) → IfNone o (HasWaiting es key.client → ⊥) → Iff (IsTrue (is_some o)) (IsOutOfTurn es key)
+out_of_turn es key b low next (Some place) some none = (λ t. inr (record { place = place; key = some.key; waits = some.waits; names = some.names }), λ out. refl)
+out_of_turn es key b low next None some none = (λ t. absurd (false≢true t), λ out. elim out [
+  | inl other ↦ absurd (false≢true (sym low ∙ next.1 other))
+  | inr waits ↦ absurd (none waits)
+])
+
+pub under_some : (whole : List Entry) (a : Account) (n place : ℕ) (key : Key) (b : Bool) → a.entries ≡ take n whole → Legal a → WaitsOf a.entries key.client place
+    → Iff (IsTrue b) (ArrivesWith whole key place) → Iff (IsTrue b) (WaitsUnder a.entries key)
+under_some whole a n place key b front legal waits has = (
+  λ t.
+      let arrives = has.0 t in
+      let inside = subst (λ (es : List Entry). Waiting es place) front waits.waits in
+      let below = (read_whole call_read refl whole n place inside.is_open.call inside.is_open.arrived).0 in
+      let there : act_at (take n whole) place ≡ Some (Arrive key arrives.0) = read_front act_read whole n place (Arrive key arrives.0) below arrives.1 in
+      record { place = place; call = arrives.0; arrived = subst (λ (es : List Entry). act_at es place ≡ Some (Arrive key arrives.0)) (sym front) there; waits = waits.waits },
+  λ under.
+      let names : NamesKey a.entries key.client under.place key = record { named = ap (option_and_then key_in) under.arrived; of_client = refl } in
+      let same : under.place ≡ place = one_waits a key.client under.place place key waits.key legal under.waits waits.waits names waits.names in
+      let there = subst (λ (es : List Entry). act_at es under.place ≡ Some (Arrive key under.call)) front under.arrived in
+      has.1 (under.call, subst (λ r. act_at whole r ≡ Some (Arrive key under.call)) same (read_whole act_read refl whole n under.place (Arrive key under.call) there).1),
+)
+
+pub under_none : (es : List Entry) (key : Key) → (HasWaiting es key.client → ⊥) → Iff (IsTrue false) (WaitsUnder es key)
+under_none es key none = never (WaitsUnder es key) (λ under.
+    none (record { place = under.place; key = key; waits = under.waits; names = record { named = ap (option_and_then key_in) under.arrived; of_client = refl } }))

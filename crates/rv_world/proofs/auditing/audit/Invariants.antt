@@ -1,0 +1,9 @@
+use Rattle.std.proofs.Common.{◌≡◌, ◌-◌, length}
+use Rattle.rv_world.specs.Passed.{IsFront}
+use Rattle.rv_world.proofs.auditing.audit.Given as goal
+
+abbrev pub invariant-loop-entry : goal.invariant-loop-entry
+invariant-loop-entry l = record { front : IsFront l.front; same : l.front.account.now ≡ l.account }
+
+abbrev pub decreases-loop-entry : goal.decreases-loop-entry
+decreases-loop-entry l = length l.account.account.entries - length l.front.met.items

@@ -1,0 +1,10 @@
+use Rattle.std.proofs.Common.{◌≡◌, ℕ, IfNone, IfSome, IsTrue, Some, None, refl, sym, ap, ◌∙◌, subst, arith}
+use Rattle.rv_world.proofs.Firsts.{first_by_rank, none_by_rank}
+use Rattle.rv_world.specs.Passed.{passed}
+use Rattle.rv_world.proofs.auditing.first_broken.Goals as goal
+
+pub returns-clause-some : goal.returns-clause-some
+returns-clause-some c = first_by_rank (passed c.args.front.now) c.args.entry.now c.first_of.result c.first_of.ensures.some
+
+pub returns-clause-none : goal.returns-clause-none
+returns-clause-none c = none_by_rank (passed c.args.front.now) c.args.entry.now c.first_of.result c.first_of.ensures.none

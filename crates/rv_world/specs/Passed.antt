@@ -1,0 +1,299 @@
+-- What an audit's tables are to the entries that it has passed.
+use Rattle.std.specs.Prelude.{◌≡◌, ◌⊎◌, ◌↔◌, ◌<◌, ◌+◌, ◌++◌, ◌∷◌, [], ◌^◌, ℕ, Bool, true, false, cond, nat_eq, List, length, Option, Some, None}
+use Rattle.std.specs.Prelude.{slice_get, slice_set}
+use Rattle.rv_text.specs.declared.message.Key.{Key}
+use Rattle.rv_text.specs.declared.call.Side.{Side}
+use Rattle.rv_text.specs.declared.call.Call.{Call}
+use Rattle.rv_book.specs.declared.account.Act.{Act}
+use Rattle.rv_book.specs.declared.account.Act.TheVariants.{Arrive, Cancel, Hello, Tick}
+use Rattle.rv_book.specs.declared.account.Entry.{Entry}
+use Rattle.rv_book.specs.Account.{Account, act_at, call_at, call_in}
+use Rattle.rv_book.specs.Sessions.{HasIncarnation, LastNumber, NamesKey, SaidHello}
+use Rattle.rv_book.specs.Legal.{IsDueAt, IsOpenOpposite, Legal, MayFollow, before}
+use Rattle.rv_book.specs.Steps.{own_moment}
+use Rattle.rv_book.specs.Calls.{IsPut, Stays}
+use Rattle.rv_text.specs.Calls.{side_of}
+use Rattle.rv_book.specs.Waiting.{Met, Open, OpenAt, SideAt, StoppedAt, Waiting, limit_at, limit_in}
+use Rattle.rv_world.specs.Breaking.{BreaksBehind, IsPaired, rank_of}
+use Rattle.rv_world.specs.declared.rule.Rule.{Rule}
+use Rattle.rv_world.specs.Lines.{Closes, Opens, stands_in}
+use Rattle.rv_world.specs.Marks.{Gains, Loses, count_of, marked}
+use Rattle.rv_world.specs.Sessions.{Enters, session_in}
+use Rattle.rv_world.specs.declared.front.Front.{Front}
+use Rattle.rv_world.specs.declared.lines.Lines.{Lines}
+use Rattle.rv_world.specs.declared.marks.Marks.{Marks}
+use Rattle.rv_world.specs.declared.sessions.Session.{Session}
+use Rattle.rv_world.specs.declared.sessions.Sessions.{Sessions}
+
+-- the account of the entries that were passed
+abbrev pub passed : Front → Account
+passed front = before front.account.now.account (length front.met.items)
+
+-- which places were taken out already, by the entry that is about to be passed
+abbrev pub Gone : Type 0
+Gone = ℕ → Bool
+
+abbrev pub none_gone : Gone
+none_gone place = false
+
+-- the flags are those of the arrivals that are in a pair or swap
+pub record AreMet (entries : List Entry) (met : List Bool) : Type 0 where
+  pub count : length met ≡ length entries
+  pub flags : (r : ℕ) → (slice_get met r ≡ Some true) ↔ Met entries r
+
+-- the places of a side's line are those of its open arrivals that weren't taken out
+abbrev pub AreLines : List Entry → Gone → Lines → Type 0
+AreLines entries gone lines =
+    (side : Side) (r : ℕ) → (stands_in lines side r ≡ true) ↔ (OpenAt entries side r × (gone r ≡ false))
+
+-- the limits are those of the requests that wait and weren't taken out, where they fit a moment
+pub record IsLimitOf (entries : List Entry) (gone : Gone) (limit r : ℕ) : Type 0 where
+  pub waits : Waiting entries r
+  pub left : gone r ≡ false
+  pub has : limit_at entries r ≡ Some limit
+  pub fits : limit < 2 ^ 64
+
+pub record AreLimits (entries : List Entry) (gone : Gone) (limits : Marks) : Type 0 where
+  pub are : (limit r : ℕ) → marked limits limit r ≡ true → IsLimitOf entries gone limit r
+  pub each : (limit r : ℕ) → IsLimitOf entries gone limit r → marked limits limit r ≡ true
+
+-- what a session has come to is what the entries say of its client: its incarnation, its last number, and where
+-- alone a request of it may wait
+pub record IsSession (entries : List Entry) (client : ℕ) (s : Session) : Type 0 where
+  pub incarnation : HasIncarnation entries client s.incarnation
+  pub number : LastNumber entries client s.last
+  pub named : (r : ℕ) → s.request ≡ Some r → (key : Key) × NamesKey entries client r key
+  pub alone : (r : ℕ) (key : Key) → Waiting entries r → NamesKey entries client r key → s.request ≡ Some r
+
+abbrev pub IsSessionOf : List Entry → ℕ → Option Session → Type 0
+IsSessionOf entries client None = ¬ SaidHello entries client
+IsSessionOf entries client (Some s) = IsSession entries client s
+
+abbrev pub AreSessions : List Entry → Sessions → Type 0
+AreSessions entries t = (client : ℕ) → IsSessionOf entries client (session_in t client)
+
+-- a request of the client waits at the place
+pub record WaitsOf (entries : List Entry) (client r : ℕ) : Type 0 where
+  pub waits : Waiting entries r
+  pub key : Key
+  pub names : NamesKey entries client r key
+
+-- the tables are what a legal account says, but for the places that were taken out
+pub record AreTables (a : Account) (gone : Gone) (front : Front) : Type 0 where
+  pub legal : Legal a
+  pub moment : front.moment ≡ own_moment a
+  pub met : AreMet a.entries front.met.items
+  pub lines : AreLines a.entries gone front.lines
+  pub limits : AreLimits a.entries gone front.limits
+  pub sessions : AreSessions a.entries front.sessions
+
+-- the tables are what the entries say that were passed
+abbrev pub IsFront : Front → Type 0
+IsFront front = AreTables (passed front) none_gone front
+
+-- ---- what is asked of them
+
+-- the act is the arrival of a request with this key
+abbrev pub IsArrivalOf : Act → Key → Type 0
+IsArrivalOf does key = (call : Call) × (does ≡ Arrive key call)
+
+-- the arrival at a place has this key
+abbrev pub ArrivesWith : List Entry → Key → ℕ → Type 0
+ArrivesWith entries key r = (call : Call) × (act_at entries r ≡ Some (Arrive key call))
+
+-- the key has the account's epoch and its client's incarnation
+abbrev pub IsOfSessionOf : Account → Key → Type 0
+IsOfSessionOf a key = (key.epoch ≡ a.epoch) × HasIncarnation a.entries key.client key.incarnation
+
+-- an open arrival of the side stands before the place; one stands anywhere
+abbrev pub HasOlder : List Entry → Side → ℕ → Type 0
+HasOlder entries side place = (r : ℕ) × (r < place) × OpenAt entries side r
+
+abbrev pub HasOne : List Entry → Side → Type 0
+HasOne entries side = (r : ℕ) × OpenAt entries side r
+
+-- who may meet the call is open somewhere
+abbrev pub FindsOne : List Entry → Call → Type 0
+FindsOne entries call = (r : ℕ) × IsOpenOpposite entries call r
+
+-- the call names a partner that it may not meet there; it names none, where one is there
+abbrev pub Misses : List Entry → Call → Option ℕ → Type 0
+Misses entries call partner = (p : ℕ) × (partner ≡ Some p) × (¬ IsOpenOpposite entries call p)
+
+abbrev pub Leaves : List Entry → Call → Option ℕ → Type 0
+Leaves entries call partner = (partner ≡ None) × FindsOne entries call
+
+-- before the place, which is that of one that gives or takes, an open arrival of its side stands
+abbrev pub IsPassedBy : List Entry → ℕ → Type 0
+IsPassedBy entries place = (side : Side) × IsPaired side × SideAt entries side place × HasOlder entries side place
+
+-- ---- what an entry takes out of the tables
+
+abbrev pub with_gone : Gone → ℕ → Gone
+with_gone gone place r = cond (nat_eq r place) true (gone r)
+
+abbrev pub gone_at : Option ℕ → Gone
+gone_at None r = false
+gone_at (Some place) r = nat_eq r place
+
+-- the entry names the arrival, or stops it
+abbrev pub Touches : List Entry → Entry → ℕ → Type 0
+Touches entries e r = (e.partner ≡ Some r) ⊎ StoppedAt (entries ++ e ∷ []) r (length entries)
+
+-- of those that are open, those that the entry touches are gone, and no others
+pub record AreTouched (entries : List Entry) (e : Entry) (gone : Gone) : Type 0 where
+  pub touched : (r : ℕ) → Open entries r → gone r ≡ true → Touches entries e r
+  pub untouched : (r : ℕ) → Open entries r → gone r ≡ false → ¬ Touches entries e r
+
+abbrev pub IsArrived : List Entry → ℕ → Type 0
+IsArrived entries r = (call : Call) × (call_at entries r ≡ Some call)
+
+-- the limit, if it fits a moment
+abbrev pub IsFitting : Option ℕ → Option ℕ → Type 0
+IsFitting has None = (limit : ℕ) → limit < 2 ^ 64 → ¬ (has ≡ Some limit)
+IsFitting has (Some limit) = (has ≡ Some limit) × (limit < 2 ^ 64)
+
+abbrev pub ClosesIf : Lines → Lines → Option Side → ℕ → Type 0
+ClosesIf old new None place = new ≡ old
+ClosesIf old new (Some side) place = Closes old new side place
+
+abbrev pub LosesIf : Marks → Marks → Option ℕ → ℕ → Type 0
+LosesIf old new None place = new ≡ old
+LosesIf old new (Some limit) place = Loses old new limit place
+
+-- nothing changed but the lines and the limits
+abbrev pub with_tables : Front → Lines → Marks → Front
+with_tables front lines limits = record {
+  account = front.account;
+  moment = front.moment;
+  met = front.met;
+  lines = lines;
+  limits = limits;
+  sessions = front.sessions;
+}
+
+abbrev pub SameRest : Front → Front → Type 0
+SameRest old new = new ≡ with_tables old new.lines new.limits
+
+-- the place was taken out
+pub record TakesOut (old new : Front) (place : ℕ) : Type 0 where
+  pub rest : SameRest old new
+  pub tables : (gone : Gone) → AreTables (passed old) gone old → AreTables (passed old) (with_gone gone place) new
+  pub fewer : (limit : ℕ) → limit < 2 ^ 64 → limit_at (passed old).entries place ≡ Some limit → marked old.limits limit place ≡ true
+      → count_of new.limits < count_of old.limits
+
+-- since a front requests were taken out that are due at the moment
+pub record IsTakingOut (start front : Front) (moment : ℕ) : Type 0 where
+  pub gone : Gone
+  pub due : (r : ℕ) → gone r ≡ true → IsDueAt (passed start).entries moment r
+  pub rest : SameRest start front
+  pub tables : AreTables (passed start) gone front
+
+abbrev pub IsUnderway : Front → ℕ → Type 0
+IsUnderway front moment = (start : Front) × IsTakingOut start front moment
+
+-- all that the entry touches was taken out
+pub record TakesTouched (old new : Front) (e : Entry) : Type 0 where
+  pub gone : Gone
+  pub touched : AreTouched (passed old).entries e gone
+  pub rest : SameRest old new
+  pub tables : AreTables (passed old) gone new
+
+-- ---- what an entry brings
+
+abbrev pub flagged : List Bool → Option ℕ → List Bool
+flagged met None = met
+flagged met (Some place) = slice_set met place true
+
+-- the entry arrives on this side, and stays; it is no put besides
+pub record IsNewOn (e : Entry) (side : Side) : Type 0 where
+  pub call : Call
+  pub arrives : call_in e.act ≡ Some call
+  pub is : side_of call ≡ side
+  pub stays : Stays call
+
+pub record IsNewRequest (e : Entry) : Type 0 where
+  pub call : Call
+  pub arrives : call_in e.act ≡ Some call
+  pub stays : Stays call
+  pub no_put : ¬ IsPut call
+
+-- the side on which the entry opens, and the limit until which it waits, if it fits a moment
+abbrev pub OpensOn : Entry → Option Side → Type 0
+OpensOn e None = (side : Side) → e.partner ≡ None → ¬ IsNewOn e side
+OpensOn e (Some side) = (e.partner ≡ None) × IsNewOn e side
+
+pub record WaitsFor (e : Entry) (limit : ℕ) : Type 0 where
+  pub alone : e.partner ≡ None
+  pub new : IsNewRequest e
+  pub has : limit_in e ≡ Some limit
+  pub fits : limit < 2 ^ 64
+
+abbrev pub WaitsUntil : Entry → Option ℕ → Type 0
+WaitsUntil e None = (limit : ℕ) → ¬ WaitsFor e limit
+WaitsUntil e (Some limit) = WaitsFor e limit
+
+abbrev pub OpensIf : Lines → Lines → Option Side → ℕ → Type 0
+OpensIf old new None place = new ≡ old
+OpensIf old new (Some side) place = Opens old new side place
+
+abbrev pub GainsIf : Marks → Marks → Option ℕ → ℕ → Type 0
+GainsIf old new None place = new ≡ old
+GainsIf old new (Some limit) place = Gains old new limit place
+
+-- what an act makes of its client's session
+abbrev pub session_after : Act → ℕ → Option (ℕ × Session)
+session_after (Hello client incarnation) place =
+    Some (client, record { incarnation = incarnation; last = 0; request = None })
+session_after (Arrive key call) place =
+    Some (key.client, record { incarnation = key.incarnation; last = key.number; request = Some place })
+session_after (Cancel key) place =
+    Some (key.client, record { incarnation = key.incarnation; last = key.number; request = None })
+session_after Tick place = None
+
+abbrev pub EntersIf : Sessions → Sessions → Option (ℕ × Session) → Type 0
+EntersIf old new None = new ≡ old
+EntersIf old new (Some entry) = Enters old new entry.0 entry.1
+
+-- the entry may be passed next, and all that it touches was taken out
+pub record MayPass (front : Front) (e : Entry) : Type 0 where
+  pub there : slice_get front.account.now.account.entries (length front.met.items) ≡ Some e
+  pub follows : MayFollow (passed front) e
+
+pub record IsReadyFor (front : Front) (e : Entry) : Type 0 where
+  pub may : MayPass front e
+  pub gone : Gone
+  pub touched : AreTouched (passed front).entries e gone
+  pub tables : AreTables (passed front) gone front
+
+-- one more entry was passed
+pub record HasPassed (old new : Front) : Type 0 where
+  pub account : new.account ≡ old.account
+  pub count : length new.met.items ≡ length old.met.items + 1
+  pub front : IsFront new
+
+-- the request with this key waits at the place
+pub record WaitsWith (entries : List Entry) (key : Key) (r : ℕ) : Type 0 where
+  pub call : Call
+  pub arrived : act_at entries r ≡ Some (Arrive key call)
+  pub waits : Waiting entries r
+
+-- ---- which rule an entry breaks first
+
+-- of a list of rules the entry breaks this one, and none before it
+pub record BreaksFirstOf (rules : List Rule) (a : Account) (e : Entry) (rule : Rule) : Type 0 where
+  pub rank : ℕ
+  pub there : slice_get rules rank ≡ Some rule
+  pub broken : BreaksBehind rule a e
+  pub first : (r : ℕ) (other : Rule) → r < rank → slice_get rules r ≡ Some other → ¬ BreaksBehind other a e
+
+abbrev pub BreaksNoneOf : List Rule → Account → Entry → Type 0
+BreaksNoneOf rules a e = (r : ℕ) (rule : Rule) → slice_get rules r ≡ Some rule → ¬ BreaksBehind rule a e
+
+-- the entry breaks this rule, and none before it in the order in which they are asked
+pub record BreaksFirst (a : Account) (e : Entry) (rule : Rule) : Type 0 where
+  pub broken : BreaksBehind rule a e
+  pub first : (other : Rule) → rank_of other < rank_of rule → ¬ BreaksBehind other a e
+
+abbrev pub BreaksNone : Account → Entry → Type 0
+BreaksNone a e = (rule : Rule) → ¬ BreaksBehind rule a e

@@ -1,0 +1,71 @@
+//! The audit of an account: whether it is legal, or its first fault.
+ghost use Rattle.std.specs.Prelude.{◌≡◌, ◌↔◌, IfNone, IfOk, IfSome};
+ghost use Rattle.rv_book.specs.Legal.{Legal};
+ghost use Rattle.rv_world.specs.Breaking.{IsToldOf};
+ghost use Rattle.rv_world.specs.Passed.{BreaksFirst, BreaksFirstOf, BreaksNone, BreaksNoneOf, IsFront, passed};
+ghost use Rattle.rv_world.specs.declared.rule.Audit.TheVariants as tells;
+
+use crate::front::Front;
+use crate::rule::{Audit, Rule};
+use crate::rules::breaks;
+use rv_book::{Account, Entry};
+use rv_text::NoMemory;
+use std::alloc::Global;
+
+// The first of these rules that the entry breaks.
+fn first_of(front: &Front<'_>, rules: &[Rule], entry: &Entry) -> Option<Rule>
+    requires { IsFront front.now }
+    ensures some { IfSome result (BreaksFirstOf rules.now (passed front.now) entry.now) }
+    ensures none { IfNone result (BreaksNoneOf rules.now (passed front.now) entry.now) }
+{
+    for rule in rules {
+        if breaks(front, *rule, entry) {
+            return Some(*rule);
+        }
+    }
+    None
+}
+
+// The first rule that the entry breaks, in the order in which they are asked at one place.
+fn first_broken(front: &Front<'_>, entry: &Entry) -> Option<Rule>
+    requires { IsFront front.now }
+    ensures some { IfSome result (BreaksFirst (passed front.now) entry.now) }
+    ensures none { IfNone result (BreaksNone (passed front.now) entry.now) }
+{
+    let rules = [
+        Rule::M1,
+        Rule::M2,
+        Rule::M3,
+        Rule::N1,
+        Rule::N2,
+        Rule::N3,
+        Rule::P1,
+        Rule::P2,
+        Rule::P3,
+        Rule::P4,
+        Rule::S1,
+        Rule::S2,
+    ];
+    first_of(front, &rules, entry)
+}
+
+/// Audits an account, which may be any: whether it is legal; or the first place at which a rule is broken,
+/// and the first rule that is broken there. It fails only where memory was refused. The account stays as it is.
+///
+/// It takes time near linear in the entries, and about 200 bytes of memory for each.
+pub fn audit(alloc: Global, account: &Account) -> Result<Audit, NoMemory>
+    ensures told { IfOk result (IsToldOf account.now.account) }
+    ensures legal { IfOk result (λ told. (told ≡ tells.Legal) ↔ Legal account.now.account) }
+{
+    let mut front = Front::empty(alloc, account);
+    while let Some(entry) = account.entry(front.len()) {
+        match first_broken(&front, entry) {
+            Some(rule) => {
+                let place = front.len();
+                return Ok(Audit::Fault { place, rule });
+            }
+            None => front.pass(entry)?,
+        }
+    }
+    Ok(Audit::Legal)
+}

@@ -1,0 +1,550 @@
+//! What an audit keeps of the entries that it has passed.
+ghost use Rattle.std.specs.Prelude.{◌≡◌, ◌↔◌, ◌<◌, ◌^◌, ◌++◌, ◌∷◌, [], ℕ, Some, true, false, None, option_and_then, option_map, IfNone, IfSome, IsTrue, OnOk, is_some, length};
+ghost use Rattle.rv_book.specs.Calls.{Lasts, MayMeet, Stays};
+ghost use Rattle.rv_book.specs.Legal.{HasWaiting, MayFollow, SomethingDue, WaitsUnder};
+ghost use Rattle.rv_book.specs.declared.account.Act.TheVariants.{Hello, Tick};
+ghost use Rattle.rv_world.specs.Breaking.{IsNotNext, StartsNoNewer};
+ghost use Rattle.rv_book.specs.Steps.{own_moment};
+ghost use Rattle.rv_book.specs.Account.{call_at};
+ghost use Rattle.rv_book.specs.Waiting.{IsOldest, Met, OpenAt, SideAt, Waiting, limit_at, limit_in};
+ghost use Rattle.rv_text.specs.declared.call.Side.{Side};
+ghost use Rattle.rv_world.specs.Passed.{ArrivesWith, HasOlder, HasOne, IsArrivalOf, IsFront, IsSessionOf};
+ghost use Rattle.rv_world.specs.Passed.{IsOfSessionOf, WaitsOf, passed};
+ghost use Rattle.rv_world.specs.Passed.{AreTables, AreTouched, ClosesIf, EntersIf, GainsIf, HasPassed, IsArrived};
+ghost use Rattle.rv_world.specs.Passed.{IsFitting, IsReadyFor, IsTakingOut, IsUnderway, LosesIf, MayPass, OpensIf};
+ghost use Rattle.rv_world.specs.Passed.{OpensOn, SameRest, TakesOut, TakesTouched, WaitsUntil, WaitsWith};
+ghost use Rattle.rv_world.specs.Passed.{flagged, gone_at, session_after};
+ghost use Rattle.rv_world.specs.Marks.{NoneUntil, count_of, marked};
+ghost use Rattle.rv_world.specs.declared.front.Front.{Front as FrontOf};
+ghost use Rattle.rv_text.specs.Calls.{side_of};
+ghost use Rattle.rv_world.specs.Sessions.{session_in};
+
+use crate::lines::Lines;
+use crate::marks::Marks;
+use crate::sessions::{Session, Sessions};
+use rv_book::{Account, Act, Entry, Place};
+use rv_text::{Call, Key, NoMemory, Side, Wait};
+use std::alloc::{AllocError, Global};
+
+// The entries that an audit has passed, as far as it has come: a legal account.
+#[derive(Drop)]
+pub(crate) struct Front<'a> {
+    account: &'a Account,
+    // The moment of the last entry, or the opening moment.
+    moment: u64,
+    // Of each place whether its arrival is in a pair or swap.
+    met: Vec<bool>,
+    lines: Lines,
+    // The places of those that wait, each under its limit, as far as a limit is below 2^64.
+    limits: Marks,
+    sessions: Sessions,
+}
+
+// Whether the act is the arrival of a request with this key.
+fn is_arrival_of(act: &Act, key: &Key) -> bool
+    ensures { IsTrue result ↔ IsArrivalOf act.now key.now }
+{
+    match act {
+        Act::Arrive { key: other, .. } => other == key,
+        Act::Hello { .. } | Act::Cancel { .. } | Act::Tick => false,
+    }
+}
+
+// The limit of an arrival, if it has one that fits a moment.
+fn limit_of(entry: &Entry) -> Option<u64>
+    ensures { IsFitting (limit_in entry.now) result }
+{
+    match &entry.act {
+        Act::Arrive { call, .. } => match call.wait() {
+            Some(Wait::Millis(millis)) => entry.moment.checked_add(millis),
+            Some(Wait::Now) => None,
+            Some(Wait::Forever) => None,
+            None => None,
+        },
+        Act::Hello { .. } | Act::Cancel { .. } | Act::Tick => None,
+    }
+}
+
+// Whether a wait goes on past the moment of arrival; what never waits lies there.
+fn lasts(wait: Option<Wait>) -> bool
+    ensures { IsTrue result ↔ Lasts wait }
+{
+    match wait {
+        None => true,
+        Some(Wait::Now) => false,
+        Some(Wait::Millis(millis)) => millis > 0,
+        Some(Wait::Forever) => true,
+    }
+}
+
+// The side of a call that may be met.
+fn meeting_side(call: &Call) -> Option<Side>
+    ensures some { IfSome result (λ side. (side_of call.now ≡ side) × MayMeet call.now) }
+    ensures none { IfNone result (¬ MayMeet call.now) }
+{
+    match call.side() {
+        Side::Gives(queue) => Some(Side::Gives(queue)),
+        Side::Takes(queue) => Some(Side::Takes(queue)),
+        Side::Exchanges(exchanger) => Some(Side::Exchanges(exchanger)),
+        Side::Looks(_) => None,
+    }
+}
+
+// The side on which a call stays, if it does where nobody is met.
+fn staying_on(call: &Call) -> Option<Side>
+    ensures some { IfSome result (λ side. (side_of call.now ≡ side) × Stays call.now) }
+    ensures none { IfNone result (¬ Stays call.now) }
+{
+    match meeting_side(call) {
+        Some(side) if lasts(call.wait()) => Some(side),
+        _ => None,
+    }
+}
+
+// The side on which an entry opens, if it does.
+fn opening(entry: &Entry) -> Option<Side>
+    ensures { OpensOn entry.now result }
+{
+    match (&entry.act, entry.partner) {
+        (Act::Arrive { call, .. }, None) => staying_on(call),
+        _ => None,
+    }
+}
+
+// The limit until which an entry waits, if it does and the limit fits a moment.
+fn waiting_until(entry: &Entry) -> Option<u64>
+    ensures { WaitsUntil entry.now result }
+{
+    match opening(entry) {
+        Some(_) => limit_of(entry),
+        None => None,
+    }
+}
+
+// What an act makes of its client's session.
+fn session_after(act: &Act, place: Place) -> Option<(u64, Session)>
+    ensures { result ≡ session_after act.now place }
+{
+    match act {
+        Act::Hello {
+            client,
+            incarnation,
+        } => Some((
+            *client,
+            Session {
+                incarnation: *incarnation,
+                last: 0,
+                request: None,
+            },
+        )),
+        Act::Arrive { key, .. } => Some((
+            key.client,
+            Session {
+                incarnation: key.incarnation,
+                last: key.number,
+                request: Some(place),
+            },
+        )),
+        Act::Cancel { key } => Some((
+            key.client,
+            Session {
+                incarnation: key.incarnation,
+                last: key.number,
+                request: None,
+            },
+        )),
+        Act::Tick => None,
+    }
+}
+
+// Flags the partner, if there is one, and the entry that names it.
+fn flag(met: &mut Vec<bool>, partner: Option<Place>) -> Result<(), NoMemory>
+    requires { IfSome partner (λ place. place < length met.old.items) }
+    ensures { OnOk result (met.new.items ≡ flagged met.old.items partner ++ is_some partner ∷ []) }
+{
+    if let Some(place) = partner {
+        met[place] = true;
+    }
+    met.push(partner.is_some()).map_err(AllocError::from)
+}
+
+fn close_line(lines: &mut Lines, side: Option<Side>, place: Place)
+    ensures { ClosesIf lines.old lines.new side place }
+{
+    if let Some(side) = side {
+        lines.close(side, place);
+    }
+}
+
+fn drop_limit(limits: &mut Marks, limit: Option<u64>, place: Place)
+    ensures loses { LosesIf limits.old limits.new limit place }
+    ensures fewer { (n : ℕ) → limit ≡ Some n → marked limits.old n place ≡ true
+        → count_of limits.new < count_of limits.old }
+{
+    if let Some(limit) = limit {
+        limits.remove(limit, place);
+    }
+}
+
+fn open_line(lines: &mut Lines, side: Option<Side>, place: Place) -> Result<(), NoMemory>
+    ensures { OnOk result (OpensIf lines.old lines.new side place) }
+{
+    match side {
+        Some(side) => lines.open(side, place),
+        None => Ok(()),
+    }
+}
+
+fn add_limit(limits: &mut Marks, limit: Option<u64>, place: Place) -> Result<(), NoMemory>
+    ensures { OnOk result (GainsIf limits.old limits.new limit place) }
+{
+    match limit {
+        Some(limit) => limits.add(limit, place),
+        None => Ok(()),
+    }
+}
+
+fn enter_session(
+    sessions: &mut Sessions,
+    entry: Option<(u64, Session)>,
+) -> Result<(), NoMemory>
+    ensures { OnOk result (EntersIf sessions.old sessions.new entry) }
+{
+    match entry {
+        Some((client, session)) => sessions.enter(client, session),
+        None => Ok(()),
+    }
+}
+
+impl<'a> Front<'a> {
+
+    // Nothing was passed yet. It takes no memory yet.
+    pub(crate) fn empty(alloc: Global, account: &'a Account) -> Front<'a>
+        ensures account { result.account.now ≡ account.now }
+        ensures front { IsFront result }
+    {
+        Front {
+            account,
+            moment: account.opened(),
+            met: Vec::new(alloc),
+            lines: Lines::empty(alloc),
+            limits: Marks::empty(alloc),
+            sessions: Sessions::empty(alloc),
+        }
+    }
+
+    // How many entries were passed.
+    pub(crate) fn len(&self) -> usize
+        ensures { result ≡ length self.now.met.items }
+    {
+        self.met.len()
+    }
+
+    // The moment of the last entry, or the opening moment.
+    pub(crate) fn moment(&self) -> u64
+        requires { IsFront self.now }
+        ensures { result ≡ own_moment (passed self.now) }
+    {
+        self.moment
+    }
+
+    // Whether a waiting request has a limit at or below the moment.
+    pub(crate) fn has_due(&self, moment: u64) -> bool
+        requires { IsFront self.now }
+        ensures { IsTrue result ↔ SomethingDue (passed self.now).entries moment }
+    {
+        self.limits.least_until(moment).is_some()
+    }
+
+    // Whether an entry was passed at the place that is in no pair or swap.
+    pub(crate) fn is_free(&self, place: Place) -> bool
+        requires { IsFront self.now }
+        ensures { IsTrue result ↔ ((place < length (passed self.now).entries)
+            × (¬ Met (passed self.now).entries place)) }
+    {
+        self.met.get(place) == Some(&false)
+    }
+
+    // Whether an open arrival of the side stands at the place.
+    pub(crate) fn is_open(&self, side: Side, place: Place) -> bool
+        requires { IsFront self.now }
+        ensures { IsTrue result ↔ OpenAt (passed self.now).entries side place }
+    {
+        self.lines.has(side, place)
+    }
+
+    // The oldest open arrival of the side.
+    pub(crate) fn oldest(&self, side: Side) -> Option<Place>
+        requires { IsFront self.now }
+        ensures some { IfSome result (IsOldest (passed self.now).entries side) }
+        ensures none { IfNone result ((place : ℕ)
+            → ¬ OpenAt (passed self.now).entries side place) }
+    {
+        self.lines.oldest(side)
+    }
+
+    // The client's session, if it said a hello.
+    pub(crate) fn session(&self, client: u64) -> Option<Session>
+        requires { IsFront self.now }
+        ensures { IsSessionOf (passed self.now).entries client result }
+    {
+        self.sessions.of(client)
+    }
+
+    // The call of the arrival at a place, if one stands there.
+    pub(crate) fn call(&self, place: Place) -> Option<&Call>
+        ensures { option_map (λ c. c.now) result ≡ call_at self.now.account.now.account.entries place }
+    {
+        match &self.account.entry(place)?.act {
+            Act::Arrive { call, .. } => Some(call),
+            Act::Hello { .. } | Act::Cancel { .. } | Act::Tick => None,
+        }
+    }
+
+    // Whether a request waits at the place.
+    pub(crate) fn is_waiting(&self, place: Place) -> bool
+        requires { IsFront self.now }
+        ensures { IsTrue result ↔ Waiting (passed self.now).entries place }
+    {
+        match self.call(place) {
+            Some(call) => call.wait().is_some() && self.lines.has(call.side(), place),
+            None => false,
+        }
+    }
+
+    // Where the last request of the client arrived, if that may wait.
+    fn request(&self, client: u64) -> Option<Place>
+        ensures { result ≡ option_and_then (λ s. s.request) (session_in self.now.sessions client) }
+    {
+        self.sessions.of(client)?.request
+    }
+
+    // Where the request of the client waits, if one does.
+    pub(crate) fn waiting(&self, client: u64) -> Option<Place>
+        requires { IsFront self.now }
+        ensures some { IfSome result (WaitsOf (passed self.now).entries client) }
+        ensures none { IfNone result (¬ HasWaiting (passed self.now).entries client) }
+    {
+        match self.request(client) {
+            Some(place) => self.is_waiting(place).then_some(place),
+            None => None,
+        }
+    }
+
+    // Whether a request waits that has this key.
+    pub(crate) fn waits_under(&self, key: &Key) -> bool
+        requires { IsFront self.now }
+        ensures { IsTrue result ↔ WaitsUnder (passed self.now).entries key.now }
+    {
+        match self.waiting(key.client) {
+            Some(place) => self.has_key(place, key),
+            None => false,
+        }
+    }
+
+    // Whether the arrival at a place has this key.
+    fn has_key(&self, place: Place, key: &Key) -> bool
+        ensures { IsTrue result ↔ ArrivesWith self.now.account.now.account.entries key.now place }
+    {
+        match self.account.entry(place) {
+            Some(entry) => is_arrival_of(&entry.act, key),
+            None => false,
+        }
+    }
+
+    // Whether the client said a hello of this incarnation or a greater one.
+    pub(crate) fn reaches(&self, client: u64, incarnation: u64) -> bool
+        requires { IsFront self.now }
+        ensures { IsTrue result ↔ StartsNoNewer (passed self.now).entries (Hello client incarnation) }
+    {
+        match self.sessions.of(client) {
+            Some(session) => incarnation <= session.incarnation,
+            None => false,
+        }
+    }
+
+    // Whether the key has the account's epoch and its client's incarnation.
+    pub(crate) fn has_session(&self, key: &Key) -> bool
+        requires { IsFront self.now }
+        ensures { IsTrue result ↔ IsOfSessionOf (passed self.now) key.now }
+    {
+        match self.sessions.of(key.client) {
+            Some(session) => key.epoch == self.account.epoch() && key.incarnation == session.incarnation,
+            None => false,
+        }
+    }
+
+    // Whether the key's number isn't its session's last plus one.
+    pub(crate) fn is_not_next(&self, key: &Key) -> bool
+        requires { IsFront self.now }
+        ensures { IsTrue result ↔ IsNotNext (passed self.now).entries key.now }
+    {
+        match self.sessions.of(key.client) {
+            Some(session) => key.number <= session.last || key.number - session.last != 1,
+            None => key.number != 1,
+        }
+    }
+
+    // The side of the arrival at a place, if one was passed there.
+    pub(crate) fn side(&self, place: Place) -> Option<Side>
+        ensures some { IfSome result (λ side. SideAt (passed self.now).entries side place) }
+        ensures none { IfNone result ((side : Side) → ¬ SideAt (passed self.now).entries side place) }
+    {
+        if place >= self.met.len() {
+            return None;
+        }
+        match self.call(place) {
+            Some(call) => Some(call.side()),
+            None => None,
+        }
+    }
+
+    // Whether an open arrival of the side stands before the place.
+    pub(crate) fn has_older(&self, side: Side, place: Place) -> bool
+        requires { IsFront self.now }
+        ensures { IsTrue result ↔ HasOlder (passed self.now).entries side place }
+    {
+        match self.oldest(side) {
+            Some(first) => first < place,
+            None => false,
+        }
+    }
+
+    // Whether an arrival of the side is open anywhere.
+    pub(crate) fn has_one(&self, side: Side) -> bool
+        requires { IsFront self.now }
+        ensures { IsTrue result ↔ HasOne (passed self.now).entries side }
+    {
+        match self.oldest(side) {
+            Some(_) => true,
+            None => false,
+        }
+    }
+
+    // The limit of the request that arrived at a place, if it has one that fits a moment.
+    fn limit(&self, place: Place) -> Option<u64>
+        ensures { IsFitting (limit_at self.now.account.now.account.entries place) result }
+    {
+        match self.account.entry(place) {
+            Some(entry) => limit_of(entry),
+            None => None,
+        }
+    }
+
+    // Takes the arrival at a place out of the lines and the limits.
+    fn close(&mut self, place: Place)
+        requires { IsArrived (passed self.old).entries place }
+        ensures { TakesOut self.old self.new place }
+    {
+        let side = self.side(place);
+        let limit = self.limit(place);
+        close_line(&mut self.lines, side, place);
+        drop_limit(&mut self.limits, limit, place);
+    }
+
+    // Takes out a request that is due at a moment, and tells whether there was one.
+    fn close_next(&mut self, moment: u64) -> bool
+        requires { IsUnderway self.old moment }
+        ensures step { (start : FrontOf) → IsTakingOut start self.old moment
+            → IsTakingOut start self.new moment }
+        ensures fewer { result ≡ true → count_of self.new.limits < count_of self.old.limits }
+        ensures none { result ≡ false → NoneUntil self.new.limits moment }
+    {
+        match self.limits.least_until(moment) {
+            Some((_, place)) => {
+                self.close(place);
+                true
+            }
+            None => false,
+        }
+    }
+
+    // Takes out all requests that are due at a moment.
+    fn close_due(&mut self, moment: u64)
+        requires { IsFront self.old }
+        ensures out { IsTakingOut self.old self.new moment }
+        ensures none { NoneUntil self.new.limits moment }
+        ensures fits { moment < 2 ^ 64 }
+    {
+        while self.close_next(moment) {}
+    }
+
+    // Takes out the arrival at a place, if one is handed in.
+    fn close_if(&mut self, place: Option<Place>)
+        requires front { IsFront self.old }
+        requires arrived { IfSome place (IsArrived (passed self.old).entries) }
+        ensures rest { SameRest self.old self.new }
+        ensures tables { AreTables (passed self.old) (gone_at place) self.new }
+    {
+        match place {
+            Some(place) => self.close(place),
+            None => {}
+        }
+    }
+
+    // Whom an entry that is no tick names or stops, if anybody.
+    fn touched(&self, entry: &Entry) -> Option<Place>
+        requires front { IsFront self.now }
+        requires follows { MayFollow (passed self.now) entry.now }
+        ensures touched { ¬ (entry.now.act ≡ Tick) → AreTouched (passed self.now).entries entry.now (gone_at result) }
+        ensures arrived { IfSome result (IsArrived (passed self.now).entries) }
+    {
+        match &entry.act {
+            Act::Hello { client, .. } => self.waiting(*client),
+            Act::Arrive { .. } => entry.partner,
+            Act::Cancel { key } => self.cancelled(key),
+            Act::Tick => None,
+        }
+    }
+
+    // Where the request waits that has this key, if one does.
+    fn cancelled(&self, key: &Key) -> Option<Place>
+        requires { IsFront self.now }
+        ensures some { IfSome result (WaitsWith (passed self.now).entries key.now) }
+        ensures none { IfNone result (¬ WaitsUnder (passed self.now).entries key.now) }
+    {
+        match self.waiting(key.client) {
+            Some(place) => self.has_key(place, key).then_some(place),
+            None => None,
+        }
+    }
+
+    // Takes out all that an entry names or stops.
+    fn close_touched(&mut self, entry: &Entry)
+        requires front { IsFront self.old }
+        requires follows { MayFollow (passed self.old) entry.now }
+        ensures { TakesTouched self.old self.new entry.now }
+    {
+        match &entry.act {
+            Act::Tick => self.close_due(entry.moment),
+            Act::Hello { .. } | Act::Arrive { .. } | Act::Cancel { .. } => {
+                let touched = self.touched(entry);
+                self.close_if(touched);
+            }
+        }
+    }
+
+    // Records what an entry brings. It alone may want memory.
+    fn join(&mut self, entry: &Entry) -> Result<(), NoMemory>
+        requires { IsReadyFor self.old entry.now }
+        ensures { OnOk result (HasPassed self.old self.new) }
+    {
+        let place = self.met.len();
+        flag(&mut self.met, entry.partner)?;
+        open_line(&mut self.lines, opening(entry), place)?;
+        add_limit(&mut self.limits, waiting_until(entry), place)?;
+        enter_session(&mut self.sessions, session_after(&entry.act, place))?;
+        self.moment = entry.moment;
+        Ok(())
+    }
+
+    // Passes the next entry, which breaks no rule. Where memory is refused the front is of no more use.
+    pub(crate) fn pass(&mut self, entry: &Entry) -> Result<(), NoMemory>
+        requires front { IsFront self.old }
+        requires may { MayPass self.old entry.now }
+        ensures { OnOk result (HasPassed self.old self.new) }
+    {
+        self.close_touched(entry);
+        self.join(entry)
+    }
+}

@@ -1,0 +1,307 @@
+//! Whether an entry breaks a rule, behind the entries that an audit has passed.
+ghost use Rattle.std.specs.Prelude.{◌≡◌, ◌↔◌, IfNone, IfSome, IsTrue, option_map};
+ghost use Rattle.rv_text.specs.declared.message.Key.{Key};
+ghost use Rattle.rv_text.specs.declared.call.Call.{Call};
+ghost use Rattle.rv_book.specs.Account.{call_in};
+ghost use Rattle.rv_book.specs.Calls.{opposite};
+ghost use Rattle.rv_book.specs.Legal.{IsOpenOpposite, WaitsUnder};
+ghost use Rattle.rv_world.specs.Breaking.{ArrivesAs, BreaksBehind, IsOutOfTurn, IsPaired, IsSwapped, Meets};
+ghost use Rattle.rv_world.specs.Breaking.{FallsBack, IsOfNoSession, PassesLimit, StartsNoNewer};
+ghost use Rattle.rv_world.specs.Breaking.{BreaksCount, MeetsNobody, MeetsWrongly, NamesWrongly};
+ghost use Rattle.rv_world.specs.Breaking.{PassesOver, TicksForNothing};
+ghost use Rattle.rv_world.specs.Passed.{FindsOne, IsFront, IsPassedBy, Leaves, Misses, passed};
+
+use crate::front::Front;
+use crate::rule::Rule;
+use rv_book::{Act, Entry, Place};
+use rv_text::{Call, Key, Side};
+
+// ---- moments
+
+fn falls_back(front: &Front<'_>, entry: &Entry) -> bool
+    requires { IsFront front.now }
+    ensures { IsTrue result ↔ FallsBack (passed front.now) entry.now }
+{
+    entry.moment < front.moment()
+}
+
+fn passes_limit(front: &Front<'_>, entry: &Entry) -> bool
+    requires { IsFront front.now }
+    ensures { IsTrue result ↔ PassesLimit (passed front.now).entries entry.now }
+{
+    match &entry.act {
+        Act::Tick => false,
+        Act::Hello { .. } | Act::Arrive { .. } | Act::Cancel { .. } => front.has_due(entry.moment),
+    }
+}
+
+fn ticks_for_nothing(front: &Front<'_>, entry: &Entry) -> bool
+    requires { IsFront front.now }
+    ensures { IsTrue result ↔ TicksForNothing (passed front.now).entries entry.now }
+{
+    match &entry.act {
+        Act::Tick => !front.has_due(entry.moment),
+        Act::Hello { .. } | Act::Arrive { .. } | Act::Cancel { .. } => false,
+    }
+}
+
+// ---- numbers
+
+fn starts_no_newer(front: &Front<'_>, act: &Act) -> bool
+    requires { IsFront front.now }
+    ensures { IsTrue result ↔ StartsNoNewer (passed front.now).entries act.now }
+{
+    match act {
+        Act::Hello {
+            client,
+            incarnation,
+        } => front.reaches(*client, *incarnation),
+        Act::Arrive { .. } | Act::Cancel { .. } | Act::Tick => false,
+    }
+}
+
+fn is_of_no_session(front: &Front<'_>, act: &Act) -> bool
+    requires { IsFront front.now }
+    ensures { IsTrue result ↔ IsOfNoSession (passed front.now) act.now }
+{
+    match act {
+        Act::Arrive { key, .. } => !front.has_session(key),
+        Act::Cancel { key } => !front.has_session(key),
+        Act::Hello { .. } | Act::Tick => false,
+    }
+}
+
+// Whether the key's number isn't its session's next, or a request of the session waits.
+fn is_out_of_turn(front: &Front<'_>, key: &Key) -> bool
+    requires { IsFront front.now }
+    ensures { IsTrue result ↔ IsOutOfTurn (passed front.now).entries key.now }
+{
+    front.is_not_next(key) || front.waiting(key.client).is_some()
+}
+
+fn breaks_count(front: &Front<'_>, act: &Act) -> bool
+    requires { IsFront front.now }
+    ensures { IsTrue result ↔ BreaksCount (passed front.now).entries act.now }
+{
+    match act {
+        Act::Arrive { key, .. } => is_out_of_turn(front, key),
+        Act::Cancel { key } => !front.waits_under(key) && is_out_of_turn(front, key),
+        Act::Hello { .. } | Act::Tick => false,
+    }
+}
+
+// ---- partners
+
+// The call of an entry that arrives.
+fn call_of(entry: &Entry) -> Option<&Call>
+    ensures { option_map (λ c. c.now) result ≡ call_in entry.now.act }
+{
+    match &entry.act {
+        Act::Arrive { call, .. } => Some(call),
+        Act::Hello { .. } | Act::Cancel { .. } | Act::Tick => None,
+    }
+}
+
+fn is_paired(side: Side) -> bool
+    ensures { IsTrue result ↔ IsPaired side }
+{
+    match side {
+        Side::Gives(_) => true,
+        Side::Takes(_) => true,
+        Side::Looks(_) => false,
+        Side::Exchanges(_) => false,
+    }
+}
+
+fn is_swapped(side: Side) -> bool
+    ensures { IsTrue result ↔ IsSwapped side }
+{
+    match side {
+        Side::Gives(_) => false,
+        Side::Takes(_) => false,
+        Side::Looks(_) => false,
+        Side::Exchanges(_) => true,
+    }
+}
+
+// The side whose arrivals one of this side meets.
+fn opposite(side: Side) -> Option<Side>
+    ensures { result ≡ opposite side }
+{
+    match side {
+        Side::Gives(queue) => Some(Side::Takes(queue)),
+        Side::Takes(queue) => Some(Side::Gives(queue)),
+        Side::Looks(_) => None,
+        Side::Exchanges(exchanger) => Some(Side::Exchanges(exchanger)),
+    }
+}
+
+// Whether the entry gives, takes or exchanges.
+fn meets(entry: &Entry) -> bool
+    ensures { IsTrue result ↔ Meets entry.now }
+{
+    match call_of(entry) {
+        Some(call) => opposite(call.side()).is_some(),
+        None => false,
+    }
+}
+
+fn names_wrongly(front: &Front<'_>, entry: &Entry) -> bool
+    requires { IsFront front.now }
+    ensures { IsTrue result ↔ NamesWrongly (passed front.now).entries entry.now }
+{
+    match entry.partner {
+        Some(partner) => !meets(entry) || !front.is_free(partner),
+        None => false,
+    }
+}
+
+// The call of an entry that gives or takes.
+fn paired(entry: &Entry) -> Option<&Call>
+    ensures some { IfSome result (λ call. ArrivesAs IsPaired entry.now call.now) }
+    ensures none { IfNone result ((call : Call) → ¬ ArrivesAs IsPaired entry.now call) }
+{
+    match call_of(entry) {
+        Some(call) if is_paired(call.side()) => Some(call),
+        _ => None,
+    }
+}
+
+// The call of an entry that exchanges.
+fn swapped(entry: &Entry) -> Option<&Call>
+    ensures some { IfSome result (λ call. ArrivesAs IsSwapped entry.now call.now) }
+    ensures none { IfNone result ((call : Call) → ¬ ArrivesAs IsSwapped entry.now call) }
+{
+    match call_of(entry) {
+        Some(call) if is_swapped(call.side()) => Some(call),
+        _ => None,
+    }
+}
+
+// Whether one that the call may meet is open at the place.
+fn may_meet(front: &Front<'_>, call: &Call, place: Place) -> bool
+    requires { IsFront front.now }
+    ensures { IsTrue result ↔ IsOpenOpposite (passed front.now).entries call.now place }
+{
+    match opposite(call.side()) {
+        Some(side) => front.is_open(side, place),
+        None => false,
+    }
+}
+
+// Whether one that the call may meet is open anywhere.
+fn finds_one(front: &Front<'_>, call: &Call) -> bool
+    requires { IsFront front.now }
+    ensures { IsTrue result ↔ FindsOne (passed front.now).entries call.now }
+{
+    match opposite(call.side()) {
+        Some(side) => front.has_one(side),
+        None => false,
+    }
+}
+
+// Whether the call names a partner that it may not meet there.
+fn misses(front: &Front<'_>, call: &Call, partner: Option<Place>) -> bool
+    requires { IsFront front.now }
+    ensures { IsTrue result ↔ Misses (passed front.now).entries call.now partner }
+{
+    match partner {
+        Some(place) => !may_meet(front, call, place),
+        None => false,
+    }
+}
+
+// Whether the call names no partner, where one is there.
+fn leaves(front: &Front<'_>, call: &Call, partner: Option<Place>) -> bool
+    requires { IsFront front.now }
+    ensures { IsTrue result ↔ Leaves (passed front.now).entries call.now partner }
+{
+    match partner {
+        Some(_) => false,
+        None => finds_one(front, call),
+    }
+}
+
+// Whether before the place of one that gives or takes an open arrival of its side stands.
+fn is_passed_by(front: &Front<'_>, place: Place) -> bool
+    requires { IsFront front.now }
+    ensures { IsTrue result ↔ IsPassedBy (passed front.now).entries place }
+{
+    match front.side(place) {
+        Some(side) => is_paired(side) && front.has_older(side, place),
+        None => false,
+    }
+}
+
+fn pairs_wrongly(front: &Front<'_>, entry: &Entry) -> bool
+    requires { IsFront front.now }
+    ensures { IsTrue result ↔ MeetsWrongly IsPaired (passed front.now).entries entry.now }
+{
+    match paired(entry) {
+        Some(call) => misses(front, call, entry.partner),
+        None => false,
+    }
+}
+
+fn passes_over(front: &Front<'_>, entry: &Entry) -> bool
+    requires { IsFront front.now }
+    ensures { IsTrue result ↔ PassesOver (passed front.now).entries entry.now }
+{
+    match (paired(entry), entry.partner) {
+        (Some(_), Some(place)) => is_passed_by(front, place),
+        _ => false,
+    }
+}
+
+fn pairs_nobody(front: &Front<'_>, entry: &Entry) -> bool
+    requires { IsFront front.now }
+    ensures { IsTrue result ↔ MeetsNobody IsPaired (passed front.now).entries entry.now }
+{
+    match paired(entry) {
+        Some(call) => leaves(front, call, entry.partner),
+        None => false,
+    }
+}
+
+fn swaps_wrongly(front: &Front<'_>, entry: &Entry) -> bool
+    requires { IsFront front.now }
+    ensures { IsTrue result ↔ MeetsWrongly IsSwapped (passed front.now).entries entry.now }
+{
+    match swapped(entry) {
+        Some(call) => misses(front, call, entry.partner),
+        None => false,
+    }
+}
+
+fn swaps_nobody(front: &Front<'_>, entry: &Entry) -> bool
+    requires { IsFront front.now }
+    ensures { IsTrue result ↔ MeetsNobody IsSwapped (passed front.now).entries entry.now }
+{
+    match swapped(entry) {
+        Some(call) => leaves(front, call, entry.partner),
+        None => false,
+    }
+}
+
+// ---- all rules
+
+// Whether the entry breaks the rule.
+pub(crate) fn breaks(front: &Front<'_>, rule: Rule, entry: &Entry) -> bool
+    requires { IsFront front.now }
+    ensures { IsTrue result ↔ BreaksBehind rule (passed front.now) entry.now }
+{
+    match rule {
+        Rule::M1 => falls_back(front, entry),
+        Rule::M2 => passes_limit(front, entry),
+        Rule::M3 => ticks_for_nothing(front, entry),
+        Rule::N1 => starts_no_newer(front, &entry.act),
+        Rule::N2 => is_of_no_session(front, &entry.act),
+        Rule::N3 => breaks_count(front, &entry.act),
+        Rule::P1 => names_wrongly(front, entry),
+        Rule::P2 => pairs_wrongly(front, entry),
+        Rule::P3 => passes_over(front, entry),
+        Rule::P4 => pairs_nobody(front, entry),
+        Rule::S1 => swaps_wrongly(front, entry),
+        Rule::S2 => swaps_nobody(front, entry),
+    }
+}
