@@ -109,6 +109,7 @@ fn run_program<T: Threads + Wait + AllocGlobal + time::Clock + Sync>(
     match read_command(rt.alloc(), &words)? {
         Command::Book(epoch) => run_book(rt, epoch)?,
         Command::Play => run_play(rt)?,
+        Command::Audit => return run_audit(rt),
         Command::Serve {
             listen,
             epoch,
@@ -165,6 +166,16 @@ fn run_serve<T: Threads + Wait + AllocGlobal + time::Clock + Sync>(
         return Err(ProgramFault::Address);
     };
     Ok(serve_epoch(threads, listener, epoch, workers, connections)?)
+}
+
+// The status tells whether the account is legal.
+fn run_audit(rt: &HostRuntime) -> Result<ExitCode, ProgramFault> {
+    let mut source = Source::new(rt.stdin());
+    let mut sink = Sink::new(rt.stdout());
+    match audit_run(rt.alloc(), &mut source, &mut sink)? {
+        AuditSaid::Legal => Ok(ExitCode::SUCCESS),
+        AuditSaid::Fault | AuditSaid::BadLine => Ok(ExitCode::from(1)),
+    }
 }
 
 // Connects first, and then reads the lines. Where small frames are held back all goes on, slower.
