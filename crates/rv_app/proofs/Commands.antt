@@ -6,7 +6,7 @@ use Rattle.rv_app.specs.Command.{GivesBetween, GivesIdentifier, Says, rv_app}
 use Rattle.rv_app.specs.Laws.{OneCommand, SameCommand}
 use Rattle.rv_app.proofs.Options.{first_letter, letter_of}
 use Rattle.rv_app.specs.declared.command.Command.{Command}
-use Rattle.rv_app.specs.declared.command.Command.TheVariants.{Book, Call, Play, Serve}
+use Rattle.rv_app.specs.declared.command.Command.TheVariants.{Audit, Book, Call, Play, Serve}
 
 number_one : (value : Option Text) (m n : ℕ) → GivesIdentifier value m → GivesIdentifier value n → m ≡ n
 number_one None m n a b = absurd a
@@ -28,6 +28,8 @@ says_one s (Book m) (Book n) a b = ap Book (number_one _ m n a.1 b.1)
 says_one s (Book m) d a b = let same : 98 ≡ letter_of d = one_letter s (Book m) d a b in absurd (omega (arith, same))
 says_one s Play Play a b = refl
 says_one s Play d a b = let same : 112 ≡ letter_of d = one_letter s Play d a b in absurd (omega (arith, same))
+says_one s Audit Audit a b = refl
+says_one s Audit d a b = let same : 97 ≡ letter_of d = one_letter s Audit d a b in absurd (omega (arith, same))
 says_one s (Serve listen epoch workers connections) (Serve other epoch' workers' connections') a b = (
   text_one _ listen.now other.now a.1.to_listen b.1.to_listen,
   number_one _ epoch epoch' a.1.in_epoch b.1.in_epoch,

@@ -5,7 +5,7 @@ use Rattle.clap.specs.Words.{Row, Text, first_of, first_value, rows_of}
 use Rattle.clap.specs.declared.parser.matches.Found.{Found}
 use Rattle.rv_app.specs.Command.{GivesIdentifier, Says, SaysCall, SaysServe}
 use Rattle.rv_app.specs.declared.command.Command.{Command}
-use Rattle.rv_app.specs.declared.command.Command.TheVariants.{Book, Call, Play, Serve}
+use Rattle.rv_app.specs.declared.command.Command.TheVariants.{Audit, Book, Call, Play, Serve}
 
 -- the value that `get_str` gives
 pub value_in_rows : (f : Found) (name : Text) (value : Option (Bor Text)) → option_map (λ v. v.now) value ≡ first_value f name
@@ -24,12 +24,14 @@ not_there value text none some = subst IsNothing (none ∙ some) tt
 abbrev pub letter_of : Command → ℕ
 letter_of (Book epoch) = 98
 letter_of Play = 112
+letter_of Audit = 97
 letter_of (Serve listen epoch workers connections) = 115
 letter_of (Call connect client incarnation tries) = 99
 
 pub first_letter : (name : Text) (options : List Row) (command : Command) → Says (name, options) command → get_or name 0 0 ≡ letter_of command
 first_letter name options (Book epoch) said = ap (λ (letters : List ℕ). get_or letters 0 0) said.0
 first_letter name options Play said = ap (λ (letters : List ℕ). get_or letters 0 0) said
+first_letter name options Audit said = ap (λ (letters : List ℕ). get_or letters 0 0) said
 first_letter name options (Serve listen epoch workers connections) said = ap (λ (letters : List ℕ). get_or letters 0 0) said.0
 first_letter name options (Call connect client incarnation tries) said = ap (λ (letters : List ℕ). get_or letters 0 0) said.0
 

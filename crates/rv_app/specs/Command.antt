@@ -7,7 +7,7 @@ use Rattle.clap.specs.declared.builder.ArgAction.TheVariants.{Set}
 use Rattle.rv_text.specs.Limits.{FitsIdentifier}
 use Rattle.rv_app.specs.Number.{WritesBetween, WritesIdentifier}
 use Rattle.rv_app.specs.declared.command.Command.{Command}
-use Rattle.rv_app.specs.declared.command.Command.TheVariants.{Book, Call, Play, Serve}
+use Rattle.rv_app.specs.declared.command.Command.TheVariants.{Audit, Book, Call, Play, Serve}
 
 -- an option `--name VALUE` that has to be given
 abbrev pub required_option : Text → Rule
@@ -21,6 +21,10 @@ book_app = with_rule (new_app (codes "book")) (required_option (codes "epoch"))
 -- `rv play`
 abbrev pub play_app : App
 play_app = new_app (codes "play")
+
+-- `rv audit`
+abbrev pub audit_app : App
+audit_app = new_app (codes "audit")
 
 -- `rv serve --listen ADDR --epoch E --workers W --connections N`
 abbrev pub serve_app : App
@@ -40,7 +44,9 @@ call_app =
 
 -- the subcommands that use no socket
 abbrev pub local_app : App
-local_app = with_subcommand (with_subcommand (new_app (codes "rv")) book_app.top) play_app.top
+local_app =
+    let books = with_subcommand (new_app (codes "rv")) book_app.top in
+    with_subcommand (with_subcommand books play_app.top) audit_app.top
 
 -- the program as `clap` reads it: its subcommands, with their options
 abbrev pub rv_app : App
@@ -77,6 +83,7 @@ abbrev pub Says : Text × List Row → Command → Type 0
 Says subcommand (Book epoch) = (subcommand.0 ≡ codes "book")
     × GivesIdentifier (first_of (codes "epoch") subcommand.1) epoch
 Says subcommand Play = subcommand.0 ≡ codes "play"
+Says subcommand Audit = subcommand.0 ≡ codes "audit"
 Says subcommand (Serve listen epoch workers connections) = (subcommand.0 ≡ codes "serve")
     × SaysServe subcommand.1 listen.now epoch workers connections
 Says subcommand (Call connect client incarnation tries) = (subcommand.0 ≡ codes "call")
@@ -96,6 +103,7 @@ NamesNone words = (command : Command) → ¬ Names words command
 abbrev pub FitsCommand : Command → Type 0
 FitsCommand (Book epoch) = FitsIdentifier epoch
 FitsCommand Play = Unit {0}
+FitsCommand Audit = Unit {0}
 FitsCommand (Serve listen epoch workers connections) =
     FitsIdentifier epoch × (1 ≤ workers) × (workers ≤ 64)
 FitsCommand (Call connect client incarnation tries) =

@@ -3,7 +3,7 @@ use Rattle.std.specs.Prelude.{codes, List, [], ◌∷◌, ◌≡◌}
 use Rattle.clap.specs.Words.{Text}
 use Rattle.rv_app.specs.Command.{Names}
 use Rattle.rv_app.specs.declared.command.Command.{Command}
-use Rattle.rv_app.specs.declared.command.Command.TheVariants.{Book, Call, Play, Serve}
+use Rattle.rv_app.specs.declared.command.Command.TheVariants.{Audit, Book, Call, Play, Serve}
 
 -- the commands are the same; addresses are, where their bytes are
 abbrev pub SameCommand : Command → Command → Type 0
@@ -15,6 +15,7 @@ SameCommand (Call connect client incarnation tries) (Call other client' incarnat
 SameCommand (Call connect client incarnation tries) d = ⊥
 SameCommand (Book epoch) d = Book epoch ≡ d
 SameCommand Play d = Play ≡ d
+SameCommand Audit d = Audit ≡ d
 
 -- words name at most one command
 abbrev pub OneCommand : Type 0

@@ -1,4 +1,6 @@
 -- The definitions that the contracts of this crate cite.
+pub mod Accounts
+pub mod Audits
 pub mod Body
 pub mod CallRuns
 pub mod Calling

@@ -7,8 +7,8 @@ ghost use Rattle.clap.specs.Words.{shape_of, subcommand_of, subcommand_rows_of};
 ghost use Rattle.clap.specs.declared.Command.TheViews.{out-Command};
 ghost use Rattle.clap.specs.Walk.{texts};
 ghost use Rattle.rv_app.specs.Command.{FitsCommand, GivesBetween, GivesIdentifier, Names, NamesNone};
-ghost use Rattle.rv_app.specs.Command.{Says, book_app, call_app, local_app, play_app, required_option};
-ghost use Rattle.rv_app.specs.Command.{rv_app, serve_app};
+ghost use Rattle.rv_app.specs.Command.{Says, audit_app, book_app, call_app, local_app, play_app};
+ghost use Rattle.rv_app.specs.Command.{required_option, rv_app, serve_app};
 ghost use Rattle.rv_app.specs.declared.command.CommandFault.TheVariants.{Bad, NoMemory};
 ghost use Rattle.clap.specs.declared.error.ErrorKind.TheVariants.{OutOfMemory};
 
@@ -32,6 +32,8 @@ pub enum Command<'a> {
     Book(u64),
     /// `rv play`: act out the events of standard input.
     Play,
+    /// `rv audit`: audit the account that the lines of standard input say.
+    Audit,
     /// `rv serve --listen ADDR --epoch E --workers W --connections N`: serve the book of an epoch.
     Serve {
         /// The address to listen at, as it was written.
@@ -111,6 +113,7 @@ fn command_of<'a>(matches: &ArgMatches<'a>) -> Option<Command<'a>>
     match name {
         "book" => book_of(options),
         "play" => Some(Command::Play),
+        "audit" => Some(Command::Audit),
         "serve" => serve_of(options),
         "call" => call_of(options),
         _ => None,
@@ -216,7 +219,8 @@ fn local_program<'a>(alloc: Global) -> Result<clap::Command<'a>, AllocError>
 {
     clap::Command::new(alloc, "rv")
         .subcommand(book(alloc)?)?
-        .subcommand(play(alloc))
+        .subcommand(play(alloc))?
+        .subcommand(audit(alloc))
 }
 
 // `book --epoch E`, as clap reads it.
@@ -233,6 +237,14 @@ fn play<'a>(alloc: Global) -> clap::Command<'a>
     ensures local { (out-Command result).has_globals ≡ false }
 {
     clap::Command::new(alloc, "play")
+}
+
+// `audit`, as clap reads it.
+fn audit<'a>(alloc: Global) -> clap::Command<'a>
+    ensures shape { shape_of result ≡ audit_app.top }
+    ensures local { (out-Command result).has_globals ≡ false }
+{
+    clap::Command::new(alloc, "audit")
 }
 
 // `serve --listen ADDR --epoch E --workers W --connections N`, as clap reads it.

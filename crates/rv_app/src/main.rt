@@ -4,6 +4,8 @@
 ghost use Rattle.std.specs.Prelude.{◌≤◌};
 ghost use Rattle.rv_text.specs.Limits.{FitsIdentifier};
 
+mod account;
+mod audit;
 mod calls;
 mod client;
 mod command;
@@ -20,6 +22,8 @@ mod told;
 mod turn;
 mod word;
 
+pub use account::write_account;
+pub use audit::{AuditSaid, audit_run};
 pub use calls::{CallSaid, call_run};
 pub use command::{Command, CommandFault, read_command};
 pub use output::OutputFault;
@@ -104,6 +108,7 @@ fn run_program<T: Threads + Wait + AllocGlobal + time::Clock + Sync>(
     match read_command(rt.alloc(), &words)? {
         Command::Book(epoch) => run_book(rt, epoch)?,
         Command::Play => run_play(rt)?,
+        Command::Audit => return run_audit(rt),
         Command::Serve {
             listen,
             epoch,
@@ -160,6 +165,16 @@ fn run_serve<T: Threads + Wait + AllocGlobal + time::Clock + Sync>(
         return Err(ProgramFault::Address);
     };
     Ok(serve_epoch(threads, listener, epoch, workers, connections)?)
+}
+
+// The status tells whether the account is legal.
+fn run_audit(rt: &HostRuntime) -> Result<ExitCode, ProgramFault> {
+    let mut source = Source::new(rt.stdin());
+    let mut sink = Sink::new(rt.stdout());
+    match audit_run(rt.alloc(), &mut source, &mut sink)? {
+        AuditSaid::Legal => Ok(ExitCode::SUCCESS),
+        AuditSaid::Fault | AuditSaid::BadLine => Ok(ExitCode::from(1)),
+    }
 }
 
 // Connects first, and then reads the lines. Where small frames are held back all goes on, slower.

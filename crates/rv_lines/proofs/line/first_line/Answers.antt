@@ -1,8 +1,8 @@
 -- The first line ends at the first LF, or with the bytes.
 use Rattle.std.proofs.Common.{◌≡◌, ◌∷◌, ℕ, List, [], ap, refl, sym, ◌∙◌, false, eqb, length}
-use Rattle.rv_app.specs.Lines.{lines}
-use Rattle.rv_app.proofs.Cutting.{Lacks, lines_cut, lines_last}
-use Rattle.rv_app.proofs.line.first_line.Goals as goal
+use Rattle.rv_lines.specs.Lines.{lines}
+use Rattle.rv_lines.proofs.Cutting.{Lacks, lines_cut, lines_last}
+use Rattle.rv_lines.proofs.line.first_line.Goals as goal
 
 pub returns-in-Some-clause-some : goal.returns-in-Some-clause-some
 returns-in-Some-clause-some c =
