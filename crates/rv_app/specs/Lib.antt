@@ -4,9 +4,7 @@ pub mod Audits
 pub mod Body
 pub mod CallRuns
 pub mod Calling
-pub mod Command
 pub mod Faults
-pub mod Laws
 pub mod Lines
 pub mod Number
 pub mod Outcomes

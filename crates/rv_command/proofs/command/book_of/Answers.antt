@@ -1,8 +1,8 @@
 -- The option's value is the one of the subcommand's rows.
 use Rattle.std.proofs.Common.{refl}
 use Rattle.clap.specs.Words.{found_of, rows_of}
-use Rattle.rv_app.proofs.Options.{book_alone}
-use Rattle.rv_app.proofs.command.book_of.Goals as goal
+use Rattle.rv_command.proofs.Options.{book_alone}
+use Rattle.rv_command.proofs.command.book_of.Goals as goal
 
 pub returns-in_err-epoch-clause-none : goal.returns-in_err-epoch-clause-none
 returns-in_err-epoch-clause-none c none command said =

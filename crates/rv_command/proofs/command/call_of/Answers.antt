@@ -1,8 +1,8 @@
 -- The options' values are those of the subcommand's rows.
 use Rattle.std.proofs.Common.{refl}
 use Rattle.clap.specs.Words.{found_of, rows_of}
-use Rattle.rv_app.proofs.Options.{call_alone, not_there}
-use Rattle.rv_app.proofs.command.call_of.Goals as goal
+use Rattle.rv_command.proofs.Options.{call_alone, not_there}
+use Rattle.rv_command.proofs.command.call_of.Goals as goal
 
 pub returns-in_err-connect-clause-none : goal.returns-in_err-connect-clause-none
 returns-in_err-connect-clause-none c none command said =

@@ -1,9 +1,9 @@
 -- By computing what clap makes of the words.
 use Rattle.std.proofs.Common.{codes, refl, lit<, lit≤}
 use Rattle.clap.proofs.OnLiterals.{clap_on_literals}
-use Rattle.rv_app.specs.Laws.{BookOneIsNamed}
+use Rattle.rv_command.specs.Laws.{BookOneIsNamed}
 use Rattle.rv_lines.proofs.Numbers.{all_in_range}
-use Rattle.rv_app.proofs.laws.book_one_is_named.Goals as goal
+use Rattle.rv_command.proofs.laws.book_one_is_named.Goals as goal
 
 named : BookOneIsNamed
 unfolding clap_on_literals

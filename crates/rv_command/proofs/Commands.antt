@@ -2,11 +2,11 @@
 use Rattle.std.proofs.Common.{ap, arith, refl, sym, ◌≡◌, ◌∙◌, ℕ, List, Option, Some, None}
 use Rattle.std.specs.Option.{IsSomeAnd}
 use Rattle.clap.specs.Words.{Row, Text, subcommand_of}
-use Rattle.rv_app.specs.Command.{GivesBetween, GivesIdentifier, Says, rv_app}
-use Rattle.rv_app.specs.Laws.{OneCommand, SameCommand}
-use Rattle.rv_app.proofs.Options.{first_letter, letter_of}
-use Rattle.rv_app.specs.declared.command.Command.{Command}
-use Rattle.rv_app.specs.declared.command.Command.TheVariants.{Audit, Book, Call, Play, Serve}
+use Rattle.rv_command.specs.Command.{GivesBetween, GivesIdentifier, Says, rv_app}
+use Rattle.rv_command.specs.Laws.{OneCommand, SameCommand}
+use Rattle.rv_command.proofs.Options.{first_letter, letter_of}
+use Rattle.rv_command.specs.declared.command.Command.{Command}
+use Rattle.rv_command.specs.declared.command.Command.TheVariants.{Audit, Book, Call, Play, Serve}
 
 number_one : (value : Option Text) (m n : ℕ) → GivesIdentifier value m → GivesIdentifier value n → m ≡ n
 number_one None m n a b = absurd a

@@ -1,8 +1,8 @@
 -- The options' values are those of the subcommand's rows.
 use Rattle.std.proofs.Common.{refl}
 use Rattle.clap.specs.Words.{found_of, rows_of}
-use Rattle.rv_app.proofs.Options.{not_there, serve_alone}
-use Rattle.rv_app.proofs.command.serve_of.Goals as goal
+use Rattle.rv_command.proofs.Options.{not_there, serve_alone}
+use Rattle.rv_command.proofs.command.serve_of.Goals as goal
 
 pub returns-in_err-listen-clause-none : goal.returns-in_err-listen-clause-none
 returns-in_err-listen-clause-none c none command said =

@@ -1,9 +1,9 @@
 -- What holds of the words of a command line as such.
 use Rattle.std.specs.Prelude.{codes, List, [], ◌∷◌, ◌≡◌}
 use Rattle.clap.specs.Words.{Text}
-use Rattle.rv_app.specs.Command.{Names}
-use Rattle.rv_app.specs.declared.command.Command.{Command}
-use Rattle.rv_app.specs.declared.command.Command.TheVariants.{Audit, Book, Call, Play, Serve}
+use Rattle.rv_command.specs.Command.{Names}
+use Rattle.rv_command.specs.declared.command.Command.{Command}
+use Rattle.rv_command.specs.declared.command.Command.TheVariants.{Audit, Book, Call, Play, Serve}
 
 -- the commands are the same; addresses are, where their bytes are
 abbrev pub SameCommand : Command → Command → Type 0

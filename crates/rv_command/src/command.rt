@@ -6,13 +6,13 @@ ghost use Rattle.clap.specs.Words.{app_of, fault_of, first_of, found_of, kind_of
 ghost use Rattle.clap.specs.Words.{shape_of, subcommand_of, subcommand_rows_of};
 ghost use Rattle.clap.specs.declared.Command.TheViews.{out-Command};
 ghost use Rattle.clap.specs.Walk.{texts};
-ghost use Rattle.rv_app.specs.Command.{FitsCommand, GivesBetween, GivesIdentifier, Names, NamesNone};
-ghost use Rattle.rv_app.specs.Command.{Says, audit_app, book_app, call_app, local_app, play_app};
-ghost use Rattle.rv_app.specs.Command.{required_option, rv_app, serve_app};
-ghost use Rattle.rv_app.specs.declared.command.CommandFault.TheVariants.{Bad, NoMemory};
+ghost use Rattle.rv_command.specs.Command.{FitsCommand, GivesBetween, GivesIdentifier, Names, NamesNone};
+ghost use Rattle.rv_command.specs.Command.{Says, audit_app, book_app, call_app, local_app, play_app};
+ghost use Rattle.rv_command.specs.Command.{required_option, rv_app, serve_app};
+ghost use Rattle.rv_command.specs.declared.command.CommandFault.TheVariants.{Bad, NoMemory};
 ghost use Rattle.clap.specs.declared.error.ErrorKind.TheVariants.{OutOfMemory};
 
-use crate::number::{read_between, read_identifier};
+use rv_lines::{read_between, read_identifier};
 use clap::error::ErrorKind;
 use clap::{Arg, ArgAction, ArgMatches};
 use std::alloc::{AllocError, Global};

@@ -3,9 +3,9 @@ use Rattle.std.proofs.Common.{◌≡◌, ◌∙◌, ap, arith, Bor, codes, get_o
 use Rattle.clap.proofs.WalkLemmas.{first_value-rows}
 use Rattle.clap.specs.Words.{Row, Text, first_of, first_value, rows_of}
 use Rattle.clap.specs.declared.parser.matches.Found.{Found}
-use Rattle.rv_app.specs.Command.{GivesIdentifier, Says, SaysCall, SaysServe}
-use Rattle.rv_app.specs.declared.command.Command.{Command}
-use Rattle.rv_app.specs.declared.command.Command.TheVariants.{Audit, Book, Call, Play, Serve}
+use Rattle.rv_command.specs.Command.{GivesIdentifier, Says, SaysCall, SaysServe}
+use Rattle.rv_command.specs.declared.command.Command.{Command}
+use Rattle.rv_command.specs.declared.command.Command.TheVariants.{Audit, Book, Call, Play, Serve}
 
 -- the value that `get_str` gives
 pub value_in_rows : (f : Found) (name : Text) (value : Option (Bor Text)) → option_map (λ v. v.now) value ≡ first_value f name

@@ -5,9 +5,9 @@ use Rattle.clap.specs.Words.{App, Row, Rule, Text, fault_of, first_of, new_app, 
 use Rattle.clap.specs.Words.{subcommand_of, with_rule, with_subcommand}
 use Rattle.clap.specs.declared.builder.ArgAction.TheVariants.{Set}
 use Rattle.rv_text.specs.Limits.{FitsIdentifier}
-use Rattle.rv_app.specs.Number.{WritesBetween, WritesIdentifier}
-use Rattle.rv_app.specs.declared.command.Command.{Command}
-use Rattle.rv_app.specs.declared.command.Command.TheVariants.{Audit, Book, Call, Play, Serve}
+use Rattle.rv_lines.specs.Number.{WritesBetween, WritesIdentifier}
+use Rattle.rv_command.specs.declared.command.Command.{Command}
+use Rattle.rv_command.specs.declared.command.Command.TheVariants.{Audit, Book, Call, Play, Serve}
 
 -- an option `--name VALUE` that has to be given
 abbrev pub required_option : Text → Rule

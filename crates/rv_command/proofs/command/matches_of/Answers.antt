@@ -3,8 +3,8 @@ use Rattle.std.proofs.Common.{◌≡◌, ◌∙◌, [], ap, refl, subst, true}
 use Rattle.clap.proofs.OnLiterals.{clap_on_literals}
 use Rattle.clap.specs.Walk.{texts}
 use Rattle.clap.specs.Words.{App, fault_of, is_simple_and_free}
-use Rattle.rv_app.specs.Command.{rv_app}
-use Rattle.rv_app.proofs.command.matches_of.Goals as goal
+use Rattle.rv_command.specs.Command.{rv_app}
+use Rattle.rv_command.proofs.command.matches_of.Goals as goal
 
 is_simple : is_simple_and_free rv_app ≡ true
 unfolding clap_on_literals
