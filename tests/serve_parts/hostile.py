@@ -102,16 +102,20 @@ class Left:
 
 
 def never_reads(server, client):
-    """A peer that asks and asks and reads nothing, while another is served; then it goes."""
+    """A peer that asks and asks for a long answer and reads none, until the server's write waits; then it goes. It
+    gives what it asked."""
+    put, peek = Key(server.epoch, client, 1, 1), Key(server.epoch, client, 1, 2)
+    asked = {put: give("put", "\x01" * 512, queue=7), peek: {"call": "peek", "queue": 7}}
     peer = server.connect(receive=KEPT)
     peer.socket.settimeout(0.5)
     try:
-        peer.send(frame(hello(client)) * QUESTIONS)
+        peer.send(frame(hello(client)) + frame(request(put, asked[put])) + frame(request(peek, asked[peek])) * QUESTIONS)
         peer.send(frame(b"x" * 4096) * QUESTIONS)
     except (TimeoutError, ConnectionError):
         pass
     time.sleep(0.5)
     peer.close()
+    return asked
 
 
 class Good:
@@ -145,7 +149,8 @@ def a_thousand_hostile_connections(program, seed):
 
         def bad():
             try:
-                together(*(lambda one=one: one.run(left) for one in hostile), lambda: never_reads(server, NEVER_READS))
+                threads = [lambda one=one: one.run(left) for one in hostile]
+                good.asked |= together(lambda: never_reads(server, NEVER_READS), *threads)[0]
             finally:
                 good.done.set()
 

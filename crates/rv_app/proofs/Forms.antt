@@ -8,7 +8,7 @@ use Rattle.std.proofs.lemmas.Bool.Decides.{eqb_tells}
 use Rattle.rv_text.specs.Bodies.{HasBodyLength}
 use Rattle.rv_app.specs.Lines.{HasForm, IsBadLine}
 use Rattle.rv_app.specs.Number.{IsDigits}
-use Rattle.rv_app.proofs.Cutting.{Lacks, cut_once, digits_lack_space, not_lacking}
+use Rattle.rv_lines.proofs.Cutting.{Lacks, cut_once, digits_lack_space, not_lacking}
 
 -- the fact holds, or it does not
 abbrev Decided : Type 0 → Type 0

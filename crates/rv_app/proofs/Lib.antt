@@ -1,11 +1,10 @@
 -- The lemmas that the proofs of this crate share.
-pub mod Numbers
-pub mod Options
-pub mod Commands
 pub mod Cutting
 pub mod Forms
 pub mod Progress
 pub mod Playing
 pub mod Results
+pub mod Writing
+pub mod Telling
 pub mod Settling
 pub mod CallsSoFar

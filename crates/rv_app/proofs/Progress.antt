@@ -1,5 +1,5 @@
 -- How far a run over an input has come, and that it comes to the end.
-use Rattle.std.proofs.Common.{◌≡◌, ◌<◌, ◌≤◌, ◌+◌, ◌-◌, ◌*◌, ℕ, List, [], ◌∷◌, ◌++◌, Option, Some, None, Result, Ok, Err, IfErr, OnOk, refl, sym, ap, subst, inl, inr, ◌∙◌, length, take, arith, append_assoc, append-nil, length-append}
+use Rattle.std.proofs.Common.{◌≡◌, ◌<◌, ◌≤◌, ◌+◌, ◌-◌, ◌*◌, ℕ, List, [], ◌∷◌, ◌++◌, Option, Some, None, IfSome, Result, Ok, Err, IfErr, OnOk, refl, sym, ap, subst, inl, inr, ◌∙◌, length, take, arith, append_assoc, append-nil, length-append}
 use Rattle.std.proofs.Math.Seq.{take-append-add}
 use Rattle.std.proofs.lemmas.List.{take-append-le}
 use Rattle.std.specs.Io.KnownBytes.{Appends, append_known}
@@ -16,6 +16,13 @@ use Rattle.rv_app.specs.Outcomes.{SendsAll, SendsFront}
 use Rattle.rv_app.specs.Lines.{lines}
 use Rattle.rv_app.proofs.Forms.{formless_is_bad, has_form}
 use Rattle.rv_app.specs.Run.{AnswersLine, Runs, printed, refused_text}
+
+-- ---- the input
+
+-- what holds of the bytes that were read holds of those that the source had
+pub read_bytes : (o : Option (List ℕ)) (items : List ℕ) (P : List ℕ → Type 0) → IfSome o (λ bytes. items ≡ bytes) → P items → IfSome o P
+read_bytes None items P same has = tt
+read_bytes (Some bytes) items P same has = subst P same has
 
 -- ---- runs, one after the other
 

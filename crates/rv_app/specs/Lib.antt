@@ -1,10 +1,10 @@
 -- The definitions that the contracts of this crate cite.
+pub mod Accounts
+pub mod Audits
 pub mod Body
 pub mod CallRuns
 pub mod Calling
-pub mod Command
 pub mod Faults
-pub mod Laws
 pub mod Lines
 pub mod Number
 pub mod Outcomes

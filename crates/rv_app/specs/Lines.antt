@@ -1,14 +1,9 @@
--- The lines of an input, and what a line of the book's input says.
-use Rattle.std.specs.Prelude.{ℕ, List, [], ◌∷◌, ◌++◌, ◌≡◌, ◌==◌, if◌then◌else◌}
-use Rattle.std.specs.List.{onto_first}
+-- What a line of the book's input says.
+use Rattle.std.specs.Prelude.{ℕ, List, ◌∷◌, ◌++◌, ◌≡◌}
 use Rattle.rv_text.specs.declared.message.Message.{Message}
 use Rattle.rv_text.specs.Bodies.{HasBodyLength, IsMessageBody}
+pub use Rattle.rv_lines.specs.Lines.{lines}
 use Rattle.rv_app.specs.Number.{IsDigits, Writes}
-
--- the bytes before each LF (10), and those after the last LF if there are any
-abbrev pub lines : List ℕ → List (List ℕ)
-lines [] = []
-lines (byte ∷ bytes) = if byte == 10 then [] ∷ lines bytes else onto_first byte (lines bytes)
 
 -- the line is the digits of a moment, one space (32) and a body of the message
 pub record ReadsLine (line : List ℕ) (moment : ℕ) (message : Message) : Type 0 where

@@ -1,5 +1,5 @@
 -- A run of the book over the lines of its input: which bodies answer them, and what is printed.
-use Rattle.std.specs.Prelude.{ℕ, List, [], ◌∷◌, ◌++◌, ◌≡◌, ◌⊎◌}
+use Rattle.std.specs.Prelude.{ℕ, List, [], ◌∷◌, ◌≡◌, ◌⊎◌}
 use Rattle.rv_text.specs.declared.answer.Answer.{Answer}
 use Rattle.rv_text.specs.declared.answer.Answer.TheVariants.{Refused}
 use Rattle.rv_text.specs.declared.answer.Refusal.{Refusal}
@@ -8,6 +8,7 @@ use Rattle.rv_text.specs.declared.message.Message.{Message}
 use Rattle.rv_text.specs.Bodies.{answer_text}
 use Rattle.rv_book.specs.Account.{Account}
 use Rattle.rv_book.specs.Steps.{Next}
+pub use Rattle.rv_lines.specs.Lines.{printed}
 use Rattle.rv_app.specs.Lines.{HasForm, IsBadLine, ReadsLine, lines}
 
 -- the account of an epoch that was opened at this moment, with no entry yet
@@ -65,11 +66,6 @@ Runs a [] [] b = b ≡ a
 Runs a (line ∷ lines) (body ∷ bodies) b =
     (between : Account) × AnswersLine line a between body × Runs between lines bodies b
 Runs a _ _ b = ⊥
-
--- each body, and LF (10) after it
-abbrev pub printed : List (List ℕ) → List ℕ
-printed [] = []
-printed (body ∷ bodies) = body ++ 10 ∷ printed bodies
 
 -- the output is what one run over the lines of the input prints, from this account on
 pub record Prints (a : Account) (input output : List ℕ) : Type 0 where

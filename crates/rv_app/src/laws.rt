@@ -1,12 +1,3 @@
-//! What holds of the words of a command line as such: each contract is a law, and no body does anything.
-ghost use Rattle.rv_app.specs.Laws.{BookOneIsNamed, OneCommand};
-
-/// Words name at most one command.
-pub fn one_command()
-    ensures { OneCommand }
-{}
-
-/// The words `rv book --epoch 1` name the book of epoch 1.
-pub fn book_one_is_named()
-    ensures { BookOneIsNamed }
-{}
+//! The laws of what the program reads and writes: those of command lines, and of the lines of accounts.
+pub use rv_command::laws::{book_one_is_named, one_command};
+pub use rv_lines::laws::{book_fits_lines, no_bad_line, one_account, one_bad_line, written_account};

@@ -4,10 +4,12 @@
 ghost use Rattle.std.specs.Prelude.{◌≤◌};
 ghost use Rattle.rv_text.specs.Limits.{FitsIdentifier};
 
+mod account;
+mod audit;
 mod calls;
 mod client;
-mod command;
 mod event;
+mod fault;
 mod input;
 pub mod laws;
 mod line;
@@ -20,15 +22,16 @@ mod told;
 mod turn;
 mod word;
 
+pub use account::write_account;
+pub use audit::{AuditSaid, audit_run};
 pub use calls::{CallSaid, call_run};
-pub use command::{Command, CommandFault, read_command};
 pub use output::OutputFault;
 pub use play::play_run;
 pub use run::{RunFault, book_run};
+pub use rv_command::{Command, CommandFault, read_command};
+use fault::ProgramFault;
 use rv_frame::{Sink, Source};
-use rv_server::ServeFault;
 use server::serve_epoch;
-use std::alloc::AllocError;
 use std::io::ErrorKind;
 use std::net::{TcpListener, TcpStream};
 use std::process::ExitCode;
@@ -36,52 +39,6 @@ use std::sync::Wait;
 use std::thread::Threads;
 use std::{env, time};
 use thiserror::Error;
-
-// Why the program ends before its command is done.
-#[derive(Clone, Copy, Debug, Error)]
-enum ProgramFault {
-    #[error("{0}")]
-    Command(CommandFault),
-    #[error("{0}")]
-    Run(RunFault),
-    #[error("{0}")]
-    Serve(ServeFault),
-    #[error("address fault")]
-    Address,
-}
-
-impl ProgramFault {
-    fn status(&self) -> u8 {
-        match self {
-            ProgramFault::Command(_) => 2,
-            ProgramFault::Run(_) | ProgramFault::Serve(_) | ProgramFault::Address => 1,
-        }
-    }
-}
-
-impl From<CommandFault> for ProgramFault {
-    fn from(fault: CommandFault) -> ProgramFault {
-        ProgramFault::Command(fault)
-    }
-}
-
-impl From<AllocError> for ProgramFault {
-    fn from(_error: AllocError) -> ProgramFault {
-        ProgramFault::Command(CommandFault::NoMemory)
-    }
-}
-
-impl From<RunFault> for ProgramFault {
-    fn from(fault: RunFault) -> ProgramFault {
-        ProgramFault::Run(fault)
-    }
-}
-
-impl From<ServeFault> for ProgramFault {
-    fn from(fault: ServeFault) -> ProgramFault {
-        ProgramFault::Serve(fault)
-    }
-}
 
 // Where standard error takes nothing, the status alone tells the fault.
 fn main(rt: HostRuntime) -> ExitCode {
@@ -104,6 +61,7 @@ fn run_program<T: Threads + Wait + AllocGlobal + time::Clock + Sync>(
     match read_command(rt.alloc(), &words)? {
         Command::Book(epoch) => run_book(rt, epoch)?,
         Command::Play => run_play(rt)?,
+        Command::Audit => return run_audit(rt),
         Command::Serve {
             listen,
             epoch,
@@ -143,7 +101,7 @@ fn run_play(rt: &HostRuntime) -> Result<(), RunFault> {
     play_run(rt.alloc(), &mut source, &mut sink)
 }
 
-// Listens, and serves the connections that come.
+// Listens, serves the connections that come, and writes the account.
 fn run_serve<T: Threads + Wait + AllocGlobal + time::Clock + Sync>(
     rt: &HostRuntime,
     threads: &T,
@@ -159,7 +117,18 @@ fn run_serve<T: Threads + Wait + AllocGlobal + time::Clock + Sync>(
     let Ok(listener) = TcpListener::bind(rt, listen) else {
         return Err(ProgramFault::Address);
     };
-    Ok(serve_epoch(threads, listener, epoch, workers, connections)?)
+    let mut sink = Sink::new(rt.stdout());
+    serve_epoch(threads, listener, epoch, workers, connections, &mut sink)
+}
+
+// The status tells whether the account is legal.
+fn run_audit(rt: &HostRuntime) -> Result<ExitCode, ProgramFault> {
+    let mut source = Source::new(rt.stdin());
+    let mut sink = Sink::new(rt.stdout());
+    match audit_run(rt.alloc(), &mut source, &mut sink)? {
+        AuditSaid::Legal => Ok(ExitCode::SUCCESS),
+        AuditSaid::Fault | AuditSaid::BadLine => Ok(ExitCode::from(1)),
+    }
 }
 
 // Connects first, and then reads the lines. Where small frames are held back all goes on, slower.

@@ -1,9 +1,16 @@
-//! Serves the book of an epoch over the connections of a listener, from its opening to its end.
+//! Serves the book of an epoch over the connections of a listener, from its opening to its account.
 ghost use Rattle.std.specs.Prelude.{◌≡◌, ◌≤◌};
 ghost use Rattle.rv_text.specs.Limits.{FitsIdentifier};
 
+use crate::account::write_account;
+use crate::fault::ProgramFault;
+use crate::run::RunFault;
 use rv_book::Book;
+use rv_frame::Sink;
+use rv_lines::laws;
 use rv_server::{Clock, Closing, Gate, ServeFault, Shared, finish, serve};
+use std::alloc::Global;
+use std::io::Write;
 use std::marker::Brand;
 use std::net::TcpListener;
 use std::sync::Wait;
@@ -54,31 +61,38 @@ impl<'a, R: time::Clock> Gate for Sleeping<'a, R> {
 }
 
 /// Opens the book of an epoch at moment 0 and serves so many connections, by at most so many workers at once.
-/// It ends when all were served.
-pub(crate) fn serve_epoch<R: Threads + Wait + AllocGlobal + time::Clock + Sync>(
+/// When all were served, and after a fault of the server too, it writes the book's account. Of a fault of the
+/// server and one of that writing the first is told.
+pub(crate) fn serve_epoch<R: Threads + Wait + AllocGlobal + time::Clock + Sync, W: Write>(
     rt: &R,
     listener: TcpListener,
     epoch: u64,
     workers: usize,
     connections: u32,
-) -> Result<(), ServeFault>
+    sink: &mut Sink<W>,
+) -> Result<(), ProgramFault>
     requires epoch { FitsIdentifier epoch }
     requires some { 1 ≤ workers }
     requires most { workers ≤ 64 }
 {
     let blank = Blank::new(workers as u64);
-    serve_book::<Brand, R>(rt, blank, listener, epoch, workers, connections)
+    serve_book::<Brand, R, W>(rt, blank, listener, epoch, workers, connections, sink)
 }
 
 // The whole life of a server, under the name of its ledger.
-fn serve_book<L: Ledger + Send + Sync, R: Threads + Wait + AllocGlobal + time::Clock + Sync>(
+fn serve_book<L, R, W>(
     rt: &R,
     blank: Blank,
     listener: TcpListener,
     epoch: u64,
     workers: usize,
     connections: u32,
-) -> Result<(), ServeFault>
+    sink: &mut Sink<W>,
+) -> Result<(), ProgramFault>
+where
+    L: Ledger + Send + Sync,
+    R: Threads + Wait + AllocGlobal + time::Clock + Sync,
+    W: Write,
     requires name { blank.name ≡ L.name }
     requires parts { blank.parts ≡ L.parts }
     requires made { blank.parts ≡ workers }
@@ -89,8 +103,12 @@ fn serve_book<L: Ledger + Send + Sync, R: Threads + Wait + AllocGlobal + time::C
     let alloc = rt.alloc();
     let clock = SinceStart::new(rt);
     let gate = Sleeping { rt };
-    let book = Book::open(alloc, epoch, 0)?;
-    let (shared, seats) = Shared::<Book, L>::open(alloc, blank, book, workers)?;
+    let Ok(book) = Book::open(alloc, epoch, 0) else {
+        return Err(ProgramFault::Serve(ServeFault::NoMemory));
+    };
+    let Ok((shared, seats)) = Shared::<Book, L>::open(alloc, blank, book, workers) else {
+        return Err(ProgramFault::Serve(ServeFault::NoMemory));
+    };
     let (seats, ended) = match serve(
         rt,
         alloc,
@@ -105,8 +123,17 @@ fn serve_book<L: Ledger + Send + Sync, R: Threads + Wait + AllocGlobal + time::C
         Err((report, fault)) => (report.seats, Err(fault)),
     };
     match finish(shared, seats) {
-        // The book as the last connection left it: here is its account.
-        Ok(Closing { desk: _, total: _ }) => ended,
+        Ok(Closing { desk, total: _ }) => {
+            let written = write_book(alloc, &desk, sink);
+            ended?;
+            Ok(written?)
+        }
         Err(_) => unreachable!(),
     }
+}
+
+// Writes the account of a book.
+fn write_book<W: Write>(alloc: Global, book: &Book, sink: &mut Sink<W>) -> Result<(), RunFault> {
+    laws::book_fits_lines();
+    write_account(alloc, book.account(), sink)
 }

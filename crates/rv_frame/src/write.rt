@@ -36,7 +36,7 @@ pub fn write_frame<W: Write>(sink: &mut Sink<W>, body: &[u8]) -> Result<(), Writ
     write_parts(sink, &front[..count + 2], &body[count..])
 }
 
-// Puts the length bytes and the first of the body into the buffer, and gives how many of the body's these are.
+// Puts the length bytes and the first of the body into the buffer, and gives how many of the body these are.
 fn put_front(front: &mut [u8; FRONT_BYTES], body: &[u8]) -> usize
     requires { IsBody body.now }
     ensures within { result ≤ length body.now }

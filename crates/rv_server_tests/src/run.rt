@@ -142,8 +142,8 @@ pub(crate) fn all_are_asked_for<L: Ledger>(
     }
 }
 
-// A server of one worker over a ledger answers as the row says. Each read asks for one byte, and none is made past
-// the end.
+// A server of one worker over a ledger answers as the row says. Each read asks for one byte, and none is made
+// past the end.
 fn one<L: Ledger, R: Wait + Abort + AllocGlobal, C: Clock>(
     rt: &R,
     blank: Blank,
@@ -173,7 +173,8 @@ fn one<L: Ledger, R: Wait + Abort + AllocGlobal, C: Clock>(
     Ok(())
 }
 
-/// A server of one worker answers as the row says, with so many pauses, and ends with entries of these moments.
+/// A server of one worker answers as the row says, with so many pauses, and ends with entries of these
+/// moments.
 pub(crate) fn one_worker<R: Wait + Abort + AllocGlobal, C: Clock>(
     rt: &R,
     clock: &C,

@@ -1,5 +1,5 @@
-//! Servers on sockets of this machine, with clients in threads of the test: what is served, and that two connections
-//! are served side by side.
+//! Servers on sockets of this machine, with clients in threads of the test: what is served, and that two
+//! connections are served side by side.
 ghost use Rattle.std.specs.Prelude.{◌≡◌};
 
 use crate::meeting::{Event, Meeting};
@@ -82,8 +82,8 @@ where
     served_both(rt, shared, ended)
 }
 
-// Two clients are connected. The second says nothing until the first one's worker pauses, and that pause ends when
-// the second has the item.
+// Two clients are connected. The second says nothing until the first one's worker pauses, and that pause ends
+// when the second has the item.
 fn hand_over<R>(rt: &R, address: SocketAddr, paused: &Event, answered: &Event)
 where
     R: Threads + Net<Stream = TcpStream> + Abort + AllocGlobal + time::Clock + Sync,

@@ -1,5 +1,5 @@
-//! Workers of a server in threads: one that pauses leaves the lock free, and each counts what its own messages
-//! added.
+//! Workers of a server in threads: one that pauses leaves the lock free, and each counts what its own
+//! messages added.
 ghost use Rattle.std.specs.Prelude.{◌≡◌};
 
 use crate::meeting::Meeting;

@@ -178,7 +178,8 @@ fn a_call_tells_what_was_wrong_with_its_answer(rt: HostRuntime) -> Result<(), Fa
     calls(&rt, alloc, &bytes, 3, want, 2, 0)
 }
 
-// Asks over these bytes, of which a read gives one: what is answered, how many reads it took, and what went out.
+// Asks over these bytes, of which a read gives one: what is answered, how many reads it took, and what went
+// out.
 fn asks(
     alloc: Global,
     bytes: &[u8],
@@ -197,8 +198,8 @@ fn asks(
     (answer, reader.reads(), device)
 }
 
-// The longest body, and one byte behind its frame: a frame takes 4,098 reads where each gives one byte, and so does
-// one without its last byte, with the read of the end.
+// The longest body, and one byte behind its frame: a frame takes 4,098 reads where each gives one byte, and
+// so does one without its last byte, with the read of the end.
 #[test]
 fn an_answer_is_read_to_its_last_byte_and_no_further(rt: HostRuntime) -> Result<(), Fail> {
     let alloc = rt.alloc();

@@ -1,6 +1,6 @@
 //! What no clause says of the crates below the program: texts byte for byte, frames in all cuts, devices that
-//! fail, what is read and written for a request, and the entries of a book after worked rows; and once, with ample
-//! memory, each call that the program doesn't make.
+//! fail, what is read and written for a request, and the entries of a book after worked rows; and once, with
+//! ample memory, each call that the program doesn't make.
 #![tactic(auto)]
 
 #[cfg(test)]

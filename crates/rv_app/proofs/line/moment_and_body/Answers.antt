@@ -2,7 +2,7 @@
 use Rattle.std.proofs.Common.{◌≡◌, ◌∷◌, ◌++◌, refl, subst, sym, ◌∙◌}
 use Rattle.std.proofs.lemmas.Bool.{false≢true}
 use Rattle.rv_app.specs.Number.{IsDigits}
-use Rattle.rv_app.proofs.Cutting.{Lacks, digits_lack_space, not_lacking, cut_once}
+use Rattle.rv_lines.proofs.Cutting.{Lacks, digits_lack_space, not_lacking, cut_once}
 use Rattle.rv_app.proofs.line.moment_and_body.Goals as goal
 
 pub returns-in_err-digits-clause-none : goal.returns-in_err-digits-clause-none

@@ -1,13 +1,9 @@
 -- What went out where a play stops, by the bytes that were read.
-use Rattle.std.proofs.Common.{◌≡◌, inr, ℕ, List, Option, Some, None, IfSome, IfErr, subst}
+use Rattle.std.proofs.Common.{◌≡◌, inr, ℕ, List, IfErr, subst}
 use Rattle.rv_frame.specs.Source.{source_remaining}
 use Rattle.rv_app.specs.Plays.{PrintsFront, PrintsSome, StopsPlaying}
+use Rattle.rv_app.proofs.Progress.{read_bytes}
 use Rattle.rv_app.proofs.play.play_run.Goals as goal
-
--- what holds of the bytes that were read holds of those that the source had
-read_bytes : (o : Option (List ℕ)) (items : List ℕ) (P : List ℕ → Type 0) → IfSome o (λ bytes. items ≡ bytes) → P items → IfSome o P
-read_bytes None items P same has = tt
-read_bytes (Some bytes) items P same has = subst P same has
 
 pub returns-clause-stopped_writing : goal.returns-clause-stopped_writing
 returns-clause-stopped_writing g c fault is =

@@ -1,0 +1,108 @@
+-- How far the lines of an account are written.
+use Rattle.std.proofs.Common.{◌≡◌, ◌≤◌, ◌<◌, ◌+◌, ◌*◌, ℕ, zero, suc, List, [], ◌∷◌, ◌++◌, Option, Some, None, true, option_map, refl, sym, ap, subst, ◌∙◌, length, take, drop, map, arith, length-append}
+use Rattle.std.specs.Prelude.{slice_get}
+use Rattle.std.proofs.lemmas.List.{length-map, take-append-drop, take-append-le, take_all}
+use Rattle.std.specs.Io.KnownBytes.{Appends, append_known}
+use Rattle.std.proofs.KnownBytes.{Appends-trans}
+use Rattle.rv_frame.specs.declared.sink.Sink.{Sink}
+use Rattle.rv_frame.specs.Sink.{SinkTakes, sink_contents, sink_failed}
+use Rattle.rv_book.specs.declared.account.Entry.{Entry}
+use Rattle.rv_book.specs.Account.{Account}
+use Rattle.rv_book.proofs.Places.{within}
+use Rattle.rv_lines.specs.Lines.{printed}
+use Rattle.rv_lines.specs.Written.{account_lines, entry_text}
+use Rattle.rv_app.specs.Accounts.{WritesAll, WritesFront, WritesSome}
+use Rattle.rv_app.specs.declared.output.Output.{Output}
+use Rattle.rv_app.specs.Output.{StopsAfter}
+use Rattle.rv_app.proofs.Progress.{all_out, part_out, printed_append}
+
+-- ---- the next line
+
+take_next : (xs : List (List ℕ)) (n : ℕ) (x : List ℕ) → slice_get xs n ≡ Some x → take (suc n) xs ≡ take n xs ++ x ∷ []
+take_next [] zero x there = absurd (cc)
+take_next [] (suc n) x there = absurd (cc)
+take_next (y ∷ ys) zero x there = (cc)
+take_next (y ∷ ys) (suc n) x there = ap (λ l. y ∷ l) (take_next ys n x there)
+
+entry_at : (entries : List Entry) (place : ℕ) (e : Entry) → slice_get entries place ≡ Some e → slice_get (map entry_text entries) place ≡ Some (entry_text e)
+entry_at [] zero e there = absurd (cc)
+entry_at [] (suc place) e there = absurd (cc)
+entry_at (x ∷ entries) zero e there = ap (option_map entry_text) there
+entry_at (x ∷ entries) (suc place) e there = entry_at entries place e there
+
+past_end : (entries : List Entry) (place : ℕ) → slice_get entries place ≡ None → length entries ≤ place
+past_end [] place there = omega arith
+past_end (x ∷ entries) zero there = absurd (cc)
+past_end (x ∷ entries) (suc place) there = omega (arith, past_end entries place there)
+
+line_at : (a : Account) (n place : ℕ) (e : Entry) → n ≡ place + 1 → slice_get a.entries place ≡ Some e → slice_get (account_lines a) n ≡ Some (entry_text e)
+line_at a zero place e is there = absurd (omega arith)
+line_at a (suc n) place e is there =
+    let same : place ≡ n = omega arith in
+    subst (λ (k : ℕ). slice_get (map entry_text a.entries) k ≡ Some (entry_text e)) same (entry_at a.entries place e there)
+
+-- the first line, and those of so many entries, went to the device or are gathered
+pub record Wrote (contents : Option (List ℕ)) (a : Account) (now : Option (List ℕ)) (place : ℕ) (gathered : List ℕ) (sent : ℕ) : Type 0 where
+  pub many : ℕ
+  pub many_is : many ≡ place + 1
+  pub inside : place ≤ length a.entries
+  pub took : Appends contents (append_known now gathered) (printed (take many (account_lines a)))
+  pub count : sent + length gathered ≡ length (printed (take many (account_lines a)))
+  pub small : sent + length gathered ≤ 4160 * (place + 1)
+
+module _ {contents : Option (List ℕ)} {a : Account} {now : Option (List ℕ)} {place : ℕ} {gathered : List ℕ} {sent : ℕ} (so_far : Wrote contents a now place gathered sent) where
+  pub wrote_more : (now' : Option (List ℕ)) (gathered' text : List ℕ) (e : Entry) (sent' : ℕ) → slice_get a.entries place ≡ Some e → text ≡ entry_text e
+      → Appends (append_known now gathered) (append_known now' gathered') (text ++ 10 ∷ []) → sent' + length gathered' ≡ sent + length gathered + length text + 1 → length text < 4160
+      → Wrote contents a now' (place + 1) gathered' sent'
+  wrote_more now' gathered' text e sent' there is took count short =
+      let front = take so_far.many (account_lines a) in
+      let next : printed (take (suc so_far.many) (account_lines a)) ≡ printed front ++ (entry_text e ++ 10 ∷ []) =
+      ap printed (take_next (account_lines a) so_far.many (entry_text e) (line_at a so_far.many place e so_far.many_is there)) ∙ printed_append front (entry_text e ∷ []) in
+      let same : text ++ 10 ∷ [] ≡ entry_text e ++ 10 ∷ [] = ap (λ (t : List ℕ). t ++ 10 ∷ []) is in
+      record {
+        many = suc so_far.many;
+        many_is = omega (arith, so_far.many_is);
+        inside = omega (arith, within a.entries place e there);
+        took = subst (Appends contents (append_known now' gathered')) (ap (λ (t : List ℕ). printed front ++ t) same ∙ sym next)
+            (Appends-trans contents (append_known now gathered) (append_known now' gathered') (printed front) (text ++ 10 ∷ []) so_far.took took);
+        count = omega (arith, count, so_far.count, ap length next, length-append (printed front) (entry_text e ++ 10 ∷ []), length-append (entry_text e) (10 ∷ []), ap length is);
+        small = omega (arith, so_far.small, count, short);
+      }
+
+-- ---- the end
+
+module _ {W : Type 0} (contents : W → Option (List ℕ)) {a : Account} (start now : Sink W) {place : ℕ} (output : Output)
+    (so_far : Wrote (sink_contents contents start) a (sink_contents contents now) place output.gathered.items output.sent) where
+  -- what was gathered went out
+  front_out : (now' : Sink W) → SinkTakes contents now now' output.gathered.items → SinkTakes contents start now' (printed (take so_far.many (account_lines a)))
+  front_out now' out =
+      all_out (sink_contents contents start) (sink_contents contents now) (sink_contents contents now') output.gathered.items (printed (take so_far.many (account_lines a))) so_far.took out
+
+  pub writes_all : (now' : Sink W) → slice_get a.entries place ≡ None → sink_failed now' ≡ sink_failed start → SinkTakes contents now now' output.gathered.items → WritesAll contents a start now'
+  writes_all now' none stays out =
+      let all : take so_far.many (account_lines a) ≡ account_lines a =
+      take_all so_far.many (account_lines a) (omega (arith, so_far.many_is, past_end a.entries place none, length-map a.entries entry_text)) in
+      record { went_out = subst (λ (l : List (List ℕ)). SinkTakes contents start now' (printed l)) all (front_out now' out); sink_stays = stays }
+
+  -- a line has no text, for want of memory
+  pub writes_some : (now' : Sink W) (e : Entry) → slice_get a.entries place ≡ Some e → sink_failed now' ≡ sink_failed start → SinkTakes contents now now' output.gathered.items → WritesSome contents a start now'
+  writes_some now' e there stays out = record {
+    count = so_far.many;
+    not_all = omega (arith, so_far.many_is, within a.entries place e there, length-map a.entries entry_text);
+    went_out = front_out now' out;
+    sink_stays = stays;
+  }
+
+  -- a write failed
+  pub writes_front : (now' : Sink W) (out : ℕ) → StopsAfter contents output now now' out → sink_failed now' ≡ true → WritesFront contents a start now' out
+  writes_front now' out stops fails =
+      let first = take so_far.many (account_lines a) in
+      let later = drop so_far.many (account_lines a) in
+      let joined : printed (account_lines a) ≡ printed first ++ printed later = ap printed (sym (take-append-drop so_far.many (account_lines a))) ∙ printed_append first later in
+      let front : take out (printed (account_lines a)) ≡ take out (printed first) = ap (take out) joined ∙ take-append-le out (printed first) (printed later) (omega (arith, so_far.count, stops.not_all)) in
+      let went = part_out (sink_contents contents start) (sink_contents contents now) (sink_contents contents now') output.gathered.items (printed first) output.sent out so_far.took so_far.count stops.past_those_sent stops.not_all stops.went_out in
+      record {
+        not_all = omega (arith, so_far.count, ap length joined, length-append (printed first) (printed later), stops.not_all);
+        went_out = subst (SinkTakes contents start now') (sym front) went;
+        sink_fails = fails;
+      }

@@ -1,0 +1,95 @@
+//! Audits the account that the lines of an input say.
+ghost use Rattle.std.specs.Prelude.{◌≡◌, Err, IfOk};
+ghost use Rattle.rv_app.specs.Audits.{Audited, HasLine, StoppedTelling, TellsOf};
+ghost use Rattle.rv_app.specs.Outcomes.{FailedReading, FoundTooLong, LackedMemory, max_input};
+
+use crate::input::read_input;
+use crate::output::OutputFault;
+use crate::run::RunFault;
+use rv_book::Account;
+use rv_frame::{Sink, Source};
+use rv_lines::{AccountFault, read_account};
+use rv_text::NoMemory;
+use rv_world::{Audit, audit};
+use std::alloc::{AllocError, Global};
+use std::io::{Read, Write};
+
+/// What an audit said of an input.
+#[derive(Clone, Copy, Debug, PartialEq, Eq)]
+pub enum AuditSaid {
+    /// Its lines are read as a legal account.
+    Legal,
+    /// Its lines are read as an account in which a rule is broken.
+    Fault,
+    /// Its lines are read as no account.
+    BadLine,
+}
+
+/// Reads the account that the source's lines say, audits it, and writes one line and LF to the sink: `legal`;
+/// or `fault PLACE RULE` for the first place at which a rule is broken, and the first such rule there; or
+/// `bad line N` for the first line that has another form, counted from 1, which is told before any fault.
+/// Lines end by LF, which the last one may lack.
+///
+/// The whole input is read before anything is written, and read faults, want of memory and too long an input
+/// write nothing.
+pub fn audit_run<R: Read, W: Write>(
+    alloc: Global,
+    source: &mut Source<R>,
+    sink: &mut Sink<W>,
+) -> Result<AuditSaid, RunFault>
+    // The line says what the audit of the whole input finds, and which of the three it is.
+    ensures audited { IfOk result
+        (Audited R.remaining W.contents source.old source.new sink.old sink.new) }
+
+    // Exactly the first `sent` bytes of such a line went out, and not all.
+    ensures stopped_writing { (fault : _) → result ≡ Err (RunFault.WriteFault fault) →
+        StoppedTelling R.remaining W.contents source.old source.new sink.old sink.new fault.sent }
+
+    // The other faults write nothing.
+    ensures failed_reading { result ≡ Err RunFault.ReadFault →
+        FailedReading source.new sink.old sink.new }
+    ensures found_too_long { result ≡ Err RunFault.TooLong →
+        FoundTooLong R.remaining source.old source.new sink.old sink.new }
+    ensures lacked_memory { result ≡ Err RunFault.NoMemory →
+        LackedMemory source.new sink.old sink.new }
+{
+    let input = read_input(alloc, source)?;
+    let (said, line) = tell_input(alloc, &input)?;
+    match sink.write_all(line.as_bytes()) {
+        Ok(()) => Ok(said),
+        Err(fault) => Err(RunFault::WriteFault(OutputFault {
+            sent: fault.sent as u64,
+        })),
+    }
+}
+
+// What an audit of the input's lines says, and the line with its LF that tells it.
+fn tell_input(alloc: Global, input: &[u8]) -> Result<(AuditSaid, String), NoMemory>
+    ensures { IfOk result (HasLine input.now) }
+{
+    match read_account(alloc, input) {
+        Ok(account) => tell_account(alloc, &account),
+        Err(AccountFault::BadLine(number)) => {
+            let line = format!(in alloc; "bad line {number}\n")?;
+            Ok((AuditSaid::BadLine, line))
+        }
+        Err(AccountFault::NoMemory) => Err(AllocError),
+    }
+}
+
+// The same of an account that was read.
+fn tell_account(alloc: Global, account: &Account) -> Result<(AuditSaid, String), NoMemory>
+    ensures { IfOk result (TellsOf account.now.account) }
+{
+    match audit(alloc, account)? {
+        Audit::Legal => {
+            let line = String::from_str(alloc, "legal\n")?;
+            Ok((AuditSaid::Legal, line))
+        }
+        Audit::Fault { place, rule } => {
+            let name = rule.name();
+            let line = format!(in alloc; "fault {place} {name}\n")?;
+            Ok((AuditSaid::Fault, line))
+        }
+    }
+}

@@ -1,0 +1,54 @@
+-- From what a getter of clap gives to the rows that the specs speak of, and what a subcommand's name tells.
+use Rattle.std.proofs.Common.{◌≡◌, ◌∙◌, ap, arith, Bor, codes, get_or, List, option_map, Option, None, Some, subst, ℕ}
+use Rattle.clap.proofs.WalkLemmas.{first_value-rows}
+use Rattle.clap.specs.Words.{Row, Text, first_of, first_value, rows_of}
+use Rattle.clap.specs.declared.parser.matches.Found.{Found}
+use Rattle.rv_command.specs.Command.{GivesIdentifier, Says, SaysCall, SaysServe}
+use Rattle.rv_command.specs.declared.command.Command.{Command}
+use Rattle.rv_command.specs.declared.command.Command.TheVariants.{Audit, Book, Call, Play, Serve}
+
+-- the value that `get_str` gives
+pub value_in_rows : (f : Found) (name : Text) (value : Option (Bor Text)) → option_map (λ v. v.now) value ≡ first_value f name
+    → option_map (λ v. v.now) value ≡ first_of name (rows_of f)
+value_in_rows f name value got = got ∙ first_value-rows f name
+
+abbrev IsNothing : Option Text → Type 0
+IsNothing None = Unit {0}
+IsNothing (Some text) = ⊥
+
+-- a value that is not there is no text
+pub not_there : (value : Option Text) (text : Text) → None ≡ value → value ≡ Some text → ⊥
+not_there value text none some = subst IsNothing (none ∙ some) tt
+
+-- the first letter of a command's word: no two have the same
+abbrev pub letter_of : Command → ℕ
+letter_of (Book epoch) = 98
+letter_of Play = 112
+letter_of Audit = 97
+letter_of (Serve listen epoch workers connections) = 115
+letter_of (Call connect client incarnation tries) = 99
+
+pub first_letter : (name : Text) (options : List Row) (command : Command) → Says (name, options) command → get_or name 0 0 ≡ letter_of command
+first_letter name options (Book epoch) said = ap (λ (letters : List ℕ). get_or letters 0 0) said.0
+first_letter name options Play said = ap (λ (letters : List ℕ). get_or letters 0 0) said
+first_letter name options Audit said = ap (λ (letters : List ℕ). get_or letters 0 0) said
+first_letter name options (Serve listen epoch workers connections) said = ap (λ (letters : List ℕ). get_or letters 0 0) said.0
+first_letter name options (Call connect client incarnation tries) said = ap (λ (letters : List ℕ). get_or letters 0 0) said.0
+
+-- the subcommand `book` is no other command
+pub book_alone : (options : List Row) (command : Command) → Says (codes "book", options) command
+    → (epoch : ℕ) × GivesIdentifier (first_of (codes "epoch") options) epoch
+book_alone options (Book epoch) said = (epoch, said.1)
+book_alone options command said = let same : 98 ≡ letter_of command = first_letter (codes "book") options command said in absurd (omega (arith, same))
+
+-- nor is `serve`
+pub serve_alone : (options : List Row) (command : Command) → Says (codes "serve", options) command
+    → (listen : Text) × (epoch : ℕ) × (workers : ℕ) × (connections : ℕ) × SaysServe options listen epoch workers connections
+serve_alone options (Serve listen epoch workers connections) said = (listen.now, epoch, workers, connections, said.1)
+serve_alone options command said = let same : 115 ≡ letter_of command = first_letter (codes "serve") options command said in absurd (omega (arith, same))
+
+-- nor is `call`
+pub call_alone : (options : List Row) (command : Command) → Says (codes "call", options) command
+    → (connect : Text) × (client : ℕ) × (incarnation : ℕ) × (tries : ℕ) × SaysCall options connect client incarnation tries
+call_alone options (Call connect client incarnation tries) said = (connect.now, client, incarnation, tries, said.1)
+call_alone options command said = let same : 99 ≡ letter_of command = first_letter (codes "call") options command said in absurd (omega (arith, same))

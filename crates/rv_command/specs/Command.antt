@@ -1,0 +1,110 @@
+-- The commands that the words of a command line name.
+use Rattle.std.specs.Prelude.{codes, List, ℕ, Option, Some, true, [], ◌≡◌, ◌≤◌}
+use Rattle.std.specs.Option.{IsSomeAnd}
+use Rattle.clap.specs.Words.{App, Row, Rule, Text, fault_of, first_of, new_app, new_rule}
+use Rattle.clap.specs.Words.{subcommand_of, with_rule, with_subcommand}
+use Rattle.clap.specs.declared.builder.ArgAction.TheVariants.{Set}
+use Rattle.rv_text.specs.Limits.{FitsIdentifier}
+use Rattle.rv_lines.specs.Number.{WritesBetween, WritesIdentifier}
+use Rattle.rv_command.specs.declared.command.Command.{Command}
+use Rattle.rv_command.specs.declared.command.Command.TheVariants.{Audit, Book, Call, Play, Serve}
+
+-- an option `--name VALUE` that has to be given
+abbrev pub required_option : Text → Rule
+required_option name =
+    record (new_rule name) { long = Some name; action = Some Set; required = true }
+
+-- `rv book --epoch E`
+abbrev pub book_app : App
+book_app = with_rule (new_app (codes "book")) (required_option (codes "epoch"))
+
+-- `rv play`
+abbrev pub play_app : App
+play_app = new_app (codes "play")
+
+-- `rv audit`
+abbrev pub audit_app : App
+audit_app = new_app (codes "audit")
+
+-- `rv serve --listen ADDR --epoch E --workers W --connections N`
+abbrev pub serve_app : App
+serve_app =
+    let listens = with_rule (new_app (codes "serve")) (required_option (codes "listen")) in
+    let numbered = with_rule listens (required_option (codes "epoch")) in
+    let staffed = with_rule numbered (required_option (codes "workers")) in
+    with_rule staffed (required_option (codes "connections"))
+
+-- `rv call --connect ADDR --client C --incarnation I --tries T`
+abbrev pub call_app : App
+call_app =
+    let connects = with_rule (new_app (codes "call")) (required_option (codes "connect")) in
+    let named = with_rule connects (required_option (codes "client")) in
+    let started = with_rule named (required_option (codes "incarnation")) in
+    with_rule started (required_option (codes "tries"))
+
+-- the subcommands that use no socket
+abbrev pub local_app : App
+local_app =
+    let books = with_subcommand (new_app (codes "rv")) book_app.top in
+    with_subcommand (with_subcommand books play_app.top) audit_app.top
+
+-- the program as `clap` reads it: its subcommands, with their options
+abbrev pub rv_app : App
+rv_app = with_subcommand (with_subcommand local_app serve_app.top) call_app.top
+
+-- the value of an option is there, and is the digits of an identifier
+abbrev pub GivesIdentifier : Option Text → ℕ → Type 0
+GivesIdentifier value n = IsSomeAnd value (λ text. WritesIdentifier text n)
+
+-- it is there, and is the digits of a number within these limits
+abbrev pub GivesBetween : ℕ → ℕ → Option Text → ℕ → Type 0
+GivesBetween least most value n = IsSomeAnd value (λ text. WritesBetween least most text n)
+
+-- the most of what is only counted: each `u32` is one
+abbrev pub max_count : ℕ
+max_count = 4294967295
+
+-- the options of `rv serve`, by their rows, have these values
+pub record SaysServe (rows : List Row) (listen : Text) (epoch workers connections : ℕ) : Type 0 where
+  pub to_listen : first_of (codes "listen") rows ≡ Some listen
+  pub in_epoch : GivesIdentifier (first_of (codes "epoch") rows) epoch
+  pub with_workers : GivesBetween 1 64 (first_of (codes "workers") rows) workers
+  pub for_connections : GivesBetween 0 max_count (first_of (codes "connections") rows) connections
+
+-- the options of `rv call` have these values
+pub record SaysCall (rows : List Row) (connect : Text) (client incarnation tries : ℕ) : Type 0 where
+  pub to_connect : first_of (codes "connect") rows ≡ Some connect
+  pub of_client : GivesIdentifier (first_of (codes "client") rows) client
+  pub in_incarnation : GivesIdentifier (first_of (codes "incarnation") rows) incarnation
+  pub with_tries : GivesBetween 0 max_count (first_of (codes "tries") rows) tries
+
+-- a subcommand, by its name and its options, is the command
+abbrev pub Says : Text × List Row → Command → Type 0
+Says subcommand (Book epoch) = (subcommand.0 ≡ codes "book")
+    × GivesIdentifier (first_of (codes "epoch") subcommand.1) epoch
+Says subcommand Play = subcommand.0 ≡ codes "play"
+Says subcommand Audit = subcommand.0 ≡ codes "audit"
+Says subcommand (Serve listen epoch workers connections) = (subcommand.0 ≡ codes "serve")
+    × SaysServe subcommand.1 listen.now epoch workers connections
+Says subcommand (Call connect client incarnation tries) = (subcommand.0 ≡ codes "call")
+    × SaysCall subcommand.1 connect.now client incarnation tries
+
+-- the words, the program's name first, name the command: `clap` finds no fault in them, and the
+-- subcommand that it finds is the command
+pub record Names (words : List Text) (command : Command) : Type 0 where
+  pub taken : fault_of rv_app words ≡ []
+  pub said : IsSomeAnd (subcommand_of rv_app words) (λ subcommand. Says subcommand command)
+
+-- the words name no command
+abbrev pub NamesNone : List Text → Type 0
+NamesNone words = (command : Command) → ¬ Names words command
+
+-- the numbers of the command keep their limits
+abbrev pub FitsCommand : Command → Type 0
+FitsCommand (Book epoch) = FitsIdentifier epoch
+FitsCommand Play = Unit {0}
+FitsCommand Audit = Unit {0}
+FitsCommand (Serve listen epoch workers connections) =
+    FitsIdentifier epoch × (1 ≤ workers) × (workers ≤ 64)
+FitsCommand (Call connect client incarnation tries) =
+    FitsIdentifier client × FitsIdentifier incarnation

@@ -1,0 +1,283 @@
+//! Reads the words of a command line.
+ghost use Rattle.std.specs.Prelude.{IfOk, IfSome, IsErrOf, None, codes, false, option_map};
+ghost use Rattle.std.specs.Prelude.{ℕ, ◌≡◌, []};
+ghost use Rattle.std.specs.Option.{IsSomeAnd};
+ghost use Rattle.clap.specs.Words.{app_of, fault_of, first_of, found_of, kind_of, rows_of, rule_of};
+ghost use Rattle.clap.specs.Words.{shape_of, subcommand_of, subcommand_rows_of};
+ghost use Rattle.clap.specs.declared.Command.TheViews.{out-Command};
+ghost use Rattle.clap.specs.Walk.{texts};
+ghost use Rattle.rv_command.specs.Command.{FitsCommand, GivesBetween, GivesIdentifier, Names, NamesNone};
+ghost use Rattle.rv_command.specs.Command.{Says, audit_app, book_app, call_app, local_app, play_app};
+ghost use Rattle.rv_command.specs.Command.{required_option, rv_app, serve_app};
+ghost use Rattle.rv_command.specs.declared.command.CommandFault.TheVariants.{Bad, NoMemory};
+ghost use Rattle.clap.specs.declared.error.ErrorKind.TheVariants.{OutOfMemory};
+
+use rv_lines::{read_between, read_identifier};
+use clap::error::ErrorKind;
+use clap::{Arg, ArgAction, ArgMatches};
+use std::alloc::{AllocError, Global};
+use thiserror::Error;
+
+// The most workers of a server.
+const MAX_WORKERS: u64 = 64;
+
+// The most of what is only counted: connections and tries.
+const MAX_COUNT: u64 = 4_294_967_295;
+
+/// What the program is asked to do.
+#[derive(Clone, Copy, Debug, PartialEq, Eq)]
+pub enum Command<'a> {
+    /// `rv book --epoch E`: run the book of this epoch, 1 to 9,007,199,254,740,991, over the lines
+    /// of standard input.
+    Book(u64),
+    /// `rv play`: act out the events of standard input.
+    Play,
+    /// `rv audit`: audit the account that the lines of standard input say.
+    Audit,
+    /// `rv serve --listen ADDR --epoch E --workers W --connections N`: serve the book of an epoch.
+    Serve {
+        /// The address to listen at, as it was written.
+        listen: &'a str,
+        /// The epoch, 1 to 9,007,199,254,740,991.
+        epoch: u64,
+        /// How many workers there are, 1 to 64.
+        workers: usize,
+        /// How many connections are accepted before the server ends.
+        connections: u32,
+    },
+    /// `rv call --connect ADDR --client C --incarnation I --tries T`: make the calls of standard
+    /// input.
+    Call {
+        /// The address of the server, as it was written.
+        connect: &'a str,
+        /// The client, 1 to 9,007,199,254,740,991.
+        client: u64,
+        /// Its incarnation, 1 to 9,007,199,254,740,991.
+        incarnation: u64,
+        /// How often hello is said, and each request asked, at most.
+        tries: u32,
+    },
+}
+
+/// Why the words of a command line give no command.
+#[derive(Clone, Copy, Debug, PartialEq, Eq, Error)]
+pub enum CommandFault {
+    /// The words name no command, and a call for help is none: `clap` refuses them, or a number is
+    /// written otherwise or lies outside its limits.
+    #[error("command fault 1")]
+    Bad,
+    /// A growth was refused.
+    #[error("command fault 2")]
+    NoMemory,
+}
+
+impl From<AllocError> for CommandFault {
+    ghost from_gives = { λ _ fault. fault ≡ NoMemory };
+
+    fn from(_error: AllocError) -> CommandFault {
+        CommandFault::NoMemory
+    }
+}
+
+impl From<clap::Error> for CommandFault {
+    ghost from_gives = { λ error fault. (kind_of error ≡ OutOfMemory → fault ≡ NoMemory)
+        × (¬ (kind_of error ≡ OutOfMemory) → fault ≡ Bad) };
+
+    fn from(error: clap::Error) -> CommandFault {
+        match error.kind() {
+            ErrorKind::OutOfMemory => CommandFault::NoMemory,
+            _ => CommandFault::Bad,
+        }
+    }
+}
+
+/// The command that the words name, as `clap` reads them. The first word is the program's name. A
+/// number is 1 to 19 ASCII digits, read in decimal.
+pub fn read_command<'a>(alloc: Global, words: &'a [&'a str]) -> Result<Command<'a>, CommandFault>
+    ensures ok { IfOk result (λ command. Names (texts words.entry.now) command) }
+    ensures bad { IsErrOf result CommandFault.Bad → NamesNone (texts words.entry.now) }
+    ensures fits { IfOk result FitsCommand }
+{
+    let matches = matches_of(alloc, words)?;
+    command_of(&matches).ok_or(CommandFault::Bad)
+}
+
+// The command that the subcommand is.
+fn command_of<'a>(matches: &ArgMatches<'a>) -> Option<Command<'a>>
+    ensures some { IfSome result (λ command.
+        IsSomeAnd (subcommand_rows_of matches.now) (λ s. Says s command)) }
+    ensures none { result ≡ None → (command : Command)
+        → ¬ IsSomeAnd (subcommand_rows_of matches.now) (λ s. Says s command) }
+{
+    let (name, options) = matches.subcommand()?;
+    match name {
+        "book" => book_of(options),
+        "play" => Some(Command::Play),
+        "audit" => Some(Command::Audit),
+        "serve" => serve_of(options),
+        "call" => call_of(options),
+        _ => None,
+    }
+}
+
+// The command `book` with these options.
+fn book_of<'a>(options: &ArgMatches<'a>) -> Option<Command<'a>>
+    ensures some { IfSome result (Says (codes "book", rows_of (found_of options.now))) }
+    ensures none { result ≡ None → (command : Command)
+        → ¬ Says (codes "book", rows_of (found_of options.now)) command }
+{
+    let epoch = identifier_of(options, "epoch")?;
+    Some(Command::Book(epoch))
+}
+
+// The command `serve` with these options.
+fn serve_of<'a>(options: &ArgMatches<'a>) -> Option<Command<'a>>
+    ensures some { IfSome result (Says (codes "serve", rows_of (found_of options.now))) }
+    ensures none { result ≡ None → (command : Command)
+        → ¬ Says (codes "serve", rows_of (found_of options.now)) command }
+{
+    let listen = text_of(options, "listen")?;
+    let epoch = identifier_of(options, "epoch")?;
+    let workers = number_of(options, "workers", 1, MAX_WORKERS)?;
+    let connections = number_of(options, "connections", 0, MAX_COUNT)?;
+    Some(Command::Serve {
+        listen,
+        epoch,
+        workers: workers as usize,
+        connections: connections as u32,
+    })
+}
+
+// The command `call` with these options.
+fn call_of<'a>(options: &ArgMatches<'a>) -> Option<Command<'a>>
+    ensures some { IfSome result (Says (codes "call", rows_of (found_of options.now))) }
+    ensures none { result ≡ None → (command : Command)
+        → ¬ Says (codes "call", rows_of (found_of options.now)) command }
+{
+    let connect = text_of(options, "connect")?;
+    let client = identifier_of(options, "client")?;
+    let incarnation = identifier_of(options, "incarnation")?;
+    let tries = number_of(options, "tries", 0, MAX_COUNT)?;
+    Some(Command::Call {
+        connect,
+        client,
+        incarnation,
+        tries: tries as u32,
+    })
+}
+
+// The identifier that an option's value writes: an epoch, a client and the like.
+fn identifier_of(options: &ArgMatches, name: &str) -> Option<u64>
+    ensures some { IfSome result
+        (GivesIdentifier (first_of name.now (rows_of (found_of options.now)))) }
+    ensures none { result ≡ None → (n : ℕ)
+        → ¬ GivesIdentifier (first_of name.now (rows_of (found_of options.now))) n }
+{
+    read_identifier(text_of(options, name)?.as_bytes())
+}
+
+// The number from `least` to `most` that an option's value writes.
+fn number_of(options: &ArgMatches, name: &str, least: u64, most: u64) -> Option<u64>
+    ensures some { IfSome result
+        (GivesBetween least most (first_of name.now (rows_of (found_of options.now)))) }
+    ensures none { result ≡ None → (n : ℕ)
+        → ¬ GivesBetween least most (first_of name.now (rows_of (found_of options.now))) n }
+{
+    read_between(text_of(options, name)?.as_bytes(), least, most)
+}
+
+// An option's value.
+fn text_of<'a>(options: &ArgMatches<'a>, name: &str) -> Option<&'a str>
+    ensures { option_map (λ v. v.now) result ≡ first_of name.now (rows_of (found_of options.now)) }
+{
+    options.get_str(name)
+}
+
+// What clap makes of the words.
+fn matches_of<'a>(alloc: Global, words: &'a [&'a str]) -> Result<ArgMatches<'a>, CommandFault>
+    ensures taken { IfOk result (λ _. fault_of rv_app (texts words.entry.now) ≡ []) }
+    ensures found { IfOk result (λ m.
+        subcommand_rows_of m ≡ subcommand_of rv_app (texts words.entry.now)) }
+    ensures bad { IsErrOf result CommandFault.Bad
+        → ¬ (fault_of rv_app (texts words.entry.now) ≡ []) }
+{
+    Ok(program(alloc)?.try_get_matches_from(words)?)
+}
+
+// The program, as clap reads it.
+fn program<'a>(alloc: Global) -> Result<clap::Command<'a>, AllocError>
+    ensures { IfOk result (λ c. app_of c ≡ rv_app) }
+{
+    local_program(alloc)?
+        .subcommand(serve(alloc)?)?
+        .subcommand(call(alloc)?)
+}
+
+// Those of its subcommands that use no socket.
+fn local_program<'a>(alloc: Global) -> Result<clap::Command<'a>, AllocError>
+    ensures { IfOk result (λ c. app_of c ≡ local_app) }
+{
+    clap::Command::new(alloc, "rv")
+        .subcommand(book(alloc)?)?
+        .subcommand(play(alloc))?
+        .subcommand(audit(alloc))
+}
+
+// `book --epoch E`, as clap reads it.
+fn book<'a>(alloc: Global) -> Result<clap::Command<'a>, AllocError>
+    ensures shape { IfOk result (λ c. shape_of c ≡ book_app.top) }
+    ensures local { IfOk result (λ c. (out-Command c).has_globals ≡ false) }
+{
+    clap::Command::new(alloc, "book").arg(required_option(alloc, "epoch"))
+}
+
+// `play`, as clap reads it.
+fn play<'a>(alloc: Global) -> clap::Command<'a>
+    ensures shape { shape_of result ≡ play_app.top }
+    ensures local { (out-Command result).has_globals ≡ false }
+{
+    clap::Command::new(alloc, "play")
+}
+
+// `audit`, as clap reads it.
+fn audit<'a>(alloc: Global) -> clap::Command<'a>
+    ensures shape { shape_of result ≡ audit_app.top }
+    ensures local { (out-Command result).has_globals ≡ false }
+{
+    clap::Command::new(alloc, "audit")
+}
+
+// `serve --listen ADDR --epoch E --workers W --connections N`, as clap reads it.
+fn serve<'a>(alloc: Global) -> Result<clap::Command<'a>, AllocError>
+    ensures shape { IfOk result (λ c. shape_of c ≡ serve_app.top) }
+    ensures local { IfOk result (λ c. (out-Command c).has_globals ≡ false) }
+{
+    clap::Command::new(alloc, "serve")
+        .arg(required_option(alloc, "listen"))?
+        .arg(required_option(alloc, "epoch"))?
+        .arg(required_option(alloc, "workers"))?
+        .arg(required_option(alloc, "connections"))
+}
+
+// `call --connect ADDR --client C --incarnation I --tries T`, as clap reads it.
+fn call<'a>(alloc: Global) -> Result<clap::Command<'a>, AllocError>
+    ensures shape { IfOk result (λ c. shape_of c ≡ call_app.top) }
+    ensures local { IfOk result (λ c. (out-Command c).has_globals ≡ false) }
+{
+    clap::Command::new(alloc, "call")
+        .arg(required_option(alloc, "connect"))?
+        .arg(required_option(alloc, "client"))?
+        .arg(required_option(alloc, "incarnation"))?
+        .arg(required_option(alloc, "tries"))
+}
+
+// An option `--name VALUE` that has to be given.
+fn required_option<'a>(alloc: Global, name: &'a str) -> Arg<'a>
+    ensures rule { rule_of result ≡ required_option name.entry.now }
+    ensures local { result.global ≡ false }
+{
+    Arg::new(alloc, name)
+        .long(name)
+        .required(true)
+        .action(ArgAction::Set)
+}

@@ -1,0 +1,12 @@
+//! What holds of the words of a command line as such: each contract is a law, and no body does anything.
+ghost use Rattle.rv_command.specs.Laws.{BookOneIsNamed, OneCommand};
+
+/// Words name at most one command.
+pub fn one_command()
+    ensures { OneCommand }
+{}
+
+/// The words `rv book --epoch 1` name the book of epoch 1.
+pub fn book_one_is_named()
+    ensures { BookOneIsNamed }
+{}

@@ -1,0 +1,13 @@
+-- The lemmas that the proofs of this crate share.
+pub mod Numbers
+pub mod Cutting
+pub mod Plain
+pub mod Fields
+pub mod Heads
+pub mod Entering
+pub mod OneReading
+pub mod Booked
+pub mod OneLine
+pub mod ReadBack
+pub mod Turns
+pub mod Texts

@@ -1,0 +1,102 @@
+-- What is written for an account is read as that account.
+use Rattle.std.proofs.Common.{◌≡◌, ◌≤◌, ◌<◌, ◌^◌, ℕ, suc, List, [], ◌∷◌, Option, Some, None, IfSome, map, refl, ap, ◌∙◌, arith}
+use Rattle.std.specs.Prelude.{slice_get}
+use Rattle.std.specs.List.{AllZip}
+use Rattle.std.specs.Fmt.{decimal}
+use Rattle.std.proofs.lemmas.List.{length-map}
+use Rattle.rv_text.specs.declared.message.Message.{Message}
+use Rattle.rv_text.specs.Bodies.{HasUtf8}
+use Rattle.rv_text.specs.Limits.{FitsMessage}
+use Rattle.rv_text.proofs.Written.{written_body}
+use Rattle.rv_book.specs.declared.account.Entry.{Entry}
+use Rattle.rv_book.specs.Limits.{FitsEntry}
+use Rattle.rv_book.specs.Steps.{max_moment}
+use Rattle.rv_lines.specs.Laws.{WrittenAccount}
+use Rattle.rv_lines.specs.Lines.{lines, printed}
+use Rattle.rv_lines.specs.Number.{WritesUpTo}
+use Rattle.rv_lines.specs.Reading.{ReadsEntry, SaysMessage, SaysPartner}
+use Rattle.rv_lines.specs.Written.{account_lines, entry_text, head_text, max_partner, message_in, partner_text, said_text}
+use Rattle.rv_lines.proofs.Cutting.{Lacks, lines_cut}
+use Rattle.rv_lines.proofs.OneLine.{entry_in_one_line, head_in_one_line, message_fits}
+use Rattle.rv_lines.proofs.Plain.{decimal_is_plain}
+
+-- ---- one line
+
+written_up_to : (most n : ℕ) → n ≤ most → most < 10 ^ 19 → WritesUpTo most (decimal n) n
+written_up_to most n within small = (decimal_is_plain n (omega arith), within)
+
+written_partner : (partner : Option ℕ) → IfSome partner (λ p. p ≤ max_partner) → SaysPartner (partner_text partner) partner
+written_partner None small = refl
+written_partner (Some place) small = written_up_to max_partner place small (omega arith)
+
+written_message : (said : Option Message) → IfSome said FitsMessage → IfSome said HasUtf8 → SaysMessage (said_text said) said
+written_message None fits text = refl
+written_message (Some m) fits text = written_body m fits text
+
+pub written_entry : (e : Entry) → FitsEntry e → IfSome e.partner (λ p. p ≤ max_partner) → IfSome (message_in e.act) HasUtf8 → ReadsEntry (entry_text e) e
+written_entry e fits small text = record {
+  act_field = said_text (message_in e.act);
+  fields = record {
+    moment_field = decimal e.moment;
+    partner_field = partner_text e.partner;
+    parts = refl;
+    says_moment = written_up_to max_moment e.moment fits.0 (omega arith);
+    says_partner = written_partner e.partner small;
+  };
+  says_act = written_message (message_in e.act) (message_fits e.act fits.1) text;
+}
+
+-- ---- all lines
+
+-- what is needed of an entry
+record CanBeRead (e : Entry) : Type 0 where
+  pub fits : FitsEntry e
+  pub small : IfSome e.partner (λ p. p ≤ max_partner)
+  pub text : IfSome (message_in e.act) HasUtf8
+
+abbrev Each : List Entry → Type 0
+Each entries = (r : ℕ) (e : Entry) → slice_get entries r ≡ Some e → CanBeRead e
+
+written_entries : (entries : List Entry) → Each entries → AllZip ReadsEntry (map entry_text entries) entries
+written_entries [] each = tt
+written_entries (e ∷ entries) each =
+    let here = each 0 e refl in
+    (written_entry e here.fits here.small here.text, written_entries entries (λ r x there. each (suc r) x there))
+
+abbrev AllLines : List (List ℕ) → Type 0
+AllLines [] = Unit {0}
+AllLines (text ∷ texts) = Lacks 10 text × AllLines texts
+
+entries_in_lines : (entries : List Entry) → Each entries → AllLines (map entry_text entries)
+entries_in_lines [] each = tt
+entries_in_lines (e ∷ entries) each =
+    let here = each 0 e refl in
+    (entry_in_one_line e here.fits here.small, entries_in_lines entries (λ r x there. each (suc r) x there))
+
+-- lines without LF are cut where they were joined
+cut_again : (texts : List (List ℕ)) → AllLines texts → lines (printed texts) ≡ texts
+cut_again [] all = refl
+cut_again (text ∷ texts) all = lines_cut text (printed texts) all.0 ∙ ap (λ later. text ∷ later) (cut_again texts all.1)
+
+pub account_again : WrittenAccount
+account_again a fits texts =
+    let each : Each a.entries = λ r e there. record { fits = fits.entries r e there; small = fits.partners r e there; text = texts r e there } in
+    let head = head_in_one_line a.epoch a.opened (omega (arith, fits.epoch.1)) (omega (arith, fits.opened)) in
+    let cut = cut_again (account_lines a) (head, entries_in_lines a.entries each) in
+    record {
+      head = head_text a.epoch a.opened;
+      rest = map entry_text a.entries;
+      parts = cut;
+      says_head = record {
+        epoch_field = decimal a.epoch;
+        opened_field = decimal a.opened;
+        parts = refl;
+        says_epoch = decimal_is_plain a.epoch (omega (arith, fits.epoch.1));
+        epoch_fits = fits.epoch;
+        says_opened = written_up_to max_moment a.opened fits.opened (omega arith);
+      };
+      says_entries = record {
+        one_by_one = written_entries a.entries each;
+        not_too_many = omega (arith, length-map a.entries entry_text, fits.few);
+      };
+    }

@@ -1,0 +1,72 @@
+-- Which lines are read as which account, and which line is the first bad one.
+use Rattle.std.specs.Prelude.{◌≤◌, ◌-◌, ◌∷◌, ◌++◌, ◌≡◌, ◌⊎◌, ℕ, List, Option, None, Some, codes, length, take}
+use Rattle.std.specs.List.{AllZip}
+use Rattle.rv_text.specs.declared.message.Message.{Message}
+use Rattle.rv_text.specs.Bodies.{IsMessageBody}
+use Rattle.rv_text.specs.Limits.{FitsIdentifier}
+use Rattle.rv_book.specs.declared.account.Act.{Act}
+use Rattle.rv_book.specs.declared.account.Entry.{Entry}
+use Rattle.rv_book.specs.Account.{Account}
+use Rattle.rv_book.specs.Steps.{max_entries, max_moment}
+use Rattle.rv_lines.specs.Number.{WritesPlainly, WritesUpTo}
+use Rattle.rv_lines.specs.Written.{max_partner, message_in}
+
+-- ---- one line
+
+-- `epoch E opened T`
+pub record ReadsHead (line : List ℕ) (epoch opened : ℕ) : Type 0 where
+  pub epoch_field : List ℕ
+  pub opened_field : List ℕ
+  pub parts : line ≡ codes "epoch " ++ epoch_field ++ codes " opened " ++ opened_field
+  pub says_epoch : WritesPlainly epoch_field epoch
+  pub epoch_fits : FitsIdentifier epoch
+  pub says_opened : WritesUpTo max_moment opened_field opened
+
+-- the partner's place, or `-`
+abbrev pub SaysPartner : List ℕ → Option ℕ → Type 0
+SaysPartner field None = field ≡ codes "-"
+SaysPartner field (Some place) = WritesUpTo max_partner field place
+
+-- any body of the message, or `tick`
+abbrev pub SaysMessage : List ℕ → Option Message → Type 0
+SaysMessage field None = field ≡ codes "tick"
+SaysMessage field (Some m) = IsMessageBody field m
+
+abbrev pub SaysAct : List ℕ → Act → Type 0
+SaysAct field act = SaysMessage field (message_in act)
+
+-- the line is a moment, one space (32), a partner, one space and this field, whatever it is
+pub record HasFields (line : List ℕ) (moment : ℕ) (partner : Option ℕ) (field : List ℕ) : Type 0 where
+  pub moment_field : List ℕ
+  pub partner_field : List ℕ
+  pub parts : line ≡ moment_field ++ 32 ∷ partner_field ++ 32 ∷ field
+  pub says_moment : WritesUpTo max_moment moment_field moment
+  pub says_partner : SaysPartner partner_field partner
+
+-- the line is read as the entry
+pub record ReadsEntry (line : List ℕ) (e : Entry) : Type 0 where
+  pub act_field : List ℕ
+  pub fields : HasFields line e.moment e.partner act_field
+  pub says_act : SaysAct act_field e.act
+
+-- ---- all lines
+
+-- the lines, at most 100,000, are read one by one as the entries
+pub record ReadsEntries (lines : List (List ℕ)) (entries : List Entry) : Type 0 where
+  pub one_by_one : AllZip ReadsEntry lines entries
+  pub not_too_many : length lines ≤ max_entries
+
+-- the first line is read as the account's epoch and opening moment, and the others as its entries
+pub record ReadsAccount (lines : List (List ℕ)) (a : Account) : Type 0 where
+  pub head : List ℕ
+  pub rest : List (List ℕ)
+  pub parts : lines ≡ head ∷ rest
+  pub says_head : ReadsHead head a.epoch a.opened
+  pub says_entries : ReadsEntries rest a.entries
+
+-- the line of this number, counted from 1, is the first bad one: the lines before it, if there are any, are
+-- read as an account, and with it they are read as none; of no lines that is line 1
+pub record FirstBadLine (lines : List (List ℕ)) (n : ℕ) : Type 0 where
+  pub from_one : 1 ≤ n
+  pub read_before : (n ≡ 1) ⊎ ((a : Account) × ReadsAccount (take (n - 1) lines) a)
+  pub read_no_more : (a : Account) → ¬ ReadsAccount (take n lines) a

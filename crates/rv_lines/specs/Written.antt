@@ -1,0 +1,59 @@
+-- The lines that are written for an account.
+use Rattle.std.specs.Prelude.{◌≤◌, ◌∷◌, ◌++◌, ◌≡◌, ℕ, List, Option, None, Some, IfSome, codes, length, map, slice_get}
+use Rattle.std.specs.Fmt.{decimal}
+use Rattle.rv_text.specs.declared.message.Message.{Message}
+use Rattle.rv_text.specs.declared.message.Message.TheVariants as message
+use Rattle.rv_text.specs.Bodies.{message_text}
+use Rattle.rv_text.specs.Limits.{FitsIdentifier}
+use Rattle.rv_book.specs.declared.account.Act.{Act}
+use Rattle.rv_book.specs.declared.account.Act.TheVariants as act
+use Rattle.rv_book.specs.declared.account.Entry.{Entry}
+use Rattle.rv_book.specs.Account.{Account}
+use Rattle.rv_book.specs.Limits.{FitEntries}
+use Rattle.rv_book.specs.Steps.{max_entries, max_moment}
+
+-- the message that an act records; a tick is none
+abbrev pub message_in : Act → Option Message
+message_in (act.Hello client incarnation) = Some (message.Hello client incarnation)
+message_in (act.Arrive key call) = Some (message.Request key call)
+message_in (act.Cancel key) = Some (message.Cancel key)
+message_in act.Tick = None
+
+-- ---- the fields and the lines
+
+-- `epoch E opened T`
+abbrev pub head_text : ℕ → ℕ → List ℕ
+head_text epoch opened = codes "epoch " ++ decimal epoch ++ codes " opened " ++ decimal opened
+
+-- the partner's place, or `-`
+abbrev pub partner_text : Option ℕ → List ℕ
+partner_text None = codes "-"
+partner_text (Some place) = decimal place
+
+-- the body that is written for the message, or `tick`
+abbrev pub said_text : Option Message → List ℕ
+said_text None = codes "tick"
+said_text (Some m) = message_text m
+
+-- three fields, with one space (32) between each two
+abbrev pub entry_text : Entry → List ℕ
+entry_text e = decimal e.moment ++ 32 ∷ partner_text e.partner ++ 32 ∷ said_text (message_in e.act)
+
+-- the line of the epoch and the opening moment, and a line for each entry
+abbrev pub account_lines : Account → List (List ℕ)
+account_lines a = head_text a.epoch a.opened ∷ map entry_text a.entries
+
+-- ---- what can be written, and read again
+
+-- the greatest place of a partner
+abbrev pub max_partner : ℕ
+max_partner = 99999
+
+-- the account's numbers, moments, items and partners are within their limits, and its entries number at most
+-- 100,000; it needn't be legal
+pub record FitsLines (a : Account) : Type 0 where
+  pub epoch : FitsIdentifier a.epoch
+  pub opened : a.opened ≤ max_moment
+  pub entries : FitEntries a.entries
+  pub partners : (r : ℕ) (e : Entry) → slice_get a.entries r ≡ Some e → IfSome e.partner (λ p. p ≤ max_partner)
+  pub few : length a.entries ≤ max_entries

@@ -1,0 +1,30 @@
+//! Cuts an input into lines, and a line into its fields.
+ghost use Rattle.std.specs.Prelude.{◌≡◌, ◌≢◌, ◌<◌, ◌∷◌, ◌++◌, [], length, None, IfSome};
+ghost use Rattle.std.specs.List.{All};
+ghost use Rattle.rv_lines.specs.Lines.{lines};
+
+/// The first line and the bytes after it, or `None` where there are no bytes. A line ends before
+/// an LF, which is dropped, or with the bytes.
+pub fn first_line(bytes: &[u8]) -> Option<(&[u8], &[u8])>
+    ensures some { IfSome result (λ p. lines bytes.now ≡ p.0.now ∷ lines p.1.now) }
+    ensures shorter { IfSome result (λ p. length p.1.now < length bytes.now) }
+    ensures none { result ≡ None → bytes.now ≡ [] }
+{
+    if bytes.is_empty() {
+        return None;
+    }
+    match cut_at(b'\n', bytes) {
+        Some((line, after)) => Some((line, after)),
+        None => Some((bytes, &[])),
+    }
+}
+
+/// The bytes before the first one that is `byte`, and those after it; `None` where no byte is.
+pub fn cut_at(byte: u8, bytes: &[u8]) -> Option<(&[u8], &[u8])>
+    ensures parts { IfSome result (λ p. bytes.now ≡ p.0.now ++ byte ∷ p.1.now) }
+    ensures first { IfSome result (λ p. All (λ b. b ≢ byte) p.0.now) }
+    ensures none { result ≡ None → All (λ b. b ≢ byte) bytes.now }
+{
+    let place = bytes.iter().position(|b| *b == byte)?;
+    Some((&bytes[..place], &bytes[place + 1..]))
+}
