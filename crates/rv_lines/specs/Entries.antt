@@ -8,8 +8,8 @@ use Rattle.rv_lines.specs.Reading.{ReadsEntries, ReadsEntry}
 abbrev pub IsNoNext : ℕ → List ℕ → Type 0
 IsNoNext before line = (max_entries ≤ before) ⊎ ((e : Entry) → ¬ ReadsEntry line e)
 
--- the lines before this one are read as entries, and this one as none more; it is the line of this number where
--- one line stands before all of them
+-- the lines before this one are read as entries, and this one as none more; it is the line of this number
+-- where one line stands before all of them
 pub record StopsAtLine (lines : List (List ℕ)) (n : ℕ) : Type 0 where
   pub front : List (List ℕ)
   pub line : List ℕ

@@ -16,7 +16,8 @@ HasTexts entries = (r : ℕ) (e : Entry) → slice_get entries r ≡ Some e → 
 
 -- what is written for an account is read as that account
 abbrev pub WrittenAccount : Type 0
-WrittenAccount = (a : Account) → FitsLines a → HasTexts a.entries → ReadsAccount (lines (printed (account_lines a))) a
+WrittenAccount = (a : Account) → FitsLines a → HasTexts a.entries
+    → ReadsAccount (lines (printed (account_lines a))) a
 
 -- a book's account, which is legal and within its limits, can be written
 abbrev pub BookFitsLines : Type 0

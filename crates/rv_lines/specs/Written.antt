@@ -1,5 +1,6 @@
 -- The lines that are written for an account.
-use Rattle.std.specs.Prelude.{◌≤◌, ◌∷◌, ◌++◌, ◌≡◌, ℕ, List, Option, None, Some, IfSome, codes, length, map, slice_get}
+use Rattle.std.specs.Prelude.{◌≤◌, ◌∷◌, ◌++◌, ◌≡◌, ℕ, List, Option, None, Some, IfSome}
+use Rattle.std.specs.Prelude.{codes, length, map, slice_get}
 use Rattle.std.specs.Fmt.{decimal}
 use Rattle.rv_text.specs.declared.message.Message.{Message}
 use Rattle.rv_text.specs.declared.message.Message.TheVariants as message
@@ -55,5 +56,6 @@ pub record FitsLines (a : Account) : Type 0 where
   pub epoch : FitsIdentifier a.epoch
   pub opened : a.opened ≤ max_moment
   pub entries : FitEntries a.entries
-  pub partners : (r : ℕ) (e : Entry) → slice_get a.entries r ≡ Some e → IfSome e.partner (λ p. p ≤ max_partner)
+  pub partners : (r : ℕ) (e : Entry) → slice_get a.entries r ≡ Some e
+      → IfSome e.partner (λ p. p ≤ max_partner)
   pub few : length a.entries ≤ max_entries

@@ -19,9 +19,9 @@ const MAX_ENTRIES: usize = 100_000;
 
 /// The account that the lines of an input say, legal or not. Lines end by LF, which the last one may lack.
 ///
-/// The first line is `epoch E opened T`. Each other one is the line of an entry, and there are at most 100,000
-/// of them. Numbers have no leading zeros; moments are at most 2^62 and the places of partners 99,999; a
-/// message has any body that `decode_message` reads.
+/// The first line is `epoch E opened T`. Each other one is the line of an entry, and there are at most
+/// 100,000 of them. Numbers have no leading zeros; moments are at most 2^62, and the places of partners
+/// 99,999; a message has any body that `decode_message` reads.
 pub fn read_account(alloc: Global, input: &[u8]) -> Result<Account, AccountFault>
     ensures account { IfOk result (λ a. ReadsAccount (lines input.now) a.account) }
     ensures bad { (n : ℕ) → result ≡ Err (AccountFault.BadLine n) → FirstBadLine (lines input.now) n }

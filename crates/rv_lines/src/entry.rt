@@ -16,8 +16,8 @@ use std::alloc::Global;
 // The greatest place of a partner.
 const MAX_PARTNER: u64 = 99_999;
 
-/// The entry that a line says: its moment, the partner's place or `-`, and the body of its message or the word
-/// `tick`, with one space between each two.
+/// The entry that a line says by its three fields, which one space parts: the moment, the partner's place or
+/// `-`, and a body of the message or the word `tick`.
 pub(crate) fn read_entry(alloc: Global, line: &[u8]) -> Result<Entry, LineFault>
     ensures reads { IfOk result (ReadsEntry line.now) }
     ensures bad { result ≡ Err LineFault.Bad → (e : entries.Entry) → ¬ ReadsEntry line.now e }

@@ -15,8 +15,9 @@ pub fn head_line(alloc: Global, epoch: u64, opened: u64) -> Result<String, NoMem
     format!(in alloc; "epoch {epoch} opened {opened}")
 }
 
-/// The line of an entry, with no LF: its moment, the partner's place or `-`, and the body of its message or
-/// the word `tick`, with one space between each two. It fails only where memory was refused.
+/// The line of an entry, with no LF: three fields, which one space parts. They are the moment, the partner's
+/// place or `-`, and the written body of the message or the word `tick`. It fails only where memory was
+/// refused.
 pub fn entry_line(alloc: Global, entry: &Entry) -> Result<String, NoMemory>
     requires { FitsAct entry.now.act }
     ensures text { IfOk result (λ s. string_bytes s ≡ entry_text entry.now) }
