@@ -4,3 +4,4 @@ pub mod Meanings
 pub mod Withdrawing
 pub mod Entries
 pub mod Room
+pub mod Slots

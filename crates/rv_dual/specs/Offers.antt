@@ -1,5 +1,8 @@
 -- What a giver brings to a queue, as contracts see it, and the pair of a giver and a taker.
-use Rattle.std.specs.Prelude.{◌==◌, ◌<◌, ℕ, Bool, false, List, map, Option, Some, None}
+use Rattle.std.specs.Prelude.{◌≡◌, ◌==◌, ◌<◌, ℕ, Bool, true, false, List, map, Option, Some, None}
+use Rattle.std.proofs.Common.{arith}
+use Rattle.std.proofs.lemmas.Bool.{false≢true}
+use Rattle.std.proofs.lemmas.Bool.Decides.{nat_tests}
 use Rattle.rv_session.specs.Owed.{Owed}
 use Rattle.rv_dual.specs.declared.giver.Giver.{Giver}
 use Rattle.rv_dual.specs.declared.giver.Giver as giver
@@ -33,6 +36,15 @@ is_at place duty = duty.place == place
 abbrev pub waits_at : ℕ → Offer → Bool
 waits_at place (Put other) = false
 waits_at place (Waits duty) = is_at place duty
+
+-- a duty of the request at a place has that place
+pub duty_at : (place : ℕ) (duty : Owed) → is_at place duty ≡ true → duty.place ≡ place
+duty_at place duty at = grind (arith, nat_tests)
+
+-- and so has the item with which it waits
+pub offer_at : (place : ℕ) (offer : Offer) → waits_at place offer ≡ true → place_of offer ≡ place
+offer_at place (Put other) at = absurd (false≢true at)
+offer_at place (Waits duty) at = duty_at place duty at
 
 -- one item, or one taker, arrived before another
 abbrev pub IsEarlier : Offer → Offer → Type 0

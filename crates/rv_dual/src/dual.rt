@@ -1,95 +1,63 @@
 //! The queue of one side at a time.
-ghost use Rattle.std.specs.Prelude.{◌≡◌, ◌<◌, [], OnErr, OnOk, IfSome, IfNone, Some, length, remove, slice_get};
-ghost use Rattle.std.specs.List.{AllPairs};
-ghost use Rattle.rv_dual.specs.Offers.{place_of, waits_at, is_at, IsEarlier, IsEarlierTaker};
+ghost use Rattle.std.specs.Prelude.{◌≡◌, ◌≤◌, ◌<◌, [], OnErr, OnOk, IfSome, IfNone, length, slice_get};
+ghost use Rattle.rv_dual.specs.Offers.{place_of, waits_at, is_at};
 ghost use Rattle.rv_dual.specs.Withdrawing.{GivesAt, TakesAt, without_giver, without_taker};
-ghost use Rattle.rv_dual.specs.Entries.{PassesAt, PassesNowhere};
-ghost use Rattle.rv_dual.specs.Room.{KeepsSpare};
+ghost use Rattle.rv_dual.specs.Entries.{PassesNowhere};
 
 use crate::giver::{Giver, Offer};
+use crate::line::Line;
 use crate::pair::{Given, Pair, Taken, Tried};
 use rv_session::{Duty, Parked, Place};
 use rv_text::NoMemory;
 use std::alloc::Global;
-use std::collections::VecDeque;
 use std::marker::Model;
 
 /// A dual queue: the items that wait for consumers, or the consumers that wait for items, the oldest first.
 /// It never holds both. Contracts see both lists, of which one is empty, and for how many more of either
 /// side there is room.
 ///
-/// Places arrive in rising order, so a place stands at most once. The oldest leaves in constant time, and
-/// the counts take constant time; [`withdraw`](Dual::withdraw) is linear in the queue.
+/// Places arrive in rising order, so a place stands at most once. [`withdraw`](Dual::withdraw) finds it in
+/// time logarithmic in the queue. All else takes constant time, on average over the calls so far: a slot
+/// that a withdrawal left is passed over once.
 #[derive(Drop)]
 pub struct Dual {
-    givers: VecDeque<Offer>,
-    takers: VecDeque<Parked>,
+    givers: Line<Offer>,
+    takers: Line<Parked>,
 }
 
 impl Model for Dual {
     ghost use Rattle.std.specs.Prelude.{min};
     ghost use Rattle.rv_dual.specs.Queue.{Queue, IsDual};
-    ghost use Rattle.rv_dual.specs.Room.{spare};
 
     ghost Value = { Queue };
 
     ghost view = { λ d. record {
-      givers = d.givers.items;
-      takers = d.takers.items;
-      room = min (spare d.givers) (spare d.takers);
+      givers = d.givers.waiting;
+      takers = d.takers.waiting;
+      room = min d.givers.room d.takers.room;
     } };
 
-    ghost invariant = { λ d. IsDual d.givers.items d.takers.items };
-}
-
-// The index of the item with which the request at a place waits.
-fn index_of_giver(givers: &VecDeque<Offer>, place: Place) -> Option<usize>
-    ensures found { IfSome result (PassesAt (waits_at place) givers.now.items) }
-    ensures none { IfNone result (PassesNowhere (waits_at place) givers.now.items) }
-{
-    givers.iter().position(|offer| offer.waits_at(place))
-}
-
-// The index of the consumer at a place.
-fn index_of_taker(takers: &VecDeque<Parked>, place: Place) -> Option<usize>
-    ensures found { IfSome result (PassesAt (is_at place) takers.now.items) }
-    ensures none { IfNone result (PassesNowhere (is_at place) takers.now.items) }
-{
-    takers.iter().position(|taker| taker.place() == place)
-}
-
-// Takes out what stands at an index.
-fn take_out<T>(queue: &mut VecDeque<T>, index: usize) -> T
-    requires { index < length queue.old.items }
-    ensures there { slice_get queue.old.items index ≡ Some result }
-    ensures rest { queue.new.items ≡ remove queue.old.items index }
-    ensures room { KeepsSpare queue.old queue.new }
-{
-    queue.remove(index).unwrap()
+    ghost invariant = { λ d. IsDual d.givers.waiting d.takers.waiting };
 }
 
 // Takes out the item with which the request at a place waits, and gives that request's duty.
-fn withdraw_giver(givers: &mut VecDeque<Offer>, place: Place) -> Option<Duty>
-    requires { AllPairs IsEarlier givers.old.items }
-    ensures some { IfSome result (GivesAt givers.old.items place) }
-    ensures none { IfNone result (PassesNowhere (waits_at place) givers.old.items) }
-    ensures rest { givers.new.items ≡ without_giver place givers.old.items }
-    ensures room { KeepsSpare givers.old givers.new }
+fn withdraw_giver(givers: &mut Line<Offer>, place: Place) -> Option<Duty>
+    ensures some { IfSome result (GivesAt givers.old.waiting place) }
+    ensures none { IfNone result (PassesNowhere (waits_at place) givers.old.waiting) }
+    ensures rest { givers.new.waiting ≡ without_giver place givers.old.waiting }
+    ensures room { givers.old.room ≤ givers.new.room }
 {
-    let index = index_of_giver(givers, place)?;
-    take_out(givers, index).duty()
+    givers.withdraw(place)?.duty()
 }
 
 // Takes out the consumer at a place, and gives its duty.
-fn withdraw_taker(takers: &mut VecDeque<Parked>, place: Place) -> Option<Duty>
-    requires { AllPairs IsEarlierTaker takers.old.items }
-    ensures some { IfSome result (TakesAt takers.old.items place) }
-    ensures none { IfNone result (PassesNowhere (is_at place) takers.old.items) }
-    ensures rest { takers.new.items ≡ without_taker place takers.old.items }
-    ensures room { KeepsSpare takers.old takers.new }
+fn withdraw_taker(takers: &mut Line<Parked>, place: Place) -> Option<Duty>
+    ensures some { IfSome result (TakesAt takers.old.waiting place) }
+    ensures none { IfNone result (PassesNowhere (is_at place) takers.old.waiting) }
+    ensures rest { takers.new.waiting ≡ without_taker place takers.old.waiting }
+    ensures room { takers.old.room ≤ takers.new.room }
 {
-    let index = index_of_taker(takers, place)?;
-    Some(take_out(takers, index).wake())
+    Some(takers.withdraw(place)?.wake())
 }
 
 impl Dual {
@@ -104,8 +72,8 @@ impl Dual {
         ensures takers { result.takers ≡ [] }
     {
         Dual {
-            givers: VecDeque::new(alloc),
-            takers: VecDeque::new(alloc),
+            givers: Line::new(alloc),
+            takers: Line::new(alloc),
         }
     }
 
@@ -117,8 +85,8 @@ impl Dual {
         ensures room { OnOk result (0 < self.new.room) }
         ensures full { OnErr result (self.old.room ≡ 0) }
     {
-        self.givers.reserve(1)?;
-        self.takers.reserve(1)
+        self.givers.reserve()?;
+        self.takers.reserve()
     }
 
     /// A giver arrives: it meets the consumer that waited longest, which leaves the queue, or waits behind
@@ -129,10 +97,10 @@ impl Dual {
         requires above { IsAbove self.old (place_of (offer_of giver)) }
         ensures { GivenMeans self.old self.new (offer_of giver) result }
     {
-        match self.takers.pop_front() {
+        match self.takers.pop() {
             Some(taker) => Given::Met(Pair::new(giver, taker.wake())),
             None => {
-                self.givers.push_back(giver.park()).unwrap();
+                self.givers.push(giver.park());
                 Given::Parked
             }
         }
@@ -145,10 +113,10 @@ impl Dual {
         requires above { IsAbove self.old duty.place }
         ensures { TakenMeans self.old self.new duty result }
     {
-        match self.givers.pop_front() {
+        match self.givers.pop() {
             Some(offer) => Taken::Met(Pair::new(offer.wake(), duty)),
             None => {
-                self.takers.push_back(duty.park()).unwrap();
+                self.takers.push(duty.park());
                 Taken::Parked
             }
         }
@@ -159,7 +127,7 @@ impl Dual {
     pub fn try_give(&mut self, giver: Duty) -> Tried
         ensures { TriedGive self.old self.new giver result }
     {
-        match self.takers.pop_front() {
+        match self.takers.pop() {
             Some(taker) => Tried::Met(Pair::new(Giver::Waits(giver), taker.wake())),
             None => Tried::Alone(giver),
         }
@@ -170,7 +138,7 @@ impl Dual {
     pub fn try_take(&mut self, taker: Duty) -> Tried
         ensures { TriedTake self.old self.new taker result }
     {
-        match self.givers.pop_front() {
+        match self.givers.pop() {
             Some(offer) => Tried::Met(Pair::new(offer.wake(), taker)),
             None => Tried::Alone(taker),
         }
@@ -192,7 +160,7 @@ impl Dual {
         ensures oldest { result ≡ slice_get (places_of self.now.givers) 0 }
         ensures sound { IsQueue self.now }
     {
-        self.givers.front().map(Offer::place)
+        self.givers.front()
     }
 
     /// How many items wait.

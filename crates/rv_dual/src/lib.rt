@@ -5,7 +5,9 @@
 
 mod dual;
 mod giver;
+mod line;
 mod pair;
+mod slot;
 
 pub use dual::Dual;
 pub use giver::{Giver, Offer};

@@ -9,13 +9,13 @@ use Rattle.rv_dual.proofs.dual.Dual.withdraw.Goals as goal
 
 pub invariant_of-self : goal.invariant_of-self
 invariant_of-self c =
-    let P : List Offer → Type 0 = λ givers. IsDual givers c.self.inside.takers.items in
+    let P : List Offer → Type 0 = λ givers. IsDual givers c.self.inside.takers.waiting in
     subst P (sym c.in-Some.ensures.rest) (dual_without_giver c.args.place _ _ c.self.invariant)
 
 pub invariant_of-self-in-None : goal.invariant_of-self-in-None
 invariant_of-self-in-None c =
-    let G : List Offer → Type 0 = λ givers. IsDual givers c.withdraw_taker.new.takers.items in
-    let T : List Owed → Type 0 = λ takers. IsDual (without_giver c.args.place c.self.inside.givers.items) takers in
+    let G : List Offer → Type 0 = λ givers. IsDual givers c.withdraw_taker.new.takers.waiting in
+    let T : List Owed → Type 0 = λ takers. IsDual (without_giver c.args.place c.self.inside.givers.waiting) takers in
     subst G (sym c.in-None.ensures.rest)
     (subst T (sym c.withdraw_taker.ensures.rest) (dual_without_taker c.args.place _ _ (dual_without_giver c.args.place _ _ c.self.invariant)))
 

@@ -1,0 +1,205 @@
+//! A line of those who wait, the oldest first, in which a withdrawn place is marked.
+ghost use Rattle.std.specs.Prelude.{◌≡◌, ◌+◌, ◌<◌, ◌≤◌, [], ◌∷◌, ◌++◌, true, length, Some, IfNone, IfSome};
+ghost use Rattle.std.specs.Prelude.{option_and_then, option_to_list, slice_get, slice_set};
+ghost use Rattle.rv_dual.specs.Entries.{PassesAt, PassesNowhere};
+ghost use Rattle.rv_dual.specs.Room.{KeepsSpare, spare};
+ghost use Rattle.rv_dual.specs.Slots.{FirstHolds, IsLine, LastHolds, NoSlotAt, Rises, waiting_in};
+ghost use Rattle.rv_dual.specs.Slots.{first_slot, holder, last_slot, marked, passes_in, slot_places};
+ghost use Rattle.rv_dual.specs.declared.slot.Slot.TheVariants.{Holds, Withdrawn};
+
+use crate::slot::{Slot, Stands};
+use rv_session::Place;
+use rv_text::NoMemory;
+use std::alloc::Global;
+use std::collections::VecDeque;
+use std::marker::Model;
+use std::mem;
+
+/// Those who wait, the oldest first, which contracts see as their list and for how many more there is room.
+/// A withdrawn place is marked where it stands, and neither end is ever marked: so the places rise, marks
+/// included, whatever place above those that wait comes next, and a line in which nobody waits is empty.
+#[derive(Drop)]
+pub(crate) struct Line<T: Stands> {
+    slots: VecDeque<Slot<T>>,
+    // How many slots aren't marked.
+    count: usize,
+}
+
+impl<T: Stands> Model for Line<T> {
+    ghost use Rattle.rv_dual.specs.Room.{spare};
+    ghost use Rattle.rv_dual.specs.Slots.{IsLine, Standing, waiting_in};
+
+    ghost Value = { Standing T };
+
+    ghost view = { λ l. record { waiting = waiting_in l.slots.items; room = spare l.slots } };
+
+    ghost invariant = { λ l. IsLine T.place_of l.slots.items l.count };
+}
+
+// Whether a mark stands first.
+fn front_is_marked<T>(slots: &VecDeque<Slot<T>>) -> bool
+    ensures { result ≡ marked (first_slot slots.now.items) }
+{
+    matches!(slots.front(), Some(Slot::Withdrawn(_)))
+}
+
+// Whether a mark stands last.
+fn back_is_marked<T>(slots: &VecDeque<Slot<T>>) -> bool
+    ensures { result ≡ marked (last_slot slots.now.items) }
+{
+    matches!(slots.back(), Some(Slot::Withdrawn(_)))
+}
+
+// Lays who arrives behind the others, where there is room.
+fn append<T>(slots: &mut VecDeque<Slot<T>>, arrival: T)
+    requires { 0 < spare slots.old }
+    ensures last { slots.new.items ≡ slots.old.items ++ Holds arrival ∷ [] }
+    ensures room { spare slots.old ≡ spare slots.new + 1 }
+{
+    slots.push_back(Slot::Holds(arrival)).unwrap();
+}
+
+// Takes the marks off the front.
+fn trim_front<T: Stands>(slots: &mut VecDeque<Slot<T>>)
+    requires { Rises T.place_of slots.old.items }
+    ensures same { waiting_in slots.new.items ≡ waiting_in slots.old.items }
+    ensures rises { Rises T.place_of slots.new.items }
+    ensures first { FirstHolds slots.new.items }
+    ensures room { KeepsSpare slots.old slots.new }
+{
+    while front_is_marked(slots) {
+        slots.pop_front();
+    }
+}
+
+// Takes the marks off the back.
+fn trim_back<T: Stands>(slots: &mut VecDeque<Slot<T>>)
+    requires rises { Rises T.place_of slots.old.items }
+    requires first { FirstHolds slots.old.items }
+    ensures same { waiting_in slots.new.items ≡ waiting_in slots.old.items }
+    ensures rises { Rises T.place_of slots.new.items }
+    ensures first { FirstHolds slots.new.items }
+    ensures last { LastHolds slots.new.items }
+    ensures room { KeepsSpare slots.old slots.new }
+{
+    while back_is_marked(slots) {
+        slots.pop_back();
+    }
+}
+
+// Takes the marks off both ends.
+fn trim<T: Stands>(slots: &mut VecDeque<Slot<T>>)
+    requires { Rises T.place_of slots.old.items }
+    ensures same { waiting_in slots.new.items ≡ waiting_in slots.old.items }
+    ensures line { IsLine T.place_of slots.new.items (length (waiting_in slots.old.items)) }
+    ensures room { KeepsSpare slots.old slots.new }
+{
+    trim_front(slots);
+    trim_back(slots);
+}
+
+// The index of the slot of a place.
+fn slot_at<T: Stands>(slots: &VecDeque<Slot<T>>, place: Place) -> Option<usize>
+    requires { Rises T.place_of slots.now.items }
+    ensures found { IfSome result (λ i. slice_get (slot_places T.place_of slots.now.items) i ≡ Some place) }
+    ensures none { IfNone result (NoSlotAt T.place_of place slots.now.items) }
+{
+    slots.binary_search_by_key(&place, |slot| slot.place()).ok()
+}
+
+// The index of the request that waits at a place.
+fn index_of<T: Stands>(slots: &VecDeque<Slot<T>>, place: Place) -> Option<usize>
+    requires { Rises T.place_of slots.now.items }
+    ensures found { IfSome result (PassesAt (passes_in (T.waits_at place)) slots.now.items) }
+    ensures none { IfNone result (PassesNowhere (T.waits_at place) (waiting_in slots.now.items)) }
+{
+    let index = slot_at(slots, place)?;
+    slots[index].waits_at(place).then_some(index)
+}
+
+// Marks the slot at an index, and gives who waited there.
+fn mark<T: Stands>(slots: &mut VecDeque<Slot<T>>, index: usize, place: Place) -> Option<T>
+    requires { index < length slots.old.items }
+    ensures out { result ≡ option_and_then holder (slice_get slots.old.items index) }
+    ensures rest { slots.new.items ≡ slice_set slots.old.items index (Withdrawn place) }
+    ensures room { KeepsSpare slots.old slots.new }
+{
+    mem::replace(&mut slots[index], Slot::Withdrawn(place)).into_holder()
+}
+
+impl<T: Stands> Line<T> {
+    ghost use Rattle.std.specs.Prelude.{OnErr, OnOk, drop, map, not, Contains};
+    ghost use Rattle.std.specs.List.{All, filter};
+
+    // A line in which nobody waits. It takes no memory yet.
+    pub(crate) fn new(alloc: Global) -> Line<T>
+        ensures { result.waiting ≡ [] }
+    {
+        Line {
+            slots: VecDeque::new(alloc),
+            count: 0,
+        }
+    }
+
+    // Makes room for one more. All that wait stay, and so does the room.
+    pub(crate) fn reserve(&mut self) -> Result<(), NoMemory>
+        ensures same { self.new.waiting ≡ self.old.waiting }
+        ensures kept { self.old.room ≤ self.new.room }
+        ensures room { OnOk result (0 < self.new.room) }
+        ensures full { OnErr result (self.old.room ≡ 0) }
+    {
+        self.slots.reserve(1)
+    }
+
+    // One more waits, behind the others.
+    pub(crate) fn push(&mut self, arrival: T)
+        requires room { 0 < self.old.room }
+        requires above { All (λ x. T.place_of x < T.place_of arrival) self.old.waiting }
+        ensures last { self.new.waiting ≡ self.old.waiting ++ arrival ∷ [] }
+        ensures room { self.old.room ≤ self.new.room + 1 }
+    {
+        append(&mut self.slots, arrival);
+        self.count += 1;
+    }
+
+    // The oldest leaves, if anybody waits.
+    pub(crate) fn pop(&mut self) -> Option<T>
+        ensures oldest { self.old.waiting ≡ option_to_list result ++ self.new.waiting }
+        ensures nobody { IfNone result (self.old.waiting ≡ []) }
+        ensures rest { self.new.waiting ≡ drop 1 self.old.waiting }
+        ensures room { self.old.room ≤ self.new.room }
+    {
+        let oldest = self.slots.pop_front()?.into_holder()?;
+        self.count -= 1;
+        trim(&mut self.slots);
+        Some(oldest)
+    }
+
+    // The request that waits at a place leaves, wherever it stands.
+    pub(crate) fn withdraw(&mut self, place: Place) -> Option<T>
+        ensures some { IfSome result (λ x. Contains self.old.waiting x × (T.waits_at place x ≡ true)) }
+        ensures none { IfNone result (PassesNowhere (T.waits_at place) self.old.waiting) }
+        ensures rest { self.new.waiting ≡ filter (λ x. not (T.waits_at place x)) self.old.waiting }
+        ensures room { self.old.room ≤ self.new.room }
+    {
+        let index = index_of(&self.slots, place)?;
+        let out = mark(&mut self.slots, index, place)?;
+        self.count -= 1;
+        trim(&mut self.slots);
+        Some(out)
+    }
+
+    // The place of the oldest.
+    pub(crate) fn front(&self) -> Option<Place>
+        ensures { result ≡ slice_get (map T.place_of self.now.waiting) 0 }
+    {
+        self.slots.front().map(Slot::place)
+    }
+
+    // How many wait.
+    pub(crate) fn len(&self) -> usize
+        ensures { result ≡ length self.now.waiting }
+    {
+        self.count
+    }
+}
