@@ -12,9 +12,9 @@ ghost use Rattle.rv_command.specs.Command.{required_option, rv_app, serve_app};
 ghost use Rattle.rv_command.specs.declared.command.CommandFault.TheVariants.{Bad, NoMemory};
 ghost use Rattle.clap.specs.declared.error.ErrorKind.TheVariants.{OutOfMemory};
 
-use rv_lines::{read_between, read_identifier};
 use clap::error::ErrorKind;
 use clap::{Arg, ArgAction, ArgMatches};
+use rv_lines::{read_between, read_identifier};
 use std::alloc::{AllocError, Global};
 use thiserror::Error;
 

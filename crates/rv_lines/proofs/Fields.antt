@@ -59,8 +59,7 @@ parts_joined line moment rest partner field is is' =
 pub fields_one : {line : List ℕ} {m m' : ℕ} {p p' : Option ℕ} {f f' : List ℕ} → HasFields line m p f → HasFields line m' p' f' → (m ≡ m') × (p ≡ p') × (f ≡ f')
 fields_one {m = m} {m' = m'} {p = p} {p' = p'} a b =
     let front = plain_lacks 32 a.moment_field m (omega arith) a.says_moment.0 in
-    let middle = partner_lacks_space a.partner_field p a.says_partner in
-    (
+    let middle = partner_lacks_space a.partner_field p a.says_partner in (
       plainly_one a.moment_field m m' a.says_moment.0 (has_moment b a.moment_field _ front (cut_line a)).0,
       partner_one a.partner_field p p' a.says_partner (has_partner b a.moment_field _ a.partner_field _ front (cut_line a) middle refl),
       sym (cut_second b a.moment_field _ a.partner_field _ front (cut_line a) middle refl).1,

@@ -43,8 +43,7 @@ module _ {line : List ℕ} {epoch opened : ℕ} (has : ReadsHead line epoch open
 -- a line says one epoch and one opening moment
 pub head_one : {line : List ℕ} {e e' o o' : ℕ} → ReadsHead line e o → ReadsHead line e' o' → (e ≡ e') × (o ≡ o')
 head_one {e = e} {e' = e'} {o = o} {o' = o'} a b =
-    let lacks = plain_lacks 32 a.epoch_field e (omega arith) a.says_epoch in
-    (
+    let lacks = plain_lacks 32 a.epoch_field e (omega arith) a.says_epoch in (
       plainly_one a.epoch_field e e' a.says_epoch (has_epoch b _ a.epoch_field _ (cut_line a) lacks refl),
       plainly_one a.opened_field o o' a.says_opened.0 (has_opened b _ a.epoch_field _ a.opened_field (cut_line a) lacks refl refl).0,
     )

@@ -63,8 +63,8 @@ letter_in_line : (x : ℕ) → x ≢ 10 → escape_letter x ≢ 10
 letter_in_line x differs =
     cond_differs ((x == 34) || (x == 92)) x _ differs
     (cond_differs (x == 8) 98 _ (λ same. omega arith)
-        (cond_differs (x == 12) 102 _ (λ same. omega arith)
-            (cond_differs (x == 10) 110 _ (λ same. omega arith) (cond_differs (x == 13) 114 _ (λ same. omega arith) (cond_differs (x == 9) 116 0 (λ same. omega arith) (λ same. omega arith))))))
+    (cond_differs (x == 12) 102 _ (λ same. omega arith)
+    (cond_differs (x == 10) 110 _ (λ same. omega arith) (cond_differs (x == 13) 114 _ (λ same. omega arith) (cond_differs (x == 9) 116 0 (λ same. omega arith) (λ same. omega arith))))))
 
 other_byte_in_line : (x : ℕ) → x ≢ 10 → Lacks 10 (escape_byte x)
 unfolding escape_byte
@@ -74,8 +74,8 @@ other_byte_in_line x differs =
     cond_line (nat_lt 0 (escape_letter x)) (92 ∷ escape_letter x ∷ []) (cond (nat_lt x 32) code (x ∷ []))
     (line_cons 92 (escape_letter x ∷ []) (λ same. omega arith) (line_one (escape_letter x) (letter_in_line x differs)))
     (cond_line (nat_lt x 32) code (x ∷ [])
-        (line_append (92 ∷ 117 ∷ 48 ∷ 48 ∷ []) (digit_char (x / 16) ∷ digit_char (x % 16) ∷ []) (word_in_line (92 ∷ 117 ∷ 48 ∷ 48 ∷ []) refl) digits)
-        (line_one x differs))
+    (line_append (92 ∷ 117 ∷ 48 ∷ 48 ∷ []) (digit_char (x / 16) ∷ digit_char (x % 16) ∷ []) (word_in_line (92 ∷ 117 ∷ 48 ∷ 48 ∷ []) refl) digits)
+    (line_one x differs))
 
 lf_is_escaped : escape_byte 10 ≡ 92 ∷ 110 ∷ []
 unfolding escape_byte
@@ -143,13 +143,13 @@ pub entry_in_one_line : (e : Entry) → FitsEntry e → IfSome e.partner (λ p. 
 entry_in_one_line e fits small =
     line_append (decimal e.moment ++ 32 ∷ partner_text e.partner) (32 ∷ said_text (message_in e.act))
     (line_append (decimal e.moment) (32 ∷ partner_text e.partner) (decimal_in_line e.moment (omega (arith, fits.0)))
-        (line_cons 32 (partner_text e.partner) (λ same. omega arith) (partner_in_line e.partner small)))
+    (line_cons 32 (partner_text e.partner) (λ same. omega arith) (partner_in_line e.partner small)))
     (line_cons 32 (said_text (message_in e.act)) (λ same. omega arith) (said_in_line (message_in e.act) (message_fits e.act fits.1)))
 
 pub head_in_one_line : (epoch opened : ℕ) → epoch < 2 ^ 64 → opened < 2 ^ 64 → Lacks 10 (head_text epoch opened)
 head_in_one_line epoch opened small small' =
     line_append (codes "epoch " ++ decimal epoch ++ codes " opened ") (decimal opened)
     (line_append (codes "epoch " ++ decimal epoch) (codes " opened ")
-        (line_append (codes "epoch ") (decimal epoch) (word_in_line (codes "epoch ") refl) (decimal_in_line epoch small))
-        (word_in_line (codes " opened ") refl))
+    (line_append (codes "epoch ") (decimal epoch) (word_in_line (codes "epoch ") refl) (decimal_in_line epoch small))
+    (word_in_line (codes " opened ") refl))
     (decimal_in_line opened small')

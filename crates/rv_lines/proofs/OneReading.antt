@@ -71,8 +71,8 @@ earlier_bad : (lines : List (List ℕ)) (m n : ℕ) → m < n → FirstBadLine l
 earlier_bad lines m n less first second = elim second.read_before [
   | inl one ↦ omega (arith, first.from_one)
   | inr before ↦
-    let front = front_read m (take (n - 1) lines) before.0 first.from_one before.1 in
-    first.read_no_more front.0 (subst (λ l. ReadsAccount l front.0) (front_of_front m (n - 1) lines (omega arith)) front.1)
+      let front = front_read m (take (n - 1) lines) before.0 first.from_one before.1 in
+      first.read_no_more front.0 (subst (λ l. ReadsAccount l front.0) (front_of_front m (n - 1) lines (omega arith)) front.1)
 ]
 
 pub bad_one : (lines : List (List ℕ)) (m n : ℕ) → FirstBadLine lines m → FirstBadLine lines n → m ≡ n

@@ -1,5 +1,5 @@
 -- What went out where a write failed, by the bytes that were read.
-use Rattle.std.proofs.Common.{◌≡◌, ℕ, true, List, Result, Ok, Err, ap, subst, sym}
+use Rattle.std.proofs.Common.{◌≡◌, ℕ, true, List, Result, Err, ap, subst, sym}
 use Rattle.std.specs.Prelude.{IsErrOf}
 use Rattle.rv_frame.specs.declared.sink.WriteFault.{WriteFault}
 use Rattle.rv_frame.specs.Source.{source_remaining}

@@ -1,5 +1,5 @@
 -- What went out where a play stops, by the bytes that were read.
-use Rattle.std.proofs.Common.{◌≡◌, inr, ℕ, List, IfErr, subst}
+use Rattle.std.proofs.Common.{inr, IfErr, subst}
 use Rattle.rv_frame.specs.Source.{source_remaining}
 use Rattle.rv_app.specs.Plays.{PrintsFront, PrintsSome, StopsPlaying}
 use Rattle.rv_app.proofs.Progress.{read_bytes}

@@ -22,4 +22,4 @@ pub returns-in_err-opened-2-clause-none : goal.returns-in_err-opened-2-clause-no
 returns-in_err-opened-2-clause-none c none epoch opened has =
     c.in_err-opened-2.ensures.none refl opened
     (has_opened has c.in_ok-fields.fields.now c.in_ok-epoch.epoch.now c.in_ok-epoch.fields.now c.in_ok-opened.opened.now
-        c.in_ok-fields.ensures.some c.in_ok-epoch.ensures.first c.in_ok-epoch.ensures.parts c.in_ok-opened.ensures.some)
+    c.in_ok-fields.ensures.some c.in_ok-epoch.ensures.first c.in_ok-epoch.ensures.parts c.in_ok-opened.ensures.some)

@@ -18,7 +18,7 @@ pub returns-in_err-partner-2-clause-none : goal.returns-in_err-partner-2-clause-
 returns-in_err-partner-2-clause-none c none moment partner field has =
     c.in_err-partner-2.ensures.none refl partner
     (has_partner has c.in_ok-moment.moment.now c.in_ok-moment.fields.now c.in_ok-partner.partner.now c.in_ok-partner.field.now
-        c.in_ok-moment.ensures.first c.in_ok-moment.ensures.parts c.in_ok-partner.ensures.first c.in_ok-partner.ensures.parts)
+    c.in_ok-moment.ensures.first c.in_ok-moment.ensures.parts c.in_ok-partner.ensures.first c.in_ok-partner.ensures.parts)
 
 pub returns-clause-some : goal.returns-clause-some
 returns-clause-some c = record {
