@@ -1,4 +1,5 @@
 """A thousand connections that mean no good, beside one good client that gets each answer."""
+import errno
 import random
 import threading
 import time
@@ -30,6 +31,10 @@ class Hostile:
                 self.chance.choice(self.kinds)()
             except ConnectionError:
                 pass
+            except OSError as error:
+                # what was reset before its end was said is not connected any more
+                if error.errno != errno.ENOTCONN:
+                    raise
 
     def bytes(self, least, most):
         return self.chance.randbytes(self.chance.randint(least, most))
