@@ -72,7 +72,7 @@ module _ {R W : Type 0} where
     pub source_fails : source_failed source' ≡ true
     pub wrote_nothing : sink' ≡ sink
 
-  -- memory was refused before the first line was looked at
+  -- memory was refused before anything was written
   pub record LackedMemory (source' : Source R) (sink sink' : Sink W) : Type 0 where
     pub unfailed : source_failed source' ≡ false
     pub wrote_nothing : sink' ≡ sink

@@ -26,7 +26,7 @@ pub enum RunFault {
     ReadFault,
     /// 2: a write of the output failed, after the bytes that the fault counts.
     WriteFault(OutputFault),
-    /// 3: memory was refused before the first line was looked at. Nothing was printed.
+    /// 3: memory was refused. Each run says what it had printed by then: nothing, or some whole lines.
     NoMemory,
     /// 4: the input has more than 536,870,912 bytes. Nothing was printed.
     TooLong,

@@ -1,7 +1,8 @@
 //! A server of one worker, run over bytes in memory.
 ghost use Rattle.std.specs.Prelude.{◌≡◌};
 
-use rv_book::Book;
+use rv_audit::{Audit, audit};
+use rv_book::{Account, Book};
 use rv_frame::testing::{TestReader, TestWriter};
 use rv_frame::{Sink, Source};
 use rv_server::{Clock, ForeignSeat, Gate, Item, Seat, Served, Shared, WorkFault, finish, work};
@@ -99,9 +100,16 @@ pub(crate) fn answer<T: Wait + AllocGlobal, L: Ledger, C: Clock, G: Gate, R: Rea
     work(rt, alloc, shared, seat, clock, gate, &mut source, &mut sink)
 }
 
+// A copy of the account is audited, and legal.
+fn is_legal<R: Abort + AllocGlobal>(rt: &R, account: &Account) {
+    let copy = account.clone_out().expect(rt, "no memory");
+    assert_eq!(rt; copy.len(), account.len());
+    assert_eq!(rt; audit(rt.alloc(), &copy).ok(), Some(Audit::Legal));
+}
+
 /// The server's entries are those of its seats, and of these moments.
-pub(crate) fn closes<L: Ledger>(
-    rt: &impl Abort,
+pub(crate) fn closes<L: Ledger, R: Abort + AllocGlobal>(
+    rt: &R,
     shared: Shared<Book, L>,
     seats: Vec<Seat<L>>,
     moments: &[u64],
@@ -109,8 +117,10 @@ pub(crate) fn closes<L: Ledger>(
     match finish(shared, seats) {
         Ok(closing) => {
             assert_eq!(rt; closing.total, moments.len() as u64);
+            let account = closing.desk.account();
+            is_legal(rt, account);
             for (place, moment) in moments.iter().enumerate() {
-                let entry = closing.desk.account().entry(place);
+                let entry = account.entry(place);
                 assert!(rt;
                     entry.is_some_and(|entry| entry.moment == *moment),
                     "{place}"
@@ -122,8 +132,8 @@ pub(crate) fn closes<L: Ledger>(
 }
 
 /// With a seat left out the server doesn't end; with all seats its entries are of these moments.
-pub(crate) fn all_are_asked_for<L: Ledger>(
-    rt: &impl Abort,
+pub(crate) fn all_are_asked_for<L: Ledger, R: Abort + AllocGlobal>(
+    rt: &R,
     shared: Shared<Book, L>,
     seats: Vec<Seat<L>>,
     moments: &[u64],

@@ -41,8 +41,8 @@ fn converse<R: Abort + AllocGlobal>(rt: &R, stream: &TcpStream, talk: Talk) {
 type Ended<L> = Result<Report<L>, (Report<L>, ServeFault)>;
 
 // Both connections were served, and left four entries. All seats are asked for.
-fn served_both<L: Ledger>(
-    rt: &impl Abort,
+fn served_both<L: Ledger, R: Abort + AllocGlobal>(
+    rt: &R,
     shared: Shared<Book, L>,
     ended: Ended<L>,
 ) -> Result<(), Fail> {
