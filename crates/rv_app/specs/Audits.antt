@@ -1,5 +1,6 @@
 -- What an audit of an input prints, and what each of its outcomes leaves behind.
-use Rattle.std.specs.Prelude.{ℕ, ◌≡◌, ◌<◌, ◌∷◌, ◌++◌, [], true, IfSome, List, Option, String, codes, length, string_bytes, take}
+use Rattle.std.specs.Prelude.{ℕ, ◌≡◌, ◌<◌, ◌∷◌, ◌++◌, [], true, IfSome, List, Option, String, codes}
+use Rattle.std.specs.Prelude.{length, string_bytes, take}
 use Rattle.std.specs.Fmt.{decimal}
 use Rattle.std.specs.declared.alloc.Global.{Global}
 use Rattle.rv_frame.specs.declared.sink.Sink.{Sink}

@@ -15,8 +15,8 @@ use std::io::Write;
 /// Writes the lines of an account, legal or not: `epoch E opened T`, and a line for each entry, each with LF
 /// after it. They are read as that account, by `rv audit` too.
 ///
-/// It ends by `WriteFault`, after the bytes that the fault counts, or by `NoMemory`, after some whole lines or
-/// none, and by no other fault.
+/// It ends by `WriteFault`, after the bytes that the fault counts, or by `NoMemory`, after some whole lines
+/// or none, and by no other fault.
 pub fn write_account<W: Write>(
     alloc: Global,
     account: &Account,

@@ -122,8 +122,8 @@ pub record ArrivesAs (Is : Side → Type 0) (e : Entry) (call : Call) : Type 0 w
   pub arrives : call_in e.act ≡ Some call
   pub is : Is (side_of call)
 
--- the entry is an arrival of such a side, and names a partner that isn't an open arrival which it meets: one of
--- its queue's other side, or at its exchanger
+-- the entry is an arrival of such a side, and names a partner that isn't an open arrival which it meets: one
+-- of its queue's other side, or at its exchanger
 pub record MeetsWrongly (Is : Side → Type 0) (entries : List Entry) (e : Entry) : Type 0 where
   pub call : Call
   pub arrives : ArrivesAs Is e call

@@ -1,4 +1,4 @@
--- An account: an epoch, an opening moment and a list of entries. A place is an index of that list.
+-- An account: a list of entries, with its epoch and its opening moment. Places are indices of the list.
 use Rattle.std.specs.Prelude.{◌≡◌, ℕ, List, [], ◌∷◌, ◌++◌, Option, Some, None, option_map, option_and_then}
 use Rattle.std.specs.Prelude.{slice_get}
 use Rattle.rv_text.specs.declared.message.Key.{Key}

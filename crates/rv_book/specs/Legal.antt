@@ -14,7 +14,7 @@ use Rattle.rv_book.specs.Waiting.{limit_at, Met, SideAt, OpenAt, Waiting}
 
 -- ---- moments
 
--- moments never fall, and none is below the opening moment
+-- no moment is less than an earlier one, nor than the opening moment
 pub record KeepsTime (a : Account) (moment : ℕ) : Type 0 where
   pub opened : a.opened ≤ moment
   pub since : (r earlier : ℕ) → moment_at a.entries r ≡ Some earlier → earlier ≤ moment
@@ -34,7 +34,7 @@ NothingDue entries moment = (r : ℕ) → ¬ IsDueAt entries moment r
 abbrev pub SomethingDue : List Entry → ℕ → Type 0
 SomethingDue entries moment = (r : ℕ) × IsDueAt entries moment r
 
--- at a tick some waiting request has a limit at or below its moment, and at any other act none has
+-- at a tick something is due, and at any other act nothing is
 abbrev pub KeepsLimits : List Entry → ℕ → Act → Type 0
 KeepsLimits entries moment (Hello client incarnation) = NothingDue entries moment
 KeepsLimits entries moment (Arrive key call) = NothingDue entries moment
@@ -48,7 +48,7 @@ pub record KeepsMoments (a : Account) (moment : ℕ) (does : Act) : Type 0 where
 
 -- ---- numbers
 
--- a hello's incarnation is above those of all earlier hellos of its client
+-- of one client, each hello is of a greater incarnation than every one before it
 abbrev pub RaisesIncarnation : List Entry → Act → Type 0
 RaisesIncarnation entries does = (client incarnation : ℕ) → does ≡ Hello client incarnation
     → HasOnlyLower entries client incarnation

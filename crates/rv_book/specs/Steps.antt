@@ -35,7 +35,7 @@ max_moment = 2 ^ 62
 abbrev pub capped : ℕ → ℕ
 capped now = min now max_moment
 
--- the moment of the last entry, or the opening moment while there is none
+-- the last entry's moment; where there are no entries, the opening moment
 abbrev pub own_moment : Account → ℕ
 own_moment a = unwrap_or (moment_at a.entries (length a.entries - 1)) a.opened
 
@@ -49,7 +49,7 @@ step_moment a now = max (own_moment a) (capped now)
 abbrev pub OtherEpochDue : Account → Key → Refusal → Type 0
 OtherEpochDue a key refusal = (key.epoch ≢ a.epoch) × (refusal ≡ OtherEpoch a.epoch)
 
--- the client said no hello in this epoch, or only hellos of lower incarnations
+-- in this epoch the client said no hello of so great an incarnation, nor of a greater one
 abbrev pub NoSessionDue : Account → Key → Refusal → Type 0
 NoSessionDue a key refusal = HasOnlyLower a.entries key.client key.incarnation × (refusal ≡ NoSession)
 

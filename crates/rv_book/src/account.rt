@@ -180,7 +180,7 @@ impl Account {
         self.call(place).and_then(Call::item).unwrap()
     }
 
-    // The moment of the last entry, or the opening moment while there is none.
+    // The last entry's moment; where there are no entries, the opening moment.
     pub(crate) fn own_moment(&self) -> u64
         ensures { result ≡ own_moment self.now.account }
     {

@@ -25,8 +25,8 @@ TakesAt takers place duty = Contains takers duty × (duty.place ≡ place)
 abbrev pub WaitsAt : Queue → ℕ → Owed → Type 0
 WaitsAt q place duty = GivesAt q.givers place duty ⊎ TakesAt q.takers place duty
 
--- the result is the duty that waits at the place, if there is one; all others stay, in their order, and so does
--- the room
+-- the result is the duty that waits at the place, if there is one; all others stay, in their order, and so
+-- does the room
 pub record Withdraws (old new : Queue) (place : ℕ) (result : Option Owed) : Type 0 where
   pub some : IfSome result (WaitsAt old place)
   pub none : IfNone result ((duty : Owed) → ¬ WaitsAt old place duty)

@@ -24,8 +24,8 @@ pub struct Report<L: Ledger> {
     pub seats: Vec<Seat<L>>,
     /// How many connections were answered to their end.
     pub served: u32,
-    /// How many were not: their worker stopped by a [`WorkFault`](crate::WorkFault), accepting them failed, or
-    /// their hand-over to a worker found no memory.
+    /// How many were not: their worker stopped by a [`WorkFault`](crate::WorkFault), accepting them failed,
+    /// or their hand-over to a worker found no memory.
     pub faults: u32,
 }
 
@@ -33,7 +33,7 @@ pub struct Report<L: Ledger> {
 #[derive(Clone, Copy, Debug, PartialEq, Eq, Error)]
 #[error("serve fault {}", self.number())]
 pub enum ServeFault {
-    /// 1: no seat was handed in, or no thread could be started.
+    /// 1: there was no seat, or not one thread would start.
     NoWorker,
     /// 2: a growth of memory was refused, before the first thread was started.
     NoMemory,
@@ -174,7 +174,8 @@ where
         })
     }
 
-    // Serves so many connections, and tells how many came to their end. The seats come back, whatever happens.
+    // Serves so many connections, and tells how many came to their end. The seats come back, whatever
+    // happens.
     fn serve_all(
         &self,
         seats: &mut Vec<Seat<L>>,
@@ -200,9 +201,9 @@ where
 }
 
 /// Serves so many connections of the listener, by one thread for each seat, and ends when all of them were
-/// served. A worker answers a connection as [`work`] does, until it ends, and then takes the next; an accepted
-/// connection waits while all workers are busy, and while as many as there are workers wait so, no further one
-/// is accepted.
+/// served. A worker answers a connection as [`work`] does, until it ends, and then takes the next. An
+/// accepted connection waits while all workers are busy, and while as many as there are workers wait so, no
+/// further one is accepted.
 ///
 /// A thread that can't be started is left out, and its seat stays. An accept that fails counts as a
 /// connection. After the last one was accepted the listener is closed, so that whoever comes late is refused.

@@ -44,7 +44,7 @@ pub enum Refusal {
     /// 2: the key's epoch is not the server's, which is given.
     #[error("the server's epoch is {0}")]
     OtherEpoch(u64),
-    /// 3: the client said no hello in this epoch, or only hellos of lower incarnations.
+    /// 3: in this epoch the client said no hello of so great an incarnation, nor of a greater one.
     #[error("the client has no session")]
     NoSession,
     /// 4: the session has a greater incarnation, which is given.
