@@ -2,21 +2,37 @@
 PREFIX ?= /usr/local
 PROGRAM = crates/rv_app/out/rv_app
 
-.PHONY: run test edits install bench build
+.PHONY: run try test check edits torture install bench build
 
-# the four answers of the first example
+# the four answers of the first example, by the proved program
 run: build
 	@$(PROGRAM) book --epoch 1 < examples/first.in
+
+# the same answers about a minute after a clone, by a program that nothing has proved yet
+try:
+	@command -v rt > /dev/null || { echo "rt is missing: put the rt of the Rattle kit on the PATH" >&2; exit 1; }
+	@echo "unproved: this is the code as it is written, and no proof was made of it; make run proves it first" >&2
+	@cd crates/rv_app && rt try -- book --epoch 1 < ../../examples/first.in
 
 # the gate: proofs, edits and tests, the built program from outside, the documents; the last line counts all of them
 test:
 	@command -v python3 > /dev/null || { echo "python3 is missing: the gate is written in it" >&2; exit 1; }
 	@tests/all
 
+# what changed since the last check is proved, and the program run from outside: for who writes, and no gate
+check:
+	@command -v python3 > /dev/null || { echo "python3 is missing: the check is written in it" >&2; exit 1; }
+	@tests/all --kept
+
 # the edits beside the gate's, each of which the prover must refuse, and those that a test must see; NAMES="rv_text .." tries those of some crates
 edits:
 	@command -v python3 > /dev/null || { echo "python3 is missing: the script is written in it" >&2; exit 1; }
 	@tests/edits $(NAMES)
+
+# the built program in a hostile system and over spoilt bytes, for an hour or SECONDS
+torture: build
+	@command -v python3 > /dev/null || { echo "python3 is missing: the script is written in it" >&2; exit 1; }
+	@tests/torture --seconds $(or $(SECONDS),3500) $(PROGRAM)
 
 # the proved program, as PREFIX/bin/rv
 install: build
@@ -24,11 +40,14 @@ install: build
 	@cp $(PROGRAM) "$(PREFIX)/bin/rv"
 	@chmod 755 "$(PREFIX)/bin/rv"
 
-# lines a second and memory a line, beside a plain loop that reads and writes the same JSON
+# lines a second and memory a line, beside a plain loop that reads and writes the same JSON; what a line costs in full tables,
+# with OLD=PROGRAM beside that of another build
 bench: build
 	@command -v python3 > /dev/null || { echo "python3 is missing: the measurement is written in it" >&2; exit 1; }
 	@tests/build rv_bench
-	@tests/bench $(PROGRAM) crates/rv_bench/out/rv_bench
+	@tests/bench $(PROGRAM) crates/rv_bench/out/rv_bench $(if $(OLD),--old $(OLD))
 
+# the proved program: as it is where its mark fits the sources, else proved and built
 build:
+	@command -v python3 > /dev/null || { echo "python3 is missing: tests/build is written in it" >&2; exit 1; }
 	@tests/build rv_app

@@ -1,13 +1,13 @@
 """Measures `rv serve` by clients that put and take, beside `redis-server` by clients that push and pop, over as many
-connections and by the same loop: each client is a process of its own, with one connection, and asks one request at a time.
+connections and by the same loop: each client is a process of its own, with one connection, and asks one request at a time,
+or sixteen in one piece.
 
 As a program, it is one such client: it connects, says so, waits for a line, and then tells its times.
 
-usage: tests/bench_server.py rv|redis PORT CLIENT REQUESTS
+usage: tests/bench_server.py rv|redis PORT CLIENT REQUESTS PIECE
 """
 import array
 import json
-import pathlib
 import shutil
 import socket
 import subprocess
@@ -18,8 +18,8 @@ import time
 sys.dont_write_bytecode = True
 from serve_parts.programs import PATIENCE, Server, free_port  # noqa: E402
 
-# Connections, and the requests of each. An epoch has room for 100,000 entries.
-LOADS = [(1, 20_000), (8, 10_000)]
+# Connections, the requests of each, and how many it asks in one piece. An epoch has room for 100,000 entries.
+LOADS = [(1, 20_000, 1), (8, 10_000, 1), (1, 48_000, 16), (8, 12_000, 16)]
 RUNS = 3
 MOST_WORKERS = 8
 
@@ -45,8 +45,12 @@ class Rv:
         call = {"call": "put", "item": item(number)} if number % 2 else {"call": "take", "wait": "now"}
         return self.frame({**key, **call})
 
-    def whole(self, data):
-        return len(data) >= 2 and len(data) == 2 + int.from_bytes(data[:2])
+    def cut(self, data, answers):
+        """Takes the whole answers off the front of what came, and gives the rest."""
+        while len(data) >= 2 and len(data) >= (end := 2 + int.from_bytes(data[:2])):
+            answers.append(data[:end])
+            data = data[end:]
+        return data
 
     def good(self, number, data):
         """Whether this is the answer to the request of a number; 0 is the hello."""
@@ -68,8 +72,15 @@ class Redis:
         words = ["LPUSH", f"queue {client}", item(number)] if number % 2 else ["RPOP", f"queue {client}"]
         return b"*%d\r\n" % len(words) + b"".join(b"$%d\r\n%s\r\n" % (len(word), word.encode()) for word in words)
 
-    def whole(self, data):
-        return data[-2:] == b"\r\n" and (data[:1] != b"$" or data.count(b"\r\n") == 2)
+    def cut(self, data, answers):
+        """Takes the whole answers off the front of what came, and gives the rest."""
+        while (line := data.find(b"\r\n")) >= 0:
+            end = line + 2 if data[:1] != b"$" else line + 4 + int(data[1:line])
+            if len(data) < end:
+                break
+            answers.append(data[:end])
+            data = data[end:]
+        return data
 
     def good(self, number, data):
         """Whether this is the answer to the request of a number; 0 is the ping."""
@@ -80,39 +91,39 @@ class Redis:
 KINDS = {"rv": Rv, "redis": Redis}
 
 
-def client_main(kind, port, client, requests):
-    """Connects, says so, waits for a line, asks, and tells the moments of each request and of its answer."""
+def client_main(kind, port, client, requests, piece):
+    """Connects, says so, waits for a line, asks, and tells the moments of each piece and of its answers."""
     load = KINDS[kind](int(client), int(requests))
     connection = socket.create_connection(("127.0.0.1", int(port)), PATIENCE)
     connection.settimeout(4 * PATIENCE)
     connection.setsockopt(socket.IPPROTO_TCP, socket.TCP_NODELAY, 1)
-    _, answers = ask_all(connection, load, [load.hello])
+    _, answers = ask_all(connection, load, [load.hello], 1)
     print("ready", flush=True)
     sys.stdin.readline()
-    times, told = ask_all(connection, load, load.requests)
+    times, told = ask_all(connection, load, load.requests, int(piece))
     good = all(load.good(number, data) for number, data in enumerate(answers + told))
     sys.stdout.buffer.write(times.tobytes() if good else b"")
 
 
-def ask_all(connection, load, requests):
-    """The moments, in nanoseconds, before the first request and behind each answer; and the answers."""
-    clock, whole, send, receive = time.monotonic_ns, load.whole, connection.sendall, connection.recv
+def ask_all(connection, load, requests, piece):
+    """The moments, in nanoseconds, before the first request and behind the answers of each piece; and the answers."""
+    clock, cut, send, receive = time.monotonic_ns, load.cut, connection.sendall, connection.recv
+    pieces = [b"".join(requests[at : at + piece]) for at in range(0, len(requests), piece)]
     times, answers = array.array("q", [clock()]), []
-    for request in requests:
-        send(request)
-        data = receive(65_536)
-        while not whole(data):
-            data += receive(65_536)
+    for number, asked in enumerate(pieces, 1):
+        send(asked)
+        data = cut(receive(65_536), answers)
+        while len(answers) < number * piece:
+            data = cut(data + receive(65_536), answers)
         times.append(clock())
-        answers.append(data)
     return times, answers
 
 
-def load_once(kind, port, connections, requests):
-    """The seconds of a load by so many clients at once, and the seconds of each request, sorted."""
-    words = [sys.executable, __file__, kind, str(port)]
-    clients = [subprocess.Popen([*words, str(client), str(requests)], stdin=subprocess.PIPE, stdout=subprocess.PIPE)
-               for client in range(1, connections + 1)]
+def load_once(kind, port, connections, requests, piece):
+    """The seconds of a load by so many clients at once, and the seconds of each piece, sorted."""
+    words = [[sys.executable, __file__, kind, *map(str, [port, client, requests, piece])]
+             for client in range(1, connections + 1)]
+    clients = [subprocess.Popen(own, stdin=subprocess.PIPE, stdout=subprocess.PIPE) for own in words]
     try:
         if any(client.stdout.readline() != b"ready\n" for client in clients):
             sys.exit(f"a client of {kind} did not connect")
@@ -124,20 +135,20 @@ def load_once(kind, port, connections, requests):
         for client in clients:
             client.kill()
             client.wait()
-    if not all(len(own) == requests + 1 for own in times):
+    if not all(len(own) == requests // piece + 1 for own in times):
         sys.exit(f"a client of {kind} was answered wrongly")
     seconds = (max(own[-1] for own in times) - min(own[0] for own in times)) / 1e9
     return seconds, sorted((after - before) / 1e9 for own in times for before, after in zip(own, own[1:]))
 
 
-def rv_load(program, connections, requests):
+def rv_load(program, connections, requests, piece):
     """A load of a server of rv that was just started."""
     with Server(program, workers=MOST_WORKERS, connections=connections + 1) as server:
         server.connect().close()
-        return load_once("rv", server.port, connections, requests)
+        return load_once("rv", server.port, connections, requests, piece)
 
 
-def redis_load(program, connections, requests):
+def redis_load(program, connections, requests, piece):
     """A load of a server of Redis that was just started, and that keeps nothing on disk."""
     port = free_port()
     with tempfile.TemporaryDirectory() as folder:
@@ -146,7 +157,7 @@ def redis_load(program, connections, requests):
         server = subprocess.Popen(words, stdin=subprocess.DEVNULL, stdout=subprocess.DEVNULL)
         try:
             wait_for(port)
-            return load_once("redis", port, connections, requests)
+            return load_once("redis", port, connections, requests, piece)
         finally:
             server.terminate()
             server.wait()
@@ -182,12 +193,13 @@ def beside_redis(program):
     redis = shutil.which("redis-server")
     if not redis:
         print("redis-server is missing: rv serve is measured alone")
-    for connections, requests in LOADS:
+    for connections, requests, piece in LOADS:
         count, ours, theirs = connections * requests, [], []
         for _ in range(RUNS):
-            ours.append(rv_load(program, connections, requests))
-            theirs += [redis_load(redis, connections, requests)] if redis else []
-        print(f"{connections} connection{'s' * (connections > 1)}, {count} requests, one at a time on each:")
+            ours.append(rv_load(program, connections, requests, piece))
+            theirs += [redis_load(redis, connections, requests, piece)] if redis else []
+        how = "one at a time" if piece == 1 else f"{piece} in one piece"
+        print(f"{connections} connection{'s' * (connections > 1)}, {count} requests, {how} on each:")
         rate, median, late = figures(ours, count)
         tell("rv serve", rate, median, late)
         if redis:

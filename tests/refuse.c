@@ -1,12 +1,26 @@
 /* Loaded before a program, refuses its growth number REFUSE, counted from 1, or so many from that on as REFUSALS says,
-   and then makes the file REFUSED. */
+   and then makes the file REFUSED. The file COUNTED, if one is named, keeps how many growths there were so far. */
 #define _GNU_SOURCE
 #include <dlfcn.h>
 #include <fcntl.h>
 #include <stdlib.h>
+#include <sys/mman.h>
 #include <unistd.h>
 
-static long before = -1, refusals;
+static long before = -1, refusals, first_growths, *growths = &first_growths;
+
+__attribute__((constructor)) static void count(void) {
+    const char *name = getenv("COUNTED");
+    int file = name ? open(name, O_CREAT | O_RDWR, 0600) : -1;
+    if (file < 0 || ftruncate(file, sizeof(long)))
+        return;
+    void *kept = mmap(NULL, sizeof(long), PROT_READ | PROT_WRITE, MAP_SHARED, file, 0);
+    close(file);
+    if (kept == MAP_FAILED)
+        return;
+    growths = kept;
+    *growths = first_growths;
+}
 
 static long number(const char *name, long otherwise) {
     const char *digits = getenv(name);
@@ -14,6 +28,7 @@ static long number(const char *name, long otherwise) {
 }
 
 static int is_refused(void) {
+    ++*growths;
     if (before < 0) {
         refusals = number("REFUSE", 0) ? number("REFUSALS", 1) : 0;
         before = refusals ? number("REFUSE", 0) - 1 : 0;
@@ -28,16 +43,4 @@ static int is_refused(void) {
     return 1;
 }
 
-void *malloc(size_t size) {
-    static void *(*next)(size_t);
-    if (!next)
-        next = (void *(*)(size_t))dlsym(RTLD_NEXT, "malloc");
-    return is_refused() ? NULL : next(size);
-}
-
-void *realloc(void *old, size_t size) {
-    static void *(*next)(void *, size_t);
-    if (!next)
-        next = (void *(*)(void *, size_t))dlsym(RTLD_NEXT, "realloc");
-    return is_refused() ? NULL : next(old, size);
-}
+#include "refusing.h"

@@ -1,8 +1,7 @@
 """Random plays: lines of `rv play`, good ones and bad ones, with what the model of the world answers to each."""
 from model_parts.account import Hello
 from model_parts.scripts import Script
-from model_parts.steps import TODAY, WHOLE
-from model_parts.texts import MAX_IDENTIFIER, written
+from model_parts.texts import MAX_IDENTIFIER
 from model_parts.world import Idle, New, Outstanding, World, growth_fault, lists_of, world_fault
 
 ODD_NUMBERS = [b"", b"0", b"00", b"01", b"+1", b"-1", b"1.0", b"x", b" 1", b"1 ", b"1\r", "１".encode(), b"9" * 15,
@@ -15,10 +14,10 @@ ODD_LINES = [b"", b" ", b"\r", b"start", b"stop 1", b"Start 1 1", b"begin", b"se
 class Play:
     """One world's lines. What comes next is chosen by the world that the model has so far."""
 
-    def __init__(self, chance, have):
+    def __init__(self, chance):
         self.chance = chance
-        self.world = World(have)
-        self.script = Script(chance, 1, have)
+        self.world = World()
+        self.script = Script(chance, 1)
         self.clients = self.script.clients[: chance.choice([2, 3, 4, 16])]
         self.losses = chance.choice([0, 0.05, 0.3])
         self.repeats = chance.choice([0.05, 0.3, 0.6])
@@ -125,10 +124,10 @@ class Play:
         ])
 
 
-def make_play(chance, count, have=TODAY):
+def make_play(chance, count):
     """So many lines of a world's play, each with the text that the program must print; and what the world then
     breaks of the headline, if something."""
-    play = Play(chance, have)
+    play = Play(chance)
     middle = chance.randrange(count)
     lines = [play.line() for _ in range(middle)]
     before = lists_of(play.world)
@@ -137,5 +136,5 @@ def make_play(chance, count, have=TODAY):
 
 
 def play_fault(chance):
-    """What a random play of the whole model breaks of the headline, if something."""
-    return make_play(chance, 300, WHOLE)[1]
+    """What a random play breaks of the headline, if something."""
+    return make_play(chance, 300)[1]

@@ -1,5 +1,5 @@
-"""Worked rows: what each line is told, with values that were set beforehand. The model is tested by all of them, and
-the program by those whose messages it knows.
+"""Worked rows: what each line is told, with values that were set beforehand. The model is tested by all of them but
+the long ones, and the program by those whose messages it knows.
 
 A row is lines `[@MOMENT] WHAT => ANSWER`; without @MOMENT the moment is 0. WHAT is `hello CLIENT/INCARNATION`,
 `cancel KEY`, `KEY CALL`, or `line` and the line's text itself. KEY is `CLIENT#NUMBER` with incarnation 1, or
@@ -11,11 +11,21 @@ import re
 
 from model_parts.account import Account, Key
 from model_parts.lines import account_text
-from model_parts.steps import WHOLE, told
+from model_parts.steps import told
 from model_parts.texts import written
 from model_parts.verdicts import verdict
 from model_parts.world import World, world_fault
 
+TAKERS = range(1, 1025)
+# Takes of all clients but the even ones, which are cancelled, are met in turn, each by the item that its put's number is.
+MANY_TAKERS = "\n".join([
+    *(f"hello {client}/1 => welcome" for client in TAKERS),
+    *(f"{client}#1 take 3 forever => waiting" for client in TAKERS),
+    *(f"cancel {client}#1 => cancelled" for client in TAKERS if client % 2 == 0),
+    *(f'2#{number} put 3 "{number}" => done' for number in range(2, 514)),
+    *(f'{2 * j + 1}#1 take 3 forever => item "{j + 2}"' for j in range(512)),
+    "2#514 count 3 => counted 0 0",
+])
 THREE = "hello 1/1 => welcome\nhello 2/1 => welcome\nhello 3/1 => welcome\n"
 DETAILS = {2: "current", 4: "current", 5: "last", 7: "open", 8: "last"}
 X512, X513 = '"' + 512 * "x" + '"', '"' + 513 * "x" + '"'
@@ -309,6 +319,11 @@ ROWS = [
         """),
 ]
 
+# Rows that are too long for the model, which goes over all entries at each line.
+LONG_ROWS = [
+    ("1,024 clients wait in take, every second one is cancelled, and the others are met in turn", 1, MANY_TAKERS),
+]
+
 # A world from epoch 1: a transfer comes again and again, and its reply twice and late. There is one pair.
 PLAY = """
     start 1 1 => sent 0
@@ -339,6 +354,34 @@ PLAY = """
     crash 3 => refused 6
     start 1 1 => refused 4
     epoch 1 => refused 5
+    """
+
+# A client starts anew while its transfer is on the way, which comes first, and so is ended by the new start; and the
+# next epoch ends what was begun in the one before.
+ANEW = """
+    start 1 1 => sent 0
+    start 2 1 => sent 1
+    server 0 0 => answered 0 welcome 1/1
+    server 1 0 => answered 1 welcome 2/1
+    client 0 => welcomed
+    client 1 => welcomed
+    begin 1 {"call":"transfer","item":"a","queue":3,"wait":"forever"} => sent 2
+    crash 1 => crashed
+    start 1 2 => sent 3
+    server 2 1 => answered 2 1#1 waiting
+    server 3 2 => answered 3 welcome 1/2
+    server 2 3 => answered 4 refused 4 2
+    begin 2 {"call":"take","queue":3,"wait":"now"} => sent 4
+    server 4 4 => answered 5 2#1 empty
+    client 2 => ignored
+    client 4 => turned away 4
+    client 3 => welcomed
+    client 5 => settled 2#1 empty
+    epoch 2 => opened 2
+    begin 1 {"call":"put","item":"b","queue":3} => sent 5
+    server 5 0 => answered 6 refused 2 2
+    client 6 => ended 2
+    resend 1 => refused 6
     """
 
 KEY = re.compile(r"(?:(\d+):)?(\d+)(?:/(\d+))?#(\d+)$")
@@ -421,32 +464,75 @@ def result_of(text):
     return " ".join([*words[:before], body])
 
 
-def play_pairs():
-    """The lines of the worked world, and their results."""
-    for row in filter(None, map(str.strip, PLAY.splitlines())):
+def play_pairs(play=PLAY):
+    """The lines of a worked world, and their results."""
+    for row in filter(None, map(str.strip, play.splitlines())):
         line, _, result = row.partition(" => ")
         yield line, result_of(result)
 
 
-def play_row_fault():
-    """What is wrong with the model's results of the worked world, or with what is left, if something is."""
-    world = World(WHOLE)
-    for line, expected in play_pairs():
+def again_pairs():
+    """The worked world up to its last reply. Behind each event all packets that it has delivered come once more: first the
+    messages, and then the answers, the later ones first, at the moment that was named last. The answer that a client's
+    line names is the one that the world's own event got.
+
+    A message that comes again is answered as the model answers it, and an answer that comes again is ignored."""
+    pairs, world = list(play_pairs()), World()
+    last = max(number for number, (_, result) in enumerate(pairs) if result.startswith("settled"))
+    own, delivered, moment = {}, {"server": [], "client": []}, "0"
+    for line, result in pairs[: last + 1]:
+        word, packet, *rest = line.split(" ", 2)
+        moment = rest[0] if word == "server" else moment
+        if word == "server":
+            own[result.split(" ")[1]] = str(len(world.to_client))
+            result = " ".join([f"answered {len(world.to_client)}", *result.split(" ")[2:]])
+        packet = own[packet] if word == "client" else packet
+        line = " ".join([word, packet, *rest])
+        world.play(line.encode())
+        yield line, result
+        if word in delivered and packet not in delivered[word]:
+            delivered[word].append(packet)
+        for packet in reversed(delivered["server"]):
+            line = f"server {packet} {moment}"
+            yield line, world.play(line.encode())
+        for packet in reversed(delivered["client"]):
+            world.play(f"client {packet}".encode())
+            yield f"client {packet}", "ignored"
+
+
+# Each world's name, its lines with their results, the partners of each epoch's entries, and how many replies are held.
+WORLDS = [
+    ("the worked world", list(play_pairs()), [[None, None, None, 2, None]], 3),
+    ("the worked world, and all its packets again behind each event", list(again_pairs()), [[None, None, None, 2, None]], 3),
+    ("a client that starts anew, and another epoch", list(play_pairs(ANEW)), [[None] * 5, []], 1),
+]
+
+
+def world_row_fault(pairs, partners, held):
+    """What is wrong with the model's results of a worked world, or with what is left, if something is."""
+    world = World()
+    for line, expected in pairs:
         got = world.play(line.encode())
         if got != expected:
             return f"{line}: got {got}"
-    [account] = world.accounts
-    if [entry.partner for entry in account.entries] != [None, None, None, 2, None] or len(world.held) != 3:
-        return f"left: {account}, {world.held}"
-    said = verdict(account_text(account))
-    return world_fault(world) if said == "legal" else f"the account breaks a rule: {said}"
+    left = [[entry.partner for entry in account.entries] for account in world.accounts]
+    if left != partners or len(world.held) != held or sum(result.startswith("settled") for _, result in pairs) != held:
+        return f"left: {world.accounts}, {world.held}"
+    said = [verdict(account_text(account)) for account in world.accounts]
+    return world_fault(world) if set(said) == {"legal"} else f"an account breaks a rule: {said}"
+
+
+def play_row_faults():
+    """Each worked world by its name, with what is wrong with it, if something is."""
+    for name, *world in WORLDS:
+        yield name, world_row_fault(*world)
 
 
 def row_fault(epoch, lines):
     """What is wrong with the model's answers to a row, if something is."""
     account = Account(epoch, 0)
     for line, expected in pairs_of(epoch, lines):
-        account, got = told(account, line.encode(), WHOLE)
+        account, got = told(account, line.encode())
         if got != expected:
             return f"{line}: got {got}"
     said = verdict(account_text(account))

@@ -4,7 +4,7 @@ import json
 from model_parts.account import (
     MAX_CLIENTS, Account, Key, Request, incarnation, last_number, limit, reply, waiting, waiting_of)
 from model_parts.audit import audit
-from model_parts.steps import TODAY, WHOLE, replied, told
+from model_parts.steps import replied, told
 from model_parts.texts import KEY, MAX_BODY_BYTES, MAX_IDENTIFIER, members_of_call, written
 
 LETTERS = ["a", "b", "x", " ", "/", '"', "\\", "\0", "\x01", "\b", "\t", "\n", "\f", "\r", "\x1f", "\x7f", "\x80",
@@ -36,9 +36,8 @@ MOST_CROWD = MAX_CLIENTS + 76
 class Script:
     """One book's lines. What comes next is chosen by the account that the model has so far."""
 
-    def __init__(self, chance, epoch, have):
+    def __init__(self, chance, epoch):
         self.chance = chance
-        self.have = have
         self.account = Account(epoch, 0)
         self.now = 0
         count = chance.choice([1, 2, 3, 4, 5, 6, 9, 12, 16])
@@ -69,7 +68,7 @@ class Script:
     def line(self):
         """One line more, and the text that answers it."""
         line = self.newcomer() if self.newcomers and self.odds(0.95) else self.any_line()
-        self.account, text = told(self.account, line, self.have)
+        self.account, text = told(self.account, line)
         return line, text.encode()
 
     def newcomer(self):
@@ -144,7 +143,7 @@ class Script:
         if self.odds(0.04):
             name = self.chance.choice(list(key))
             key[name] = self.chance.choice([key[name] + 1, max(1, key[name] - 1), MAX_IDENTIFIER])
-        if self.have["cancel"] and self.odds(0.12) or self.odds(0.01):
+        if self.odds(0.13):
             return {"kind": "cancel", **key}
         again = self.arrived(key) if self.odds(0.8) else None
         if again and self.odds(0.25):
@@ -165,14 +164,12 @@ class Script:
         call[name] = self.chance.choice(others.get(name, range(65)))
 
     def call(self):
-        """The members of a call, mostly of one that exists."""
+        """The members of a call."""
         word = "take"
         if self.odds(self.gives):
             word = "put" if self.odds(self.puts) else "transfer"
         if self.odds(0.25):
             word = self.chance.choice(["swap", "swap", "count", "peek"])
-        if not self.have[word] and self.odds(0.9):
-            word = "put" if self.odds(self.gives) else "take"
         at = self.chance.randrange(65) if self.odds(0.02) else self.chance.choice(self.queues)
         members = {"call": word, "exchanger" if word == "swap" else "queue": at}
         if word in ("put", "transfer", "swap"):
@@ -182,8 +179,8 @@ class Script:
         return members
 
     def wait(self):
-        """A wait, mostly one that exists."""
-        if self.have["waits in milliseconds"] and self.odds(self.haste) or self.odds(0.02):
+        """A wait, mostly one that its call may have."""
+        if self.odds(self.haste):
             return self.chance.choice(MILLIS)
         return "forever" if self.odds(self.patience) else "now"
 
@@ -265,22 +262,22 @@ class Script:
 
 
 def make_script(chance, epoch, count):
-    """So many lines for a book of an epoch, each with the text that today's program must answer."""
-    script = Script(chance, epoch, TODAY)
+    """So many lines for a book of an epoch, each with the text that the program must answer."""
+    script = Script(chance, epoch)
     return [script.line() for _ in range(count)]
 
 
 def make_crowd(chance, epoch):
     """Lines for a book that as many clients come to as may, or some more, each with the text that answers it."""
-    script = Script(chance, epoch, TODAY)
+    script = Script(chance, epoch)
     size = chance.choice([MAX_CLIENTS - 1, MAX_CLIENTS, MAX_CLIENTS + 1, chance.randint(MAX_CLIENTS, MOST_CROWD)])
     script.add_crowd(size)
     return [script.line() for _ in range(size + chance.randint(200, 500))]
 
 
 def law_fault(chance):
-    """What is wrong with a random book of the whole model, if something is: it must be legal, and replies must stay."""
-    script = Script(chance, 1, WHOLE)
+    """What is wrong with a random book, if something is: it must be legal, and replies must stay."""
+    script = Script(chance, 1)
     answers = [json.loads(script.line()[1]) for _ in range(200)]
     if audit(script.account):
         return f"the account breaks a rule: {audit(script.account)}"

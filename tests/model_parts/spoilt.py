@@ -6,7 +6,6 @@ from model_parts.account import (
     last_number, limit, open_at, waiting)
 from model_parts.lines import MAX_PARTNER, account_text
 from model_parts.scripts import Script
-from model_parts.steps import WHOLE
 from model_parts.texts import MAX_IDENTIFIER, NoReading, members_of, read_message, written
 
 EPOCHS = [1, 1, 1, 1, 2, 7, MAX_IDENTIFIER]
@@ -33,7 +32,7 @@ class AccountScript(Script):
     """Lines of a book for its account: many wait, give up, start anew and swap, and few are repeated or refused."""
 
     def __init__(self, chance):
-        super().__init__(chance, chance.choice(EPOCHS), WHOLE)
+        super().__init__(chance, chance.choice(EPOCHS))
         self.now = chance.choice(OPENINGS)
         self.account = Account(self.account.epoch, self.now)
         self.clients = self.clients[: chance.choice([1, 2, 3, 4, 9])]

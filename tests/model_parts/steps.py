@@ -1,59 +1,19 @@
-"""One step of an account by a moment and a message (docs/MODEL.md, section 9), and the lines that exist today."""
+"""One step of an account by a moment and a message (docs/MODEL.md, section 9)."""
 from model_parts.account import (
     MAX_CLIENTS, MAX_ENTRIES, MAX_MOMENT, OTHER_SIDE, Cancel, Entry, Hello, Request, Tick, arrival_of, incarnation,
     last_number, open_at, overdue, reply, stays, waiting, waiting_of)
 from model_parts.audit import broken_rule
-from model_parts.texts import NoReading, demand, read_line, written
-
-# What the whole model has. `kept replies` are lines 5 to 8 of the step, `client limit` is line 13.
-WHOLE = {
-    "put": True,
-    "take": True,
-    "transfer": True,
-    "swap": True,
-    "count": True,
-    "peek": True,
-    "cancel": True,
-    "waits in milliseconds": True,
-    "kept replies": True,
-    "client limit": True,
-}
-
-# What the program has today: each change of the program flips its entries here.
-TODAY = {
-    "put": True,
-    "take": True,
-    "transfer": True,
-    "swap": True,
-    "count": True,
-    "peek": True,
-    "cancel": True,
-    "waits in milliseconds": True,
-    "kept replies": True,
-    "client limit": True,
-}
+from model_parts.texts import NoReading, read_line, written
 
 
-def told(account, line, have):
+def told(account, line):
     """The account after a line of `rv book`, and the text that answers it."""
     try:
         moment, message = read_line(line)
-        demand(exists(message, have))
     except NoReading:
         return account, written(refused(1))
-    account, members = step(account, moment, message, have)
+    account, members = step(account, moment, message)
     return account, written(members)
-
-
-def exists(message, have):
-    """Whether a message is one that a program with these parts knows."""
-    match message:
-        case Hello():
-            return True
-        case Cancel():
-            return have["cancel"]
-    call = message.call
-    return have[call.word] and (have["waits in milliseconds"] or not isinstance(call.wait, int))
 
 
 def refused(code, **detail):
@@ -82,12 +42,12 @@ def ticked(account, now):
     return account.with_entry(Entry(moment, Tick())) if overdue(account.entries, moment) else account
 
 
-def step(account, now, message, have):
+def step(account, now, message):
     """The account after a message that was handed in at a moment, and the members of its answer."""
     moment = step_moment(account, now)
     account = ticked(account, now)
     lines = hello_lines if isinstance(message, Hello) else key_lines
-    answer = lines(account, message, have) or full(account, message)
+    answer = lines(account, message) or full(account, message)
     if answer:
         return account, answer
     account = entered(account, moment, message)
@@ -96,7 +56,7 @@ def step(account, now, message, have):
     return account, replied(message.key, reply(account.entries, message.key))
 
 
-def key_lines(account, message, have):
+def key_lines(account, message):
     """Lines 1 to 10: the answer to a request or cancel that gets no entry of its own, if one of them applies."""
     entries, key = account.entries, message.key
     if key.epoch != account.epoch:
@@ -107,7 +67,7 @@ def key_lines(account, message, have):
     if key.incarnation < current:
         return refused(4, current=current)
     last = last_number(entries, key.client)
-    if key.number < last or key.number == last and not have["kept replies"]:
+    if key.number < last:
         return refused(5, last=last)
     if key.number == last:
         return repeat_lines(entries, message)
@@ -129,7 +89,7 @@ def repeat_lines(entries, message):
     return replied(message.key, kept)
 
 
-def hello_lines(account, hello, have):
+def hello_lines(account, hello):
     """Lines 11 to 13: the answer to a hello that gets no entry of its own, if one of them applies."""
     current = incarnation(account.entries, hello.client)
     if current is not None and current > hello.incarnation:
@@ -137,7 +97,7 @@ def hello_lines(account, hello, have):
     if current == hello.incarnation:
         return welcome(account, hello)
     clients = {entry.act.client for entry in account.entries if isinstance(entry.act, Hello)}
-    if current is None and have["client limit"] and len(clients) >= MAX_CLIENTS:
+    if current is None and len(clients) >= MAX_CLIENTS:
         return refused(9)
     return None
 

@@ -5,7 +5,7 @@ from dataclasses import dataclass, field
 from model_parts.account import (
     Account, Call, Cancel, Hello, Key, Request, arrival_of, arrivals, met_with, open_at, reply)
 from model_parts.audit import audit
-from model_parts.steps import exists, refused, replied, step
+from model_parts.steps import refused, step
 from model_parts.texts import (
     KEY, MAX_BODY_BYTES, MAX_IDENTIFIER, NoReading, demand, read_call, read_json, written)
 
@@ -41,7 +41,6 @@ class Outstanding:
 class World:
     """What was ever opened, started, begun, held and sent. The last account is the present epoch's."""
 
-    have: dict
     accounts: list = field(default_factory=lambda: [Account(1, 0)])
     started: list = field(default_factory=list)
     processes: dict = field(default_factory=dict)
@@ -53,7 +52,7 @@ class World:
     def play(self, line):
         """The result of a line."""
         try:
-            return self.event(*read_event(line, self.have))
+            return self.event(*read_event(line))
         except NoReading:
             return "bad line"
         except Refused as refusal:
@@ -107,7 +106,7 @@ class World:
         if packet >= len(self.to_server):
             raise Refused(NO_SUCH_PACKET)
         message = self.to_server[packet]
-        self.accounts[-1], answer = step(self.accounts[-1], moment, message, self.have)
+        self.accounts[-1], answer = step(self.accounts[-1], moment, message)
         client = message.client if isinstance(message, Hello) else message.key.client
         self.to_client.append((client, answer))
         return f"answered {len(self.to_client) - 1} {written(answer)}"
@@ -189,17 +188,15 @@ def identifier(text):
     return number(text)
 
 
-def call_text(text, have):
+def call_text(text):
     """The call that a call text says."""
     demand(1 <= len(text) <= MAX_BODY_BYTES)
     members = read_json(text)
     demand(isinstance(members, dict))
-    call = read_call(members)
-    demand(exists(Request(None, call), have))
-    return call
+    return read_call(members)
 
 
-def read_event(line, have):
+def read_event(line):
     """The word and the fields of an event line."""
     word, _, rest = line.partition(b" ")
     first, space, second = rest.partition(b" ")
@@ -207,7 +204,7 @@ def read_event(line, have):
         case b"start":
             return "start", identifier(first), identifier(second)
         case b"begin":
-            return "begin", identifier(first), call_text(second, have)
+            return "begin", identifier(first), call_text(second)
         case b"server":
             return "server", number(first), number(second)
     demand(not space)

@@ -4,7 +4,7 @@ import time
 
 from model_parts.account import Account, Request, limit
 from model_parts.scripts import Script
-from model_parts.steps import TODAY, told
+from model_parts.steps import told
 from model_parts.texts import MAX_BODY_BYTES
 from serve_parts.accounts import call_members
 from serve_parts.programs import Server
@@ -25,7 +25,7 @@ class Talk(Script):
     is told that its limit came, in its own frame, or its limit is a day away."""
 
     def __init__(self, chance, epoch):
-        super().__init__(chance, epoch, TODAY)
+        super().__init__(chance, epoch)
         self.waits = WAITS
 
     def wait(self):
@@ -53,12 +53,12 @@ class Talk(Script):
     def served(self, body):
         """The account after a frame, its moment, and the answer after as many pauses as there may be."""
         now = self.now + 1
-        account, answer = told(self.account, b"%d %s" % (now, body), self.have)
+        account, answer = told(self.account, b"%d %s" % (now, body))
         if '"kind":"waiting"' in answer:
             limits = [limit(account.entries, r) for r, entry in enumerate(account.entries) if isinstance(entry.act, Request)]
             soon = [moment for moment in limits if moment is not None and now < moment <= now + PAUSES * PAUSE]
             now = max(soon, default=now + PAUSES * PAUSE)
-            account, answer = told(account, b"%d %s" % (now, body), self.have)
+            account, answer = told(account, b"%d %s" % (now, body))
         return account, now, answer.encode()
 
 

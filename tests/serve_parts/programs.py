@@ -28,16 +28,17 @@ def free_port():
 class Process:
     """A process of the program. At the end of its block it is killed where it still runs."""
 
-    def __init__(self, words):
+    def __init__(self, words, **more):
         self.words = words
-        self.process = subprocess.Popen(words, stdin=subprocess.PIPE, stdout=subprocess.PIPE, stderr=subprocess.PIPE)
+        pipes = {name: subprocess.PIPE for name in ("stdin", "stdout", "stderr")}
+        self.process = subprocess.Popen(words, **{**pipes, **more})
         self.printed, self.said = b"", b""
         self.readers = [threading.Thread(target=read, daemon=True) for read in (self.read_printed, self.read_said)]
         for reader in self.readers:
             reader.start()
 
     def read_printed(self):
-        while piece := self.process.stdout.read1(65_536):
+        while self.process.stdout and (piece := self.process.stdout.read1(65_536)):
             self.printed += piece
 
     def read_said(self):
@@ -59,7 +60,8 @@ class Process:
             reader.join(PATIENCE)
         for stream in (self.process.stdin, self.process.stdout, self.process.stderr):
             try:
-                stream.close()
+                if stream:
+                    stream.close()
             except OSError:
                 pass
 
@@ -81,13 +83,16 @@ class Process:
 class Server(Process):
     """A server, on a port that was free. A client that comes before it listens tries again."""
 
-    def __init__(self, program, workers, connections, epoch=1):
+    # A client's end of a connection.
+    peer = Peer
+
+    def __init__(self, program, workers, connections, epoch=1, **more):
         self.program, self.epoch, self.connections, self.listens = program, epoch, connections, False
         self.made, self.lock = 0, threading.Lock()
         for _ in range(TRIES):
             self.port = free_port()
             super().__init__([program, "serve", "--listen", f"127.0.0.1:{self.port}", "--epoch", str(epoch),
-                              "--workers", str(workers), "--connections", str(connections)])
+                              "--workers", str(workers), "--connections", str(connections)], **more)
             if not self.taken():
                 return
             self.kill()
@@ -121,7 +126,7 @@ class Server(Process):
             self.listens = True
             with self.lock:
                 self.made += 1
-            return Peer(connection)
+            return self.peer(connection)
 
     def greeted(self, client, incarnation=1):
         """A connection whose client was welcomed."""

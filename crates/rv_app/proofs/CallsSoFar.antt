@@ -9,11 +9,12 @@ use Rattle.rv_frame.specs.declared.source.Source.{Source}
 use Rattle.rv_frame.specs.Sink.{sink_contents}
 use Rattle.rv_frame.specs.Source.{source_remaining}
 use Rattle.rv_client.specs.Link.{Link}
-use Rattle.rv_client.specs.Process.{Starting, first_key, key_after, max_number}
+use Rattle.rv_text.specs.Members.{max_identifier}
+use Rattle.rv_client.specs.Process.{Starting, first_key, key_after}
 use Rattle.rv_app.specs.declared.calls.CallSaid.{CallSaid}
 use Rattle.rv_app.specs.declared.calls.CallSaid.TheVariants.{Stopped, Whole}
-use Rattle.rv_app.specs.declared.run.RunFault.{RunFault}
-use Rattle.rv_app.specs.declared.run.RunFault.TheVariants.{NoMemory, ReadFault, TooLong, WriteFault}
+use Rattle.rv_run.specs.declared.fault.RunFault.{RunFault}
+use Rattle.rv_run.specs.declared.fault.RunFault.TheVariants.{NoMemory, ReadFault, TooLong, WriteFault}
 use Rattle.rv_app.specs.declared.word.Word.{Word}
 use Rattle.rv_app.specs.CallRuns.{CutsLine, CutsText, RanCalls, RunsCalls, SettlesFirst, Stops, StopsText, TakesLines, TakesText}
 use Rattle.rv_app.specs.Calling.{HasNumbers, IsTurnedAway, IsWelcomed, SettlesLine, SettlesLines, StopsAt, key_behind}
@@ -21,7 +22,7 @@ use Rattle.rv_app.specs.Lines.{lines}
 use Rattle.rv_app.specs.Outcomes.{ReadsAll}
 use Rattle.rv_app.specs.Run.{printed}
 use Rattle.rv_app.specs.Word.{word_text}
-use Rattle.rv_app.proofs.Progress.{printed_append}
+use Rattle.rv_run.proofs.Printing.{printed_append}
 use Rattle.rv_app.proofs.Settling.{key_behind_none, key_behind_on, key_next, settles_more}
 
 at_ok : (result : Result CallSaid RunFault) (P : Result CallSaid RunFault → Type 0) → P result → IfOk result (λ said. P (Ok said))
@@ -91,7 +92,7 @@ module _ {O R W : Type 0} (taken : O → Option (List ℕ)) (remaining : R → O
       let then = subst (λ (i : Option Key). IfSome i (λ k. next ≡ key_after k)) so_far.next follows in
       let here = subst (λ (i : Option Key). IfSome i (λ k. SettlesLine remaining contents tries k line text at at')) so_far.next one in
       let same : has.key ≡ key_behind key n = same_Some (sym has.is_next ∙ so_far.next) in
-      let room : key.number + n + length rest ≤ max_number = subst (λ (k : Key). k.number + length rest ≤ max_number) same has.room in
+      let room : key.number + n + length rest ≤ max_identifier = subst (λ (k : Key). k.number + length rest ≤ max_identifier) same has.room in
       let joined = printed_append so_far.texts (text ∷ []) in
       record {
         first = so_far.first ++ line ∷ [];

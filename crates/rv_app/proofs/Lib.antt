@@ -2,8 +2,6 @@
 pub mod Cutting
 pub mod Forms
 pub mod Progress
-pub mod Playing
-pub mod Results
 pub mod Writing
 pub mod Telling
 pub mod Settling

@@ -1,6 +1,5 @@
 -- How far a run over an input has come, and that it comes to the end.
-use Rattle.std.proofs.Common.{◌≡◌, ◌<◌, ◌≤◌, ◌+◌, ◌-◌, ◌*◌, ℕ, List, [], ◌∷◌, ◌++◌, Option, Some, None, IfSome, Result, Ok, Err, IfErr, OnOk, refl, sym, ap, subst, inl, inr, ◌∙◌, length, take, arith, append_assoc, append-nil, length-append}
-use Rattle.std.proofs.Math.Seq.{take-append-add}
+use Rattle.std.proofs.Common.{◌≡◌, ◌<◌, ◌≤◌, ◌+◌, ◌*◌, ℕ, List, [], ◌∷◌, ◌++◌, Option, Result, Ok, Err, IfErr, OnOk, refl, sym, ap, subst, inl, inr, ◌∙◌, length, take, arith, append_assoc, append-nil, length-append}
 use Rattle.std.proofs.lemmas.List.{take-append-le}
 use Rattle.std.specs.Io.KnownBytes.{Appends, append_known}
 use Rattle.std.proofs.KnownBytes.{Appends-trans}
@@ -9,20 +8,15 @@ use Rattle.rv_book.specs.Account.{Account}
 use Rattle.rv_text.specs.Bodies.{HasBodyLength}
 use Rattle.rv_frame.specs.declared.sink.Sink.{Sink}
 use Rattle.rv_frame.specs.Sink.{SinkTakes, sink_contents}
-use Rattle.rv_app.specs.declared.output.Output.{Output}
-use Rattle.rv_app.specs.declared.output.OutputFault.{OutputFault}
-use Rattle.rv_app.specs.Output.{StopsAfter}
+use Rattle.rv_run.specs.declared.output.Output.{Output}
+use Rattle.rv_run.specs.declared.output.OutputFault.{OutputFault}
+use Rattle.rv_run.specs.Output.{StopsAfter, gathered, sent_before}
 use Rattle.rv_app.specs.Outcomes.{SendsAll, SendsFront}
 use Rattle.rv_app.specs.Lines.{lines}
 use Rattle.rv_app.proofs.Forms.{formless_is_bad, has_form}
-use Rattle.rv_app.specs.Run.{AnswersLine, Runs, printed, refused_text}
-
--- ---- the input
-
--- what holds of the bytes that were read holds of those that the source had
-pub read_bytes : (o : Option (List ℕ)) (items : List ℕ) (P : List ℕ → Type 0) → IfSome o (λ bytes. items ≡ bytes) → P items → IfSome o P
-read_bytes None items P same has = tt
-read_bytes (Some bytes) items P same has = subst P same has
+use Rattle.rv_run.proofs.Printing.{Appends-nothing, all_out, part_out, printed_append}
+use Rattle.rv_text.specs.Bodies.{refused_text}
+use Rattle.rv_app.specs.Run.{AnswersLine, Runs, printed}
 
 -- ---- runs, one after the other
 
@@ -31,10 +25,6 @@ runs_append a b c [] more [] others run run' = subst (λ (x : Account). Runs x m
 runs_append a b c [] more (body ∷ bodies) others run run' = absurd run
 runs_append a b c (line ∷ first) more [] others run run' = absurd run
 runs_append a b c (line ∷ first) more (body ∷ bodies) others run run' = (run.0, run.1, runs_append run.0 b c first more bodies others run.2 run')
-
-pub printed_append : (bodies others : List (List ℕ)) → printed (bodies ++ others) ≡ printed bodies ++ printed others
-printed_append [] others = refl
-printed_append (body ∷ bodies) others = ap (λ rest. body ++ 10 ∷ rest) (printed_append bodies others) ∙ sym (append_assoc body (10 ∷ printed bodies) (printed others))
 
 -- a line can be answered whatever becomes of memory, and the account stays
 answered : (a : Account) (line : List ℕ) → (body : List ℕ) × AnswersLine line a a body
@@ -47,63 +37,40 @@ pub runs_on : (a : Account) (all : List (List ℕ)) → (bodies : List (List ℕ
 runs_on a [] = ([], refl)
 runs_on a (line ∷ all) = let here = answered a line in let later = runs_on a all in (here.0 ∷ later.0, (a, here.1, later.1))
 
--- ---- what went out
-
--- where all that was gathered went out, all that was promised did
-pub all_out : (contents now now' : Option (List ℕ)) (gathered output : List ℕ) → Appends contents (append_known now gathered) output → Appends now now' gathered → Appends contents now' output
-all_out None now now' gathered output promised out = tt
-all_out (Some xs) None now' gathered output promised out = absurd promised
-all_out (Some xs) (Some ys) None gathered output promised out = absurd out
-all_out (Some xs) (Some ys) (Some zs) gathered output promised out = out ∙ promised
-
--- a front of what was gathered ends a front of what was promised
-pub part_out : (contents now now' : Option (List ℕ)) (gathered output : List ℕ) (sent out : ℕ) → Appends contents (append_known now gathered) output → sent + length gathered ≡ length output
-    → sent ≤ out → out < sent + length gathered → Appends now now' (take (out - sent) gathered) → Appends contents now' (take out output)
-part_out None now now' gathered output sent out promised count from before part = tt
-part_out (Some xs) None now' gathered output sent out promised count from before part = absurd promised
-part_out (Some xs) (Some ys) None gathered output sent out promised count from before part = absurd part
-part_out (Some xs) (Some ys) (Some zs) gathered output sent out promised count from before part =
-    let places : length ys + (out - sent) ≡ length xs + out = omega (arith, ap length promised, length-append ys gathered, length-append xs output, count, from) in
-    part ∙ sym (take-append-add ys gathered (out - sent)) ∙ ap (λ n. take n (ys ++ gathered)) places ∙ ap (take (length xs + out)) promised ∙ take-append-add xs output out
-
 -- ---- what has come of the lines
 
 -- of the input the lines before the rest are answered, one run leads to the account that stands now, and what was printed went to the device or is gathered
-pub record Progress (contents : Option (List ℕ)) (a : Account) (input : List ℕ) (now : Option (List ℕ)) (b : Account) (rest gathered : List ℕ) (sent : ℕ) : Type 0 where
+pub record Progress (contents : Option (List ℕ)) (a : Account) (input : List ℕ) (now : Option (List ℕ)) (b : Account) (rest waiting : List ℕ) (sent : ℕ) : Type 0 where
   pub first : List (List ℕ)
   pub bodies : List (List ℕ)
   pub cut : lines input ≡ first ++ lines rest
   pub run : Runs a first bodies b
-  pub took : Appends contents (append_known now gathered) (printed bodies)
-  pub count : sent + length gathered ≡ length (printed bodies)
-  pub small : sent + length gathered + 4097 * length rest ≤ 4097 * length input
+  pub took : Appends contents (append_known now waiting) (printed bodies)
+  pub count : sent + length waiting ≡ length (printed bodies)
+  pub small : sent + length waiting + 4097 * length rest ≤ 4097 * length input
 
-pub Appends-nothing : (contents : Option (List ℕ)) (gathered : List ℕ) → gathered ≡ [] → Appends contents (append_known contents gathered) []
-Appends-nothing None gathered none = tt
-Appends-nothing (Some xs) gathered none = ap (λ g. xs ++ g) none
-
-pub progress_start : (contents : Option (List ℕ)) (a : Account) (input gathered : List ℕ) (sent : ℕ) → gathered ≡ [] → sent + length gathered ≡ 0 → Progress contents a input contents a input gathered sent
-progress_start contents a input gathered sent none zero = record {
+pub progress_start : (contents : Option (List ℕ)) (a : Account) (input waiting : List ℕ) (sent : ℕ) → waiting ≡ [] → sent + length waiting ≡ 0 → Progress contents a input contents a input waiting sent
+progress_start contents a input waiting sent none zero = record {
   first = [];
   bodies = [];
   cut = refl;
   run = refl;
-  took = Appends-nothing contents gathered none;
+  took = Appends-nothing contents waiting none;
   count = zero;
   small = omega arith;
 }
 
 -- one line more
-module _ {contents : Option (List ℕ)} {a : Account} {input : List ℕ} {now : Option (List ℕ)} {b : Account} {rest gathered : List ℕ} {sent : ℕ} (so_far : Progress contents a input now b rest gathered sent) where
-  pub progress_more : (now' : Option (List ℕ)) (b' : Account) (after gathered' line body : List ℕ) (sent' : ℕ) → lines rest ≡ line ∷ lines after → AnswersLine line b b' body
-      → Appends (append_known now gathered) (append_known now' gathered') (body ++ 10 ∷ []) → sent' + length gathered' ≡ sent + length gathered + length body + 1
-      → HasBodyLength body → length after < length rest → Progress contents a input now' b' after gathered' sent'
-  progress_more now' b' after gathered' line body sent' cut answers took count short shorter = record {
+module _ {contents : Option (List ℕ)} {a : Account} {input : List ℕ} {now : Option (List ℕ)} {b : Account} {rest waiting : List ℕ} {sent : ℕ} (so_far : Progress contents a input now b rest waiting sent) where
+  pub progress_more : (now' : Option (List ℕ)) (b' : Account) (after waiting' line body : List ℕ) (sent' : ℕ) → lines rest ≡ line ∷ lines after → AnswersLine line b b' body
+      → Appends (append_known now waiting) (append_known now' waiting') (body ++ 10 ∷ []) → sent' + length waiting' ≡ sent + length waiting + length body + 1
+      → HasBodyLength body → length after < length rest → Progress contents a input now' b' after waiting' sent'
+  progress_more now' b' after waiting' line body sent' cut answers took count short shorter = record {
     first = so_far.first ++ line ∷ [];
     bodies = so_far.bodies ++ body ∷ [];
     cut = so_far.cut ∙ ap (λ l. so_far.first ++ l) cut ∙ sym (append_assoc so_far.first (line ∷ []) (lines after));
     run = runs_append a b b' so_far.first (line ∷ []) so_far.bodies (body ∷ []) so_far.run (b', answers, refl);
-    took = subst (Appends contents (append_known now' gathered')) (sym (printed_append so_far.bodies (body ∷ []))) (Appends-trans _ _ _ (printed so_far.bodies) (body ++ 10 ∷ []) so_far.took took);
+    took = subst (Appends contents (append_known now' waiting')) (sym (printed_append so_far.bodies (body ∷ []))) (Appends-trans _ _ _ (printed so_far.bodies) (body ++ 10 ∷ []) so_far.took took);
     count = omega (arith, ap length (printed_append so_far.bodies (body ∷ [])), length-append (printed so_far.bodies) (body ++ 10 ∷ []), length-append body (10 ∷ []), so_far.count);
     small = omega (arith, so_far.small);
   }
@@ -111,15 +78,15 @@ module _ {contents : Option (List ℕ)} {a : Account} {input : List ℕ} {now : 
 -- ---- the end of a run
 
 module _ {W : Type 0} (contents : W → Option (List ℕ)) {a : Account} {input : List ℕ} (start now : Sink W) {b : Account} {rest : List ℕ} (output : Output)
-    (so_far : Progress (sink_contents contents start) a input (sink_contents contents now) b rest output.gathered.items output.sent) where
+    (so_far : Progress (sink_contents contents start) a input (sink_contents contents now) b rest (gathered output) (sent_before output)) where
   -- all lines are answered, and what was gathered went out
-  pub sends_all : (now' : Sink W) → rest ≡ [] → SinkTakes contents now now' output.gathered.items → SendsAll contents a input start now'
+  pub sends_all : (now' : Sink W) → rest ≡ [] → SinkTakes contents now now' (gathered output) → SendsAll contents a input start now'
   sends_all now' none out =
       let all : lines input ≡ so_far.first = so_far.cut ∙ ap (λ bytes. so_far.first ++ lines bytes) none ∙ append-nil so_far.first in
       record {
         output = printed so_far.bodies;
         is_printed = record { bodies = so_far.bodies; last = b; run = subst (λ (l : List (List ℕ)). Runs a l so_far.bodies b) (sym all) so_far.run; output_is = refl };
-        went_out = all_out (sink_contents contents start) (sink_contents contents now) (sink_contents contents now') output.gathered.items (printed so_far.bodies) so_far.took out;
+        went_out = all_out (sink_contents contents start) (sink_contents contents now) (sink_contents contents now') (gathered output) (printed so_far.bodies) so_far.took out;
       }
 
   -- a write failed: what went out is the front of what one run prints
@@ -130,7 +97,7 @@ module _ {W : Type 0} (contents : W → Option (List ℕ)) {a : Account} {input 
       let run = runs_append a b b so_far.first (lines rest) so_far.bodies later.0 so_far.run later.1 in
       let joined = printed_append so_far.bodies later.0 in
       let front : take out (printed bodies) ≡ take out (printed so_far.bodies) = ap (take out) joined ∙ take-append-le out (printed so_far.bodies) (printed later.0) (omega (arith, so_far.count, stops.not_all)) in
-      let went = part_out (sink_contents contents start) (sink_contents contents now) (sink_contents contents now') output.gathered.items (printed so_far.bodies) output.sent out so_far.took so_far.count stops.past_those_sent stops.not_all stops.went_out in
+      let went = part_out (sink_contents contents start) (sink_contents contents now) (sink_contents contents now') (gathered output) (printed so_far.bodies) (sent_before output) out so_far.took so_far.count stops.past_those_sent stops.not_all stops.went_out in
       record {
         output = printed bodies;
         is_printed = record { bodies = bodies; last = b; run = subst (λ (l : List (List ℕ)). Runs a l bodies b) (sym so_far.cut) run; output_is = refl };
@@ -139,7 +106,7 @@ module _ {W : Type 0} (contents : W → Option (List ℕ)) {a : Account} {input 
       }
 
   -- the same of an answer of `flush`
-  pub sends_all_on_ok : {T : Type 0} (now' : Sink W) (answer : Result T OutputFault) → rest ≡ [] → OnOk answer (SinkTakes contents now now' output.gathered.items)
+  pub sends_all_on_ok : {T : Type 0} (now' : Sink W) (answer : Result T OutputFault) → rest ≡ [] → OnOk answer (SinkTakes contents now now' (gathered output))
       → OnOk answer (SendsAll contents a input start now')
   sends_all_on_ok now' (Ok x) none out = sends_all now' none out
   sends_all_on_ok now' (Err fault) none out = tt

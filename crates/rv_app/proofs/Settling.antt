@@ -5,7 +5,8 @@ use Rattle.rv_text.specs.Limits.{FitsIdentifier}
 use Rattle.rv_text.specs.declared.answer.Answer.{Answer}
 use Rattle.rv_text.specs.declared.message.Key.{Key}
 use Rattle.rv_client.specs.Link.{Link}
-use Rattle.rv_client.specs.Process.{PassesBy, Starting, first_key, key_after, max_number}
+use Rattle.rv_text.specs.Members.{max_identifier}
+use Rattle.rv_client.specs.Process.{PassesBy, Starting, first_key, key_after}
 use Rattle.rv_app.specs.Calling.{AllInVain, HasNumbers, HelloEnds, HellosInVain, IsPassedBy, SaysHello, SettlesLine, SettlesLines, WelcomesOrNot, key_behind}
 use Rattle.rv_app.specs.declared.word.Word.{Word}
 use Rattle.rv_app.specs.declared.word.Word.TheVariants.{BadLine, EpochEnded, NotWelcome, Refused, Replaced, Unsettled}
@@ -21,8 +22,8 @@ key_behind_more key n = let same : key.number + (n + 1) ≡ key.number + 1 + n =
 pub key_behind_on : (key : Key) (n : ℕ) → key_behind (key_behind key n) 1 ≡ key_behind key (n + 1)
 key_behind_on key n = let same : key.number + n + 1 ≡ key.number + (n + 1) = omega arith in ap (λ (m : ℕ). record key { number = m }) same
 
-pub key_next : (key : Key) → key.number < max_number → key_after key ≡ Some (key_behind key 1)
-key_next key less = ap (λ b. if b then Some (key_behind key 1) else None) (lt-ltb key.number max_number less)
+pub key_next : (key : Key) → key.number < max_identifier → key_after key ≡ Some (key_behind key 1)
+key_next key less = ap (λ b. if b then Some (key_behind key 1) else None) (lt-ltb key.number max_identifier less)
 
 -- a welcome in an epoch leaves numbers for an input's lines
 pub first_numbers : (starting : Starting) (epoch bytes : ℕ) (idle : Option Key) → FitsIdentifier starting.client → FitsIdentifier starting.incarnation → FitsIdentifier epoch

@@ -12,9 +12,9 @@ use Rattle.rv_book.proofs.Places.{within}
 use Rattle.rv_lines.specs.Lines.{printed}
 use Rattle.rv_lines.specs.Written.{account_lines, entry_text}
 use Rattle.rv_app.specs.Accounts.{WritesAll, WritesFront, WritesSome}
-use Rattle.rv_app.specs.declared.output.Output.{Output}
-use Rattle.rv_app.specs.Output.{StopsAfter}
-use Rattle.rv_app.proofs.Progress.{all_out, part_out, printed_append}
+use Rattle.rv_run.specs.declared.output.Output.{Output}
+use Rattle.rv_run.specs.Output.{StopsAfter, gathered, sent_before}
+use Rattle.rv_run.proofs.Printing.{all_out, part_out, printed_append}
 
 -- ---- the next line
 
@@ -42,19 +42,19 @@ line_at a (suc n) place e is there =
     subst (λ (k : ℕ). slice_get (map entry_text a.entries) k ≡ Some (entry_text e)) same (entry_at a.entries place e there)
 
 -- the first line, and those of so many entries, went to the device or are gathered
-pub record Wrote (contents : Option (List ℕ)) (a : Account) (now : Option (List ℕ)) (place : ℕ) (gathered : List ℕ) (sent : ℕ) : Type 0 where
+pub record Wrote (contents : Option (List ℕ)) (a : Account) (now : Option (List ℕ)) (place : ℕ) (waiting : List ℕ) (sent : ℕ) : Type 0 where
   pub many : ℕ
   pub many_is : many ≡ place + 1
   pub inside : place ≤ length a.entries
-  pub took : Appends contents (append_known now gathered) (printed (take many (account_lines a)))
-  pub count : sent + length gathered ≡ length (printed (take many (account_lines a)))
-  pub small : sent + length gathered ≤ 4160 * (place + 1)
+  pub took : Appends contents (append_known now waiting) (printed (take many (account_lines a)))
+  pub count : sent + length waiting ≡ length (printed (take many (account_lines a)))
+  pub small : sent + length waiting ≤ 4160 * (place + 1)
 
-module _ {contents : Option (List ℕ)} {a : Account} {now : Option (List ℕ)} {place : ℕ} {gathered : List ℕ} {sent : ℕ} (so_far : Wrote contents a now place gathered sent) where
-  pub wrote_more : (now' : Option (List ℕ)) (gathered' text : List ℕ) (e : Entry) (sent' : ℕ) → slice_get a.entries place ≡ Some e → text ≡ entry_text e
-      → Appends (append_known now gathered) (append_known now' gathered') (text ++ 10 ∷ []) → sent' + length gathered' ≡ sent + length gathered + length text + 1 → length text < 4160
-      → Wrote contents a now' (place + 1) gathered' sent'
-  wrote_more now' gathered' text e sent' there is took count short =
+module _ {contents : Option (List ℕ)} {a : Account} {now : Option (List ℕ)} {place : ℕ} {waiting : List ℕ} {sent : ℕ} (so_far : Wrote contents a now place waiting sent) where
+  pub wrote_more : (now' : Option (List ℕ)) (waiting' text : List ℕ) (e : Entry) (sent' : ℕ) → slice_get a.entries place ≡ Some e → text ≡ entry_text e
+      → Appends (append_known now waiting) (append_known now' waiting') (text ++ 10 ∷ []) → sent' + length waiting' ≡ sent + length waiting + length text + 1 → length text < 4160
+      → Wrote contents a now' (place + 1) waiting' sent'
+  wrote_more now' waiting' text e sent' there is took count short =
       let front = take so_far.many (account_lines a) in
       let next : printed (take (suc so_far.many) (account_lines a)) ≡ printed front ++ (entry_text e ++ 10 ∷ []) =
       ap printed (take_next (account_lines a) so_far.many (entry_text e) (line_at a so_far.many place e so_far.many_is there)) ∙ printed_append front (entry_text e ∷ []) in
@@ -63,8 +63,8 @@ module _ {contents : Option (List ℕ)} {a : Account} {now : Option (List ℕ)} 
         many = suc so_far.many;
         many_is = omega (arith, so_far.many_is);
         inside = omega (arith, within a.entries place e there);
-        took = subst (Appends contents (append_known now' gathered')) (ap (λ (t : List ℕ). printed front ++ t) same ∙ sym next)
-            (Appends-trans contents (append_known now gathered) (append_known now' gathered') (printed front) (text ++ 10 ∷ []) so_far.took took);
+        took = subst (Appends contents (append_known now' waiting')) (ap (λ (t : List ℕ). printed front ++ t) same ∙ sym next)
+            (Appends-trans contents (append_known now waiting) (append_known now' waiting') (printed front) (text ++ 10 ∷ []) so_far.took took);
         count = omega (arith, count, so_far.count, ap length next, length-append (printed front) (entry_text e ++ 10 ∷ []), length-append (entry_text e) (10 ∷ []), ap length is);
         small = omega (arith, so_far.small, count, short);
       }
@@ -72,20 +72,20 @@ module _ {contents : Option (List ℕ)} {a : Account} {now : Option (List ℕ)} 
 -- ---- the end
 
 module _ {W : Type 0} (contents : W → Option (List ℕ)) {a : Account} (start now : Sink W) {place : ℕ} (output : Output)
-    (so_far : Wrote (sink_contents contents start) a (sink_contents contents now) place output.gathered.items output.sent) where
+    (so_far : Wrote (sink_contents contents start) a (sink_contents contents now) place (gathered output) (sent_before output)) where
   -- what was gathered went out
-  front_out : (now' : Sink W) → SinkTakes contents now now' output.gathered.items → SinkTakes contents start now' (printed (take so_far.many (account_lines a)))
+  front_out : (now' : Sink W) → SinkTakes contents now now' (gathered output) → SinkTakes contents start now' (printed (take so_far.many (account_lines a)))
   front_out now' out =
-      all_out (sink_contents contents start) (sink_contents contents now) (sink_contents contents now') output.gathered.items (printed (take so_far.many (account_lines a))) so_far.took out
+      all_out (sink_contents contents start) (sink_contents contents now) (sink_contents contents now') (gathered output) (printed (take so_far.many (account_lines a))) so_far.took out
 
-  pub writes_all : (now' : Sink W) → slice_get a.entries place ≡ None → sink_failed now' ≡ sink_failed start → SinkTakes contents now now' output.gathered.items → WritesAll contents a start now'
+  pub writes_all : (now' : Sink W) → slice_get a.entries place ≡ None → sink_failed now' ≡ sink_failed start → SinkTakes contents now now' (gathered output) → WritesAll contents a start now'
   writes_all now' none stays out =
       let all : take so_far.many (account_lines a) ≡ account_lines a =
       take_all so_far.many (account_lines a) (omega (arith, so_far.many_is, past_end a.entries place none, length-map a.entries entry_text)) in
       record { went_out = subst (λ (l : List (List ℕ)). SinkTakes contents start now' (printed l)) all (front_out now' out); sink_stays = stays }
 
   -- a line has no text, for want of memory
-  pub writes_some : (now' : Sink W) (e : Entry) → slice_get a.entries place ≡ Some e → sink_failed now' ≡ sink_failed start → SinkTakes contents now now' output.gathered.items → WritesSome contents a start now'
+  pub writes_some : (now' : Sink W) (e : Entry) → slice_get a.entries place ≡ Some e → sink_failed now' ≡ sink_failed start → SinkTakes contents now now' (gathered output) → WritesSome contents a start now'
   writes_some now' e there stays out = record {
     count = so_far.many;
     not_all = omega (arith, so_far.many_is, within a.entries place e there, length-map a.entries entry_text);
@@ -100,7 +100,7 @@ module _ {W : Type 0} (contents : W → Option (List ℕ)) {a : Account} (start 
       let later = drop so_far.many (account_lines a) in
       let joined : printed (account_lines a) ≡ printed first ++ printed later = ap printed (sym (take-append-drop so_far.many (account_lines a))) ∙ printed_append first later in
       let front : take out (printed (account_lines a)) ≡ take out (printed first) = ap (take out) joined ∙ take-append-le out (printed first) (printed later) (omega (arith, so_far.count, stops.not_all)) in
-      let went = part_out (sink_contents contents start) (sink_contents contents now) (sink_contents contents now') output.gathered.items (printed first) output.sent out so_far.took so_far.count stops.past_those_sent stops.not_all stops.went_out in
+      let went = part_out (sink_contents contents start) (sink_contents contents now) (sink_contents contents now') (gathered output) (printed first) (sent_before output) out so_far.took so_far.count stops.past_those_sent stops.not_all stops.went_out in
       record {
         not_all = omega (arith, so_far.count, ap length joined, length-append (printed first) (printed later), stops.not_all);
         went_out = subst (SinkTakes contents start now') (sym front) went;

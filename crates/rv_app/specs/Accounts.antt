@@ -5,8 +5,8 @@ use Rattle.rv_frame.specs.Sink.{SinkTakes, sink_failed}
 use Rattle.rv_book.specs.Account.{Account}
 use Rattle.rv_lines.specs.Lines.{printed}
 use Rattle.rv_lines.specs.Written.{account_lines}
-use Rattle.rv_app.specs.declared.run.RunFault.{RunFault}
-use Rattle.rv_app.specs.declared.run.RunFault.TheVariants.{NoMemory, ReadFault, TooLong, WriteFault}
+use Rattle.rv_run.specs.declared.fault.RunFault.{RunFault}
+use Rattle.rv_run.specs.declared.fault.RunFault.TheVariants.{NoMemory, ReadFault, TooLong, WriteFault}
 
 module _ {W : Type 0} (contents : W → Option (List ℕ)) where
   -- the sink took exactly the account's lines

@@ -1,8 +1,7 @@
 -- The bytes of a body.
 use Rattle.std.specs.Prelude.{ℕ, List, string_bytes}
-use Rattle.rv_text.specs.Bodies.{HasBodyLength}
+use Rattle.rv_text.specs.Bodies.{HasBodyLength, refused_text}
 use Rattle.rv_text.specs.declared.answer.Refusal as refusal
-use Rattle.rv_app.specs.Run.{refused_text}
 use Rattle.rv_app.specs.declared.turn.Body.{Body}
 use Rattle.rv_app.specs.declared.turn.Body.TheVariants.{BadText, NoMemory, Text}
 

@@ -9,8 +9,8 @@ use Rattle.rv_client.specs.Link.{Link}
 use Rattle.rv_client.specs.Process.{Starting, first_key}
 use Rattle.rv_app.specs.declared.calls.CallSaid.{CallSaid}
 use Rattle.rv_app.specs.declared.calls.CallSaid.TheVariants.{Stopped, Whole}
-use Rattle.rv_app.specs.declared.run.RunFault.{RunFault}
-use Rattle.rv_app.specs.declared.run.RunFault.TheVariants.{NoMemory, ReadFault, TooLong, WriteFault}
+use Rattle.rv_run.specs.declared.fault.RunFault.{RunFault}
+use Rattle.rv_run.specs.declared.fault.RunFault.TheVariants.{NoMemory, ReadFault, TooLong, WriteFault}
 use Rattle.rv_app.specs.declared.word.Word.{Word}
 use Rattle.rv_app.specs.Calling.{IsTurnedAway, IsWelcomed, SettlesLines, StopsAt, key_behind}
 use Rattle.rv_app.specs.Lines.{lines}

@@ -13,7 +13,8 @@ use Rattle.rv_client.specs.declared.calling.Called.TheVariants as called
 use Rattle.rv_client.specs.declared.fault.LinkFault.{LinkFault}
 use Rattle.rv_client.specs.Calls.{Calls}
 use Rattle.rv_client.specs.Link.{Asks, Link, message_frame}
-use Rattle.rv_client.specs.Process.{Asking, PassesBy, Starting, first_key, hello_of, max_number}
+use Rattle.rv_text.specs.Members.{max_identifier}
+use Rattle.rv_client.specs.Process.{Asking, PassesBy, Starting, first_key, hello_of}
 use Rattle.rv_app.specs.declared.client.Halt.{Halt}
 use Rattle.rv_app.specs.declared.client.Halt.TheVariants as halt
 use Rattle.rv_app.specs.declared.word.Word.{Word}
@@ -28,7 +29,7 @@ pub record HasNumbers (idle : Option Key) (requests : ℕ) : Type 0 where
   pub key : Key
   pub is_next : idle ≡ Some key
   pub fits : FitsKey key
-  pub room : key.number + requests ≤ max_number
+  pub room : key.number + requests ≤ max_identifier
 
 -- no call is read from the line
 abbrev pub IsNoCall : List ℕ → Type 0

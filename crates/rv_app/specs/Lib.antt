@@ -4,12 +4,8 @@ pub mod Audits
 pub mod Body
 pub mod CallRuns
 pub mod Calling
-pub mod Faults
 pub mod Lines
 pub mod Number
 pub mod Outcomes
-pub mod Output
-pub mod Plays
 pub mod Run
-pub mod Told
 pub mod Word

@@ -1,11 +1,9 @@
 -- A run of the book over the lines of its input: which bodies answer them, and what is printed.
 use Rattle.std.specs.Prelude.{ℕ, List, [], ◌∷◌, ◌≡◌, ◌⊎◌}
 use Rattle.rv_text.specs.declared.answer.Answer.{Answer}
-use Rattle.rv_text.specs.declared.answer.Answer.TheVariants.{Refused}
-use Rattle.rv_text.specs.declared.answer.Refusal.{Refusal}
 use Rattle.rv_text.specs.declared.answer.Refusal.TheVariants.{BadText, NoMemory}
 use Rattle.rv_text.specs.declared.message.Message.{Message}
-use Rattle.rv_text.specs.Bodies.{answer_text}
+use Rattle.rv_text.specs.Bodies.{answer_text, refused_text}
 use Rattle.rv_book.specs.Account.{Account}
 use Rattle.rv_book.specs.Steps.{Next}
 pub use Rattle.rv_lines.specs.Lines.{printed}
@@ -16,10 +14,6 @@ abbrev pub opened_account : ℕ → ℕ → Account
 opened_account epoch moment = record { epoch = epoch; opened = moment; entries = [] }
 
 -- ---- one line
-
--- the body of a refusal
-unfoldable pub refused_text : Refusal → List ℕ
-refused_text refusal = answer_text (Refused refusal)
 
 -- the line's message, at the line's moment, leads from one account to the other with this answer
 pub record StepsBy (line : List ℕ) (a b : Account) (answer : Answer) : Type 0 where

@@ -2,13 +2,12 @@
 ghost use Rattle.std.specs.Prelude.{◌≡◌, ◌<◌, [], IfErr, OnOk, length};
 ghost use Rattle.rv_lines.specs.Written.{FitsLines, head_text};
 ghost use Rattle.rv_app.specs.Accounts.{StopsWriting, WritesAll};
-ghost use Rattle.rv_app.specs.Output.{gathered, taken_in};
+ghost use Rattle.rv_run.specs.Output.{gathered, taken_in};
 
-use crate::output::Output;
-use crate::run::RunFault;
 use rv_book::Account;
 use rv_frame::Sink;
 use rv_lines::{entry_line, head_line};
+use rv_run::{Output, RunFault};
 use std::alloc::Global;
 use std::io::Write;
 

@@ -3,12 +3,10 @@ ghost use Rattle.std.specs.Prelude.{◌≡◌, Err, IfOk};
 ghost use Rattle.rv_app.specs.Audits.{Audited, HasLine, StoppedTelling, TellsOf};
 ghost use Rattle.rv_app.specs.Outcomes.{FailedReading, FoundTooLong, LackedMemory, max_input};
 
-use crate::input::read_input;
-use crate::output::OutputFault;
-use crate::run::RunFault;
 use rv_book::Account;
 use rv_frame::{Sink, Source};
 use rv_lines::{AccountFault, read_account};
+use rv_run::{OutputFault, RunFault, read_input};
 use rv_text::NoMemory;
 use rv_world::{Audit, audit};
 use std::alloc::{AllocError, Global};

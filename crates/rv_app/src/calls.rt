@@ -9,17 +9,15 @@ ghost use Rattle.rv_app.specs.Calling.{HasNumbers, IsWelcomed};
 ghost use Rattle.rv_app.specs.CallRuns.{DidNothing, RanCalls, RunsCalls, StopsText, TakesText};
 ghost use Rattle.rv_app.specs.Lines.{lines};
 ghost use Rattle.rv_app.specs.Outcomes.{FoundTooLong, max_input};
-ghost use Rattle.rv_app.specs.Told.{IsShortText};
+ghost use Rattle.rv_run.specs.Output.{IsShortText};
 ghost use Rattle.rv_app.specs.Word.{word_text};
 
 use crate::client::{Halt, call_line, say_hello};
-use crate::input::read_input;
 use crate::line::first_line;
-use crate::output::OutputFault;
-use crate::run::RunFault;
 use crate::word::Word;
 use rv_client::{Idle, New};
 use rv_frame::{Sink, Source};
+use rv_run::{OutputFault, RunFault, read_input};
 use std::alloc::Global;
 use std::io::{Read, Write};
 

@@ -1,6 +1,6 @@
 //! Why the program ends with a line on standard error.
-use crate::run::RunFault;
 use rv_command::CommandFault;
+use rv_run::RunFault;
 use rv_server::ServeFault;
 use std::alloc::AllocError;
 use thiserror::Error;

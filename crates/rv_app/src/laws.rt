@@ -1,5 +1,6 @@
-//! The laws of what the program reads and writes: those of command lines, and of the lines of accounts.
+//! The laws of what the program reads and writes: of command lines, of the lines of accounts, and of plays.
 pub use rv_command::laws::{book_one_is_named, one_command};
 pub use rv_lines::laws::{
     book_fits_lines, no_bad_line, one_account, one_bad_line, written_account,
 };
+pub use rv_play::laws::{headline_of_plays, one_line_each, play_is_run, texts_stay};

@@ -3,8 +3,8 @@ ghost use Rattle.std.specs.Prelude.{◌≡◌, ◌∷◌, ◌++◌, ℕ, List, N
 ghost use Rattle.rv_app.specs.Lines.{HasForm, IsBadLine, ReadsLine};
 ghost use Rattle.rv_app.specs.Number.{Writes};
 
-use crate::number::read_number;
-pub(crate) use rv_lines::{LineFault, cut_at, first_line};
+use rv_lines::{cut_at, read_number};
+pub(crate) use rv_lines::{LineFault, first_line};
 use rv_text::{Message, decode_message};
 use std::alloc::Global;
 

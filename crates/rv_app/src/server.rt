@@ -4,10 +4,10 @@ ghost use Rattle.rv_text.specs.Limits.{FitsIdentifier};
 
 use crate::account::write_account;
 use crate::fault::ProgramFault;
-use crate::run::RunFault;
 use rv_book::Book;
 use rv_frame::Sink;
 use rv_lines::laws;
+use rv_run::RunFault;
 use rv_server::{Clock, Closing, Gate, ServeFault, Shared, finish, serve};
 use std::alloc::Global;
 use std::io::Write;

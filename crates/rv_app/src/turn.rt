@@ -9,7 +9,7 @@ ghost use Rattle.rv_app.specs.Run.{AnswersLine, SaysNext};
 
 use crate::line::{LineFault, read_line};
 use rv_book::{Book, Verdict};
-use rv_text::{BAD_TEXT_BODY, Message, NO_MEMORY_BODY, NoMemory, encode_answer, laws};
+use rv_text::{Message, NoMemory, bad_text_body, encode_answer, no_memory_body};
 use std::alloc::Global;
 
 // The body that answers a line.
@@ -30,10 +30,9 @@ impl Body {
         ensures text { result.now ≡ body_text self.now }
         ensures of_body { HasBodyLength result.now }
     {
-        laws::body_constants();
         match self {
-            Body::BadText => BAD_TEXT_BODY.as_bytes(),
-            Body::NoMemory => NO_MEMORY_BODY.as_bytes(),
+            Body::BadText => bad_text_body(),
+            Body::NoMemory => no_memory_body(),
             Body::Text(text) => text.as_bytes(),
         }
     }

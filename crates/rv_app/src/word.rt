@@ -1,6 +1,6 @@
 //! The words that end a run of calls.
 ghost use Rattle.std.specs.Prelude.{◌≡◌, IfOk, string_bytes};
-ghost use Rattle.rv_app.specs.Told.{IsShortText};
+ghost use Rattle.rv_run.specs.Output.{IsShortText};
 ghost use Rattle.rv_app.specs.Word.{word_text};
 
 use rv_text::{NoMemory, Refusal};

@@ -97,8 +97,8 @@ pub record KeepsNumbers (a : Account) (does : Act) : Type 0 where
 
 -- ---- pairs and swaps
 --
--- A pair joins one that gives and one that takes (Java SE 21, `TransferQueue`; the fair dual queue of
--- Scherer, Lea and Scott, PPoPP 2006). A swap joins two that exchange at one exchanger (Java SE 21,
+-- A pair joins one that gives and one that takes (Java SE 21, `TransferQueue`; Scherer, Lea and Scott's fair
+-- dual queue, PPoPP 2006). A swap joins two that exchange at one exchanger (Java SE 21,
 -- `Exchanger`): each is there what the other meets, so the earlier one is open when the later comes, and
 -- nobody waits where another does.
 
@@ -119,7 +119,7 @@ pub record IsOpenOpposite (entries : List Entry) (call : Call) (p : ℕ) : Type 
   pub opposes : opposite (side_of call) ≡ Some side
   pub there : OpenAt entries side p
 
--- the partner of a call is an open arrival of the other side of the same queue, or one at the same exchanger
+-- a call's partner is open, and stands on the other side of its queue, or at its exchanger
 abbrev pub PairsOpposites : List Entry → Entry → Type 0
 PairsOpposites entries e = (p : ℕ) (call : Call) → e.partner ≡ Some p → call_in e.act ≡ Some call
     → MayMeet call → IsOpenOpposite entries call p

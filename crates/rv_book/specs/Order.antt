@@ -1,5 +1,5 @@
--- Items leave each queue in their order of arrival: first in first out, as in the fair dual queue of Scherer,
--- Lea and Scott (PPoPP 2006) and Java SE 21's `LinkedTransferQueue`.
+-- Items leave each queue in their order of arrival: first in first out, as in Java SE 21's
+-- `LinkedTransferQueue` and in the fair dual queue that Scherer, Lea and Scott describe (PPoPP 2006).
 use Rattle.std.specs.Prelude.{◌≡◌, ◌⊎◌, ◌<◌, ℕ, List, take}
 use Rattle.rv_text.specs.declared.call.Side.TheVariants.{Gives, Takes}
 use Rattle.rv_book.specs.declared.account.Entry.{Entry}

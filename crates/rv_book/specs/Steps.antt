@@ -14,6 +14,7 @@ use Rattle.rv_text.specs.declared.answer.Refusal.TheVariants.{EpochFull, NoMemor
 use Rattle.rv_text.specs.declared.answer.Answer.{Answer}
 use Rattle.rv_text.specs.declared.answer.Answer.TheVariants.{Welcome, Replied, Refused}
 use Rattle.rv_text.specs.declared.answer.Answer as answer
+pub use Rattle.rv_session.specs.Standings.{max_clients}
 use Rattle.rv_book.specs.declared.account.Entry.{Entry}
 use Rattle.rv_book.specs.declared.account.Act.{Act}
 use Rattle.rv_book.specs.declared.account.Act as act
@@ -75,7 +76,7 @@ pub record OtherCallDue (a : Account) (key : Key) (call : Call) (refusal : Refus
   pub differs : other ≢ call
   pub is : refusal ≡ OtherCall
 
--- the number is above the session's last, and a request of the session waits
+-- a request of the session waits, whatever the key's number is; the refusal tells the session's last number
 pub record BusyDue (a : Account) (key : Key) (refusal : Refusal) : Type 0 where
   pub last : ℕ
   pub is_last : LastNumber a.entries key.client last
@@ -88,10 +89,6 @@ pub record GapDue (a : Account) (key : Key) (refusal : Refusal) : Type 0 where
   pub is_last : LastNumber a.entries key.client last
   pub above : last + 1 < key.number
   pub is : refusal ≡ Gap last
-
--- the most clients of an epoch
-abbrev pub max_clients : ℕ
-max_clients = 1024
 
 -- the client is new, and as many clients said a hello as an epoch can have
 pub record ClientsFullDue (a : Account) (client : ℕ) (refusal : Refusal) : Type 0 where

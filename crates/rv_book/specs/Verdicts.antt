@@ -47,6 +47,18 @@ answer_of entries (Refused refusal) = Some (answer.TheVariants.Refused refusal)
 abbrev pub said_in : Account → Said → Answer
 said_in a kept = unwrap_or (answer_of a.entries kept) (answer.TheVariants.Refused refusal.NoMemory)
 
+-- the reply carries an item's text
+abbrev pub ReplyHasText : Reply → Type 0
+ReplyHasText (reply.TheVariants.Item text) = Unit {0}
+ReplyHasText (reply.TheVariants.Swapped text) = Unit {0}
+ReplyHasText (reply.TheVariants.Peeked text) = Unit {0}
+ReplyHasText _ = ⊥
+
+-- the answer is such a reply
+abbrev pub HasText : Answer → Type 0
+HasText (answer.TheVariants.Replied key told) = ReplyHasText told
+HasText _ = ⊥
+
 -- what a verdict shows: the message that it was given for, the answer that it stands for, the number of the
 -- account's entries before and after that step, and what it keeps of the answer
 pub record Stamp : Type 0 where

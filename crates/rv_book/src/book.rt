@@ -1,9 +1,9 @@
 //! The book of one epoch: it takes messages one by one and says what becomes of each.
-ghost use Rattle.std.specs.Prelude.{◌≡◌, ◌≤◌, ◌^◌, [], Some, IsSome, IfOk, length, min};
+ghost use Rattle.std.specs.Prelude.{◌≡◌, ◌≤◌, ◌^◌, [], Some, IsSome, IfOk, IfSome, OnErr, length, min};
 ghost use Rattle.rv_text.specs.Limits.{FitsAnswer, FitsIdentifier, FitsMessage};
 ghost use Rattle.rv_book.specs.Legal.{Legal};
 ghost use Rattle.rv_book.specs.Steps.{Next};
-ghost use Rattle.rv_book.specs.Verdicts.{Stamp, WasGiven, reply_of as kept_reply};
+ghost use Rattle.rv_book.specs.Verdicts.{HasText, ReplyHasText, Stamp, WasGiven, reply_of as kept_reply};
 
 use crate::account::Account;
 use crate::state::{MAX_MOMENT, State};
@@ -65,9 +65,9 @@ impl Book {
     /// a growth was refused the verdict is refusal 11, and nothing changed but by the tick, which takes no
     /// memory. A moment before the book's own counts as the book's own, one above 2^62 as 2^62.
     ///
-    /// The cost grows with the clients, and not with the entries. To end a wait by a time-out, a cancel or a
-    /// hello goes over the queue of its request; a limit that comes or goes moves the later ones. Where
-    /// nothing is due the least limit alone is looked at.
+    /// The cost grows neither with the entries nor with the clients, on average. To end a wait by a time-out,
+    /// a cancel or a hello searches the queue of its request, and a limit that comes or goes is searched for
+    /// among the limits, each in logarithmic time. Where nothing is due the least limit alone is looked at.
     pub fn handle(&mut self, now: u64, message: Message) -> Verdict
         requires { FitsMessage message }
         ensures step { Next self.old now message self.new result.said }
@@ -89,10 +89,11 @@ impl Book {
     }
 
     /// The answer that a verdict of this book stands for, in the state that gave it and in every later
-    /// one. It takes memory only for an item's text, and fails only where that was refused.
+    /// one. It fails only where the answer is a reply with an item's text, for which memory was refused.
     pub fn answer(&self, alloc: Global, verdict: &Verdict) -> Result<Answer, NoMemory>
         requires { WasGiven self.now verdict.now }
-        ensures { IfOk result (λ answer. answer ≡ verdict.now.said) }
+        ensures ok { IfOk result (λ answer. answer ≡ verdict.now.said) }
+        ensures err { OnErr result (HasText verdict.now.said) }
     {
         match verdict.said {
             Said::Welcome(epoch, client, incarnation) => Ok(Answer::Welcome {
@@ -110,10 +111,11 @@ impl Book {
     }
 }
 
-// The reply that is kept, with its text copied from the account.
+// The reply that is kept, with its text copied from the account. It fails only where that copy does.
 fn reply_of(alloc: Global, account: &Account, kept: Kept) -> Result<Reply, NoMemory>
     requires { IsSome (kept_reply account.now.account.entries kept) }
-    ensures { IfOk result (λ reply. kept_reply account.now.account.entries kept ≡ Some reply) }
+    ensures ok { IfOk result (λ reply. kept_reply account.now.account.entries kept ≡ Some reply) }
+    ensures err { OnErr result (IfSome (kept_reply account.now.account.entries kept) ReplyHasText) }
 {
     match kept {
         Kept::Done => Ok(Reply::Done),

@@ -1,9 +1,8 @@
 //! The account with the tables that answer for it, and the steps that change them together.
 ghost use Rattle.std.specs.Prelude.{◌≡◌, ◌<◌, ◌≤◌, ◌+◌, [], None, Some, OnOk, OnErr, IfOk, IfErr, IfSome};
 ghost use Rattle.std.specs.Prelude.{true, false};
-ghost use Rattle.rv_text.specs.Limits.{FitsCall, FitsIdentifier, FitsMessage, FitsSide};
+ghost use Rattle.rv_text.specs.Limits.{FitsCall, FitsIdentifier, FitsMessage, FitsSide, FitsWait};
 ghost use Rattle.rv_book.specs.Arriving.{GoesOn, IsCancelled, IsRecorded, WillReply, entry, said_of};
-ghost use Rattle.rv_text.specs.Members.{FitsWait};
 ghost use Rattle.rv_due.specs.Deadlines.{AllAbove};
 ghost use Rattle.rv_book.specs.Calls.{need_of};
 ghost use Rattle.rv_book.specs.Elapsing.{deadline_after, without_deadline, without_duty};
@@ -81,7 +80,6 @@ fn reply_to_partner(side: Side, place: Place) -> Kept
 
 impl State {
     ghost use Rattle.rv_text.specs.declared.message.Message.TheVariants as message;
-    ghost use Rattle.rv_text.specs.declared.message.Message.TheVariants.{Request};
     ghost use Rattle.rv_text.specs.declared.answer.Answer.TheVariants.{Welcome};
     ghost use Rattle.rv_book.specs.declared.account.Act.TheVariants.{Hello, Arrive, Cancel};
     ghost use Rattle.rv_book.specs.Ending.{EndedOne, IsEnding};
@@ -288,9 +286,9 @@ impl State {
     fn request(&mut self, moment: u64, key: Key, call: Call) -> Result<Option<Kept>, Refusal>
         requires { Comes self.old moment (Arrive key call) }
         ensures sound { IsSound self.new }
-        ensures ok { IfOk result (λ kept. Becomes (account_of self.old) moment (Request key call)
+        ensures ok { IfOk result (λ kept. Becomes (account_of self.old) moment (message.Request key call)
             (account_of self.new) (said_of key kept)) }
-        ensures err { IfErr result (IsRefused (account_of self.old) moment (Request key call)
+        ensures err { IfErr result (IsRefused (account_of self.old) moment (message.Request key call)
             (account_of self.new)) }
     {
         match self.sessions.look(&key) {

@@ -10,6 +10,7 @@ use Rattle.rv_text.specs.declared.answer.Answer.TheVariants as answers
 use Rattle.rv_text.specs.declared.answer.Refusal.{Refusal}
 use Rattle.rv_text.specs.declared.answer.Refusal.TheVariants as refusals
 use Rattle.rv_text.specs.declared.answer.Reply.{Reply}
+use Rattle.rv_text.specs.Members.{max_identifier}
 
 -- ---- a process
 
@@ -50,12 +51,10 @@ first_key starting epoch = record {
   number = 1;
 }
 
-abbrev pub max_number : ℕ
-max_number = 9007199254740991
-
 -- the key of the request after that of this key
 abbrev pub key_after : Key → Option Key
-key_after key = if nat_lt key.number max_number then Some (record key { number = key.number + 1 }) else None
+key_after key =
+    if nat_lt key.number max_identifier then Some (record key { number = key.number + 1 }) else None
 
 -- ---- what an answer is to it
 

@@ -22,7 +22,7 @@ pub enum LinkFault {
     /// 4: the two bytes that were read are no length of a frame. The whole request went out.
     #[error("the answer has a bad length")]
     BadFrame,
-    /// 5: one frame was read, and its body is no answer's. The whole request went out.
+    /// 5: one frame came, and what it holds is no answer. The whole request went out.
     #[error("the body is not an answer")]
     BadBody,
     /// 6: a growth of memory was refused, before a byte went out or after the whole answer was read.

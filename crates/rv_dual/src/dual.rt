@@ -145,7 +145,7 @@ impl Dual {
     }
 
     /// The request that waits at a place leaves the queue, wherever it stands in it, and its duty comes
-    /// back. It is None, and all that wait stay, for a put's place and for one that isn't there.
+    /// back. It is None, and all that wait stay, where the place is a put's, or nobody waits there.
     pub fn withdraw(&mut self, place: Place) -> Option<Duty>
         ensures { Withdraws self.old self.new place result }
     {

@@ -1,3 +1,3 @@
 pub mod Order
 pub mod Rising
-pub mod Places
+pub mod Kept

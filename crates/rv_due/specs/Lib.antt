@@ -1,2 +1,2 @@
 pub mod Deadlines
-pub mod Rising
+pub mod Keeping

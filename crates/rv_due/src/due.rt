@@ -1,8 +1,8 @@
 //! The set of deadlines.
 ghost use Rattle.std.specs.Prelude.{◌≡◌};
 
-use crate::list::{add, remove, take_until};
 use std::alloc::{AllocError, Global};
+use std::collections::BTreeMap;
 use std::marker::Model;
 
 /// A growth of memory was refused.
@@ -15,25 +15,23 @@ pub type Place = usize;
 /// milliseconds, and the place of the request whose time is over then. Of two deadlines the one with the
 /// lower moment is less, and at one moment that with the lower place.
 ///
-/// Each call looks a deadline up in time logarithmic in their number. One that changes the set moves the
-/// later deadlines by one; where none is due `pop_until` looks at the least alone.
+/// Each call takes time logarithmic in their number, and `len` constant time; where none is due
+/// `pop_until` looks at the least alone.
 #[derive(Drop)]
 pub struct Due {
-    // From the least to the greatest.
-    deadlines: Vec<(u64, Place)>,
+    // In their order, with nothing at each.
+    deadlines: BTreeMap<(u64, Place), ()>,
 }
 
 impl Model for Due {
     ghost use Rattle.rv_due.specs.Deadlines.{Deadlines, deadlines_code};
-    ghost use Rattle.rv_due.specs.Rising.{Rises, set_of};
+    ghost use Rattle.rv_due.specs.Keeping.{set_kept};
 
     ghost Value = { Deadlines };
 
     ghost coded = { deadlines_code };
 
-    ghost view = { λ d. set_of d.deadlines.items };
-
-    ghost invariant = { λ d. Rises d.deadlines.items };
+    ghost view = { λ d. set_kept d.deadlines };
 }
 
 impl Due {
@@ -46,7 +44,7 @@ impl Due {
     pub fn new(alloc: Global) -> Due
         ensures { result ≡ empty }
     {
-        let deadlines = Vec::new(alloc);
+        let deadlines = BTreeMap::new(alloc);
         Due { deadlines }
     }
 
@@ -57,7 +55,8 @@ impl Due {
         ensures err { OnErr result (self.new ≡ self.old) }
         ensures there { contains self.old (moment, place) ≡ true → IsOk result }
     {
-        add(&mut self.deadlines, (moment, place))
+        self.deadlines.insert((moment, place), ())?;
+        Ok(())
     }
 
     /// Takes a deadline out, and tells whether it was there. No other changes.
@@ -65,7 +64,7 @@ impl Due {
         ensures was_there { result ≡ contains self.old (moment, place) }
         ensures taken { self.new ≡ set.remove self.old (moment, place) }
     {
-        remove(&mut self.deadlines, (moment, place))
+        self.deadlines.remove(&(moment, place)).is_some()
     }
 
     /// Takes the least deadline out, if its moment is at most `now`, and gives it. Where no deadline's
@@ -76,7 +75,12 @@ impl Due {
         ensures none_due { IfNone result (AllAbove self.old now) }
         ensures stays { IfNone result (self.new ≡ self.old) }
     {
-        take_until(&mut self.deadlines, now)
+        let least = *self.deadlines.first_key_value()?.0;
+        if now < least.0 {
+            return None;
+        }
+        self.deadlines.remove(&least);
+        Some(least)
     }
 
     /// How many deadlines there are.

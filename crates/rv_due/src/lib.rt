@@ -3,6 +3,5 @@
 #![tactic(auto)]
 
 mod due;
-mod list;
 
 pub use due::{Due, NoMemory, Place};

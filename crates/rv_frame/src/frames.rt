@@ -34,16 +34,16 @@ impl From<AllocError> for FrameFault {
     }
 }
 
-/// Frames out of bytes that are fed in pieces. A frame is two length bytes, the greater part first, and
-/// a body of that length, 1 to 4,096 bytes.
+/// Frames out of bytes that are fed in pieces. A frame is a length, in two bytes with the greater part first,
+/// and so many bytes of body: 1 to 4,096.
 ///
 /// Contracts see the bodies of the whole frames that can still be taken, oldest first, and what follows
 /// them: the bytes of a frame that is not whole, or the bad length that was met. The frames that were
 /// taken and those that can still be are those of the cut of all bytes that were fed, whatever the pieces
 /// (`laws::fed_is_cut`, `laws::taken_is_cut`).
 ///
-/// The bytes that were not taken lie in one vector. `feed` looks at the new frames alone; `next` moves
-/// what follows the frame to the front, once for each frame.
+/// The bytes that were not taken lie in one buffer, which grows at its end and is consumed from its front.
+/// `feed` copies the piece and looks at the new frames alone; `next` copies the body, and moves nothing.
 #[derive(Drop)]
 pub struct Frames {
     held: Held,
@@ -75,9 +75,9 @@ impl Frames {
 
     /// Takes a piece of the bytes in, of any length.
     ///
-    /// `BadLength(n)` comes exactly where the cut meets the length n: the whole frames before it can
-    /// still be taken, all from it on is dropped, and every later feed answers the same and changes
-    /// nothing. After `NoMemory` nothing has changed, and it never comes once a bad length was met.
+    /// `BadLength(n)` comes exactly where the cut meets the length n. The frames before it stay and can be
+    /// taken, the rest is dropped; all further pieces get this answer, and leave everything as it is. After
+    /// `NoMemory` nothing has changed, and it never comes once a bad length was met.
     pub fn feed(&mut self, piece: &[u8]) -> Result<(), FrameFault>
         ensures fed { OnOk result (Feeds self.old piece.now self.new) }
         ensures open_end { OnOk result (IsOpen self.new.end) }

@@ -6,6 +6,7 @@ ghost use Rattle.rv_frame.specs.Held.{BeginsFrame, CutAt, FrontIsRow, HasHead, I
 ghost use Rattle.rv_frame.specs.Stream.{Feeds, Grows, IsOpen, rest_length};
 
 use crate::frames::{FrameFault, NoMemory};
+use bytes::BytesMut;
 use std::alloc::Global;
 
 // The most bytes of a frame's body.
@@ -24,7 +25,7 @@ pub(crate) enum Head {
 // The bytes that were fed and not taken yet.
 #[derive(Drop)]
 pub(crate) struct Held {
-    bytes: Vec<u8>,
+    bytes: BytesMut,
     // How many of them are those of whole frames.
     whole: usize,
     // The bad length that follows these.
@@ -38,7 +39,7 @@ impl Held {
         ensures end { (stream_of result).end ≡ Open [] }
     {
         Held {
-            bytes: Vec::new(alloc),
+            bytes: BytesMut::new(alloc),
             whole: 0,
             bad: None,
         }
@@ -76,7 +77,7 @@ impl Held {
         ensures cut { Grows (stream_of self.old) (drop self.old.whole self.old.bytes.items)
             (stream_of self.new) }
     {
-        let (more, bad) = cut(&self.bytes[self.whole..]);
+        let (more, bad) = cut(&self.bytes.as_slice()[self.whole..]);
         self.whole += more;
         self.bad = bad;
         if bad.is_some() {
@@ -94,7 +95,7 @@ impl Held {
         ensures none { result ≡ Ok None → self.new ≡ self.old }
         ensures refused { OnErr result (self.new ≡ self.old) }
     {
-        match head_of(&self.bytes[..self.whole]) {
+        match head_of(&self.bytes.as_slice()[..self.whole]) {
             Head::Open => Ok(None),
             Head::Bad(_) => Ok(None),
             Head::Whole(size) => Ok(Some(self.take(size)?)),
@@ -112,8 +113,8 @@ impl Held {
         ensures end { (stream_of self.new).end ≡ (stream_of self.old).end }
         ensures refused { OnErr result (self.new ≡ self.old) }
     {
-        let body = self.bytes[2..size].to_vec(*self.bytes.allocator())?;
-        self.bytes.drain(..size);
+        let body = self.bytes.as_slice()[2..size].to_vec(*self.bytes.allocator())?;
+        self.bytes.advance(size);
         self.whole -= size;
         Ok(body)
     }

@@ -1,4 +1,4 @@
--- What is written for an account has no LF within a line.
+-- Bodies, and what is written for an account, have no LF within a line.
 use Rattle.std.proofs.Common.{◌≡◌, ◌≢◌, ◌≤◌, ◌<◌, ◌^◌, ◌+◌, ◌/◌, ◌%◌, ◌++◌, ◌||◌, ◌==◌, ℕ, Bool, true, false, cond, List, [], ◌∷◌, Option, Some, None, IfSome, inl, inr, map, refl, sym, subst, arith, codes}
 use Rattle.std.specs.Prelude.{nat_lt}
 use Rattle.std.specs.List.{list_all}
@@ -11,15 +11,16 @@ use Rattle.std.proofs.lemmas.List.Elements.{All-append, All-cons, All-nil}
 use Rattle.json.specs.Print.{escape, escape_byte, escape_letter, quoted}
 use Rattle.serde_json.specs.Data.{unsigned, negative, float, Data, null, boolean, number, string, array, object, Members, no_members, member}
 use Rattle.serde_json.specs.Written.{comma_if, compact_text, members_text}
+use Rattle.rv_text.specs.declared.answer.Answer.{Answer}
 use Rattle.rv_text.specs.declared.message.Message.{Message}
-use Rattle.rv_text.specs.Bodies.{message_text}
-use Rattle.rv_text.specs.Limits.{FitsMessage}
+use Rattle.rv_text.specs.Bodies.{answer_text, message_text}
+use Rattle.rv_text.specs.Limits.{FitsAnswer, FitsMessage}
 use Rattle.rv_text.specs.Members.{field_of, members_of}
-use Rattle.rv_text.specs.Rows.{message_row}
+use Rattle.rv_text.specs.Rows.{answer_row, message_row}
 use Rattle.rv_text.proofs.ByKind.{row_is_flat}
 use Rattle.rv_text.proofs.Objects.{AllMembers, AllMembers-with_fields}
 use Rattle.rv_text.proofs.Sizes.{IsFlat, IsFlatMember}
-use Rattle.rv_text.proofs.Sound.{message_sound, message_within}
+use Rattle.rv_text.proofs.Sound.{answer_sound, answer_within, message_sound, message_within}
 use Rattle.rv_book.specs.declared.account.Act.{Act}
 use Rattle.rv_book.specs.declared.account.Act.TheVariants as act
 use Rattle.rv_book.specs.declared.account.Entry.{Entry}
@@ -29,10 +30,10 @@ use Rattle.rv_lines.proofs.Cutting.{Lacks}
 use Rattle.rv_lines.proofs.Numbers.{all_in_range}
 
 -- a list of one more byte, and two lists
-line_cons : (x : ℕ) (xs : List ℕ) → x ≢ 10 → Lacks 10 xs → Lacks 10 (x ∷ xs)
+pub line_cons : (x : ℕ) (xs : List ℕ) → x ≢ 10 → Lacks 10 xs → Lacks 10 (x ∷ xs)
 line_cons x xs = All-cons (λ b. b ≢ 10) x xs
 
-line_append : (xs ys : List ℕ) → Lacks 10 xs → Lacks 10 ys → Lacks 10 (xs ++ ys)
+pub line_append : (xs ys : List ℕ) → Lacks 10 xs → Lacks 10 ys → Lacks 10 (xs ++ ys)
 line_append xs ys = All-append (λ b. b ≢ 10) xs ys
 
 line_nil : Lacks 10 []
@@ -41,10 +42,15 @@ line_nil = All-nil (λ b. b ≢ 10)
 line_one : (x : ℕ) → x ≢ 10 → Lacks 10 (x ∷ [])
 line_one x differs = line_cons x [] differs line_nil
 
--- a word of bytes above the controls
-word_in_line : (word : List ℕ) → list_all (λ b. nat_lt 10 b) word ≡ true → Lacks 10 word
-word_in_line [] all = line_nil
-word_in_line (x ∷ word) all = let each : (nat_lt 10 x ≡ true) × (list_all (λ b. nat_lt 10 b) word ≡ true) = and_parts _ _ all in line_cons x word (λ same. omega (arith, ltb-true 10 x each.0)) (word_in_line word each.1)
+-- a word of greater bytes
+pub greater_lack : (byte : ℕ) (word : List ℕ) → list_all (λ b. nat_lt byte b) word ≡ true → Lacks byte word
+greater_lack byte [] all = All-nil (λ b. b ≢ byte)
+greater_lack byte (x ∷ word) all =
+    let each : (nat_lt byte x ≡ true) × (list_all (λ b. nat_lt byte b) word ≡ true) = and_parts _ _ all in
+    All-cons (λ b. b ≢ byte) x word (λ same. omega (arith, ltb-true byte x each.0)) (greater_lack byte word each.1)
+
+pub word_in_line : (word : List ℕ) → list_all (λ b. nat_lt 10 b) word ≡ true → Lacks 10 word
+word_in_line = greater_lack 10
 
 cond_line : (b : Bool) (xs ys : List ℕ) → Lacks 10 xs → Lacks 10 ys → Lacks 10 (cond b xs ys)
 cond_line true xs ys p q = p
@@ -96,7 +102,7 @@ quoted_in_line s = line_cons 34 (escape s ++ 34 ∷ []) (λ same. omega arith) (
 
 -- ---- objects of whole numbers and texts
 
-decimal_in_line : (n : ℕ) → n < 2 ^ 64 → Lacks 10 (decimal n)
+pub decimal_in_line : (n : ℕ) → n < 2 ^ 64 → Lacks 10 (decimal n)
 decimal_in_line n small k d inside same = omega (arith, all_in_range (decimal n) (decimal_is_IsNumeral n small).0.1 k d inside)
 
 value_in_line : (d : Data) → IsFlat d → Lacks 10 (compact_text d)
@@ -121,6 +127,12 @@ pub message_in_one_line : (m : Message) → FitsMessage m → Lacks 10 (message_
 message_in_one_line m fits =
     let row = message_row m in
     let flat = AllMembers-with_fields IsFlatMember (map field_of row) (row_is_flat row (message_sound m).plain (message_within m fits)) in
+    line_cons 123 (members_text false (members_of row)) (λ same. omega arith) (members_in_line false (members_of row) flat)
+
+pub answer_in_one_line : (a : Answer) → FitsAnswer a → Lacks 10 (answer_text a)
+answer_in_one_line a fits =
+    let row = answer_row a in
+    let flat = AllMembers-with_fields IsFlatMember (map field_of row) (row_is_flat row (answer_sound a).plain (answer_within a fits)) in
     line_cons 123 (members_text false (members_of row)) (λ same. omega arith) (members_in_line false (members_of row) flat)
 
 -- ---- lines of an account

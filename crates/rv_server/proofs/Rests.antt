@@ -1,8 +1,8 @@
 -- What follows whole frames: that it is bytes and short, and that all bytes have a cut.
-use Rattle.std.proofs.Common.{◌≡◌, ◌∙◌, ◌+◌, ◌*◌, ◌/◌, ◌%◌, ◌<◌, ◌≤◌, ◌⊎◌, ◌∷◌, ◌++◌, [], All, ℕ, List, ap, append_assoc, arith, drop, inl, inr, length, length-append, length-drop, refl, subst, suc, sym, zero}
+use Rattle.std.proofs.Common.{◌≡◌, ◌∙◌, ◌+◌, ◌*◌, ◌/◌, ◌%◌, ◌<◌, ◌≤◌, ◌⊎◌, ◌∷◌, ◌++◌, [], All, ℕ, List, ap, append_assoc, arith, drop, get_or, inl, inr, length, length-append, length-drop, refl, subst, suc, sym, take, zero}
 use Rattle.std.proofs.lemmas.Bool.{cases_lt}
 use Rattle.std.proofs.lemmas.List.{take-append-drop}
-use Rattle.std.proofs.lemmas.List.Elements.{All-cons, All-head, All-nil, All-push, All-tail}
+use Rattle.std.proofs.lemmas.List.Elements.{All-append, All-cons, All-head, All-nil, All-tail}
 use Rattle.rv_frame.specs.Cut.{Bad, BeginsBad, Cut, End, FitsLength, IsBody, IsUnfinished, Open, frame_bytes, length_bytes, row_bytes}
 use Rattle.rv_frame.specs.Held.{BeginsFrame}
 use Rattle.rv_frame.specs.Stream.{FeedsAt, Stream, rest_length}
@@ -101,19 +101,25 @@ short_behind : (bytes : List ℕ) (bodies : List (List ℕ)) (end : End) → Cut
 short_behind bytes bodies (Open rest) cut are = unfinished_short rest cut.ends.1 are
 short_behind bytes bodies (Bad n) cut are = omega arith
 
--- ---- one byte
+-- ---- a piece
+
+-- the first elements of an array of bytes are bytes
+pub bytes_taken : (n : ℕ) (bytes : List ℕ) → ((k : ℕ) → get_or bytes k 0 < 256) → All IsByte (take n bytes)
+bytes_taken zero bytes are = All-nil IsByte
+bytes_taken (suc n) [] are = All-nil IsByte
+bytes_taken (suc n) (byte ∷ bytes) are = All-cons IsByte byte (take n bytes) (are 0) (bytes_taken n bytes (λ k. are (suc k)))
 
 -- what follows the whole frames stays bytes
-pub bytes_at : (at : End) (old new : Stream) (byte : ℕ) → old.end ≡ at → FeedsAt at old (byte ∷ []) new → FollowBytes at → byte < 256 → FollowBytes new.end
-bytes_at (Open rest) old new byte is feeds are small =
-    bytes_follow (rest ++ byte ∷ []) feeds.more new.end feeds.cut (All-push IsByte rest byte are small)
-bytes_at (Bad n) old new byte is feeds are small =
+pub bytes_at : (at : End) (old new : Stream) (piece : List ℕ) → old.end ≡ at → FeedsAt at old piece new → FollowBytes at → All IsByte piece → FollowBytes new.end
+bytes_at (Open rest) old new piece is feeds are small =
+    bytes_follow (rest ++ piece) feeds.more new.end feeds.cut (All-append IsByte rest piece are small)
+bytes_at (Bad n) old new piece is feeds are small =
     let end : Bad n ≡ new.end = sym is ∙ ap (λ (s : Stream). s.end) (sym feeds) in
     subst FollowBytes end tt
 
-pub short_at : (at : End) (old new : Stream) (byte : ℕ) → old.end ≡ at → FeedsAt at old (byte ∷ []) new → FollowBytes new.end → rest_length new.end < 4098
-short_at (Open rest) old new byte is feeds are = short_behind (rest ++ byte ∷ []) feeds.more new.end feeds.cut are
-short_at (Bad n) old new byte is feeds are =
+pub short_at : (at : End) (old new : Stream) (piece : List ℕ) → old.end ≡ at → FeedsAt at old piece new → FollowBytes new.end → rest_length new.end < 4098
+short_at (Open rest) old new piece is feeds are = short_behind (rest ++ piece) feeds.more new.end feeds.cut are
+short_at (Bad n) old new piece is feeds are =
     let end : Bad n ≡ new.end = sym is ∙ ap (λ (s : Stream). s.end) (sym feeds) in
     subst (λ (e : End). rest_length e < 4098) end (omega arith)
 

@@ -1,13 +1,12 @@
 -- What is read of a connection: bytes, the frames of their cut, and what follows these.
 use Rattle.std.specs.Prelude.{ℕ, ◌≡◌, ◌<◌, ◌++◌, ◌∷◌, [], List, Option, None, Some, Result, Ok, Err, Vec}
-use Rattle.std.specs.Prelude.{true}
+use Rattle.std.specs.Prelude.{Bool, false, length, true}
 use Rattle.std.specs.declared.alloc.Global.{Global}
 use Rattle.std.specs.Io.KnownBytes.{Keeps}
 use Rattle.std.specs.List.{All}
 use Rattle.rv_frame.specs.Cut.{Bad, End, IsBody, Open}
 use Rattle.rv_frame.specs.Source.{source_failed, source_remaining}
-use Rattle.rv_frame.specs.Stream.{HasFed, IsOpen, Stream}
-use Rattle.rv_frame.specs.declared.source.ReadFault.{ReadFault as Fault}
+use Rattle.rv_frame.specs.Stream.{Feeds, HasFed, IsOpen, Stream, rest_length}
 use Rattle.rv_frame.specs.declared.source.Source.{Source}
 use Rattle.rv_server.specs.Works.{Gives, HasEnded, IsCut}
 use Rattle.rv_server.specs.declared.fault.WorkFault.{WorkFault}
@@ -52,17 +51,24 @@ module _ {R : Type 0} (remaining : R → Option (List ℕ)) where
     pub all_taken : new.frames ≡ []
     pub left : IsLeft new.end
 
-  -- one byte was read, or none at the end; for the proofs
-  abbrev pub ReadsByte : Source R → Source R → Result (Option ℕ) Fault → Type 0
-  ReadsByte before after (Ok (Some byte)) =
-      Gives remaining before after (byte ∷ [])
-  ReadsByte before after (Ok None) =
-      Gives remaining before after [] × HasEnded remaining after
-  ReadsByte before after (Err fault) =
+  -- a piece was read and fed, and what follows the whole frames is short; or none came, at the end; or memory
+  -- was refused for the piece that was read; for the proofs
+  abbrev pub ReadsPiece : Source R → Source R → Stream → Stream → Result Bool WorkFault → Type 0
+  ReadsPiece before after old new (Ok true) = (piece : List ℕ) × Gives remaining before after piece
+      × (0 < length piece) × Feeds old piece new × (rest_length new.end < 4098)
+  ReadsPiece before after old new (Ok false) =
+      Gives remaining before after [] × HasEnded remaining after × (new ≡ old)
+  ReadsPiece before after old new (Err ReadFault) =
       Keeps (source_remaining remaining before) (source_remaining remaining after)
-      × (source_failed after ≡ true)
+      × (source_failed after ≡ true) × (new ≡ old)
+  ReadsPiece before after old new (Err NoMemory) =
+      (piece : List ℕ) × Gives remaining before after piece × (new ≡ old)
+  ReadsPiece before after old new (Err CutFrame) = ⊥
+  ReadsPiece before after old new (Err (BadLength n)) = ⊥
+  ReadsPiece before after old new (Err (WriteFault sent)) = ⊥
+  ReadsPiece before after old new (Err TooLong) = ⊥
 
-  -- the next frame was taken, or why there is none; a byte for which memory was refused was read and is lost,
+  -- the next frame was taken, or why there is none; a piece for which memory was refused is read and lost,
   -- so the stream that was met need not be the one that is left
   abbrev pub TakesFrame : Source R → Source R → Stream → Stream → Result (Option (Vec ℕ Global)) WorkFault
       → Type 0

@@ -4,18 +4,13 @@ use Rattle.std.specs.List.{All}
 use Rattle.rv_text.specs.declared.message.Message.{Message}
 use Rattle.rv_text.specs.declared.message.Key.{Key}
 use Rattle.rv_text.specs.declared.answer.Answer.{Answer}
-use Rattle.rv_text.specs.declared.answer.Answer.TheVariants.{Refused, Waiting}
-use Rattle.rv_text.specs.declared.answer.Refusal.{Refusal}
+use Rattle.rv_text.specs.declared.answer.Answer.TheVariants.{Waiting}
 use Rattle.rv_text.specs.declared.answer.Refusal.TheVariants as refusal
-use Rattle.rv_text.specs.Bodies.{IsMessageBody, answer_text}
+use Rattle.rv_text.specs.Bodies.{IsMessageBody, answer_text, refused_text}
 use Rattle.rv_frame.specs.Cut.{IsBody}
 use Rattle.rv_server.specs.Stamps.{Numbered}
 use Rattle.rv_server.specs.declared.served.Item.{Item}
 use Rattle.rv_server.specs.declared.served.Item.TheVariants.{BadText, NoMemory, Said}
-
--- the body of a refusal
-unfoldable pub refused_text : Refusal → List ℕ
-refused_text refusal = answer_text (Refused refusal)
 
 -- no message has this body
 abbrev pub IsNoMessage : List ℕ → Type 0

@@ -1,12 +1,11 @@
 -- The frame by which what is told of a frame is answered.
 use Rattle.std.specs.Prelude.{ℕ, ◌≡◌, ◌<◌, List, Option, length, take, true}
-use Rattle.rv_text.specs.Bodies.{answer_text}
+use Rattle.rv_text.specs.Bodies.{answer_text, refused_text}
 use Rattle.rv_text.specs.Limits.{FitsAnswer}
 use Rattle.rv_text.specs.declared.answer.Refusal.TheVariants as refusal
 use Rattle.rv_frame.specs.Cut.{IsBody, frame_bytes}
 use Rattle.rv_frame.specs.Sink.{SinkTakes, sink_failed}
 use Rattle.rv_frame.specs.declared.sink.Sink.{Sink}
-use Rattle.rv_server.specs.Turns.{refused_text}
 use Rattle.rv_server.specs.declared.asking.Told.{Told}
 use Rattle.rv_server.specs.declared.asking.Told.TheVariants as told
 use Rattle.rv_server.specs.declared.served.Item.{Item}

@@ -6,7 +6,8 @@ use std::alloc::AllocError;
 use thiserror::Error;
 
 /// Why [`work`](crate::work) stopped. All frames before the fault were answered; where memory was refused,
-/// some that were read may not have been.
+/// some that were read may not have been. Behind the frame of a write fault, or one too many, more may have
+/// been read.
 #[derive(Clone, Copy, Debug, PartialEq, Eq, Error)]
 pub enum WorkFault {
     /// 1: a read failed, at this call or at an earlier one. The source has failed.

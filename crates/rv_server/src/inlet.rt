@@ -1,11 +1,14 @@
 //! The frames of a connection, read from its source.
-ghost use Rattle.rv_server.specs.Reading.{ReadsByte, TakesFrame, TakesWhole};
+ghost use Rattle.rv_server.specs.Reading.{ReadsPiece, TakesFrame, TakesWhole};
 
 use crate::fault::WorkFault;
-use rv_frame::{FrameFault, Frames, ReadFault, Source};
+use rv_frame::{FrameFault, Frames, Source};
 use std::alloc::Global;
 use std::io::Read;
 use std::marker::Model;
+
+// The most bytes that are read at once.
+const PIECE_BYTES: usize = 4_096;
 
 // The bytes that were read and not taken yet, and the bad length that was met among them.
 #[derive(Drop)]
@@ -26,7 +29,7 @@ impl Model for Inlet {
 }
 
 impl Inlet {
-    ghost use Rattle.std.specs.Prelude.{◌≡◌, ◌<◌, ◌∷◌, [], IfErr, IfOk, None, OnErr, OnOk};
+    ghost use Rattle.std.specs.Prelude.{◌≡◌, ◌<◌, ◌≤◌, [], IfErr, IfOk, None, OnErr, OnOk, take};
     ghost use Rattle.rv_frame.specs.Cut.{Open};
     ghost use Rattle.rv_frame.specs.Stream.{Feeds, HasFed, IsOpen, rest_length};
     ghost use Rattle.rv_server.specs.Works.{IsCut};
@@ -44,8 +47,8 @@ impl Inlet {
         }
     }
 
-    /// The body of the next whole frame; `None` where the source ended behind the last one. It reads one
-    /// byte at a time, so never past that frame: at most 4,098 reads.
+    /// The body of the next whole frame; `None` where the source ended behind the last one. It reads only
+    /// where no whole frame was read yet, and each read gives a byte or ends: at most 4,098 reads.
     pub(crate) fn next_frame<R: Read>(
         &mut self,
         source: &mut Source<R>,
@@ -56,9 +59,8 @@ impl Inlet {
             if let Some(body) = self.whole_frame()? {
                 return Ok(Some(body));
             }
-            match read_byte(source)? {
-                Some(byte) => self.feed(byte)?,
-                None => return self.at_end(),
+            if !self.read_on(source)? {
+                return self.at_end();
             }
         }
     }
@@ -76,14 +78,29 @@ impl Inlet {
         }
     }
 
-    // Takes one byte in. What follows the whole frames then is shorter than the longest frame.
-    fn feed(&mut self, byte: u8) -> Result<(), WorkFault>
-        ensures fed { OnOk result (Feeds self.old (byte ∷ []) self.new) }
+    // Reads a piece and takes it in; false at the end of the source.
+    fn read_on<R: Read>(&mut self, source: &mut Source<R>) -> Result<bool, WorkFault>
+        ensures { ReadsPiece R.remaining source.old source.new self.old self.new result }
+    {
+        let mut buffer = [0u8; PIECE_BYTES];
+        let count = source.read(&mut buffer)?;
+        if count == 0 {
+            return Ok(false);
+        }
+        self.feed(&buffer, count)?;
+        Ok(true)
+    }
+
+    // Takes in so many bytes of the buffer. What follows the whole frames then is shorter than the longest
+    // frame.
+    fn feed(&mut self, buffer: &[u8; PIECE_BYTES], count: usize) -> Result<(), WorkFault>
+        requires { count ≤ 4096 }
+        ensures fed { OnOk result (Feeds self.old (take count buffer.now) self.new) }
         ensures short { OnOk result (rest_length self.new.end < 4098) }
         ensures refused { OnErr result (self.new ≡ self.old) }
         ensures fault { IfErr result (λ fault. fault ≡ NoMemory) }
     {
-        match self.frames.feed(&[byte]) {
+        match self.frames.feed(&buffer[..count]) {
             Ok(()) => Ok(()),
             Err(FrameFault::BadLength(n)) => {
                 self.bad = Some(n);
@@ -104,18 +121,5 @@ impl Inlet {
         } else {
             Err(WorkFault::CutFrame)
         }
-    }
-}
-
-// The source's next byte; `None` at its end.
-fn read_byte<R: Read>(source: &mut Source<R>) -> Result<Option<u8>, ReadFault>
-    ensures { ReadsByte R.remaining source.old source.new result }
-{
-    let mut byte = [0u8; 1];
-    let count = source.read(&mut byte)?;
-    if count == 0 {
-        Ok(None)
-    } else {
-        Ok(Some(byte[0]))
     }
 }

@@ -68,8 +68,8 @@ impl<D: Desk, L: Ledger> Model for Shared<D, L> {
     ghost invariant = { λ shared. (1 ≤ shared.seats) × (shared.seats ≡ L.parts) };
 }
 
-/// Has the desk handle one message that keeps its limits, under the lock, and counts what it added to the
-/// total and to the seat.
+/// Has the desk handle one message that keeps its limits, under the lock. The entries that this added are
+/// counted in the total and in the seat.
 pub fn serve_message<D: Desk, L: Ledger>(
     locked: &mut Locked<D, L>,
     seat: &mut Seat<L>,

@@ -208,7 +208,7 @@ where
 /// A thread that can't be started is left out, and its seat stays. An accept that fails counts as a
 /// connection. After the last one was accepted the listener is closed, so that whoever comes late is refused.
 ///
-/// The report has as many seats as were handed in, on a fault too, and each connection counts once: as served,
+/// The report has as many seats as were handed in, on a fault too. Each connection counts once: as served,
 /// where its frames were answered to its end, or as a fault. A [`ServeFault`] comes before the first accept
 /// alone. It waits for connections, for their bytes, for the lock and for the gate.
 pub fn serve<T, D, L, C, G>(

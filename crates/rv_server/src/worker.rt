@@ -3,8 +3,6 @@ ghost use Rattle.std.specs.Prelude.{◌≡◌, ◌<◌, None, Some, IfErr, IfOk,
 ghost use Rattle.rv_text.specs.Bodies.{HasBodyLength};
 ghost use Rattle.rv_frame.specs.Cut.{frame_bytes};
 ghost use Rattle.rv_frame.specs.Sink.{SinkTakes, sink_failed};
-ghost use Rattle.rv_text.specs.declared.answer.Refusal.TheVariants as refusal;
-ghost use Rattle.rv_server.specs.Turns.{refused_text};
 ghost use Rattle.rv_server.specs.Works.{Works, connection, listed, nothing};
 ghost use Rattle.rv_server.specs.Writing.{FitsTold, Writes, WritesPart};
 ghost use Rattle.rv_server.specs.Progress.{MakesTurn, StopsTurn, out};
@@ -16,7 +14,7 @@ use crate::inlet::Inlet;
 use crate::served::{Item, Served};
 use crate::shared::{Seat, Shared};
 use rv_frame::{Sink, Source, WriteFault, write_frame};
-use rv_text::{BAD_TEXT_BODY, NO_MEMORY_BODY, encode_answer, laws};
+use rv_text::{bad_text_body, encode_answer, no_memory_body};
 use std::alloc::Global;
 use std::io::{Read, Write};
 use std::sync::Wait;
@@ -24,24 +22,6 @@ use std::sync::ledger::Ledger;
 
 /// The most frames of a connection.
 pub const MAX_FRAMES: u32 = 65_536;
-
-// The body of refusal 1.
-fn bad_text() -> &'static [u8]
-    ensures text { result.now ≡ refused_text refusal.BadText }
-    ensures short { HasBodyLength result.now }
-{
-    laws::body_constants();
-    BAD_TEXT_BODY.as_bytes()
-}
-
-// The body of refusal 11.
-fn no_memory() -> &'static [u8]
-    ensures text { result.now ≡ refused_text refusal.NoMemory }
-    ensures short { HasBodyLength result.now }
-{
-    laws::body_constants();
-    NO_MEMORY_BODY.as_bytes()
-}
 
 // Writes the frame of this body, for which this item stands.
 fn write_item<W: Write>(sink: &mut Sink<W>, item: Item, body: &[u8]) -> Result<Item, WriteFault>
@@ -64,11 +44,11 @@ fn write_told<W: Write>(alloc: Global, sink: &mut Sink<W>, told: &Told) -> Resul
     ensures part { IfErr result (λ fault. WritesPart W.contents sink.old sink.new told.now fault.sent) }
 {
     match told {
-        Told::BadText => write_item(sink, Item::BadText, bad_text()),
-        Told::NoMemory => write_item(sink, Item::NoMemory, no_memory()),
+        Told::BadText => write_item(sink, Item::BadText, bad_text_body()),
+        Told::NoMemory => write_item(sink, Item::NoMemory, no_memory_body()),
         Told::Said(answer) => match encode_answer(alloc, answer) {
             Ok(text) => write_item(sink, Item::Said, text.as_bytes()),
-            Err(_) => write_item(sink, Item::NoMemory, no_memory()),
+            Err(_) => write_item(sink, Item::NoMemory, no_memory_body()),
         },
     }
 }
@@ -125,10 +105,11 @@ impl<'a, T: Wait, D: Desk, L: Ledger, C: Clock, G: Gate> Post<'a, T, D, L, C, G>
 }
 
 /// Answers the frames of a connection, in order, one frame for each, until its source ends or a fault comes.
+/// It reads pieces of up to 4,096 bytes, and a further one only where all frames that it read are answered.
 ///
 /// A frame's body that is no message's is answered by [`BAD_TEXT_BODY`]. Else the desk is asked for its
-/// message, under the lock. Where the answer waits, the worker pauses with the lock free, and asks for the
-/// same message again, read anew from its body: at most 200 pauses, and then the last answer stands. Where
+/// message, under the lock. Where the answer waits, the worker pauses with the lock free, decodes the body
+/// anew and asks again. It pauses at most 200 times, and then the last answer stands. Where
 /// memory was refused to the message or to the answer's text, [`NO_MEMORY_BODY`] is the answer.
 ///
 /// At most 65,536 frames are answered. The seat's share rises by what the messages of the stamps added. A

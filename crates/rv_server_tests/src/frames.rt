@@ -1,7 +1,9 @@
 //! Frames that are cut, bad, long or too many, and long items, through a worker.
-use crate::run::{Row, Still, one_worker};
+use crate::run::{Row, Still, one_reader, one_worker};
+use rv_frame::testing::TestReader;
 use rv_server::{Item, WorkFault};
 use std::alloc::{AllocError, Global};
+use std::io::ErrorKind;
 use std::test::Fail;
 
 const HELLO: &[u8] = b"{\"client\":1,\"incarnation\":1,\"kind\":\"hello\"}";
@@ -42,6 +44,36 @@ fn other_frames_are_answered_at_once(rt: HostRuntime) -> Result<(), Fail> {
         one_worker(&rt, &Still(7), &row, 0, [7].as_slice())?;
     }
     Ok(())
+}
+
+// Client 1 puts "a", and takes it again.
+const THREE: Row<'static> = Row {
+    sent: b"\x00\x2b{\"client\":1,\"incarnation\":1,\"kind\":\"hello\"}\
+        \x00\x64{\"call\":\"put\",\"client\":1,\"epoch\":1,\"incarnation\":1,\"item\":\"a\",\
+        \"kind\":\"request\",\"number\":1,\"queue\":3}\
+        \x00\x67{\"call\":\"take\",\"client\":1,\"epoch\":1,\"incarnation\":1,\
+        \"kind\":\"request\",\"number\":2,\"queue\":3,\"wait\":\"now\"}",
+    answers: b"\x00\x37{\"client\":1,\"epoch\":1,\"incarnation\":1,\"kind\":\"welcome\"}\
+        \x00\x4f{\"client\":1,\"epoch\":1,\"incarnation\":1,\"kind\":\"reply\",\"number\":1,\
+        \"reply\":\"done\"}\
+        \x00\x5a{\"client\":1,\"epoch\":1,\"incarnation\":1,\"item\":\"a\",\"kind\":\"reply\",\
+        \"number\":2,\"reply\":\"item\"}",
+    items: &[Item::Said, Item::Said, Item::Said],
+    stamps: 3,
+    fault: None,
+};
+
+// Their 252 bytes come at once, 7 a read or one a read, and then the end. No read is made behind it: one that
+// would fail there changes nothing.
+#[test]
+fn pieces_of_any_length_are_answered_alike(rt: HostRuntime) -> Result<(), Fail> {
+    let moments = [0, 0, 0];
+    let moments = moments.as_slice();
+    one_reader(&rt, &THREE, TestReader::new(THREE.sent, 4_096), 2, moments)?;
+    one_reader(&rt, &THREE, TestReader::new(THREE.sent, 7), 37, moments)?;
+    one_reader(&rt, &THREE, TestReader::new(THREE.sent, 1), 253, moments)?;
+    let failing = TestReader::new(THREE.sent, 4_096).failing_at(3, ErrorKind::ConnectionReset);
+    one_reader(&rt, &THREE, failing, 2, moments)
 }
 
 // A body of the longest length: these bytes, and spaces behind them.

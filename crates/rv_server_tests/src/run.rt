@@ -152,13 +152,13 @@ pub(crate) fn all_are_asked_for<L: Ledger, R: Abort + AllocGlobal>(
     }
 }
 
-// A server of one worker over a ledger answers as the row says. Each read asks for one byte, and none is made
-// past the end.
+// A server of one worker over a ledger answers what the reader gives as the row says.
 fn one<L: Ledger, R: Wait + Abort + AllocGlobal, C: Clock>(
     rt: &R,
     blank: Blank,
     clock: &C,
     row: &Row<'_>,
+    reader: &mut TestReader<'_>,
     pauses: u64,
     moments: &[u64],
 ) -> Result<(), Fail>
@@ -172,19 +172,17 @@ fn one<L: Ledger, R: Wait + Abort + AllocGlobal, C: Clock>(
     let gate = Counting {
         pauses: AtomicU64::new(0),
     };
-    let mut reader = TestReader::new(row.sent, 1);
     let mut writer = TestWriter::new(alloc, 50);
     let seat = &mut seats[0];
-    let ended = answer(rt, &shared, seat, clock, &gate, &mut reader, &mut writer);
+    let ended = answer(rt, &shared, seat, clock, &gate, reader, &mut writer);
     row.came(rt, &ended, writer.taken());
-    assert!(rt; reader.reads() <= (row.sent.len() as u64).saturating_add(1));
     assert_eq!(rt; gate.pauses.load(Ordering::SeqCst), pauses);
     closes(rt, shared, seats, moments);
     Ok(())
 }
 
 /// A server of one worker answers as the row says, with so many pauses, and ends with entries of these
-/// moments.
+/// moments. Each read gives one byte, and none is made past the end.
 pub(crate) fn one_worker<R: Wait + Abort + AllocGlobal, C: Clock>(
     rt: &R,
     clock: &C,
@@ -192,5 +190,23 @@ pub(crate) fn one_worker<R: Wait + Abort + AllocGlobal, C: Clock>(
     pauses: u64,
     moments: &[u64],
 ) -> Result<(), Fail> {
-    one::<Brand, R, C>(rt, Blank::new(1), clock, row, pauses, moments)
+    let mut reader = TestReader::new(row.sent, 1);
+    one::<Brand, R, C>(rt, Blank::new(1), clock, row, &mut reader, pauses, moments)?;
+    assert!(rt; reader.reads() <= (row.sent.len() as u64).saturating_add(1));
+    Ok(())
+}
+
+/// A server of one worker answers what this reader gives as the row says, with no pause and after so many
+/// reads, and ends with entries of these moments. Its clock stands at 0.
+pub(crate) fn one_reader<R: Wait + Abort + AllocGlobal>(
+    rt: &R,
+    row: &Row<'_>,
+    reader: TestReader<'_>,
+    reads: u64,
+    moments: &[u64],
+) -> Result<(), Fail> {
+    let mut reader = reader;
+    one::<Brand, R, Still>(rt, Blank::new(1), &Still(0), row, &mut reader, 0, moments)?;
+    assert_eq!(rt; reader.reads(), reads);
+    Ok(())
 }

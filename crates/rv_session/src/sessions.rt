@@ -1,16 +1,14 @@
 //! The table of sessions: for each client its incarnation, its last number and what stands of it.
-ghost use Rattle.std.specs.Prelude.{◌≡◌, ◌<◌, ◌++◌, ◌∷◌, [], Some, None, IsSome, IfSome, IfNone, OnOk, OnErr};
-ghost use Rattle.std.specs.Prelude.{length};
-ghost use Rattle.std.specs.FinMap.{get, insert};
-ghost use Rattle.rv_session.specs.Entries.{map_of, IsFirst, IsNowhere, IsTable};
+ghost use Rattle.std.specs.Prelude.{◌≡◌, ◌<◌, Some, None, IsSome, OnOk, OnErr};
 ghost use Rattle.rv_session.specs.Table.{fresh};
 
 use crate::duty::Duty;
 use crate::kept::{Kept, Place};
 use crate::session::{Session, State};
 use crate::standing::{Greeting, Standing};
+use indexmap::IndexMap;
 use rv_text::{Key, NoMemory, Refusal};
-use std::alloc::{AllocError, Global};
+use std::alloc::Global;
 use std::marker::Model;
 
 /// The most clients of an epoch.
@@ -19,12 +17,12 @@ pub const MAX_CLIENTS: usize = 1_024;
 /// The sessions of an epoch, which contracts see as a map from clients to their [`Session`]s. There are
 /// at most 1,024.
 ///
-/// Looking a client up is linear in the number of clients; nothing else is searched.
+/// Each call looks a client up in a hash table, and searches nothing else: it takes constant time on average.
 #[derive(Drop)]
 pub struct Sessions {
     epoch: u64,
-    // Each client with its session.
-    sessions: Vec<(u64, Session)>,
+    // Of each client its session.
+    sessions: IndexMap<u64, Session>,
 }
 
 impl Model for Sessions {
@@ -36,47 +34,9 @@ impl Model for Sessions {
 
     ghost coded = { table_code session.the_row.coded };
 
-    ghost view = { λ s. record { epoch = s.epoch; sessions = map_of s.sessions.items } };
+    ghost view = { λ s. record { epoch = s.epoch; sessions = map_of s.sessions.entries } };
 
-    ghost invariant = { λ s. IsTable s.sessions.items };
-}
-
-// The index of the client's session.
-fn index_of(sessions: &[(u64, Session)], client: u64) -> Option<usize>
-    ensures found { IfSome result (IsFirst sessions.now client) }
-    ensures none { IfNone result (IsNowhere sessions.now client) }
-{
-    sessions.iter().position(|entry| entry.0 == client)
-}
-
-// The client's session.
-fn session_of(sessions: &[(u64, Session)], client: u64) -> Option<Session>
-    ensures { result ≡ get (map_of sessions.now) client }
-{
-    match index_of(sessions, client) {
-        Some(index) => Some(sessions[index].1),
-        None => None,
-    }
-}
-
-// Replaces the session of a client that has one.
-fn replace(sessions: &mut Vec<(u64, Session)>, client: u64, session: Session)
-    requires known { IsSome (get (map_of sessions.old.items) client) }
-    ensures map { map_of sessions.new.items ≡ insert (map_of sessions.old.items) client session }
-    ensures length { length sessions.new.items ≡ length sessions.old.items }
-{
-    match index_of(sessions, client) {
-        Some(index) => sessions[index] = (client, session),
-        None => unreachable!(),
-    }
-}
-
-// Appends a client with its session. Where the growth is refused the list stays.
-fn append(sessions: &mut Vec<(u64, Session)>, client: u64, session: Session) -> Result<(), NoMemory>
-    ensures ok { OnOk result (sessions.new.items ≡ sessions.old.items ++ (client, session) ∷ []) }
-    ensures err { OnErr result (sessions.new.items ≡ sessions.old.items) }
-{
-    sessions.push((client, session)).map_err(AllocError::from)
+    ghost invariant = { λ s. IsTable s.sessions.entries };
 }
 
 impl Sessions {
@@ -94,7 +54,7 @@ impl Sessions {
     pub fn open(alloc: Global, epoch: u64) -> Sessions
         ensures { result ≡ record { epoch = epoch; sessions = empty } }
     {
-        let sessions = Vec::new(alloc);
+        let sessions = IndexMap::new(alloc);
         Sessions { epoch, sessions }
     }
 
@@ -102,7 +62,18 @@ impl Sessions {
     fn session_of(&self, client: u64) -> Option<Session>
         ensures { result ≡ session_of self.now client }
     {
-        session_of(&self.sessions, client)
+        self.sessions.get(&client).copied()
+    }
+
+    // Gives a client this session, where it has one or there is room for it. Only a new client takes memory.
+    fn put(&mut self, client: u64, session: Session) -> Result<(), NoMemory>
+        requires { session_of self.old client ≡ None → session_count self.old < max_clients }
+        ensures ok { OnOk result (OnlySets self.old self.new client session) }
+        ensures err { OnErr result (self.new ≡ self.old) }
+        ensures known { IsSome (session_of self.old client) → IsOk result }
+    {
+        self.sessions.insert(client, session)?;
+        Ok(())
     }
 
     // Replaces the session of a client that has one.
@@ -110,18 +81,10 @@ impl Sessions {
         requires { IsSome (session_of self.old client) }
         ensures { OnlySets self.old self.new client session }
     {
-        replace(&mut self.sessions, client, session);
-    }
-
-    // Adds the session of a client that has none, where there is room.
-    fn add(&mut self, client: u64, session: Session) -> Result<(), NoMemory>
-        requires unknown { session_of self.old client ≡ None }
-        requires room { session_count self.old < max_clients }
-        ensures ok { OnOk result (OnlySets self.old self.new client session) }
-        ensures err { OnErr result (self.new ≡ self.old) }
-    {
-        append(&mut self.sessions, client, session)?;
-        Ok(())
+        match self.put(client, session) {
+            Ok(()) => (),
+            Err(_) => unreachable!(),
+        }
     }
 
     /// What the hello of an incarnation of a client is to the table.
@@ -148,12 +111,7 @@ impl Sessions {
         ensures err { OnErr result (self.new ≡ self.old) }
         ensures known { IsSome (session_of self.old client) → IsOk result }
     {
-        let session = Session::fresh(incarnation);
-        if self.session_of(client).is_some() {
-            self.set(client, session);
-            return Ok(());
-        }
-        self.add(client, session)
+        self.put(client, Session::fresh(incarnation))
     }
 
     /// What stands of a key: why it is refused, what stands of its session's last number, or that it is

@@ -13,6 +13,7 @@ use Rattle.rv_text.specs.declared.answer.Reply.{Reply}
 use Rattle.rv_text.specs.declared.answer.Reply.TheVariants as reply
 use Rattle.rv_text.specs.declared.answer.Answer.{Answer}
 use Rattle.rv_text.specs.declared.answer.Answer.TheVariants as answer
+use Rattle.rv_text.specs.declared.answer.Refusal.{Refusal}
 use Rattle.rv_text.specs.Calls.{item_of}
 use Rattle.rv_text.specs.Members.{Member, object_of}
 use Rattle.rv_text.specs.Rows.{message_row, answer_row, call_row}
@@ -84,3 +85,7 @@ message_text message = compact_text (object_of (message_row message))
 -- the body that is written for an answer
 abbrev pub answer_text : Answer → List ℕ
 answer_text answer = compact_text (object_of (answer_row answer))
+
+-- the body that is written for a refusal
+unfoldable pub refused_text : Refusal → List ℕ
+refused_text refusal = answer_text (answer.Refused refusal)

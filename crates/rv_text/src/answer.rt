@@ -50,7 +50,7 @@ pub enum Refusal {
     /// 4: the session has a greater incarnation, which is given.
     #[error("the session's incarnation is {0}")]
     OldIncarnation(u64),
-    /// 5: the session's last number, which is given, is the message's or past it.
+    /// 5: the message's number is below the session's last, which is given.
     #[error("the session's last number is {0}")]
     OldNumber(u64),
     /// 6: the last number has a request with another call.

@@ -4,13 +4,14 @@ ghost use Rattle.serde_json.specs.Data.{string, number, unsigned};
 ghost use Rattle.rv_text.specs.Rows.{key_row, side_row, wait_row, item_row, call_row, message_row};
 ghost use Rattle.rv_text.specs.Rows.{reply_row, detail_row, answer_row};
 ghost use Rattle.rv_text.specs.Reading.{Puts, PutsRow};
-ghost use Rattle.rv_text.specs.Bodies.{HasBodyLength, message_text, answer_text};
+ghost use Rattle.rv_text.specs.Bodies.{HasBodyLength, message_text, answer_text, refused_text};
 ghost use Rattle.rv_text.specs.Limits.{FitsMessage, FitsAnswer};
 
 use crate::answer::{Answer, Refusal, Reply};
 use crate::call::{Call, Side, Wait};
 use crate::fault::NoMemory;
 use crate::item::Item;
+use crate::laws::body_constants;
 use crate::members::Members;
 use crate::message::{Key, Message};
 use serde_json::{Map, Value};
@@ -21,6 +22,24 @@ pub const BAD_TEXT_BODY: &str = "{\"code\":1,\"kind\":\"refused\"}";
 
 /// The body of [`Refusal::NoMemory`], for an answer whose text finds no memory.
 pub const NO_MEMORY_BODY: &str = "{\"code\":11,\"kind\":\"refused\"}";
+
+/// [`BAD_TEXT_BODY`] as bytes: the body that is written for refusal 1.
+pub fn bad_text_body() -> &'static [u8]
+    ensures text { result.now ≡ refused_text Refusal.BadText }
+    ensures length { HasBodyLength result.now }
+{
+    body_constants();
+    BAD_TEXT_BODY.as_bytes()
+}
+
+/// [`NO_MEMORY_BODY`] as bytes: the body that is written for refusal 11.
+pub fn no_memory_body() -> &'static [u8]
+    ensures text { result.now ≡ refused_text Refusal.NoMemory }
+    ensures length { HasBodyLength result.now }
+{
+    body_constants();
+    NO_MEMORY_BODY.as_bytes()
+}
 
 /// The body that is written for an answer: JSON with no white space, its members in byte order of
 /// their names. An answer within its limits has a body of at most 4,096 bytes. It fails only where

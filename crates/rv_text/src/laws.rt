@@ -1,9 +1,9 @@
 //! What holds of messages, answers, calls and their bodies: each contract is a law, no body does anything.
 ghost use Rattle.std.specs.Prelude.{◌≡◌};
-ghost use Rattle.rv_text.specs.Bodies.{answer_text};
+ghost use Rattle.rv_text.specs.Bodies.{refused_text};
 ghost use Rattle.rv_text.specs.Laws.{OneMessage, WrittenBody, OneAnswer, WrittenAnswer, OneCall};
 
-use crate::answer::{Answer, Refusal};
+use crate::answer::Refusal;
 use crate::encode::{BAD_TEXT_BODY, NO_MEMORY_BODY};
 
 /// Bytes are the body of at most one message.
@@ -33,6 +33,6 @@ pub fn written_answer()
 
 /// The constant bodies are what is written for their refusals.
 pub fn body_constants()
-    ensures bad_text { BAD_TEXT_BODY.now ≡ answer_text (Answer.Refused Refusal.BadText) }
-    ensures no_memory { NO_MEMORY_BODY.now ≡ answer_text (Answer.Refused Refusal.NoMemory) }
+    ensures bad_text { BAD_TEXT_BODY.now ≡ refused_text Refusal.BadText }
+    ensures no_memory { NO_MEMORY_BODY.now ≡ refused_text Refusal.NoMemory }
 {}

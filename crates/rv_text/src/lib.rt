@@ -16,7 +16,9 @@ pub use answer::{Answer, MAX_COUNTED, Refusal, Reply};
 pub use body::MAX_BODY_BYTES;
 pub use call::{Call, MAX_EXCHANGER, MAX_QUEUE, MAX_WAIT, Side, Wait};
 pub use decode::{decode_answer, decode_call, decode_message};
-pub use encode::{BAD_TEXT_BODY, NO_MEMORY_BODY, encode_answer, encode_message};
+pub use encode::{
+    BAD_TEXT_BODY, NO_MEMORY_BODY, bad_text_body, encode_answer, encode_message, no_memory_body,
+};
 pub use fault::{NoMemory, TextFault};
 pub use item::Item;
 pub use message::{Key, MAX_IDENTIFIER, Message};

@@ -15,7 +15,8 @@ use Rattle.rv_book.specs.Waiting.{Waiting}
 use Rattle.rv_book.proofs.Counting.{number_below}
 use Rattle.rv_book.proofs.FewClients.{few_none}
 use Rattle.rv_book.proofs.Numbers.{same_or_not}
-use Rattle.rv_client.specs.Process.{Process, New, Idle, Outstanding, Starting, cancel_of, first_key, hello_of, key_after, max_number, request_of}
+use Rattle.rv_text.specs.Members.{max_identifier}
+use Rattle.rv_client.specs.Process.{Process, New, Idle, Outstanding, Starting, cancel_of, first_key, hello_of, key_after, request_of}
 use Rattle.rv_client.specs.Process.{Hears, Outcome, Welcomed, TurnedAway, Settled, EpochEnded, Replaced, Ignored}
 use Rattle.rv_world.specs.declared.event.Event.{Event}
 use Rattle.rv_world.specs.declared.event.Event.TheVariants as event
@@ -49,14 +50,14 @@ first_key_fits : (starting : Starting) (epoch : ℕ) → FitsProcess (New starti
 first_key_fits starting epoch fits epoch_fits = (epoch_fits, fits.0, fits.1, (omega arith, omega arith))
 
 after_fits : (key : Key) → FitsKey key → FitsProcess (Idle (key_after key))
-after_fits key fits = by_room (nat_lt key.number max_number) refl
+after_fits key fits = by_room (nat_lt key.number max_identifier) refl
   where
     next : Key
     next = record key { number = key.number + 1 }
 
-    by_room : (room : Bool) → nat_lt key.number max_number ≡ room → FitsProcess (Idle (if room then Some next else None))
+    by_room : (room : Bool) → nat_lt key.number max_identifier ≡ room → FitsProcess (Idle (if room then Some next else None))
     by_room true is =
-        let less : key.number < max_number = ltb-true key.number max_number is in
+        let less : key.number < max_identifier = ltb-true key.number max_identifier is in
         (fits.0, fits.1, fits.2, (omega arith, omega arith))
     by_room false is = tt
 
@@ -94,7 +95,7 @@ comes_fit w sent (Some process) v shows fits there runs comes = heard_fits w sen
 
 told_fits : (said told : Answer) → IsTold said told → FitsAnswer said → FitsAnswer told
 told_fits said told (inl same) fits = subst FitsAnswer (sym same) fits
-told_fits said told (inr none) fits = subst FitsAnswer (sym none) tt
+told_fits said told (inr none) fits = subst FitsAnswer (sym none.1) tt
 
 reached_fits : (w : World) (packet moment : ℕ) (v : World) (shows : Seen) → AllFits w → ReachesServer w packet moment v shows → AllFits v
 reached_fits w packet moment v shows fits is =

@@ -17,3 +17,5 @@ pub mod EventLists
 pub mod Partners
 pub mod TheHeadline
 pub mod Roomy
+pub mod Determined
+pub mod Existing

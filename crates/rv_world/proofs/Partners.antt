@@ -5,8 +5,7 @@ use Rattle.std.proofs.lemmas.Option.{none-some, same_Some}
 use Rattle.rv_text.specs.declared.message.Key.{Key}
 use Rattle.rv_text.specs.declared.call.Call.{Call}
 use Rattle.rv_text.specs.declared.call.Call.TheVariants as call
-use Rattle.rv_text.specs.declared.call.Side.{Side}
-use Rattle.rv_text.specs.declared.call.Side.TheVariants.{Gives, Takes, Looks, Exchanges}
+use Rattle.rv_text.specs.declared.call.Side.TheVariants.{Gives, Takes, Exchanges}
 use Rattle.rv_text.specs.declared.call.Wait.{Wait}
 use Rattle.rv_text.specs.declared.call.Wait.TheVariants.{Now, Millis, Forever}
 use Rattle.rv_text.specs.declared.answer.Reply.{Reply}
@@ -22,16 +21,11 @@ use Rattle.rv_book.specs.Replies.{Gets, HasReply, Meet, RepliesAt, RepliesUnmet,
 use Rattle.rv_book.specs.Waiting.{Met, NamesPartner}
 use Rattle.rv_book.proofs.Fronts.{read_whole}
 use Rattle.rv_book.proofs.Growing.{act_read, call_read, read_there}
+use Rattle.rv_book.proofs.Opposites.{opposite_back}
 use Rattle.rv_book.proofs.OnePartner.{arrives_once, meets_one, partner_open}
 use Rattle.rv_world.specs.Headline.{ArrivesAt, IsNo, IsPair}
 
 -- ---- partners
-
-opposite_back : (s t : Side) → opposite s ≡ Some t → opposite t ≡ Some s
-opposite_back (Gives queue) t is = subst (λ u. opposite u ≡ Some (Gives queue)) (same_Some _ _ is) refl
-opposite_back (Takes queue) t is = subst (λ u. opposite u ≡ Some (Takes queue)) (same_Some _ _ is) refl
-opposite_back (Looks queue) t is = absurd (none-some t is)
-opposite_back (Exchanges exchanger) t is = subst (λ u. opposite u ≡ Some (Exchanges exchanger)) (same_Some _ _ is) refl
 
 -- whom an arrival met
 pub record Partner (entries : List Entry) (r : ℕ) (own : Call) : Type 0 where

@@ -6,13 +6,13 @@ use Rattle.rv_world.specs.declared.seen.Seen.{Seen}
 use Rattle.rv_world.specs.declared.seen.WorldRefusal.{WorldRefusal}
 use Rattle.rv_world.specs.declared.seen.WorldRefusal.TheVariants as refuses
 use Rattle.rv_world.specs.World.{World}
-use Rattle.rv_world.specs.Events.{Due, Comes, IsNewest}
+use Rattle.rv_world.specs.Events.{Due, Comes, IsNewest, NeedsMemory}
 
 -- where nothing else is due and nothing changed, that is what comes of the event
 pub lacks_memory : (w v : World) (e : Event) (result : Result Seen WorldRefusal) → ((other : WorldRefusal) → ¬ Due w e other)
-    → IsErrAnd result (λ refusal. refusal ≡ refuses.NoMemory) → v ≡ w → Comes w e v result
-lacks_memory w v e (Ok shows) nothing refused same = absurd refused
-lacks_memory w v e (Err refusal) nothing refused same = (inr (record { nothing_due = nothing; is = refused }), same)
+    → NeedsMemory e → IsErrAnd result (λ refusal. refusal ≡ refuses.NoMemory) → v ≡ w → Comes w e v result
+lacks_memory w v e (Ok shows) nothing needs refused same = absurd refused
+lacks_memory w v e (Err refusal) nothing needs refused same = (inr (record { nothing_due = nothing; needs = needs; is = refused }), same)
 
 -- a newest incarnation is not due to be refused
 pub start_due : (w : World) (client incarnation : ℕ) → IsNewest w client incarnation → (other : WorldRefusal) → ¬ Due w (event.Start client incarnation) other

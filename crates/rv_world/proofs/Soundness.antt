@@ -15,8 +15,9 @@ use Rattle.rv_text.specs.declared.answer.Reply.{Reply}
 use Rattle.rv_book.specs.Account.{Account, Extends}
 use Rattle.rv_book.specs.Steps.{Next}
 use Rattle.rv_book.proofs.Staying.{steps_extend}
+use Rattle.rv_text.specs.Members.{max_identifier}
 use Rattle.rv_client.specs.Process.{Process, New, Idle, Outstanding, Starting, Asking}
-use Rattle.rv_client.specs.Process.{cancel_of, first_key, hello_of, key_after, max_number, request_of}
+use Rattle.rv_client.specs.Process.{cancel_of, first_key, hello_of, key_after, request_of}
 use Rattle.rv_client.specs.Process.{Hears, Outcome, Welcomed, TurnedAway, Settled, EpochEnded, Replaced, Ignored}
 use Rattle.rv_world.specs.declared.event.Event.{Event}
 use Rattle.rv_world.specs.declared.event.Event.TheVariants as event
@@ -168,7 +169,7 @@ begun_sound w client key call clients sound idle only grows =
 
 -- the key after one that was asked as the last is above all that were asked
 after_unasked : (w v : World) (client : ℕ) (asking : Asking) → IsOwed w client asking → v.started ≡ w.started → v.asked ≡ w.asked → IsProcessOf v client (Idle (key_after asking.key))
-after_unasked w v client asking owed started asked = by_room (nat_lt asking.key.number max_number)
+after_unasked w v client asking owed started asked = by_room (nat_lt asking.key.number max_identifier)
   where
     next : Key
     next = record asking.key { number = asking.key.number + 1 }
@@ -294,7 +295,7 @@ reached_sound w present moment m said told sound there next is_told grows =
           let to = next_told w.present present moment m key reply (subst (Next w.present moment m present) (sym same ∙ is) next) in
           let call = asked_by w m present key reply asked to in
           record { call = call.0; asked = call.1; is_of = record { account = present; is_of = record { is_there = Contains-push w.earlier present; epoch_is = sym to.epoch }; has = to.has } }
-      | inr none ↦ absurd (refused_no_reply key reply (sym none ∙ is))
+      | inr none ↦ absurd (refused_no_reply key reply (sym none.1 ∙ is))
     ] in
     record {
       epochs_rise = rises;

@@ -16,7 +16,7 @@ use Rattle.rv_world.specs.Table.{Table, running_of, with_process, Stands}
 
 -- ---- lists
 
-apart_from : (client other n : ℕ) → other ≢ client → nat_eq client n ≡ true → nat_eq other n ≡ false
+pub apart_from : (client other n : ℕ) → other ≢ client → nat_eq client n ≡ true → nat_eq other n ≡ false
 apart_from client other n apart is = grind (arith, nat_tests)
 
 module _ {X : Type 0} (client : ℕ) where

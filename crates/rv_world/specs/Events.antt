@@ -11,6 +11,7 @@ use Rattle.rv_text.specs.declared.answer.Answer.TheVariants as answers
 use Rattle.rv_text.specs.declared.answer.Refusal.TheVariants as refusals
 use Rattle.rv_text.specs.declared.answer.Reply.{Reply}
 use Rattle.rv_book.specs.Steps.{Next}
+use Rattle.rv_book.specs.Verdicts.{HasText}
 use Rattle.rv_client.specs.Process.{Process, New, Idle, Outstanding, Starting, Asking}
 use Rattle.rv_client.specs.Process.{hello_of, request_of, cancel_of, Settles, Hears}
 use Rattle.rv_client.specs.Process.{Outcome, Welcomed, TurnedAway, Settled, EpochEnded, Replaced, Ignored}
@@ -99,9 +100,9 @@ sender (message.Hello client incarnation) = client
 sender (message.Request key call) = key.client
 sender (message.Cancel key) = key.client
 
--- what was said is told, or, where that found no memory, the refusal of that name
+-- what was said is told, or, where that has a text for which there was no memory, the refusal of that name
 abbrev pub IsTold : Answer → Answer → Type 0
-IsTold said told = (told ≡ said) ⊎ (told ≡ answers.Refused refusals.NoMemory)
+IsTold said told = (told ≡ said) ⊎ (HasText said × (told ≡ answers.Refused refusals.NoMemory))
 
 -- the present account takes one step with the message, and the answer is sent to the message's client
 pub record ReachesServer (w : World) (packet moment : ℕ) (v : World) (shows : Seen) : Type 0 where
@@ -201,7 +202,7 @@ pub record RunsBut (w : World) (client : ℕ) (Is : Process → Type 0) : Type 0
   pub runs : process_of w client ≡ Some process
   pub is_not : ¬ Is process
 
--- no process of the client runs, or one that is none of these
+-- no process of the client runs, and this is the refusal for that
 abbrev pub RunsNone : World → ℕ → WorldRefusal → Type 0
 RunsNone w client refusal = (process_of w client ≡ None) × (refusal ≡ refuses.NoSuchClient)
 
@@ -223,9 +224,15 @@ Due w (event.ToClient packet) refusal =
 Due w (event.NewEpoch epoch) refusal =
     (epoch ≤ w.present.epoch) × (refusal ≡ refuses.EpochNotGreater)
 
--- no other refusal is due, and memory was refused
+-- the event needs memory: for what is sent, asked or held, or for a process or a server; a crash needs none
+abbrev pub NeedsMemory : Event → Type 0
+NeedsMemory (event.Crash client) = ⊥
+NeedsMemory _ = Unit {0}
+
+-- no other refusal is due, and memory that the event needs was refused
 pub record LacksMemory (w : World) (e : Event) (refusal : WorldRefusal) : Type 0 where
   pub nothing_due : (other : WorldRefusal) → ¬ Due w e other
+  pub needs : NeedsMemory e
   pub is : refusal ≡ refuses.NoMemory
 
 -- the event is refused: that is due, or, only where nothing is, memory was

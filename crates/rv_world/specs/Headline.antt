@@ -41,7 +41,7 @@ pub record IsReplyOf (w : World) (key : Key) (told : Reply) : Type 0 where
   pub is_of : IsAccountOf w key.epoch account
   pub has : HasReply account.entries key told
 
--- each key was asked at most once, with one call, and is held at most once; what is held was answered; what
+-- no key was asked twice, nor under two calls, and none is held twice; what is held was answered; what
 -- is answered was asked, and is the reply in the account
 pub record NoTwoReplies (w : World) : Type 0 where
   pub asked_once : HasEachKeyOnce w.asked

@@ -39,7 +39,7 @@ EpochsRise w = (i j : ℕ) (a b : Account) → slice_get (accounts w) i ≡ Some
 
 -- ---- keys
 
--- both keys are of one client's incarnation
+-- the key is of this client, in this incarnation
 abbrev pub IsOfStart : Key → ℕ → ℕ → Type 0
 IsOfStart key client incarnation = (key.client ≡ client) × (key.incarnation ≡ incarnation)
 

@@ -14,7 +14,8 @@ use std::marker::Model;
 
 /// Servers, clients, and a link that loses, repeats and reorders what was sent.
 ///
-/// An event costs what the book's step costs, and one look-up of a client. Nothing is ever forgotten.
+/// A delivery to the server costs what the book's step costs, and any other event at most three look-ups of a
+/// client. Nothing is ever forgotten.
 #[derive(Drop)]
 pub struct World {
     state: State,
@@ -57,7 +58,7 @@ impl World {
     }
 
     /// Takes one event, and tells what is seen of it. A refused event changes nothing; want of memory is told
-    /// only where no other refusal is due and the server was not asked yet.
+    /// only where no other refusal is due and the server was not asked yet, and never of a crash.
     pub fn step(&mut self, alloc: Global, event: &Event) -> Result<Seen, WorldRefusal>
         requires { FitsEvent event.now }
         ensures comes { Comes self.old event.now self.new result }

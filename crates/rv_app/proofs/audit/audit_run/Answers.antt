@@ -6,9 +6,9 @@ use Rattle.rv_frame.specs.Source.{source_remaining}
 use Rattle.rv_frame.specs.Sink.{sink_failed}
 use Rattle.rv_app.specs.Audits.{TellsLine, WritesFrontOfLine}
 use Rattle.rv_app.specs.declared.audit.AuditSaid.{AuditSaid}
-use Rattle.rv_app.specs.declared.run.RunFault.{RunFault}
-use Rattle.rv_app.specs.declared.run.RunFault.TheVariants as run
-use Rattle.rv_app.proofs.Progress.{read_bytes}
+use Rattle.rv_run.specs.declared.fault.RunFault.{RunFault}
+use Rattle.rv_run.specs.declared.fault.RunFault.TheVariants as run
+use Rattle.rv_run.proofs.Printing.{read_bytes}
 use Rattle.rv_app.proofs.Telling.{not_all_sent}
 use Rattle.rv_app.proofs.audit.audit_run.Goals as goal
 

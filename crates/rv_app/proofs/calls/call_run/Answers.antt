@@ -5,7 +5,7 @@ use Rattle.rv_client.specs.Process.{Starting}
 use Rattle.rv_app.specs.CallRuns.{RunsCalls}
 use Rattle.rv_app.specs.Calling.{WelcomesOrNot}
 use Rattle.rv_app.specs.Lines.{lines}
-use Rattle.rv_app.specs.declared.run.RunFault.TheVariants.{NoMemory, WriteFault}
+use Rattle.rv_run.specs.declared.fault.RunFault.TheVariants.{NoMemory, WriteFault}
 use Rattle.rv_app.proofs.CallsSoFar.{no_read_fault, not_too_long, ran_ok, ran_to, runs_at_once}
 use Rattle.rv_app.proofs.calls.call_run.Goals as goal
 

@@ -1,7 +1,7 @@
 -- The text is short.
 use Rattle.std.proofs.Common.{codes, lit≤, rules, string_bytes}
 use Rattle.std.proofs.lemmas.Result.{IfOk-weaker}
-use Rattle.rv_app.proofs.Results.{number_is_short}
+use Rattle.rv_run.proofs.ShortTexts.{number_is_short}
 use Rattle.rv_app.proofs.word.Word.text.Goals as goal
 
 pub returns-in-Refused-clause-short : goal.returns-in-Refused-clause-short

@@ -5,4 +5,4 @@ use Rattle.rv_session.proofs.Mapping.{empty_table}
 use Rattle.rv_session.proofs.sessions.Sessions.open.Goals as goal
 
 pub invariant_of-result : goal.invariant_of-result
-invariant_of-result c = subst IsTable (sym c.new-sessions.ensures.items) empty_table
+invariant_of-result c = subst IsTable (sym c.new-sessions.ensures.empty) empty_table

@@ -16,7 +16,7 @@ pub returns-in_err-reserve-clause-comes : goal.returns-in_err-reserve-clause-com
 returns-in_err-reserve-clause-comes c =
     let items = c.in_err-reserve.ensures.items in
     lacks_memory (world_of c.args.self.now) (world_of (record c.args.self.now { to_server = c.reserve.new.self })) (event.Start c.args.client c.args.incarnation) _
-    (start_due _ c.args.client c.args.incarnation c.in_ok-must_be_newest.ensures.ok) c.from_residual-in_err-reserve.ensures.1
+    (start_due _ c.args.client c.args.incarnation c.in_ok-must_be_newest.ensures.ok) tt c.from_residual-in_err-reserve.ensures.1
     (same_world _ _ refl refl (ap (λ (l : List Message). started_by l) items) refl refl refl items refl)
 
 pub returns-in_err-enter-clause-comes : goal.returns-in_err-enter-clause-comes
@@ -24,7 +24,7 @@ returns-in_err-enter-clause-comes c =
     let items = c.in_ok-reserve.ensures.items in
     lacks_memory (world_of c.args.self.now) (world_of (record c.args.self.now { clients = c.enter.new.self; to_server = c.reserve.new.self }))
     (event.Start c.args.client c.args.incarnation) _
-    (start_due _ c.args.client c.args.incarnation c.in_ok-must_be_newest.ensures.ok) c.from_residual-in_err-enter.ensures.1
+    (start_due _ c.args.client c.args.incarnation c.in_ok-must_be_newest.ensures.ok) tt c.from_residual-in_err-enter.ensures.1
     (same_world _ _ refl refl (ap (λ (l : List Message). started_by l) items) (ap (λ (t : Table). t.processes) c.in_err-enter.ensures.err) refl refl items refl)
 
 pub returns-clause-comes : goal.returns-clause-comes

@@ -1,0 +1,161 @@
+package rendezvous;
+
+import com.google.gson.JsonElement;
+import com.google.gson.JsonObject;
+import com.google.gson.JsonParseException;
+import com.google.gson.TypeAdapter;
+import com.google.gson.Gson;
+import com.google.gson.GsonBuilder;
+import com.google.gson.stream.JsonReader;
+import com.google.gson.stream.JsonToken;
+import java.io.IOException;
+import java.io.StringReader;
+import java.nio.ByteBuffer;
+import java.nio.CharBuffer;
+import java.nio.charset.CharacterCodingException;
+import java.nio.charset.StandardCharsets;
+import java.util.ArrayList;
+import java.util.HashSet;
+import java.util.List;
+import java.util.Map;
+import java.util.Set;
+
+/** Bodies of messages, which are written, and of answers, which are read: the members of their rows, and no others. */
+final class Bodies {
+    /** What came is no frame, or no answer's body. */
+    static final class NoAnswer extends IOException {
+        private static final long serialVersionUID = 1;
+
+        NoAnswer(String words) {
+            super(words);
+        }
+    }
+
+    static final int GREATEST_BODY = 4096;
+    static final int GREATEST_ITEM = 512;
+    private static final int GREATEST_COUNT = 100_000;
+    private static final List<String> KEY = List.of("client", "epoch", "incarnation", "number");
+    private static final Map<String, List<String>> REPLIES = Map.of(
+        "done", List.of(), "item", List.of("item"), "empty", List.of(), "received", List.of(), "nobody", List.of(),
+        "swapped", List.of("item"), "timedout", List.of(), "cancelled", List.of(),
+        "counted", List.of("consumers", "items"), "peeked", List.of("item"));
+    private static final Map<Long, String> DETAILS =
+        Map.of(2L, "current", 4L, "current", 5L, "last", 7L, "open", 8L, "last");
+    private static final Gson GSON = new GsonBuilder().disableHtmlEscaping().create();
+    private static final TypeAdapter<JsonElement> ANY = GSON.getAdapter(JsonElement.class);
+
+    private Bodies() {}
+
+    /** The compact body of these members. */
+    static byte[] written(JsonObject members) {
+        return GSON.toJson(members).getBytes(StandardCharsets.UTF_8);
+    }
+
+    /** Whether a text may be an item: at most 512 bytes of UTF-8, with no lone surrogate. */
+    static boolean isItem(String text) {
+        try {
+            return StandardCharsets.UTF_8.newEncoder().encode(CharBuffer.wrap(text)).remaining() <= GREATEST_ITEM;
+        } catch (CharacterCodingException lone) {
+            return false;
+        }
+    }
+
+    /** The members of an answer's body. */
+    static JsonObject readAnswer(byte[] body) throws NoAnswer {
+        JsonObject answer = readObject(body);
+        Set<String> names = new HashSet<>(furtherMembers(answer));
+        names.add("kind");
+        boolean good = answer.keySet().equals(names)
+            && names.stream().allMatch(name -> keepsLimit(name, answer.get(name)));
+        if (!good) {
+            throw new NoAnswer("no answer's members: " + answer);
+        }
+        return answer;
+    }
+
+    private static JsonObject readObject(byte[] body) throws NoAnswer {
+        try {
+            String text = StandardCharsets.UTF_8.newDecoder().decode(ByteBuffer.wrap(body)).toString();
+            JsonReader reader = new JsonReader(new StringReader(text));
+            JsonElement read = ANY.read(reader);
+            if (reader.peek() == JsonToken.END_DOCUMENT && read.isJsonObject()) {
+                return read.getAsJsonObject();
+            }
+        } catch (IOException | JsonParseException | IllegalStateException | StackOverflowError fault) {
+            throw new NoAnswer("no JSON: " + fault.getMessage());
+        }
+        throw new NoAnswer("no object");
+    }
+
+    /** The names that an answer of its kind has beside its kind. */
+    private static List<String> furtherMembers(JsonObject answer) throws NoAnswer {
+        switch (word(answer, "kind")) {
+            case "welcome":
+                return KEY.subList(0, 3);
+            case "waiting":
+                return KEY;
+            case "reply":
+                return joined(KEY, "reply", REPLIES.get(word(answer, "reply")));
+            case "refused":
+                String detail = isWhole(answer.get("code"), 1, 11) ? DETAILS.get(number(answer, "code")) : null;
+                return joined(List.of(), "code", detail == null ? List.of() : List.of(detail));
+            default:
+                throw new NoAnswer("an answer of no kind");
+        }
+    }
+
+    private static List<String> joined(List<String> names, String name, List<String> more) throws NoAnswer {
+        if (more == null) {
+            throw new NoAnswer("a reply of no kind");
+        }
+        List<String> all = new ArrayList<>(names);
+        all.add(name);
+        all.addAll(more);
+        return all;
+    }
+
+    private static boolean keepsLimit(String name, JsonElement value) {
+        switch (name) {
+            case "kind":
+            case "reply":
+                return isText(value);
+            case "item":
+                return isText(value) && isItem(value.getAsString());
+            case "items":
+            case "consumers":
+                return isWhole(value, 0, GREATEST_COUNT);
+            case "code":
+                return isWhole(value, 1, 11);
+            default:
+                return isWhole(value, name.equals("last") ? 0 : 1, Key.GREATEST);
+        }
+    }
+
+    private static boolean isText(JsonElement value) {
+        return value.isJsonPrimitive() && value.getAsJsonPrimitive().isString();
+    }
+
+    /** Whether a value is a whole number within limits, written in digits alone. */
+    private static boolean isWhole(JsonElement value, long least, long most) {
+        boolean digits = value != null && value.isJsonPrimitive() && value.getAsJsonPrimitive().isNumber()
+            && value.getAsString().matches("0|[1-9][0-9]{0,15}");
+        return digits && value.getAsLong() >= least && value.getAsLong() <= most;
+    }
+
+    /** The text of a member; an empty one where it has none. */
+    static String word(JsonObject members, String name) {
+        JsonElement value = members.get(name);
+        return value != null && isText(value) ? value.getAsString() : "";
+    }
+
+    /** The number of a member that has one. */
+    static long number(JsonObject members, String name) {
+        return members.get(name).getAsLong();
+    }
+
+    /** The key that an answer names. */
+    static Key keyOf(JsonObject answer) {
+        return new Key(number(answer, "epoch"), number(answer, "client"), number(answer, "incarnation"),
+            number(answer, "number"));
+    }
+}

@@ -1,0 +1,290 @@
+package rendezvous;
+
+import com.google.gson.JsonObject;
+import java.io.IOException;
+import java.net.InetSocketAddress;
+import java.time.Duration;
+import java.util.concurrent.locks.LockSupport;
+
+/**
+ * One client in one incarnation: it asks one request at a time, for one thread at a time. A request is repeated, under
+ * one key and over new connections, until it has its one reply.
+ */
+public final class RvSession implements AutoCloseable {
+    private static final long LEAST_PAUSE = Duration.ofMillis(5).toNanos();
+    private static final long GREATEST_PAUSE = Duration.ofMillis(500).toNanos();
+
+    private final InetSocketAddress address;
+    private final long patience;
+    private final long answerTime;
+    private final ClientProcess process;
+    private Link link;
+    private Long ends;
+    private boolean tried;
+    private boolean interruptible;
+    private boolean interrupted;
+    private boolean cancelling;
+    private Tries tries;
+    private JsonObject lastReply;
+
+    /**
+     * A session that says hello with its first call.
+     *
+     * @param address where the server listens
+     * @param client a number that no other process has
+     * @param incarnation one above each that this client was started with
+     * @param patience for how long a call goes on while nothing at all is heard
+     * @param answerTime for how long it waits for one answer; the server itself takes up to about a second
+     */
+    public RvSession(InetSocketAddress address, long client, long incarnation, Duration patience, Duration answerTime) {
+        this.address = address;
+        this.patience = patience.toNanos();
+        this.answerTime = answerTime.toNanos();
+        this.process = new ClientProcess(client, incarnation);
+    }
+
+    /** Since when nothing was heard, how long to pause, and whether a hello is to be said again. */
+    private static final class Tries {
+        private long since = System.nanoTime();
+        private long pause = LEAST_PAUSE;
+        private boolean greeted;
+        private boolean helloDue;
+
+        void heard() {
+            since = System.nanoTime();
+            pause = LEAST_PAUSE;
+        }
+    }
+
+    /** The key of the next request, or of the one that is unsettled; null before the welcome. */
+    public Key key() {
+        return process.key();
+    }
+
+    /** Whether a call ended by an exception that left its request unsettled. */
+    public boolean isUnsettled() {
+        return process.state() == ClientProcess.State.OUTSTANDING;
+    }
+
+    /**
+     * Goes on with the request that an exception left unsettled, and gives the word of its reply: {@code done},
+     * {@code received}, {@code item} and so on; with {@code item} and {@code swapped} stands the text behind a space.
+     */
+    public String again() {
+        if (!isUnsettled()) {
+            throw new IllegalStateException("no request is unsettled");
+        }
+        interruptible = false;
+        JsonObject reply = settle();
+        String item = Bodies.word(reply, "item");
+        return Bodies.word(reply, "reply") + (reply.has("item") ? " " + item : "");
+    }
+
+    /** Gives up the request that an exception left unsettled; the word of its reply, as {@link #again()}. */
+    public String giveUp() {
+        cancelling = true;
+        return again();
+    }
+
+    /** The reply to the request before; null where there was none. */
+    JsonObject lastReply() {
+        return lastReply;
+    }
+
+    /** The reply of a call, through interrupts, which are set again at its end. */
+    JsonObject ask(JsonObject call) {
+        begin(call);
+        interruptible = false;
+        return settle();
+    }
+
+    /**
+     * The reply of a call. An interrupt cancels it: where its reply is that it was cancelled this throws, else the
+     * reply is given, and the thread stays interrupted.
+     */
+    JsonObject askInterruptibly(JsonObject call) throws InterruptedException {
+        if (Thread.interrupted()) {
+            throw new InterruptedException();
+        }
+        begin(call);
+        interruptible = true;
+        JsonObject reply = settle();
+        if (Bodies.word(reply, "reply").equals("cancelled") && Thread.interrupted()) {
+            throw new InterruptedException("cancelled");
+        }
+        return reply;
+    }
+
+    private void begin(JsonObject call) {
+        if (isUnsettled()) {
+            throw new IllegalStateException("a request is unsettled: ask it again, or give it up");
+        }
+        interruptible = false;
+        greet();
+        process.begin(call);
+        boolean timed = call.has("wait") && call.getAsJsonPrimitive("wait").isNumber();
+        ends = timed ? System.nanoTime() + Duration.ofMillis(Bodies.number(call, "wait")).toNanos() : null;
+        cancelling = false;
+        tried = false;
+    }
+
+    /** Repeats the request, or its cancel, until the reply of its key comes. */
+    private JsonObject settle() {
+        tries = new Tries();
+        try {
+            while (true) {
+                JsonObject message = message();
+                JsonObject answer = exchange(message);
+                if (answer != null && isReply(message, answer)) {
+                    lastReply = answer;
+                    return answer;
+                }
+            }
+        } finally {
+            restoreInterrupt();
+        }
+    }
+
+    private void restoreInterrupt() {
+        if (interrupted) {
+            interrupted = false;
+            Thread.currentThread().interrupt();
+        }
+    }
+
+    /** What is said next: the request, or its cancel where it was given up or its own time is over. */
+    private JsonObject message() {
+        if (tries.helloDue) {
+            tries.helloDue = false;
+            return process.hello();
+        }
+        boolean late = ends != null && System.nanoTime() - ends >= 0;
+        if (cancelling || tried && late) {
+            return process.cancel();
+        }
+        tried = true;
+        return process.request();
+    }
+
+    /** Takes in an answer; whether it is the reply. */
+    private boolean isReply(JsonObject message, JsonObject answer) {
+        Key key = process.key();
+        switch (process.hear(answer)) {
+            case SETTLED:
+                return true;
+            case ENDED:
+                throw new RvException.EpochEnded(key, Bodies.number(answer, "current"));
+            case REPLACED:
+                throw new RvException.Replaced(key, Bodies.number(answer, "current"));
+            default:
+                goOn(key, message, answer);
+                return false;
+        }
+    }
+
+    /** Goes on behind an answer that says nothing final. One to another message shows a link that is out of step. */
+    private void goOn(Key key, JsonObject message, JsonObject answer) {
+        String kind = Bodies.word(answer, "kind");
+        if (kind.equals("refused")) {
+            refused(key, answer);
+        } else if (kind.equals("waiting") && Bodies.keyOf(answer).equals(key)) {
+            tries.heard();
+        } else if (!kind.equals("welcome") || !Bodies.word(message, "kind").equals("hello")) {
+            hangUp();
+            pause(key, "answers to other messages came");
+        }
+    }
+
+    /** Goes on behind a refusal that a repeat may change, and throws all others. */
+    private void refused(Key key, JsonObject refusal) {
+        int code = (int) Bodies.number(refusal, "code");
+        boolean another = code == 5 && Bodies.number(refusal, "last") > key.number();
+        boolean lasting = code == 1 || code == 6 || code == 7 || code == 8 || code == 10;
+        if (lasting || another || code == 3 && tries.greeted) {
+            throw new RvException.Refused(key, code);
+        }
+        if (code == 3) {
+            tries.greeted = true;
+            tries.helloDue = true;
+        } else {
+            hangUp();
+            pause(key, "refused " + code);
+        }
+    }
+
+    /** Says hello until it is welcome, where it was not yet. */
+    private void greet() {
+        tries = new Tries();
+        try {
+            while (process.state() == ClientProcess.State.NEW) {
+                JsonObject answer = exchange(process.hello());
+                if (answer != null && process.hear(answer) == ClientProcess.Outcome.TURNED_AWAY) {
+                    turnedAway(answer);
+                }
+            }
+        } finally {
+            restoreInterrupt();
+        }
+    }
+
+    /** A refused hello is said again only for want of memory. */
+    private void turnedAway(JsonObject refusal) {
+        int code = (int) Bodies.number(refusal, "code");
+        if (code == 4) {
+            throw new RvException.Replaced(null, Bodies.number(refusal, "current"));
+        }
+        if (code != 11) {
+            throw new RvException.Refused(null, code);
+        }
+        pause(null, "refused 11");
+    }
+
+    /** One message and its answer; null where the connection had to be thrown away. */
+    private JsonObject exchange(JsonObject message) {
+        try {
+            if (link == null) {
+                link = new Link(address, answerTime, this::isWoken);
+            }
+            return Bodies.readAnswer(link.ask(Bodies.written(message), answerTime));
+        } catch (Link.Woken woken) {
+            hangUp();
+            cancelling = true;
+        } catch (IOException fault) {
+            hangUp();
+            pause(process.key(), String.valueOf(fault.getMessage()));
+        }
+        return null;
+    }
+
+    /** Remembers an interrupt; whether it is to wake the call, which is not given up yet. */
+    private boolean isWoken() {
+        if (!Thread.interrupted()) {
+            return false;
+        }
+        interrupted = true;
+        return interruptible && !cancelling;
+    }
+
+    /** Pauses before the next try, a little longer each time, and ends where patience does. */
+    private void pause(Key key, String words) {
+        if (System.nanoTime() - tries.since + tries.pause > patience) {
+            throw new RvException.Unsettled(key, "no reply in time: " + words);
+        }
+        LockSupport.parkNanos(tries.pause);
+        cancelling |= isWoken();
+        tries.pause = Math.min(GREATEST_PAUSE, 2 * tries.pause);
+    }
+
+    private void hangUp() {
+        if (link != null) {
+            link.close();
+            link = null;
+        }
+    }
+
+    /** Closes the connection. An unsettled request goes on standing, until a greater incarnation says hello. */
+    @Override
+    public void close() {
+        hangUp();
+    }
+}

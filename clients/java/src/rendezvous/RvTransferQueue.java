@@ -1,0 +1,239 @@
+package rendezvous;
+
+import com.google.gson.JsonObject;
+import java.util.AbstractQueue;
+import java.util.Collection;
+import java.util.Iterator;
+import java.util.Objects;
+import java.util.concurrent.CancellationException;
+import java.util.concurrent.TimeUnit;
+import java.util.concurrent.TransferQueue;
+
+/**
+ * A queue of the rendezvous server, between processes.
+ *
+ * <p>It differs from {@link java.util.concurrent.LinkedTransferQueue} in this:
+ * <ul>
+ * <li>Items are texts of at most 512 bytes of UTF-8; another one is an {@link IllegalArgumentException}.
+ * <li>The order is that of arrival at the server, over the producers of all processes.
+ * <li>{@link #size}, {@link #getWaitingConsumerCount}, {@link #hasWaitingConsumer} and {@link #peek} are exact in the
+ *     server's step that answers them, and the items of waiting transfers are counted too.
+ * <li>Waits are whole milliseconds, rounded up, of a day at most.
+ * <li>Each call has a definite outcome also after a lost connection: it repeats its request until it has its one reply.
+ *     What is not known is an {@link RvException}, with which the request's key can be asked again
+ *     ({@link RvSession#again}); the server's epoch that ended, a newer incarnation and refusals are such exceptions.
+ * <li>An interrupt cancels {@link #transfer}, {@link #take} and the timed calls. Where the request was met before the
+ *     cancel came, the call gives its result, and the thread stays interrupted. The other calls go on through an
+ *     interrupt, and set it again.
+ * <li>These throw {@link UnsupportedOperationException}: {@link #offer(String)} and its timed form, {@link #add},
+ *     {@link #addAll}, {@link #remainingCapacity}, {@link #contains}, {@link #containsAll}, {@link #remove(Object)},
+ *     {@link #removeAll}, {@link #retainAll}, {@link #clear}, {@link #iterator} and with it streams and arrays, and
+ *     {@link #drainTo(Collection)} in both its forms.
+ * </ul>
+ */
+public final class RvTransferQueue extends AbstractQueue<String> implements TransferQueue<String> {
+    private final RvClients clients;
+    private final int queue;
+
+    /** Queue 0 to 63 of a server, for the threads of these clients. */
+    public RvTransferQueue(RvClients clients, int queue) {
+        this.clients = Objects.requireNonNull(clients);
+        this.queue = Calls.place(queue);
+    }
+
+    private JsonObject call(String word) {
+        return Calls.at(word, "queue", queue);
+    }
+
+    private JsonObject transferOf(String item) {
+        return Calls.giving(call("transfer"), item);
+    }
+
+    /** The item of a reply that has one; else null. */
+    private static String itemOf(JsonObject reply) {
+        return reply.has("item") ? Bodies.word(reply, "item") : null;
+    }
+
+    private static boolean isReceived(JsonObject reply) {
+        return Bodies.word(reply, "reply").equals("received");
+    }
+
+    /** The item goes to the tail; nobody is waited for. */
+    @Override
+    public void put(String item) {
+        JsonObject reply = clients.session().ask(Calls.giving(call("put"), item));
+        if (Bodies.word(reply, "reply").equals("cancelled")) {
+            throw new CancellationException("the put was given up before it came");
+        }
+    }
+
+    /** Waits until a consumer was assigned the item. */
+    @Override
+    public void transfer(String item) throws InterruptedException {
+        clients.session().askInterruptibly(Calls.waiting(transferOf(item), "forever"));
+    }
+
+    /** Hands the item over if a consumer waits; else nobody gets it. */
+    @Override
+    public boolean tryTransfer(String item) {
+        return isReceived(clients.session().ask(Calls.waiting(transferOf(item), "now")));
+    }
+
+    /** Hands the item over if a consumer comes in time; else nobody gets it. */
+    @Override
+    public boolean tryTransfer(String item, long timeout, TimeUnit unit) throws InterruptedException {
+        return isReceived(clients.session().askInterruptibly(Calls.waiting(transferOf(item), timeout, unit)));
+    }
+
+    /** The oldest item, waiting for one if need be. */
+    @Override
+    public String take() throws InterruptedException {
+        return itemOf(clients.session().askInterruptibly(Calls.waiting(call("take"), "forever")));
+    }
+
+    /** The oldest item, or null. */
+    @Override
+    public String poll() {
+        return itemOf(clients.session().ask(Calls.waiting(call("take"), "now")));
+    }
+
+    /** The oldest item, or null where none came in time. */
+    @Override
+    public String poll(long timeout, TimeUnit unit) throws InterruptedException {
+        return itemOf(clients.session().askInterruptibly(Calls.waiting(call("take"), timeout, unit)));
+    }
+
+    /** The oldest item, which stays; or null. */
+    @Override
+    public String peek() {
+        return itemOf(clients.session().ask(call("peek")));
+    }
+
+    private int counted(String what) {
+        return (int) Bodies.number(clients.session().ask(call("count")), what);
+    }
+
+    /** How many items there are: of puts, and of transfers that wait. */
+    @Override
+    public int size() {
+        return counted("items");
+    }
+
+    /** How many consumers wait. */
+    @Override
+    public int getWaitingConsumerCount() {
+        return counted("consumers");
+    }
+
+    /** Whether a consumer waits. */
+    @Override
+    public boolean hasWaitingConsumer() {
+        return getWaitingConsumerCount() > 0;
+    }
+
+    private static UnsupportedOperationException leftOut(String name) {
+        return new UnsupportedOperationException(name + " is left out by the server's profile");
+    }
+
+    /** Left out. */
+    @Override
+    public boolean offer(String item) {
+        throw leftOut("offer");
+    }
+
+    /** Left out. */
+    @Override
+    public boolean offer(String item, long timeout, TimeUnit unit) {
+        throw leftOut("offer");
+    }
+
+    /** Left out. */
+    @Override
+    public boolean add(String item) {
+        throw leftOut("add");
+    }
+
+    /** Left out. */
+    @Override
+    public boolean addAll(Collection<? extends String> items) {
+        throw leftOut("addAll");
+    }
+
+    /** Left out. */
+    @Override
+    public int remainingCapacity() {
+        throw leftOut("remainingCapacity");
+    }
+
+    /** Left out. */
+    @Override
+    public int drainTo(Collection<? super String> into) {
+        throw leftOut("drainTo");
+    }
+
+    /** Left out. */
+    @Override
+    public int drainTo(Collection<? super String> into, int most) {
+        throw leftOut("drainTo");
+    }
+
+    /** Left out. */
+    @Override
+    public boolean contains(Object item) {
+        throw leftOut("contains");
+    }
+
+    /** Left out. */
+    @Override
+    public boolean containsAll(Collection<?> items) {
+        throw leftOut("containsAll");
+    }
+
+    /** Left out. */
+    @Override
+    public boolean remove(Object item) {
+        throw leftOut("remove of an item");
+    }
+
+    /** Left out. */
+    @Override
+    public boolean removeAll(Collection<?> items) {
+        throw leftOut("removeAll");
+    }
+
+    /** Left out. */
+    @Override
+    public boolean retainAll(Collection<?> items) {
+        throw leftOut("retainAll");
+    }
+
+    /** Left out. */
+    @Override
+    public void clear() {
+        throw leftOut("clear");
+    }
+
+    /** Left out. */
+    @Override
+    public Iterator<String> iterator() {
+        throw leftOut("iterator");
+    }
+
+    /** Left out. */
+    @Override
+    public Object[] toArray() {
+        throw leftOut("toArray");
+    }
+
+    /** Left out. */
+    @Override
+    public <T> T[] toArray(T[] array) {
+        throw leftOut("toArray");
+    }
+
+    /** Its name, which asks the server nothing. */
+    @Override
+    public String toString() {
+        return "RvTransferQueue " + queue;
+    }
+}

@@ -1,0 +1,152 @@
+package rendezvous;
+
+import java.io.BufferedReader;
+import java.io.IOException;
+import java.io.InputStreamReader;
+import java.nio.charset.StandardCharsets;
+import java.time.Duration;
+import java.util.ArrayList;
+import java.util.List;
+import java.util.Set;
+import java.util.concurrent.TimeUnit;
+
+/**
+ * Does what each line of standard input says, and prints one line for it: "result" or "threw", what came, and whether
+ * the thread is interrupted. For tests over a scripted server.
+ */
+final class Driver {
+    private RvClients clients;
+    private RvTransferQueue queue;
+
+    private Driver() {}
+
+    public static void main(String[] words) throws IOException {
+        Driver driver = new Driver();
+        BufferedReader lines = new BufferedReader(new InputStreamReader(System.in, StandardCharsets.UTF_8));
+        for (String line = lines.readLine(); line != null; line = lines.readLine()) {
+            System.out.println(driver.told(line.split(" ")));
+        }
+    }
+
+    private String told(String[] words) {
+        String told;
+        try {
+            told = "result " + does(words[0], List.of(words).subList(1, words.length));
+        } catch (RvException fault) {
+            told = "threw " + fault.getClass().getSimpleName() + " " + fault.key() + detail(fault);
+        } catch (Exception fault) {
+            told = "threw " + fault.getClass().getSimpleName();
+        }
+        return told + (Thread.interrupted() ? " interrupted" : "");
+    }
+
+    private static String detail(RvException fault) {
+        if (fault instanceof RvException.Refused refused) {
+            return " " + refused.number() + " " + refused.refusal();
+        }
+        if (fault instanceof RvException.EpochEnded ended) {
+            return " " + ended.current();
+        }
+        return fault instanceof RvException.Replaced replaced ? " " + replaced.current() : "";
+    }
+
+    private Object does(String word, List<String> given) throws Exception {
+        switch (word) {
+            case "open":
+                clients = new RvClients("127.0.0.1", number(given, 0), number(given, 1), 1, 1,
+                    Duration.ofMillis(number(given, 2)));
+                queue = new RvTransferQueue(clients, 3);
+                return "open";
+            case "interrupt":
+                interruptIn(number(given, 0));
+                return "soon";
+            case "again":
+                return clients.session().again();
+            case "giveup":
+                return clients.session().giveUp();
+            case "exchange":
+                return given.size() == 1 ? new RvExchanger(clients, 5).exchange(given.get(0))
+                    : new RvExchanger(clients, 5).exchange(given.get(0), number(given, 1), TimeUnit.MICROSECONDS);
+            case "left-out":
+                return leftOut();
+            case "bad":
+                return bad();
+            default:
+                return asks(word, given);
+        }
+    }
+
+    private Object asks(String word, List<String> given) throws Exception {
+        switch (word) {
+            case "put":
+                queue.put(given.get(0));
+                return "done";
+            case "transfer":
+                queue.transfer(given.get(0));
+                return "received";
+            case "try":
+                return given.size() == 1 ? queue.tryTransfer(given.get(0))
+                    : queue.tryTransfer(given.get(0), number(given, 1), TimeUnit.MICROSECONDS);
+            case "take":
+                return queue.take();
+            case "poll":
+                return given.isEmpty() ? queue.poll() : queue.poll(number(given, 0), TimeUnit.MICROSECONDS);
+            case "peek":
+                return queue.peek();
+            case "size":
+                return queue.size();
+            case "consumers":
+                return queue.getWaitingConsumerCount();
+            default:
+                throw new IllegalArgumentException(word);
+        }
+    }
+
+    private static int number(List<String> given, int at) {
+        return Integer.parseInt(given.get(at));
+    }
+
+    private static void interruptIn(int millis) {
+        Thread main = Thread.currentThread();
+        Thread later = new Thread(() -> {
+            try {
+                Thread.sleep(millis);
+                main.interrupt();
+            } catch (InterruptedException nobody) {
+                // nobody interrupts it
+            }
+        });
+        later.start();
+    }
+
+    /** How many of the calls that the profile leaves out throw that they are not supported. */
+    private int leftOut() {
+        List<Runnable> calls = List.of(() -> queue.offer("a"), () -> offer(queue), () -> queue.add("a"),
+            () -> queue.addAll(List.of("a")), queue::remainingCapacity, () -> queue.drainTo(new ArrayList<>()),
+            () -> queue.drainTo(new ArrayList<>(), 1), () -> queue.contains("a"), () -> queue.containsAll(Set.of("a")),
+            () -> queue.remove("a"), () -> queue.removeAll(Set.of("a")), () -> queue.retainAll(Set.of("a")),
+            queue::clear, queue::iterator, queue::toArray, () -> queue.stream().toList());
+        return (int) calls.stream().filter(call -> throwsIt(call, UnsupportedOperationException.class)).count();
+    }
+
+    private static void offer(RvTransferQueue queue) {
+        queue.offer("a", 1, TimeUnit.SECONDS);
+    }
+
+    /** How many calls with what no request may have are refused before anything is sent. */
+    private int bad() {
+        List<Runnable> calls = List.of(() -> queue.put("x".repeat(513)), () -> queue.put("é".repeat(257)),
+            () -> queue.put("\ud800"), () -> new RvTransferQueue(clients, 64), () -> new RvExchanger(clients, -1));
+        int refused = (int) calls.stream().filter(call -> throwsIt(call, IllegalArgumentException.class)).count();
+        return refused + (throwsIt(() -> queue.put(null), NullPointerException.class) ? 1 : 0);
+    }
+
+    private static boolean throwsIt(Runnable call, Class<? extends RuntimeException> kind) {
+        try {
+            call.run();
+            return false;
+        } catch (RuntimeException thrown) {
+            return kind.isInstance(thrown);
+        }
+    }
+}

@@ -1,0 +1,39 @@
+-- What holds of plays as such.
+use Rattle.std.specs.Prelude.{ℕ, List, Ok, Err, [], ◌∷◌, ◌++◌, ◌≡◌}
+use Rattle.std.specs.List.{Contains}
+use Rattle.rv_lines.specs.Lines.{lines, printed}
+use Rattle.rv_world.specs.declared.event.Event.{Event}
+use Rattle.rv_world.specs.Headline.{Headline}
+use Rattle.rv_world.specs.Runs.{Runs}
+use Rattle.rv_world.specs.World.{World, first_world}
+use Rattle.rv_play.specs.Turns.{Came, Given, LineTurn, NoEvent, Plays, TellsCame, texts_of}
+
+-- the event that the world took, if it was given one and did not refuse it
+abbrev pub taken : Came → List Event
+taken NoEvent = []
+taken (Given e (Ok seen)) = e ∷ []
+taken (Given e (Err refusal)) = []
+
+-- the events that the world took in these turns
+abbrev pub events_of : List LineTurn → List Event
+events_of [] = []
+events_of (turn ∷ turns) = taken turn.came ++ events_of turns
+
+-- the events that the world took in a play are a run of the world
+abbrev pub PlayIsRun : Type 0
+PlayIsRun = (w v : World) (turns : List LineTurn) → Plays w turns v → Runs w (events_of turns) v
+
+-- the headline holds of the world that a play leads to
+abbrev pub HeadlineOfPlays : Type 0
+HeadlineOfPlays = (epoch : ℕ) (turns : List LineTurn) (w : World) → Plays (first_world epoch) turns w
+    → Headline w
+
+-- what a play prints has one line for each turn, which is the turn's text
+abbrev pub OneLineEach : Type 0
+OneLineEach = (w v : World) (turns : List LineTurn) → Plays w turns v
+    → lines (printed (texts_of turns)) ≡ texts_of turns
+
+-- what was printed of a turn is true of the last world as well: its answer was sent, and its reply is held
+abbrev pub TextsStay : Type 0
+TextsStay = (w v : World) (turns : List LineTurn) (turn : LineTurn) → Plays w turns v → Contains turns turn
+    → TellsCame v turn.came turn.text

@@ -1,0 +1,99 @@
+//! Reads the event that a line of a play says.
+ghost use Rattle.std.specs.Prelude.{◌≡◌, ◌↔◌, ℕ, Err, None, IfOk, IfSome, IsTrue, codes};
+ghost use Rattle.rv_lines.specs.Number.{Writes};
+ghost use Rattle.rv_text.specs.declared.call.Call as calls;
+ghost use Rattle.rv_world.specs.declared.event.Event.TheVariants as event;
+ghost use Rattle.rv_play.specs.Parts.{SaysAtMostBegin, SaysParts};
+ghost use Rattle.rv_play.specs.Reading.{SayRest, SaysEvent, SaysNoEvent};
+
+use rv_lines::{LineFault, cut_at, read_identifier, read_number};
+use rv_text::decode_call;
+use rv_world::Event;
+use std::alloc::Global;
+
+/// The event that a line says: its word and then its fields, with one space between each two.
+pub(crate) fn read_event(alloc: Global, line: &[u8]) -> Result<Event, LineFault>
+    ensures says { IfOk result (SaysEvent line.now) }
+    ensures bad { result ≡ Err LineFault.Bad → SaysNoEvent line.now }
+{
+    let (word, fields) = cut_at(b' ', line).ok_or(LineFault::Bad)?;
+    if is_word(word, b"begin") {
+        return begin(alloc, fields);
+    }
+    event_of(word, fields).ok_or(LineFault::Bad)
+}
+
+// The event of a word, with these fields. That of `begin` is none of them.
+fn event_of(word: &[u8], fields: &[u8]) -> Option<Event>
+    ensures says { IfSome result (SaysParts word.now fields.now) }
+    ensures none { result ≡ None → SaysAtMostBegin word.now fields.now }
+{
+    if is_word(word, b"start") {
+        return start(fields);
+    }
+    if is_word(word, b"resend") {
+        return Some(Event::Resend(read_identifier(fields)?));
+    }
+    if is_word(word, b"cancel") {
+        return Some(Event::CancelSent(read_identifier(fields)?));
+    }
+    if is_word(word, b"crash") {
+        return Some(Event::Crash(read_identifier(fields)?));
+    }
+    if is_word(word, b"server") {
+        return to_server(fields);
+    }
+    if is_word(word, b"client") {
+        return Some(Event::ToClient(read_packet(fields)?));
+    }
+    if is_word(word, b"epoch") {
+        return Some(Event::NewEpoch(read_identifier(fields)?));
+    }
+    None
+}
+
+// Whether the bytes are this word.
+fn is_word(bytes: &[u8], word: &[u8]) -> bool
+    ensures { IsTrue result ↔ (bytes.now ≡ word.now) }
+{
+    bytes == word
+}
+
+// The fields of `start`: a client and an incarnation.
+fn start(fields: &[u8]) -> Option<Event>
+    ensures says { IfSome result (SaysParts (codes "start") fields.now) }
+    ensures none { result ≡ None → (client incarnation : ℕ)
+        → ¬ SayRest fields.now (event.Start client incarnation) }
+{
+    let (client, incarnation) = cut_at(b' ', fields)?;
+    Some(Event::Start(read_identifier(client)?, read_identifier(incarnation)?))
+}
+
+// The fields of `begin`: a client and the text of a call.
+fn begin(alloc: Global, fields: &[u8]) -> Result<Event, LineFault>
+    ensures says { IfOk result (SaysParts (codes "begin") fields.now) }
+    ensures bad { result ≡ Err LineFault.Bad → (client : ℕ) (call : calls.Call)
+        → ¬ SayRest fields.now (event.Begin client call) }
+{
+    let (client, text) = cut_at(b' ', fields).ok_or(LineFault::Bad)?;
+    let client = read_identifier(client).ok_or(LineFault::Bad)?;
+    Ok(Event::Begin(client, decode_call(alloc, text)?))
+}
+
+// The fields of `server`: a packet's number and a moment.
+fn to_server(fields: &[u8]) -> Option<Event>
+    ensures says { IfSome result (SaysParts (codes "server") fields.now) }
+    ensures none { result ≡ None → (packet moment : ℕ)
+        → ¬ SayRest fields.now (event.ToServer packet moment) }
+{
+    let (packet, moment) = cut_at(b' ', fields)?;
+    Some(Event::ToServer(read_packet(packet)?, read_number(moment)?))
+}
+
+// The number of a packet. Every number of so many digits is one, whether the packet was sent or not.
+fn read_packet(text: &[u8]) -> Option<usize>
+    ensures some { IfSome result (Writes text.now) }
+    ensures none { result ≡ None → (n : ℕ) → ¬ Writes text.now n }
+{
+    Some(read_number(text)? as usize)
+}

@@ -1,0 +1,3 @@
+-- The lemmas on what was read and printed, for the runs above too.
+pub mod Printing
+pub mod ShortTexts

@@ -1,0 +1,483 @@
+-- A step is there wherever no refusal is due.
+use Rattle.std.proofs.Common.{◌≡◌, ◌≢◌, inl, inr, ℕ, ◌+◌, ◌<◌, List, [], ◌∷◌, ◌++◌, Option, Some, None, Bool, true, cond, nat_eq, length, refl, sym, ap, ◌∙◌, arith}
+use Rattle.std.specs.Prelude.{option_and_then, slice_get}
+use Rattle.std.specs.Map.{lookup}
+use Rattle.std.proofs.lemmas.Bool.{cases_lt}
+use Rattle.std.proofs.lemmas.Bool.Decides.{nat_tests}
+use Rattle.std.proofs.lemmas.List.{append_cancel_left, length-append}
+use Rattle.rv_text.specs.declared.message.Key.{Key}
+use Rattle.rv_text.specs.declared.message.Message.{Message}
+use Rattle.rv_text.specs.declared.message.Message.TheVariants as message
+use Rattle.rv_text.specs.declared.call.Call.{Call}
+use Rattle.rv_text.specs.declared.answer.Answer.{Answer}
+use Rattle.rv_text.specs.declared.answer.Answer.TheVariants as answers
+use Rattle.rv_text.specs.declared.answer.Refusal.{Refusal}
+use Rattle.rv_text.specs.declared.answer.Refusal.TheVariants as refusals
+use Rattle.rv_text.specs.declared.answer.Reply.{Reply}
+use Rattle.rv_text.specs.declared.answer.Reply.TheVariants as reply
+use Rattle.rv_book.specs.declared.account.Act.TheVariants as act
+use Rattle.rv_book.specs.Account.{Account}
+use Rattle.rv_book.specs.Calls.{need_of}
+use Rattle.rv_book.specs.Laws.{CanCancel, CanEnter}
+use Rattle.rv_book.specs.Legal.{Legal, WaitsUnder}
+use Rattle.rv_book.specs.Sessions.{HasIncarnation, LastNumber}
+use Rattle.rv_book.specs.Steps.{Adds, Answers, BusyDue, ClientsFullDue, EntersOrNoMemory, EpochFullDue, GapDue, KeyLines, Next, NextAt, NoSessionDue, OldIncarnationDue, OldNumberDue, OtherCallDue, OtherEpochDue, RefuseOr, Refuses, Repeats, Replies, Ticks, WhereElse, HelloLines, step_moment}
+use Rattle.rv_book.proofs.Deciding.{key_or_other}
+use Rattle.rv_book.proofs.Entering.{cancels_can_enter, hellos_can_enter, requests_can_enter, ticks_can_enter}
+use Rattle.rv_book.proofs.Numbers.{same_or_not}
+use Rattle.rv_book.proofs.Staying.{one_told}
+use Rattle.rv_client.specs.Process.{Process, New, Idle, Outstanding, Starting, Asking, Hears, first_key, key_after}
+use Rattle.rv_client.specs.Process.{cancel_of, hello_of, request_of, SaysNothingFinal}
+use Rattle.rv_client.specs.Process.{Outcome, Welcomed, TurnedAway, Settled, EpochEnded, Replaced, Ignored}
+use Rattle.rv_world.specs.declared.event.Event.{Event}
+use Rattle.rv_world.specs.declared.event.Event.TheVariants as event
+use Rattle.rv_world.specs.declared.packet.Packet.{Packet}
+use Rattle.rv_world.specs.declared.seen.Seen.{Seen}
+use Rattle.rv_world.specs.declared.seen.Seen.TheVariants as sees
+use Rattle.rv_world.specs.declared.seen.WorldRefusal.{WorldRefusal}
+use Rattle.rv_world.specs.declared.seen.WorldRefusal.TheVariants as refuses
+use Rattle.rv_world.specs.World.{World, accounts, empty_account, process_of}
+use Rattle.rv_world.specs.Events.{Becomes, ComesTo, Due, IsAsking, OnlyTurns, RunsBut, RunsNone, Says, Steps, Turns, next_answer, next_message, sender, sends, starting}
+use Rattle.rv_world.specs.Laws.{CanStep, SentNoMemory, StepsExist}
+use Rattle.rv_world.proofs.TableWrites.{apart_from}
+
+-- ---- a step of the book
+
+-- an account and an answer are so, and the answer is no want of memory
+record Chosen (Is : Account → Answer → Type 0) : Type 0 where
+  after : Account
+  said : Answer
+  is : Is after said
+  ample : said ≢ answers.Refused refusals.NoMemory
+
+-- a refusal that is due and names no want of memory
+same_refusal : (p q : Refusal) → answers.Refused p ≡ answers.Refused q → p ≡ q
+same_refusal p q e = cc
+
+refuse_or : (D : Refusal → Type 0) (O : Type 0) (Is : Account → Answer → Type 0) (a : Account) → ((refusal : Refusal) → D refusal → refusal ≢ refusals.NoMemory)
+    → (O → Chosen Is) → RefuseOr D (λ refusal. Unit {0}) O → Chosen (λ b x. RefuseOr D (Refuses a b x) (Is b x))
+refuse_or D O Is a named goes_on (inl h) = record {
+  after = a;
+  said = answers.Refused h.refusal;
+  is = inl (record { refusal = h.refusal; is_due = h.is_due; refuses_it = (refl, refl) });
+  ample = λ e. named h.refusal h.is_due (same_refusal h.refusal refusals.NoMemory e);
+}
+refuse_or D O Is a named goes_on (inr h) =
+    let k = goes_on h.1 in
+    record { after = k.after; said = k.said; is = inr (h.0, k.is); ample = k.ample }
+
+where_else : (C T O : Type 0) (This That : Account → Answer → Type 0) → (T → Chosen This) → (O → Chosen That) → WhereElse C T O
+    → Chosen (λ b x. WhereElse C (This b x) (That b x))
+where_else C T O This That this that (inl h) = let k = this h.1 in record { after = k.after; said = k.said; is = inl (h.0, k.is); ample = k.ample }
+where_else C T O This That this that (inr h) = let k = that h.1 in record { after = k.after; said = k.said; is = inr (h.0, k.is); ample = k.ample }
+
+-- what is due is no want of memory
+other_epoch : (a : Account) (key : Key) (p : Refusal) → OtherEpochDue a key p → p ≢ refusals.NoMemory
+other_epoch a key p due none = let is = due.1 in cc
+
+no_session : (a : Account) (key : Key) (p : Refusal) → NoSessionDue a key p → p ≢ refusals.NoMemory
+no_session a key p due none = let is = due.1 in cc
+
+old_incarnation : (a : Account) (client incarnation : ℕ) (p : Refusal) → OldIncarnationDue a client incarnation p → p ≢ refusals.NoMemory
+old_incarnation a client incarnation p due none = let is = due.is in cc
+
+old_number : (a : Account) (key : Key) (p : Refusal) → OldNumberDue a key p → p ≢ refusals.NoMemory
+old_number a key p due none = let is = due.is in cc
+
+other_call : (a : Account) (key : Key) (call : Call) (p : Refusal) → OtherCallDue a key call p → p ≢ refusals.NoMemory
+other_call a key call p due none = let is = due.is in cc
+
+busy : (a : Account) (key : Key) (p : Refusal) → BusyDue a key p → p ≢ refusals.NoMemory
+busy a key p due none = let is = due.is in cc
+
+gap : (a : Account) (key : Key) (p : Refusal) → GapDue a key p → p ≢ refusals.NoMemory
+gap a key p due none = let is = due.is in cc
+
+clients_full : (a : Account) (client : ℕ) (p : Refusal) → ClientsFullDue a client p → p ≢ refusals.NoMemory
+clients_full a client p due none = let is = due.is in cc
+
+epoch_full : (a : Account) (need : ℕ) (p : Refusal) → EpochFullDue a need p → p ≢ refusals.NoMemory
+epoch_full a need p due none = let is = due.is in cc
+
+replied_ample : (key : Key) (told : Reply) (x : Answer) → x ≡ answers.Replied key told → x ≢ answers.Refused refusals.NoMemory
+replied_ample key told x is none = cc
+
+waits_ample : (key : Key) (x : Answer) → x ≡ answers.Waiting key → x ≢ answers.Refused refusals.NoMemory
+waits_ample key x is none = cc
+
+welcome_ample : (epoch client incarnation : ℕ) → answers.Welcome epoch client incarnation ≢ answers.Refused refusals.NoMemory
+welcome_ample epoch client incarnation none = cc
+
+answer_ample : (a : Account) (key : Key) (x : Answer) → Answers a key x → x ≢ answers.Refused refusals.NoMemory
+answer_ample a key x (inl replies) = replied_ample key replies.reply x replies.is
+answer_ample a key x (inr waits) = waits_ample key x waits.1
+
+-- a repeat is told what its key is told
+repeat : (a : Account) (key : Key) (x : Answer) → Legal a → Answers a key x → Chosen (λ b y. Repeats a b key y)
+repeat a key x legal told = record {
+  after = a;
+  said = x;
+  is = record { account = refl; answers = told; only = λ other also. one_told a key x other legal told also };
+  ample = answer_ample a key x told;
+}
+
+-- the lines for a key, with what is chosen at the last number and above it
+key_lines : (a : Account) (key : Key) (need : ℕ) (L G : Type 0) (Last Above : Account → Answer → Type 0) → (L → Chosen Last) → (G → Chosen Above)
+    → KeyLines a key (λ refusal. Unit {0}) L (RefuseOr (EpochFullDue a need) (λ refusal. Unit {0}) G)
+    → Chosen (λ b x. KeyLines a key (Refuses a b x) (Last b x) (RefuseOr (EpochFullDue a need) (Refuses a b x) (Above b x)))
+key_lines a key need L G Last Above last above =
+    refuse_or _ _ _ a (other_epoch a key)
+    (refuse_or _ _ _ a (no_session a key)
+    (refuse_or _ _ _ a (old_incarnation a key.client key.incarnation)
+    (refuse_or _ _ _ a (old_number a key)
+    (where_else (LastNumber a.entries key.client key.number) L _ Last _ last
+    (refuse_or _ _ _ a (busy a key)
+    (refuse_or _ _ _ a (gap a key)
+    (refuse_or _ _ _ a (epoch_full a need)
+    above)))))))
+
+request_lines : (before a : Account) (now : ℕ) (key : Key) (call : Call) → Legal a
+    → KeyLines a key (λ refusal. Unit {0}) (RefuseOr (OtherCallDue a key call) (λ refusal. Unit {0}) ((x : Answer) × Answers a key x))
+    (RefuseOr (EpochFullDue a (need_of call)) (λ refusal. Unit {0}) (CanEnter a (step_moment before now) key call))
+    → Chosen (λ b x. NextAt a (step_moment before now) (message.Request key call) b x)
+request_lines before a now key call legal lines =
+    let moment : ℕ = step_moment before now in
+    key_lines a key (need_of call) _ _
+    (λ b x. RefuseOr (OtherCallDue a key call) (Refuses a b x) (Repeats a b key x))
+    (λ b x. EntersOrNoMemory a moment (act.Arrive key call) b x (Answers b key x))
+    (refuse_or (OtherCallDue a key call) ((x : Answer) × Answers a key x) (λ b x. Repeats a b key x) a (other_call a key call) (λ told. repeat a key told.0 legal told.1))
+    (λ can. record { after = can.after; said = can.answer; is = inr (can.adds, can.answers); ample = answer_ample can.after key can.answer can.answers })
+    lines
+
+cancel_lines : (before a : Account) (now : ℕ) (key : Key) → Legal a
+    → KeyLines a key (λ refusal. Unit {0}) (WhereElse (WaitsUnder a.entries key) (CanCancel a (step_moment before now) key) ((x : Answer) × Replies a key x))
+    (RefuseOr (EpochFullDue a 1) (λ refusal. Unit {0}) (CanCancel a (step_moment before now) key))
+    → Chosen (λ b x. NextAt a (step_moment before now) (message.Cancel key) b x)
+cancel_lines before a now key legal lines =
+    let moment : ℕ = step_moment before now in
+    key_lines a key 1 _ _
+    (λ b x. WhereElse (WaitsUnder a.entries key) (Adds a moment (act.Cancel key) b × (x ≡ answers.Replied key reply.Cancelled)) (Repeats a b key x))
+    (λ b x. EntersOrNoMemory a moment (act.Cancel key) b x (Replies b key x))
+    (where_else (WaitsUnder a.entries key) (CanCancel a moment key) ((x : Answer) × Replies a key x)
+    (λ b x. Adds a moment (act.Cancel key) b × (x ≡ answers.Replied key reply.Cancelled)) (λ b x. Repeats a b key x)
+    (λ can. record { after = can.after; said = answers.Replied key reply.Cancelled; is = (can.adds, refl); ample = replied_ample key reply.Cancelled _ refl })
+    (λ told. repeat a key told.0 legal (inl told.1)))
+    (λ can. record { after = can.after; said = answers.Replied key reply.Cancelled; is = inr (can.adds, can.replies); ample = replied_ample key reply.Cancelled _ refl })
+    lines
+
+hello_lines : (a : Account) (moment client incarnation : ℕ)
+    → HelloLines a client incarnation (λ refusal. Unit {0}) (Unit {0}) ((b : Account) × Adds a moment (act.Hello client incarnation) b)
+    → Chosen (λ b x. NextAt a moment (message.Hello client incarnation) b x)
+hello_lines a moment client incarnation lines =
+    let welcome : Answer = answers.Welcome a.epoch client incarnation in
+    let ample = welcome_ample a.epoch client incarnation in
+    refuse_or _ _ _ a (old_incarnation a client incarnation)
+    (where_else (HasIncarnation a.entries client incarnation) (Unit {0}) _ (λ b x. (b ≡ a) × (x ≡ welcome)) _
+    (λ again. record { after = a; said = welcome; is = (refl, refl); ample = ample })
+    (refuse_or _ _ _ a (clients_full a client)
+    (refuse_or _ ((b : Account) × Adds a moment (act.Hello client incarnation) b) (λ b x. EntersOrNoMemory a moment (act.Hello client incarnation) b x (x ≡ welcome)) a (epoch_full a 1)
+    (λ can. record { after = can.0; said = welcome; is = inr (can.1, refl); ample = ample }))))
+    lines
+
+-- each message leads on, whatever its moment
+chosen : (before a : Account) (now : ℕ) (m : Message) → Legal before → Ticks before (step_moment before now) a → Legal a → Chosen (λ b x. NextAt a (step_moment before now) m b x)
+chosen before a now (message.Hello client incarnation) legal ticks then = hello_lines a (step_moment before now) client incarnation (hellos_can_enter before a now client incarnation legal ticks)
+chosen before a now (message.Request key call) legal ticks then = request_lines before a now key call then (requests_can_enter before a now key call legal ticks)
+chosen before a now (message.Cancel key) legal ticks then = cancel_lines before a now key then (cancels_can_enter before a now key legal ticks)
+
+next_exists : (a : Account) (now : ℕ) (m : Message) → Legal a → Chosen (λ b x. Next a now m b x)
+next_exists a now m legal =
+    let ticks = ticks_can_enter a now legal in
+    let k = chosen a ticks.0 now m legal ticks.1 ticks.2 in
+    record { after = k.after; said = k.said; is = record { ticked = ticks.0; ticks = ticks.1; steps = k.is }; ample = k.ample }
+
+-- ---- what a process makes of an answer
+
+record CanHear (process : Process) (answer : Answer) : Type 0 where
+  outcome : Outcome
+  hears : Hears process answer outcome
+
+no_welcome : (s : Starting) (epoch client incarnation : ℕ) → (client ≡ s.client → incarnation ≡ s.incarnation → ⊥)
+    → (e : ℕ) → answers.Welcome epoch client incarnation ≢ answers.Welcome e s.client s.incarnation
+no_welcome s epoch client incarnation apart e is = apart (same_client is) (same_incarnation is)
+  where
+    same_client : answers.Welcome epoch client incarnation ≡ answers.Welcome e s.client s.incarnation → client ≡ s.client
+    same_client is = cc
+
+    same_incarnation : answers.Welcome epoch client incarnation ≡ answers.Welcome e s.client s.incarnation → incarnation ≡ s.incarnation
+    same_incarnation is = cc
+
+passes_by : (s : Starting) (answer : Answer) → ((e : ℕ) → answer ≢ answers.Welcome e s.client s.incarnation) → ((refusal : Refusal) → answer ≢ answers.Refused refusal) → CanHear (New s) answer
+passes_by s answer no_welcome no_refusal = record { outcome = Ignored (New s); hears = (record { no_welcome = no_welcome; no_refusal = no_refusal }, refl) }
+
+new_hears : (s : Starting) (answer : Answer) → CanHear (New s) answer
+new_hears s (answers.Welcome epoch client incarnation) = elim (same_or_not client s.client) [
+  | inr apart ↦ passes_by s (answers.Welcome epoch client incarnation) (no_welcome s epoch client incarnation (λ one other. apart one)) (λ refusal is. cc)
+  | inl one ↦ elim (same_or_not incarnation s.incarnation) [
+    | inr apart ↦ passes_by s (answers.Welcome epoch client incarnation) (no_welcome s epoch client incarnation (λ one other. apart other)) (λ refusal is. cc)
+    | inl other ↦ record { outcome = Welcomed (Some (first_key s epoch)); hears = (epoch, cc, refl) }
+  ]
+]
+new_hears s (answers.Replied key told) = passes_by s (answers.Replied key told) (λ e is. cc) (λ refusal is. cc)
+new_hears s (answers.Waiting key) = passes_by s (answers.Waiting key) (λ e is. cc) (λ refusal is. cc)
+new_hears s (answers.Refused refusal) = record { outcome = TurnedAway s refusal; hears = (refl, refl) }
+
+says_nothing : (asking : Asking) (answer : Answer) → SaysNothingFinal asking.key answer → CanHear (Outstanding asking) answer
+says_nothing asking answer nothing = record { outcome = Ignored (Outstanding asking); hears = (nothing, refl) }
+
+other_key : (key same : Key) (told also : Reply) → answers.Replied key told ≡ answers.Replied same also → key ≡ same
+other_key key same told also e = cc
+
+other_current : (n m : ℕ) → answers.Refused (refusals.OtherEpoch n) ≡ answers.Refused (refusals.OtherEpoch m) → n ≡ m
+other_current n m e = cc
+
+old_current : (n m : ℕ) → answers.Refused (refusals.OldIncarnation n) ≡ answers.Refused (refusals.OldIncarnation m) → n ≡ m
+old_current n m e = cc
+
+-- an answer that is neither a reply nor one of the two refusals
+no_reply : (asking : Asking) (answer : Answer) → ((key : Key) (told : Reply) → answer ≢ answers.Replied key told)
+    → ((n : ℕ) → answer ≢ answers.Refused (refusals.OtherEpoch n)) → ((n : ℕ) → answer ≢ answers.Refused (refusals.OldIncarnation n)) → CanHear (Outstanding asking) answer
+no_reply asking answer replies epoch incarnation =
+    says_nothing asking answer (record { no_reply = λ told is. replies asking.key told is; no_epoch = λ n is. epoch n is.0; no_incarnation = λ n is. incarnation n is.0 })
+
+refused_hears : (asking : Asking) (refusal : Refusal) → CanHear (Outstanding asking) (answers.Refused refusal)
+refused_hears asking (refusals.OtherEpoch current) = elim (cases_lt asking.key.epoch current) [
+  | inl less ↦ record { outcome = EpochEnded asking.key current; hears = ((refl, less), refl) }
+  | inr not ↦ says_nothing asking (answers.Refused (refusals.OtherEpoch current)) (record {
+    no_reply = λ told is. cc;
+    no_epoch = λ n is. let same : current ≡ n = other_current current n is.0 in let less : asking.key.epoch < n = is.1 in omega (arith, not, same, less);
+    no_incarnation = λ n is. let e = is.0 in cc;
+  })
+]
+refused_hears asking (refusals.OldIncarnation current) = elim (cases_lt asking.key.incarnation current) [
+  | inl less ↦ record { outcome = Replaced asking.key current; hears = ((refl, less), refl) }
+  | inr not ↦ says_nothing asking (answers.Refused (refusals.OldIncarnation current)) (record {
+    no_reply = λ told is. cc;
+    no_epoch = λ n is. let e = is.0 in cc;
+    no_incarnation = λ n is. let same : current ≡ n = old_current current n is.0 in let less : asking.key.incarnation < n = is.1 in omega (arith, not, same, less);
+  })
+]
+refused_hears asking refusal = no_reply asking (answers.Refused refusal) (λ key told is. cc) (λ n is. cc) (λ n is. cc)
+
+asking_hears : (asking : Asking) (answer : Answer) → CanHear (Outstanding asking) answer
+asking_hears asking (answers.Welcome epoch client incarnation) = no_reply asking (answers.Welcome epoch client incarnation) (λ key told is. cc) (λ n is. cc) (λ n is. cc)
+asking_hears asking (answers.Waiting key) = no_reply asking (answers.Waiting key) (λ key told is. cc) (λ n is. cc) (λ n is. cc)
+asking_hears asking (answers.Refused refusal) = refused_hears asking refusal
+asking_hears asking (answers.Replied key told) = elim (key_or_other key asking.key) [
+  | inl same ↦ record { outcome = Settled (key_after asking.key) told; hears = (ap (λ (k : Key). answers.Replied k told) same, refl) }
+  | inr apart ↦ says_nothing asking (answers.Replied key told) (record {
+    no_reply = λ also is. apart (other_key key asking.key told also is);
+    no_epoch = λ n is. let e = is.0 in cc;
+    no_incarnation = λ n is. let e = is.0 in cc;
+  })
+]
+
+hears : (process : Process) (answer : Answer) → CanHear process answer
+hears (New starting) answer = new_hears starting answer
+hears (Idle next) answer = record { outcome = Ignored (Idle next); hears = refl }
+hears (Outstanding asking) answer = asking_hears asking answer
+
+-- ---- worlds
+
+-- the world in which this process of the client runs, or none
+abbrev turned : World → ℕ → Option Process → World
+turned w client process = record w { clients = (client, process) ∷ w.clients }
+
+tests_itself : (client : ℕ) → nat_eq client client ≡ true
+tests_itself client = grind (arith, nat_tests)
+
+turned_own : (w : World) (client : ℕ) (process : Option Process) → process_of (turned w client process) client ≡ process
+turned_own w client process =
+    ap (λ (b : Bool). option_and_then (λ (p : Option Process). p) (cond b (Some process) (lookup (nat_eq client) w.clients))) (tests_itself client)
+
+turned_other : (w : World) (client other : ℕ) (process : Option Process) → other ≢ client → process_of (turned w client process) other ≡ process_of w other
+turned_other w client other process apart =
+    ap (λ (b : Bool). option_and_then (λ (p : Option Process). p) (cond b (Some process) (lookup (nat_eq other) w.clients)))
+    (apart_from client other client apart (tests_itself client))
+
+only_turned : (w v : World) (client : ℕ) (process : Option Process) → v.clients ≡ (client, process) ∷ w.clients → OnlyTurns w v client process
+only_turned w v client process is = record {
+  own = read client ∙ turned_own w client process;
+  others = λ other apart. read other ∙ turned_other w client other process apart;
+}
+  where
+    read : (c : ℕ) → process_of v c ≡ process_of (turned w client process) c
+    read c = ap (λ (cs : List (ℕ × Option Process)). option_and_then (λ (p : Option Process). p) (lookup (nat_eq c) cs)) is
+
+-- no answer was sent
+quiet : (w v : World) → v.to_client ≡ w.to_client → ¬ SentNoMemory w v
+quiet w v same sent =
+    let more : List Packet = record { client = sent.client; answer = answers.Refused refusals.NoMemory } ∷ [] in
+    let longer : length w.to_client ≡ length w.to_client + 1 = ap (λ (l : List Packet). length l) (sym same ∙ sent.sent) ∙ length-append w.to_client more in
+    omega (arith, longer)
+
+-- one was, and it was no want of memory
+told : (w v : World) (client : ℕ) (x : Answer) → v.to_client ≡ w.to_client ++ record { client = client; answer = x } ∷ [] → x ≢ answers.Refused refusals.NoMemory → ¬ SentNoMemory w v
+told w v client x is ample sent = ample (ap (λ (p : Packet). p.answer) (same_packet _ _ (append_cancel_left w.to_client _ _ (sym is ∙ sent.sent))))
+  where
+    same_packet : (p q : Packet) → p ∷ [] ≡ q ∷ [] → p ≡ q
+    same_packet p q e = cc
+
+-- ---- an answer comes to its client
+
+record CanBecome (w : World) (client : ℕ) (answer : Answer) (outcome : Outcome) : Type 0 where
+  after : World
+  shows : Seen
+  becomes : Becomes w client answer outcome after shows
+  is_quiet : after.to_client ≡ w.to_client
+
+turns : (w : World) (client : ℕ) (process : Option Process) → Turns w client process (turned w client process)
+turns w client process = record { turns = only_turned w (turned w client process) client process refl; rest = refl }
+
+becomes : (w : World) (client : ℕ) (process : Process) (answer : Answer) (outcome : Outcome) → Hears process answer outcome → CanBecome w client answer outcome
+becomes w client process answer (Welcomed next) is = record { after = turned w client (Some (Idle next)); shows = sees.Welcomed; becomes = (turns w client _, refl); is_quiet = refl }
+becomes w client process answer (TurnedAway same refusal) is = record { after = turned w client (Some (New same)); shows = sees.TurnedAway refusal; becomes = (turns w client _, refl); is_quiet = refl }
+becomes w client (New starting) answer (Settled next reply) is = absurd is
+becomes w client (Idle other) answer (Settled next reply) is = absurd is
+becomes w client (Outstanding asking) answer (Settled next reply) is =
+    let v : World = record w { clients = (client, Some (Idle next)) ∷ w.clients; held = w.held ++ (asking.key, reply) ∷ [] } in
+    record {
+      after = v;
+      shows = sees.Settled asking.key;
+      becomes = record { key = asking.key; settles = is.0; turns = only_turned w v client _ refl; rest = refl; shown = refl };
+      is_quiet = refl;
+    }
+becomes w client process answer (EpochEnded key current) is = record { after = turned w client None; shows = sees.Ended current; becomes = (turns w client _, refl); is_quiet = refl }
+becomes w client process answer (Replaced key current) is = record { after = turned w client None; shows = sees.Replaced current; becomes = (turns w client _, refl); is_quiet = refl }
+becomes w client process answer (Ignored same) is = record { after = w; shows = sees.Ignored; becomes = (refl, refl); is_quiet = refl }
+
+record CanCome (process : Option Process) (w : World) (packet : Packet) : Type 0 where
+  after : World
+  shows : Seen
+  comes : ComesTo process w packet after shows
+  is_quiet : after.to_client ≡ w.to_client
+
+can_come : (process : Option Process) (w : World) (packet : Packet) → CanCome process w packet
+can_come None w packet = record { after = w; shows = sees.Ignored; comes = (refl, refl); is_quiet = refl }
+can_come (Some process) w packet =
+    let heard = hears process packet.answer in
+    let can = becomes w packet.client process packet.answer heard.outcome heard.hears in
+    record { after = can.after; shows = can.shows; comes = record { outcome = heard.outcome; hears = heard.hears; becomes = can.becomes }; is_quiet = can.is_quiet }
+
+-- ---- events
+
+abbrev NothingDue : World → Event → Type 0
+NothingDue w e = (refusal : WorldRefusal) → ¬ Due w e refusal
+
+can_start : (w : World) (client incarnation : ℕ) → NothingDue w (event.Start client incarnation) → CanStep w (event.Start client incarnation)
+can_start w client incarnation nothing =
+    let v : World = sends (record w {
+      clients = (client, Some (New (starting client incarnation))) ∷ w.clients;
+      started = w.started ++ (client, incarnation) ∷ [];
+    }) (hello_of (starting client incarnation)) in
+    record {
+      after = v;
+      shows = next_message w;
+      steps = record {
+        newest = λ earlier there. elim (cases_lt earlier incarnation) [
+          | inl less ↦ less
+          | inr not ↦ absurd (nothing refuses.IncarnationNotGreater (record { other = earlier; there = there; reaches = omega (arith, not) }, refl))
+        ];
+        turns = only_turned w v client _ refl;
+        rest = refl;
+        shown = refl;
+      };
+      not_sent = quiet w v refl;
+    }
+
+can_begin : (w : World) (client : ℕ) (call : Call) → NothingDue w (event.Begin client call) → (process : Option Process) → process_of w client ≡ process → CanStep w (event.Begin client call)
+can_begin w client call nothing None is = absurd (nothing refuses.NoSuchClient (inl (is, refl)))
+can_begin w client call nothing (Some (Idle (Some key))) is =
+    let v : World = sends (record w {
+      clients = (client, Some (Outstanding (record { key = key; call = call }))) ∷ w.clients;
+      asked = w.asked ++ (key, call) ∷ [];
+    }) (request_of (record { key = key; call = call })) in
+    record {
+      after = v;
+      shows = next_message w;
+      steps = record { key = key; idle = is; turns = only_turned w v client _ refl; rest = refl; shown = refl };
+      not_sent = quiet w v refl;
+    }
+can_begin w client call nothing (Some (Idle None)) is =
+    absurd (nothing refuses.NotIdle (inr (record { process = Idle None; runs = is; is_not = λ ready. let e = ready.1 in cc }, refl)))
+can_begin w client call nothing (Some (New starting)) is =
+    absurd (nothing refuses.NotIdle (inr (record { process = New starting; runs = is; is_not = λ ready. let e = ready.1 in cc }, refl)))
+can_begin w client call nothing (Some (Outstanding asking)) is =
+    absurd (nothing refuses.NotIdle (inr (record { process = Outstanding asking; runs = is; is_not = λ ready. let e = ready.1 in cc }, refl)))
+
+-- what a process says that is outstanding
+can_ask : (w : World) (client : ℕ) (e : Event) → NothingDue w e → ((p : WorldRefusal) → RunsNone w client p → Due w e p) → (RunsBut w client IsAsking → Due w e refuses.NotOutstanding)
+    → (says : Asking → Message) → ((v : World) (s : Seen) → Says w client says v s → Steps w e v s) → (process : Option Process) → process_of w client ≡ process → CanStep w e
+can_ask w client e nothing none but says steps None is = absurd (nothing refuses.NoSuchClient (none refuses.NoSuchClient (is, refl)))
+can_ask w client e nothing none but says steps (Some (Outstanding asking)) is = record {
+  after = sends w (says asking);
+  shows = next_message w;
+  steps = steps _ _ (record { asking = asking; outstanding = is; after = refl; shown = refl });
+  not_sent = quiet w (sends w (says asking)) refl;
+}
+can_ask w client e nothing none but says steps (Some (New starting)) is =
+    absurd (nothing refuses.NotOutstanding (but (record { process = New starting; runs = is; is_not = λ such. let e = such.1 in cc })))
+can_ask w client e nothing none but says steps (Some (Idle next)) is =
+    absurd (nothing refuses.NotOutstanding (but (record { process = Idle next; runs = is; is_not = λ such. let e = such.1 in cc })))
+
+can_crash : (w : World) (client : ℕ) → NothingDue w (event.Crash client) → (process : Option Process) → process_of w client ≡ process → CanStep w (event.Crash client)
+can_crash w client nothing None is = absurd (nothing refuses.NoSuchClient (is, refl))
+can_crash w client nothing (Some process) is = record {
+  after = turned w client None;
+  shows = sees.Crashed;
+  steps = record { process = process; runs = is; ends = turns w client None; shown = refl };
+  not_sent = quiet w (turned w client None) refl;
+}
+
+can_reach_server : (w : World) (packet moment : ℕ) → Legal w.present → NothingDue w (event.ToServer packet moment) → (m : Option Message) → slice_get w.to_server packet ≡ m
+    → CanStep w (event.ToServer packet moment)
+can_reach_server w packet moment legal nothing None is = absurd (nothing refuses.NoSuchPacket (is, refl))
+can_reach_server w packet moment legal nothing (Some m) is =
+    let next = next_exists w.present moment m legal in
+    let v : World = record w { present = next.after; to_client = w.to_client ++ record { client = sender m; answer = next.said } ∷ [] } in
+    record {
+      after = v;
+      shows = next_answer w;
+      steps = record { message = m; there = is; said = next.said; next = next.is; told = next.said; is_told = inl refl; rest = refl; shown = refl };
+      not_sent = told w v (sender m) next.said refl next.ample;
+    }
+
+can_reach_client : (w : World) (packet : ℕ) → NothingDue w (event.ToClient packet) → (sent : Option Packet) → slice_get w.to_client packet ≡ sent → CanStep w (event.ToClient packet)
+can_reach_client w packet nothing None is = absurd (nothing refuses.NoSuchPacket (is, refl))
+can_reach_client w packet nothing (Some sent) is =
+    let can = can_come (process_of w sent.client) w sent in
+    record {
+      after = can.after;
+      shows = can.shows;
+      steps = record { sent = sent; there = is; comes = can.comes };
+      not_sent = quiet w can.after can.is_quiet;
+    }
+
+can_open : (w : World) (epoch : ℕ) → NothingDue w (event.NewEpoch epoch) → CanStep w (event.NewEpoch epoch)
+can_open w epoch nothing =
+    let v : World = record w { earlier = accounts w; present = empty_account epoch } in
+    record {
+      after = v;
+      shows = sees.Opened epoch;
+      steps = record {
+        greater = elim (cases_lt w.present.epoch epoch) [
+          | inl less ↦ less
+          | inr not ↦ absurd (nothing refuses.EpochNotGreater (omega (arith, not), refl))
+        ];
+        after = refl;
+        shown = refl;
+      };
+      not_sent = quiet w v refl;
+    }
+
+pub steps_exist : StepsExist
+steps_exist w (event.Start client incarnation) legal nothing = can_start w client incarnation nothing
+steps_exist w (event.Begin client call) legal nothing = can_begin w client call nothing (process_of w client) refl
+steps_exist w (event.Resend client) legal nothing =
+    can_ask w client (event.Resend client) nothing (λ p none. inl none) (λ but. inr (but, refl)) request_of (λ v s says. says) (process_of w client) refl
+steps_exist w (event.CancelSent client) legal nothing =
+    can_ask w client (event.CancelSent client) nothing (λ p none. inl none) (λ but. inr (but, refl)) cancel_of (λ v s says. says) (process_of w client) refl
+steps_exist w (event.Crash client) legal nothing = can_crash w client nothing (process_of w client) refl
+steps_exist w (event.ToServer packet moment) legal nothing = can_reach_server w packet moment legal nothing (slice_get w.to_server packet) refl
+steps_exist w (event.ToClient packet) legal nothing = can_reach_client w packet nothing (slice_get w.to_client packet) refl
+steps_exist w (event.NewEpoch epoch) legal nothing = can_open w epoch nothing

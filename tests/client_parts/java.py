@@ -1,0 +1,216 @@
+"""The Java client: how it is built for tests, its process on the table of cases, and its calls over a
+scripted server."""
+import contextlib
+import functools
+import pathlib
+import shutil
+import subprocess
+import tempfile
+import time
+
+from client_parts.scripted import HANG_UP, SILENCE, Scripted, refused, reply, waiting, welcome
+from serve_parts.wire import demand
+
+ROOT = pathlib.Path(__file__).resolve().parent.parent.parent
+FOLDER = ROOT / "clients/java"
+GSON = pathlib.Path("/usr/share/java/gson.jar")
+PATIENCE = 60
+
+
+def missing():
+    """What the Java client lacks on this machine, if something: the compiler, or the library that reads
+    JSON."""
+    if not shutil.which("javac"):
+        return "javac is missing"
+    return None if GSON.exists() else "gson.jar is missing"
+
+
+@functools.lru_cache(maxsize=None)
+def built():
+    """The folder of the built classes, which is gone when this program ends."""
+    folder = tempfile.TemporaryDirectory(prefix="rv-java-")
+    sources = [str(path) for part in ("src", "test") for path in sorted((FOLDER / part).rglob("*.java"))]
+    sources += [str(path) for path in sorted((ROOT / "examples").rglob("*.java"))]
+    words = ["javac", "-Xlint:all,-serial", "-Werror", "--release", "17", "-cp", str(GSON), "-d", folder.name,
+             *sources]
+    ran = subprocess.run(words, capture_output=True, text=True, timeout=10 * PATIENCE)
+    demand(ran.returncode == 0, f"javac says {ran.stdout} {ran.stderr}")
+    return folder
+
+
+def command(name, *words):
+    """The words that run a class."""
+    path = f"{built().name}:{GSON}"
+    return ["java", "-XX:TieredStopAtLevel=1", "-Xshare:auto", "-cp", path, name, *map(str, words)]
+
+
+def the_java_process():
+    """Each case of the table, by the Java process."""
+    table = ROOT / "clients/cases.jsonl"
+    ran = subprocess.run(command("rendezvous.CaseTable", table), capture_output=True, text=True,
+                         timeout=PATIENCE)
+    cases = sum('"process"' in line for line in table.read_text().splitlines())
+    demand((ran.stdout, ran.stderr) == (f"{cases} cases\n", ""), f"{ran.stdout[:1000]} {ran.stderr[:1000]}")
+
+
+class Driver:
+    """A Java program that does what it is told, line by line."""
+
+    def __init__(self):
+        self.process = subprocess.Popen(command("rendezvous.Driver"), stdin=subprocess.PIPE,
+                                        stdout=subprocess.PIPE,
+                                        text=True, encoding="utf-8")
+
+    def tell(self, line):
+        """What it prints for a line."""
+        self.process.stdin.write(line + "\n")
+        self.process.stdin.flush()
+        return self.process.stdout.readline().rstrip("\n")
+
+    def expect(self, line, wanted):
+        """It must print this for a line."""
+        got = self.tell(line)
+        demand(got == wanted, f"{line}: {got!r}, not {wanted!r}")
+
+
+@contextlib.contextmanager
+def driver():
+    """A driver that ends with the block."""
+    made = Driver()
+    try:
+        yield made
+    finally:
+        made.process.kill()
+        made.process.communicate()
+
+
+@contextlib.contextmanager
+def opened(java, *deeds, patience=2000):
+    """A scripted server behind its welcome, with the driver's client 1."""
+    with Scripted(welcome, *deeds) as server:
+        java.expect(f"open {server.port} 1 {patience}", "result open")
+        yield server
+
+
+def asked(server):
+    """What came, each as its kind, number and call."""
+    return [(one["kind"], one.get("number"), one.get("call")) for one in server.heard]
+
+
+def each_call(java):
+    """Each call's members and result."""
+    calls = [("put a", reply("done"), {"call": "put", "item": "a"}, "done"),
+             ("transfer a", reply("received"), {"call": "transfer", "item": "a", "wait": "forever"},
+              "received"),
+             ("try a", reply("nobody"), {"call": "transfer", "item": "a", "wait": "now"}, "false"),
+             ("try a", reply("received"), {"call": "transfer", "item": "a", "wait": "now"}, "true"),
+             ("try a 0", reply("timedout"), {"call": "transfer", "item": "a", "wait": 0}, "false"),
+             ("try a 1001", reply("received"), {"call": "transfer", "item": "a", "wait": 2}, "true"),
+             ("take", reply("item", item="\u2028<ü"), {"call": "take", "wait": "forever"}, "\u2028<ü"),
+             ("poll", reply("empty"), {"call": "take", "wait": "now"}, "null"),
+             ("poll -5", reply("timedout"), {"call": "take", "wait": 0}, "null"),
+             ("poll 5000000", reply("item", item=""), {"call": "take", "wait": 5000}, ""),
+             ("peek", reply("peeked", item="a"), {"call": "peek"}, "a"),
+             ("peek", reply("empty"), {"call": "peek"}, "null"),
+             ("size", reply("counted", items=2, consumers=0), {"call": "count"}, "2"),
+             ("consumers", reply("counted", items=0, consumers=3), {"call": "count"}, "3")]
+    for number, (line, answer, members, result) in enumerate(calls):
+        with opened(java, answer) as server:
+            java.expect(line, f"result {result}")
+            key = {"epoch": 1, "client": 1, "incarnation": 1, "number": 1}
+            wanted = {"kind": "request", "queue": 3, **key, **members}
+            demand(server.heard[1] == wanted, f"call {number}: {server.heard[1]}, not {wanted}")
+    with opened(java, reply("swapped", item="y"), reply("timedout")) as server:
+        java.expect("exchange x", "result y")
+        java.expect("exchange x 0", "threw TimeoutException")
+
+
+def repeats_until_it_is_told(java):
+    """Waiting, an answer to something else, a lost one, what is no frame and no answer."""
+    bad = [b"\x00\x00", b"\xff\xff", b"\x00\x02{}", b"\x00\x01\xff", b'\x00\x1d{"kind":"refused","code":1.0}',
+           b"\x00\x1c{\"code\":12,\"kind\":\"refused\"}"]
+    deeds = [waiting, HANG_UP, welcome, *bad, waiting, reply("received")]
+    with opened(java, *deeds, patience=10_000) as server:
+        java.expect("transfer a", "result received")
+        demand(all(members == server.heard[1] for members in server.heard[1:]), "another request was sent")
+        demand(len(server.heard) == 1 + len(deeds), f"{len(server.heard)} frames came")
+
+
+def an_unsettled_request(java):
+    """The call ends by its key; the request is asked again, or given up."""
+    with opened(java, HANG_UP, patience=300) as server:
+        server.deeds += [HANG_UP] * 200
+        java.expect("transfer a", "threw Unsettled 1/1/1/1")
+        java.expect("put a", "threw IllegalStateException")
+        with server.lock:
+            server.deeds[:] = [reply("received"), reply("done")]
+        java.expect("again", "result received")
+        java.expect("put a", "result done")
+        java.expect("again", "threw IllegalStateException")
+    with opened(java, HANG_UP, patience=300) as server:
+        server.deeds += [HANG_UP] * 200
+        java.expect("take", "threw Unsettled 1/1/1/1")
+        with server.lock:
+            server.deeds[:] = [reply("cancelled")]
+        java.expect("giveup", "result cancelled")
+        demand(asked(server)[-1] == ("cancel", 1, None), "no cancel came")
+
+
+def interrupts(java):
+    """An interrupt is a cancel; a result that came before it is given; calls that do not wait go on."""
+    deeds = [reply("done"), SILENCE, reply("cancelled"), SILENCE, reply("item", item="a")]
+    with opened(java, *deeds) as server:
+        java.expect("put a", "result done")
+        java.expect("interrupt 400", "result soon")
+        java.expect("take", "threw InterruptedException")
+        java.expect("interrupt 400", "result soon")
+        java.expect("take", "result a interrupted")
+        wanted = [("request", 1, "put"), ("request", 2, "take"), ("cancel", 2, None), ("request", 3, "take"),
+                  ("cancel", 3, None)]
+        demand(asked(server)[1:] == wanted, f"{asked(server)}")
+    slow = lambda one: (time.sleep(0.6), reply("done")(one))[1]
+    with opened(java, reply("done"), slow):
+        java.expect("put a", "result done")
+        java.expect("interrupt 100", "result soon")
+        java.expect("put a", "result done interrupted")
+
+
+def a_timeout_is_kept(java):
+    """Where a request still waits behind the call's own time, it is cancelled."""
+    slow = lambda one: (time.sleep(0.1), waiting(one))[1]
+    with opened(java, slow, reply("cancelled"), slow, reply("item", item="a")) as server:
+        java.expect("poll 50000", "result null")
+        java.expect("poll 50000", "result a")
+        demand(asked(server)[2][0] == "cancel", f"{asked(server)}")
+
+
+def refusals(java):
+    """What ends a call, and what a repeat may change."""
+    names = {1: "bad text", 6: "other call", 7: "busy", 8: "gap", 10: "epoch full", 5: "old number"}
+    details = {7: {"open": 1}, 8: {"last": 3}, 5: {"last": 2}}
+    for code, name in names.items():
+        with opened(java, refused(code, **details.get(code, {}))):
+            java.expect("put a", f"threw Refused 1/1/1/1 {code} {name}")
+    for deed in [refused(11), refused(5, last=1), refused(2, current=1), refused(4, current=1)]:
+        with opened(java, deed, reply("done")):
+            java.expect("put a", "result done")
+    with opened(java, refused(3), welcome, reply("done")):
+        java.expect("put a", "result done")
+    with opened(java, refused(3), welcome, refused(3)):
+        java.expect("put a", "threw Refused 1/1/1/1 3 no session")
+    with opened(java, refused(2, current=5)):
+        java.expect("put a", "threw EpochEnded 1/1/1/1 5")
+    with opened(java, refused(4, current=2)):
+        java.expect("put a", "threw Replaced 1/1/1/1 2")
+
+
+def what_is_left_out(java):
+    """Calls that the profile has not, and items and places that no request may have."""
+    with opened(java) as server:
+        java.expect("left-out", "result 16")
+        java.expect("bad", "result 6")
+        demand(not server.heard, "something was sent")
+
+
+CASES = [each_call, repeats_until_it_is_told, an_unsettled_request, interrupts, a_timeout_is_kept, refusals,
+         what_is_left_out]

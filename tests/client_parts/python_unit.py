@@ -1,0 +1,286 @@
+"""Unit tests of the Python client over a scripted server: what it sends, what it gives, what it raises, how
+long it waits."""
+import contextlib
+import os
+import signal
+import threading
+import time
+
+import rendezvous as rv
+from client_parts.scripted import HANG_UP, SILENCE, Scripted, refused, reply, waiting, welcome
+from serve_parts.wire import demand, frame, until
+
+
+def session(server, **more):
+    """A session of client 1, incarnation 1, that loses its patience soon."""
+    return rv.Session(server.address, 1, 1, **{"patience": 2.0, "answer": 0.3, **more})
+
+
+def same(got, wanted):
+    """Both are the same."""
+    demand(got == wanted, f"{got!r}, not {wanted!r}")
+
+
+@contextlib.contextmanager
+def raises(kind, **fields):
+    """The block must raise this, with these fields."""
+    try:
+        yield
+    except kind as raised:
+        same({name: getattr(raised, name) for name in fields}, fields)
+    else:
+        demand(False, f"no {kind.__name__} was raised")
+
+
+def key(number, epoch=1):
+    """A key of client 1, incarnation 1."""
+    return rv.Key(epoch, 1, 1, number)
+
+
+def asked(server):
+    """What came, each as its kind, number and call."""
+    return [(one["kind"], one.get("number"), one.get("call")) for one in server.heard]
+
+
+def each_call():
+    """Each call's members, and its result."""
+    calls = [
+        (lambda s: s.put(3, "a"), reply("done"), {"call": "put", "queue": 3, "item": "a"}, None),
+        (lambda s: s.transfer(3, "a"), reply("received"), {"call": "transfer", "queue": 3, "item": "a",
+                                                           "wait": "forever"}, rv.Receipt(key(1))),
+        (lambda s: s.try_transfer(3, "a"), reply("nobody"), {"call": "transfer", "queue": 3, "item": "a",
+                                                             "wait": "now"}, None),
+        (lambda s: s.try_transfer(3, "a", 0.5), reply("received"),
+         {"call": "transfer", "queue": 3, "item": "a",
+                                                                   "wait": 500}, rv.Receipt(key(1))),
+        (lambda s: s.try_transfer(3, "a", timeout=0), reply("timedout"),
+         {"call": "transfer", "queue": 3, "item": "a",
+                                                                         "wait": 0}, None),
+        (lambda s: s.take(63), reply("item", item="ü"), {"call": "take", "queue": 63, "wait": "forever"},
+         "ü"),
+        (lambda s: s.poll(0), reply("empty"), {"call": "take", "queue": 0, "wait": "now"}, None),
+        (lambda s: s.poll(0, 0.0001), reply("timedout"), {"call": "take", "queue": 0, "wait": 1}, None),
+        (lambda s: s.poll(0, -5), reply("item", item=""), {"call": "take", "queue": 0, "wait": 0}, ""),
+        (lambda s: s.exchange(5, "x"), reply("swapped", item="y"),
+         {"call": "swap", "exchanger": 5, "item": "x",
+                                                                    "wait": "forever"}, "y"),
+        (lambda s: s.exchange(5, "x", 86_400), reply("swapped", item="y"), {
+            "call": "swap", "exchanger": 5, "item": "x", "wait": 86_400_000}, "y"),
+        (lambda s: s.count(3), reply("counted", items=2, consumers=0), {"call": "count", "queue": 3},
+         rv.Counts(2, 0)),
+        (lambda s: s.peek(3), reply("peeked", item="a"), {"call": "peek", "queue": 3}, "a"),
+        (lambda s: s.peek(3), reply("empty"), {"call": "peek", "queue": 3}, None),
+    ]
+    for call, answer, members, result in calls:
+        with Scripted(welcome, answer) as server, session(server) as one:
+            same(call(one), result)
+            same(server.heard[1], {"kind": "request", **key(1)._asdict(), **members})
+            same(one.reply, answer(server.heard[1]))
+
+
+def numbers_rise():
+    """Requests have the numbers 1, 2, 3, over one connection; the epoch is the welcome's."""
+    with Scripted(lambda hello: welcome(hello, 9), *[reply("done")] * 3) as server, session(server) as one:
+        same(one.epoch, 9)
+        for _ in range(3):
+            one.put(3, "a")
+        same([(m["epoch"], m["number"]) for m in server.heard[1:]], [(9, 1), (9, 2), (9, 3)])
+        same(server.connections, 1)
+
+
+def repeats_until_it_is_told():
+    """Waiting, a lost answer, a late one, an answer to something else, a cut frame, no frame, no answer."""
+    other = {"kind": "reply", **key(7)._asdict(), "reply": "done"}
+    cut = frame(b'{"kind":"reply"')[:-4]
+    bad = [b"\x00\x00", b"\xff\xff", frame(b"{}"), frame(b"\xff"), frame(b'{"kind":"refused","code":1.0}'),
+           frame(b'{"code":12,"kind":"refused"}'), frame(b"[" * 2000)]
+    deeds = [waiting, SILENCE, HANG_UP, other, welcome, cut, *bad, waiting]
+    with Scripted(welcome, *deeds, reply("received")) as server, session(server, patience=10) as one:
+        same(one.transfer(3, "a"), rv.Receipt(key(1)))
+        demand(all(members == server.heard[1] for members in server.heard[1:]), "another request was sent")
+        same(len(server.heard), 2 + len(deeds))
+
+
+def a_connection_that_is_out_of_step():
+    """A link that says each answer twice: no answer is taken for another request's."""
+    def twice(deed):
+        return lambda one: [deed(one), deed(one)]
+    deeds = [twice(reply("item", item="a")), twice(reply("item", item="b")), reply("item", item="b")]
+    with Scripted(welcome, *deeds) as server, session(server) as one:
+        same((one.take(3), one.take(3)), ("a", "b"))
+        same(server.connections, 2)
+
+
+def an_unsettled_request():
+    """Without an answer the call ends by its key, and can be asked again; nothing else may be asked
+    before."""
+    with Scripted(welcome) as server, session(server, patience=0.5, answer=0.1) as one:
+        began = time.monotonic()
+        with raises(rv.Unsettled, key=key(1)):
+            one.take(3)
+        demand(time.monotonic() - began < 1.5, "patience lasted too long")
+        with raises(rv.Misused):
+            one.put(3, "a")
+        with server.lock:
+            server.deeds += [reply("item", item="a")] * 2
+        same(one.again(), "a")
+        with raises(rv.Misused):
+            one.again()
+        same(one.take(3), "a")
+
+
+def nobody_listens():
+    """No server: the hello ends by no key."""
+    with Scripted() as server:
+        address = server.address
+    with raises(rv.Unsettled, key=None):
+        rv.Session(address, 1, 1, patience=0.3).connect()
+
+
+def a_timeout_is_kept():
+    """Where the server says that a request waits behind the call's own time, it is cancelled."""
+    with Scripted(welcome, lambda one: (time.sleep(0.1), waiting(one))[1], reply("cancelled")) as server:
+        with session(server) as one:
+            same(one.poll(3, 0.05), None)
+            same(asked(server)[1:], [("request", 1, "take"), ("cancel", 1, None)])
+    with Scripted(welcome, lambda one: (time.sleep(0.1), waiting(one))[1], reply("item", item="a")) as server:
+        with session(server) as one:
+            same(one.poll(3, 0.05), "a")
+    with Scripted(welcome, reply("timedout"), waiting, reply("cancelled")) as server, session(server) as one:
+        with raises(rv.TimedOut, key=key(1)):
+            one.exchange(3, "x", 0)
+        with raises(TimeoutError):
+            one.exchange(3, "x", 0)
+
+
+def cancelled_by_another_thread():
+    """While the answer is waited for, and between two tries; the reply may also be another."""
+    for told, wanted in [(reply("cancelled"), rv.Cancelled), (reply("item", item="a"), "a")]:
+        with Scripted(welcome, SILENCE, told) as server, session(server, answer=20) as one:
+            same(one.cancel(), False)
+            threading.Thread(target=lambda: (until("a request", lambda: len(server.heard) > 1),
+                                             one.cancel())).start()
+            began = time.monotonic()
+            try:
+                same(one.take(3), wanted)
+            except rv.Cancelled as cancelled:
+                same((wanted, cancelled.key), (rv.Cancelled, key(1)))
+            demand(time.monotonic() - began < 2, "the cancel came late")
+            same(asked(server)[1:], [("request", 1, "take"), ("cancel", 1, None)])
+            same(one.cancel(), False)
+
+
+def an_unsettled_request_is_cancelled():
+    """A request that an exception left is given up."""
+    with Scripted(welcome, HANG_UP) as server, session(server, patience=0.2, answer=0.1) as one:
+        with raises(rv.Unsettled):
+            one.transfer(3, "a")
+        same(one.cancel(), True)
+        with server.lock:
+            server.deeds += [reply("cancelled"), reply("done")]
+        with raises(rv.Cancelled, key=key(1)):
+            one.again()
+        one.put(3, "a")
+        same(asked(server)[-2:], [("cancel", 1, None), ("request", 2, "put")])
+
+
+def interrupted_from_the_keyboard():
+    """The request is cancelled; the exception has its reply, whatever that is."""
+    for told in (reply("cancelled"), reply("item", item="a")):
+        with Scripted(welcome, SILENCE, told) as server, session(server, answer=20) as one:
+            press = lambda: (until("a request", lambda: len(server.heard) > 1),
+                             os.kill(os.getpid(), signal.SIGINT))
+            threading.Thread(target=press).start()
+            try:
+                one.take(3)
+                demand(False, "no interrupt was raised")
+            except KeyboardInterrupt as raised:
+                same((type(raised), raised.key), (rv.Interrupted, key(1)))
+                same(raised.reply, told(server.heard[-1]))
+
+
+def refusals():
+    """What ends a call, with its number and name, and what a repeat may change."""
+    ends = [(1, {}), (6, {}), (7, {"open": 1}), (8, {"last": 3}), (10, {}), (5, {"last": 2})]
+    for code, detail in ends:
+        with Scripted(welcome, refused(code, **detail)) as server, session(server) as one:
+            with raises(rv.Refused, key=key(1), number=code, name=rv.REFUSALS[code]):
+                one.put(3, "a")
+    for code, detail in [(11, {}), (5, {"last": 1}), (2, {"current": 1}), (4, {"current": 1}), (9, {})]:
+        with Scripted(welcome, refused(code, **detail), reply("done")) as server, session(server) as one:
+            one.put(3, "a")
+            same(len(server.heard), 3)
+
+
+def no_session():
+    """Hello is said again, and the request; a second such refusal ends the call."""
+    with Scripted(welcome, refused(3), welcome, reply("done")) as server, session(server) as one:
+        one.put(3, "a")
+        same([kind for kind, *_ in asked(server)], ["hello", "request", "hello", "request"])
+    with Scripted(welcome, refused(3), welcome, refused(3)) as server, session(server) as one:
+        with raises(rv.Refused, number=3, name="no session"):
+            one.put(3, "a")
+
+
+def ended_and_replaced():
+    """A later epoch, and a greater incarnation, in a call and at the hello."""
+    with Scripted(welcome, refused(2, current=5)) as server, session(server) as one:
+        with raises(rv.EpochEnded, key=key(1), current=5):
+            one.take(3)
+        with raises(rv.Misused):
+            one.take(3)
+    with Scripted(welcome, refused(4, current=2)) as server, session(server) as one:
+        with raises(rv.Replaced, key=key(1), current=2):
+            one.take(3)
+    with Scripted(refused(4, current=2)) as server, raises(rv.Replaced, key=None, current=2):
+        session(server).connect()
+    with Scripted(refused(9)) as server, raises(rv.Refused, key=None, number=9, name="clients full"):
+        session(server).connect()
+    with Scripted(refused(11), SILENCE, welcome) as server, session(server) as one:
+        same(one.epoch, 1)
+
+
+def what_is_not_sent():
+    """Calls that no request may be are refused before anything goes out."""
+    with Scripted(welcome) as server, session(server) as one:
+        for call in [lambda: one.put(64, "a"), lambda: one.put(-1, "a"), lambda: one.put(True, "a"),
+                     lambda: one.put(3, "x" * 513), lambda: one.put(3, "é" * 257),
+                     lambda: one.put(3, "\ud800"),
+                     lambda: one.put(3, None), lambda: one.exchange(64, "a"),
+                     lambda: one.poll(3, 86_400.001)]:
+            with raises(ValueError):
+                call()
+        same(len(server.heard), 1)
+    for client, incarnation in [(0, 1), (1, 0), (2**53, 1), (1, 2**53), (1.0, 1)]:
+        with raises(ValueError):
+            rv.Session("127.0.0.1:1", client, incarnation)
+
+
+def one_thread_at_a_time():
+    """A second thread's call is refused while one runs."""
+    with Scripted(welcome, SILENCE, reply("cancelled")) as server, session(server, answer=20) as one:
+        faults = []
+        taker = threading.Thread(target=lambda: faults.append(kind_of(lambda: one.take(3))))
+        taker.start()
+        until("a request", lambda: len(server.heard) > 1)
+        with raises(rv.Misused):
+            one.put(3, "a")
+        one.cancel()
+        taker.join()
+        same(faults, [rv.Cancelled])
+
+
+def kind_of(call):
+    """The kind of exception that a call raises."""
+    try:
+        call()
+    except Exception as raised:
+        return type(raised)
+    return None
+
+
+CASES = [each_call, numbers_rise, repeats_until_it_is_told, a_connection_that_is_out_of_step,
+         an_unsettled_request,
+         nobody_listens, a_timeout_is_kept, cancelled_by_another_thread, an_unsettled_request_is_cancelled,
+         interrupted_from_the_keyboard, refusals, no_session, ended_and_replaced, what_is_not_sent,
+         one_thread_at_a_time]

@@ -1,0 +1,89 @@
+"""A server that does what a script says: each frame that comes is met by the script's next deed."""
+import json
+import socket
+import threading
+
+from serve_parts.listening import Listening
+from serve_parts.wire import frame
+
+SILENCE, HANG_UP = "silence", "hang up"
+
+
+class Scripted(Listening):
+    """Listens on a port of this machine. `deeds` are, for each frame in turn over all connections: members or
+    a list of members to answer, bytes to send as they are, `SILENCE`, `HANG_UP`, or a function of what came
+    that gives one of these. `heard` has the members of each frame that came, `connections` how many were
+    made."""
+
+    def __init__(self, *deeds):
+        super().__init__()
+        self.deeds, self.heard, self.connections = list(deeds), [], 0
+        self.lock = threading.Lock()
+        self.open = []
+
+    def __exit__(self, *_):
+        super().__exit__()
+        for connection in self.open:
+            connection.close()
+
+    def meet(self, connection):
+        """Serves a connection in a thread of its own."""
+        self.connections += 1
+        self.open.append(connection)
+        threading.Thread(target=self.serve, args=(connection,), daemon=True).start()
+
+    def serve(self, connection):
+        """Meets each frame by a deed, until one closes the connection."""
+        try:
+            while (body := self.body(connection)) is not None:
+                with self.lock:
+                    self.heard.append(json.loads(body))
+                    deed = self.deeds.pop(0) if self.deeds else SILENCE
+                    deed = deed(self.heard[-1]) if callable(deed) else deed
+                if deed == HANG_UP:
+                    break
+                if deed != SILENCE:
+                    connection.sendall(bytes_of(deed))
+        except OSError:
+            pass
+        connection.close()
+
+    def body(self, connection):
+        """The next frame's body; None at the end."""
+        head = connection.recv(2, socket.MSG_WAITALL)
+        if len(head) < 2:
+            return None
+        return connection.recv(int.from_bytes(head, "big"), socket.MSG_WAITALL)
+
+
+def bytes_of(deed):
+    """What a deed sends."""
+    if isinstance(deed, bytes):
+        return deed
+    answers = deed if isinstance(deed, list) else [deed]
+    return b"".join(frame(json.dumps(answer, ensure_ascii=False).encode()) for answer in answers)
+
+
+def welcome(asked, epoch=1):
+    """The welcome to a hello."""
+    return {"kind": "welcome", "epoch": epoch, "client": asked["client"], "incarnation": asked["incarnation"]}
+
+
+def key_members(asked):
+    """The key's members of a request or cancel."""
+    return {name: asked[name] for name in ("client", "epoch", "incarnation", "number")}
+
+
+def reply(word, **more):
+    """A deed: the reply to whatever request comes."""
+    return lambda asked: {"kind": "reply", **key_members(asked), "reply": word, **more}
+
+
+def waiting(asked):
+    """A deed: that the request waits."""
+    return {"kind": "waiting", **key_members(asked)}
+
+
+def refused(code, **detail):
+    """A deed: a refusal."""
+    return {"kind": "refused", "code": code, **detail}

@@ -1,0 +1,199 @@
+/* Loaded before a program, lets the system be hostile to it: growths are refused, what is read from and written to
+   sockets is cut short or fails, connections can't be accepted, threads can't be started, the clock can't be read, and a
+   sleep ends at once.
+
+   How often stands in the file HOSTILE, a row of 32-bit numbers that who started the program may change at any time.
+   Of the odds, 0 is never, and n is once in n at random, with the seed SEED; so 1 is always. A read and a write fail once
+   in so many bytes. Behind them stand how many times each of these was done. */
+#define _GNU_SOURCE
+#include <dlfcn.h>
+#include <errno.h>
+#include <fcntl.h>
+#include <pthread.h>
+#include <stdint.h>
+#include <stdlib.h>
+#include <sys/mman.h>
+#include <sys/socket.h>
+#include <sys/stat.h>
+#include <sys/syscall.h>
+#include <time.h>
+#include <unistd.h>
+
+enum { GROWTH, CUT_READ, FAILED_READ, CUT_WRITE, FAILED_WRITE, ACCEPT, THREAD, CLOCK, SLEEP, ODDS };
+
+/* `most` bytes are read at a time, or written, where it is not 0. `growth_at` and `read_at` count down to the growth that
+   is refused and the read that fails, and `room` is one more than the bytes that may be written before a write fails;
+   with 0 none is. The odds of growths hold behind the first `calm` ones. */
+struct page {
+    uint32_t odds[ODDS], most, growth_at, read_at, room, calm, made[ODDS];
+};
+
+static volatile struct page *page;
+static uint32_t seed;
+
+__attribute__((constructor)) static void open_page(void) {
+    const char *name = getenv("HOSTILE"), *digits = getenv("SEED");
+    int file = name ? open(name, O_RDWR) : -1;
+    seed = digits ? (uint32_t)atol(digits) : 1;
+    if (file < 0)
+        return;
+    void *found = mmap(NULL, sizeof(struct page), PROT_READ | PROT_WRITE, MAP_SHARED, file, 0);
+    close(file);
+    page = found == MAP_FAILED ? NULL : found;
+}
+
+static uint32_t chance(void) {
+    static uint32_t threads;
+    static __thread uint32_t state;
+    if (!state)
+        state = (seed + __sync_add_and_fetch(&threads, 1)) * 2654435761u | 1;
+    state ^= state << 13;
+    state ^= state >> 17;
+    return state ^= state << 5;
+}
+
+static int happens(int what) {
+    uint32_t odds = page ? page->odds[what] : 0;
+    if (odds == 0 || chance() % odds)
+        return 0;
+    __sync_fetch_and_add(&page->made[what], 1);
+    return 1;
+}
+
+static int is_refused(void) {
+    if (page && page->growth_at && --page->growth_at == 0) {
+        __sync_fetch_and_add(&page->made[GROWTH], 1);
+        return 1;
+    }
+    if (page && page->calm) {
+        page->calm--;
+        return 0;
+    }
+    return happens(GROWTH);
+}
+
+static int is_socket(int device) {
+    struct stat about;
+    return page && !fstat(device, &about) && S_ISSOCK(about.st_mode);
+}
+
+static int any_of(const int *errors, int count) {
+    errno = errors[chance() % count];
+    return -1;
+}
+
+/* A read that fails, with whatever error. */
+static ssize_t no_read(void) {
+    static const int errors[] = {ECONNRESET, EIO, EINTR, EAGAIN, ETIMEDOUT};
+    return any_of(errors, 5);
+}
+
+/* A write that fails, with whatever error, or takes nothing. */
+static ssize_t no_write(void) {
+    static const int errors[] = {EPIPE, EIO, EINTR, EAGAIN, ENOBUFS};
+    return chance() % 6 ? any_of(errors, 5) : 0;
+}
+
+enum { READS, WRITES };
+
+/* One more than the bytes that pass before the next read or write fails; 0 is not known yet. */
+static __thread uint32_t left[2];
+
+static int is_failed(int way, int failed) {
+    uint32_t odds = page->odds[failed];
+    if (odds == 0)
+        return 0;
+    if (left[way] == 0)
+        left[way] = 2 + chance() % (2 * odds);
+    if (left[way] > 1)
+        return 0;
+    left[way] = 0;
+    __sync_fetch_and_add(&page->made[failed], 1);
+    return 1;
+}
+
+static size_t least(size_t count, size_t most) { return count < most ? count : most; }
+
+/* How many bytes of a read or write go through; none where it fails. */
+static size_t passes(int way, int cut, int failed, size_t count) {
+    if (is_failed(way, failed))
+        return 0;
+    if (page->odds[failed])
+        count = least(count, left[way] - 1);
+    if (page->most)
+        count = least(count, page->most);
+    return count > 1 && happens(cut) ? 1 + chance() % least(count, 9) : count;
+}
+
+static size_t readable(size_t count) {
+    if (page->read_at && --page->read_at == 0)
+        return 0;
+    return passes(READS, CUT_READ, FAILED_READ, count);
+}
+
+static size_t writable(size_t count) {
+    if (page->room)
+        count = least(count, page->room - 1);
+    count = count ? passes(WRITES, CUT_WRITE, FAILED_WRITE, count) : 0;
+    if (page->room)
+        page->room = count ? page->room - count : 0;
+    return count;
+}
+
+static ssize_t went(int way, ssize_t count) {
+    if (count > 0 && left[way] > 1)
+        left[way] -= least(left[way] - 1, count);
+    return count;
+}
+
+ssize_t read(int device, void *bytes, size_t count) {
+    if (count && is_socket(device) && !(count = readable(count)))
+        return no_read();
+    return went(READS, syscall(SYS_read, device, bytes, count));
+}
+
+ssize_t recv(int device, void *bytes, size_t count, int flags) {
+    if (count && page && !(count = readable(count)))
+        return no_read();
+    return went(READS, syscall(SYS_recvfrom, device, bytes, count, flags, NULL, NULL));
+}
+
+ssize_t write(int device, const void *bytes, size_t count) {
+    if (count && is_socket(device) && !(count = writable(count)))
+        return no_write();
+    return went(WRITES, syscall(SYS_write, device, bytes, count));
+}
+
+ssize_t send(int device, const void *bytes, size_t count, int flags) {
+    if (count && page && !(count = writable(count)))
+        return no_write();
+    return went(WRITES, syscall(SYS_sendto, device, bytes, count, flags, NULL, 0));
+}
+
+int accept4(int listener, struct sockaddr *address, socklen_t *length, int flags) {
+    static const int errors[] = {EMFILE, ENFILE, ECONNABORTED, EINTR, EPROTO};
+    if (happens(ACCEPT))
+        return any_of(errors, 5);
+    return syscall(SYS_accept4, listener, address, length, flags);
+}
+
+int accept(int listener, struct sockaddr *address, socklen_t *length) { return accept4(listener, address, length, 0); }
+
+int pthread_create(pthread_t *thread, const pthread_attr_t *how, void *(*run)(void *), void *with) {
+    static int (*next)(pthread_t *, const pthread_attr_t *, void *(*)(void *), void *);
+    if (!next)
+        next = (int (*)(pthread_t *, const pthread_attr_t *, void *(*)(void *), void *))dlsym(RTLD_NEXT, "pthread_create");
+    return happens(THREAD) ? EAGAIN : next(thread, how, run, with);
+}
+
+int clock_gettime(clockid_t clock, struct timespec *now) {
+    static const int errors[] = {EINVAL, EPERM};
+    return happens(CLOCK) ? any_of(errors, 2) : syscall(SYS_clock_gettime, clock, now);
+}
+
+int nanosleep(const struct timespec *wanted, struct timespec *rest) {
+    static const int errors[] = {EINTR, EINVAL};
+    return happens(SLEEP) ? any_of(errors, 2) : syscall(SYS_nanosleep, wanted, rest);
+}
+
+#include "refusing.h"
