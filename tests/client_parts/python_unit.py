@@ -114,11 +114,11 @@ def a_connection_that_is_out_of_step():
 def an_unsettled_request():
     """Without an answer the call ends by its key, and can be asked again; nothing else may be asked
     before."""
-    with Scripted(welcome) as server, session(server, patience=0.5, answer=0.1) as one:
+    with Scripted(welcome) as server, session(server, patience=3.0, answer=0.6) as one:
         began = time.monotonic()
         with raises(rv.Unsettled, key=key(1)):
             one.take(3)
-        demand(time.monotonic() - began < 1.5, "patience lasted too long")
+        demand(time.monotonic() - began < 9, "patience lasted too long")
         with raises(rv.Misused):
             one.put(3, "a")
         with server.lock:
@@ -172,7 +172,7 @@ def cancelled_by_another_thread():
 
 def an_unsettled_request_is_cancelled():
     """A request that an exception left is given up."""
-    with Scripted(welcome, HANG_UP) as server, session(server, patience=0.2, answer=0.1) as one:
+    with Scripted(welcome, HANG_UP) as server, session(server, patience=3.0, answer=0.6) as one:
         with raises(rv.Unsettled):
             one.transfer(3, "a")
         same(one.cancel(), True)
