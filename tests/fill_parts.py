@@ -21,6 +21,8 @@ class Fill:
         self.numbers = dict.fromkeys(range(1, CLIENTS + 1), 0)
         self.calls = {}
         self.items = {queue: [] for queue in range(QUEUES)}
+        # What the last drain was told.
+        self.told = None
 
     def say(self, body, answer):
         """One line and its answer. Where no moment is set, each line has a greater one than the line before."""
@@ -64,6 +66,12 @@ class Fill:
         first, self.items[queue] = self.items[queue][:1], self.items[queue][1:]
         reply = {"reply": "item", "item": first[0]} if first else {"reply": "empty"}
         self.ask(client, reply, call="take", queue=queue, wait="now")
+
+    def drain(self, client, queue, most):
+        """A drain gets the oldest items, as many as there are and as it may take."""
+        texts, self.items[queue] = self.items[queue][:most], self.items[queue][most:]
+        self.told = {"reply": "drained", "texts": texts}
+        self.ask(client, self.told, call="drain", queue=queue, max=most)
 
     def count(self, client, queue, items=0, consumers=0):
         """A count of so many."""

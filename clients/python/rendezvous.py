@@ -17,7 +17,7 @@ import socket
 import struct
 import threading
 import time
-from typing import Any, Dict, NamedTuple, Optional, Tuple, Union
+from typing import Any, Dict, List, NamedTuple, Optional, Tuple, Union
 
 __all__ = [
     "Cancelled", "Counts", "EpochEnded", "Interrupted", "Key", "Misused", "Process", "Receipt", "Refused",
@@ -28,8 +28,8 @@ Members = Dict[str, Any]
 Address = Union[str, Tuple[str, int]]
 
 GREATEST = 2**53 - 1
-GREATEST_BODY = 4096
 GREATEST_ITEM = 512
+GREATEST_DRAIN = 16
 GREATEST_PLACE = 63
 GREATEST_WAIT = 86_400_000
 GREATEST_COUNT = 100_000
@@ -150,10 +150,16 @@ def is_item(value: Any) -> bool:
         return False
 
 
+def are_texts(value: Any) -> bool:
+    """Whether a value is a list of texts that one drain may give."""
+    return isinstance(value, list) and len(value) <= GREATEST_DRAIN and all(map(is_item, value))
+
+
 KEY = ("client", "epoch", "incarnation", "number")
 REPLIES: Dict[str, Tuple[str, ...]] = {
     "done": (), "item": ("item",), "empty": (), "received": (), "nobody": (), "swapped": ("item",),
     "timedout": (), "cancelled": (), "counted": ("consumers", "items"), "peeked": ("item",),
+    "drained": ("texts",),
 }
 DETAILS = {2: "current", 4: "current", 5: "last", 7: "open", 8: "last"}
 
@@ -177,6 +183,8 @@ def keeps_limit(name: str, value: Any) -> bool:
     """Whether a member of an answer keeps its limit."""
     if name == "item":
         return is_item(value)
+    if name == "texts":
+        return are_texts(value)
     if name in ("items", "consumers"):
         return is_whole(value, 0, GREATEST_COUNT)
     return name in ("kind", "reply", "code") or is_whole(value, 0 if name == "last" else 1, GREATEST)
@@ -300,8 +308,8 @@ class Link:
         self.wait_until(ends)
         self.socket.sendall(struct.pack(">H", len(body)) + body)
         length = struct.unpack(">H", self.read(2, ends))[0]
-        if not 1 <= length <= GREATEST_BODY:
-            raise NoAnswer(f"a frame of {length} bytes")
+        if length == 0:
+            raise NoAnswer("a frame of 0 bytes")
         return read_answer(self.read(length, ends))
 
     def read(self, count: int, ends: float) -> bytes:
@@ -436,6 +444,14 @@ class Session:
     def poll(self, queue: int, timeout: Optional[float] = None) -> Optional[str]:
         """The oldest item, if one is there or comes within `timeout` seconds; else None."""
         return self._timed(placed("take", queue), timeout)
+
+    def drain(self, queue: int, max: int) -> List[str]:
+        """Up to `max` of the oldest items, 1 to 16, oldest first; it never waits, so there may be none. They
+        are taken in one step of the server: nothing comes between two of them, and the transfers among them
+        are received. Like each call it repeats its one key, so no item is lost or taken twice where a link
+        breaks."""
+        checked(f"a drain takes 1 to {GREATEST_DRAIN} items at most", is_whole(max, 1, GREATEST_DRAIN))
+        return self._call({**placed("drain", queue), "max": max})
 
     def exchange(self, exchanger: int, item: str, timeout: Optional[float] = None) -> str:
         """The partner's object for this one. `TimedOut` where nobody came within `timeout` seconds."""
@@ -667,6 +683,8 @@ def result_of(key: Key, call: Members, reply: Members, late: bool) -> Any:
     word = reply["reply"]
     if word in ("item", "peeked", "swapped"):
         return reply["item"]
+    if word == "drained":
+        return list(reply["texts"])
     if word == "received":
         return Receipt(key)
     if word == "counted":

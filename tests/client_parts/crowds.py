@@ -16,7 +16,7 @@ from serve_parts.programs import Server
 from serve_parts.wire import demand, reply_of, together
 
 PYTHONS, JAVAS, WORKERS = 6, 4, 48
-# Connections that a crowd may make a second, and at all events: each request that is given up takes a new one.
+# Connections that a crowd may make a second, and at all events: what is given up takes a new one.
 CONNECTIONS, AT_ALL_EVENTS = 600, 2_000
 MILLIS = (0, 1, 3, 10, 30, 100)
 # So many keys of an account are looked at by the plain model too.
@@ -72,7 +72,7 @@ class Client:
         one, chance = self.session, self.chance
         self.items += 1
         item, millis = f"python {self.number} {self.items}", chance.choice(MILLIS)
-        seconds = millis / 1000
+        seconds, most = millis / 1000, chance.randint(1, 16)
         swap = {"call": "swap", "exchanger": 5, "item": item}
         give, take = {"call": "transfer", "queue": 3, "item": item}, {"call": "take", "queue": 3}
         return chance.choice([
@@ -87,6 +87,7 @@ class Client:
             ({**swap, "wait": millis}, lambda: one.exchange(5, item, seconds)),
             ({"call": "count", "queue": 3}, lambda: one.count(3)),
             ({"call": "peek", "queue": 3}, lambda: one.peek(3)),
+            ({"call": "drain", "queue": 3, "max": most}, lambda: one.drain(3, most)),
         ])
 
 
@@ -121,6 +122,8 @@ def a_crowd(program, seed, seconds):
             server.audited()
     demand(len(told.asked) > 10 * seconds, f"only {len(told.asked)} calls were made")
     demand(seconds < 10 or min(proxy.met.values()) > 0, f"the link did too little: {proxy.met}")
+    several = sum(len(members.get("texts", "")) > 1 for members in told.replies.values())
+    demand(seconds < 10 or several > 0, "no drain took several items")
 
 
 def judge(account, told):
@@ -157,7 +160,7 @@ class Replies:
             if waits is None:
                 self.made[act.key] = {"reply": "cancelled"}
         else:
-            self.arrive(place, act, entry.partner)
+            self.arrive(place, act, entry.partners)
 
     def is_due(self, r, moment):
         """Whether the request at a place has a limit at or below a moment."""
@@ -180,13 +183,11 @@ class Replies:
         """The open places of a side, oldest first."""
         return self.open.setdefault((side, at), OrderedDict())
 
-    def arrive(self, place, act, partner):
+    def arrive(self, place, act, partners):
         """A request is settled, or its place is open."""
         call = act.call
-        if partner is not None:
-            self.leave(partner)
-            self.meet(act, self.entries[partner].act)
-            self.meet(self.entries[partner].act, act)
+        if partners or call.word == "drain":
+            self.meet_all(act, partners)
         elif call.side == "looking":
             self.made[act.key] = self.look(call)
         elif call.word == "put":
@@ -200,12 +201,23 @@ class Replies:
                     "take": "empty"}.get(call.word) if call.wait == "now" else "timedout"
             self.made[act.key] = {"reply": word}
 
-    def meet(self, act, other):
-        """What a request is told that met another."""
-        item = {"item": other.call.item}
-        self.made[act.key] = {"put": {"reply": "done"}, "transfer": {"reply": "received"},
-                              "take": {"reply": "item", **item},
-                              "swap": {"reply": "swapped", **item}}[act.call.word]
+    def meet_all(self, act, partners):
+        """A request meets its partners, of which a drain may have none."""
+        others = [self.entries[partner].act for partner in partners]
+        for partner, other in zip(partners, others):
+            self.leave(partner)
+            self.meet(other, [act])
+        self.meet(act, others)
+
+    def meet(self, act, others):
+        """What a request is told that met others."""
+        items, word = [other.call.item for other in others], act.call.word
+        if word == "drain":
+            self.made[act.key] = {"reply": "drained", "texts": items}
+        elif word in ("put", "transfer"):
+            self.made[act.key] = {"reply": "done" if word == "put" else "received"}
+        else:
+            self.made[act.key] = {"reply": "item" if word == "take" else "swapped", "item": items[0]}
 
     def look(self, call):
         """What a count or a peek is told."""

@@ -2,6 +2,7 @@
 scripted server."""
 import contextlib
 import functools
+import json
 import pathlib
 import shutil
 import subprocess
@@ -9,7 +10,7 @@ import tempfile
 import time
 
 from client_parts.scripted import HANG_UP, SILENCE, Scripted, refused, reply, waiting, welcome
-from serve_parts.wire import demand
+from serve_parts.wire import demand, frame
 
 ROOT = pathlib.Path(__file__).resolve().parent.parent.parent
 FOLDER = ROOT / "clients/java"
@@ -125,10 +126,76 @@ def each_call(java):
         java.expect("exchange x 0", "threw TimeoutException")
 
 
+def texts(count, begins=0):
+    """A deed: the reply of a drain that took so many items, which are numbers."""
+    return reply("drained", texts=[str(each) for each in range(begins, begins + count)])
+
+
+def drains_by_steps(java):
+    """Steps of at most 16, until one finds fewer or all that were asked for are there; the oldest first."""
+    runs = [("drain", [texts(16), texts(16, 16), texts(3, 32)], [16, 16, 16], 35),
+            ("drain", [texts(16), texts(0)], [16, 16], 16), ("drain", [texts(0)], [16], 0),
+            ("drain 2", [texts(2)], [2], 2), ("drain 16", [texts(16)], [16], 16),
+            ("drain 17", [texts(16), texts(1, 16)], [16, 1], 17), ("drain 40", [texts(15)], [16], 15),
+            ("drain 0", [], [], 0), ("drain -1", [], [], 0)]
+    for line, deeds, most, count in runs:
+        with opened(java, *deeds) as server:
+            java.expect(line, f"result {count}")
+            java.expect("drained", f"result [{', '.join(map(str, range(count)))}]")
+            key = {"epoch": 1, "client": 1, "incarnation": 1}
+            wanted = [{"kind": "request", **key, "number": number, "call": "drain", "queue": 3, "max": each}
+                      for number, each in enumerate(most, 1)]
+            demand(server.heard[1:] == wanted, f"{line}: {server.heard[1:]}, not {wanted}")
+
+
+def a_drain_is_asked_under_one_key(java):
+    """Over links that break, or bring what no drain gives, each step is asked until its list comes."""
+    bad = [["a"] * 17, ["a", 1], ["a", "x" * 513], "a", {}, None]
+    bad = [reply("drained", texts=one) for one in bad] + [reply("drained"), reply("item", item="a", texts=[])]
+    full = ["\u0001" * 512] * 16
+    long = lambda one: frame(json.dumps(reply("drained", texts=full)(one)).encode().ljust(65_535))
+    with opened(java, long, HANG_UP, *bad, refused(11), texts(2), patience=10_000) as server:
+        java.expect("drain 18", "result 18")
+        numbers = [number for _, number, _ in asked(server)]
+        demand(numbers == [None, 1] + [2] * (len(bad) + 3), f"{numbers}")
+        demand(all(one == server.heard[2] for one in server.heard[2:]), "another request was sent")
+        java.expect("drained", f"result [{', '.join([*full, '0', '1'])}]")
+
+
+def a_step_that_fails(java):
+    """What finished steps took is in the collection; an unsettled step is asked again for its items."""
+    with opened(java, texts(16), refused(10)):
+        java.expect("drain", "threw Refused 1/1/1/2 10 epoch full")
+        java.expect("drained", f"result [{', '.join(map(str, range(16)))}]")
+    with opened(java, texts(16), reply("cancelled"), texts(1)):
+        java.expect("drain", "threw CancellationException")
+        java.expect("items", "result []")
+        java.expect("drain", "result 1")
+        java.expect("drained", f"result [{', '.join(map(str, [*range(16), 0]))}]")
+    with opened(java, texts(16), HANG_UP, patience=300) as server:
+        java.expect("items", "result []")
+        server.deeds += [HANG_UP] * 200
+        java.expect("drain", "threw Unsettled 1/1/1/2")
+        with server.lock:
+            server.deeds[:] = [texts(2, 16)]
+        java.expect("again", "result drained")
+        java.expect("items", "result [16, 17]")
+        java.expect("drained", f"result [{', '.join(map(str, range(16)))}]")
+
+
+def what_is_not_taken_in(java):
+    """A collection that is full throws; the step's items are still the session's."""
+    with opened(java, texts(3), reply("item", item="a")):
+        java.expect("drain-into 2", "threw IllegalStateException")
+        java.expect("items", "result [0, 1, 2]")
+        java.expect("take", "result a")
+        java.expect("items", "result [a]")
+
+
 def repeats_until_it_is_told(java):
     """Waiting, an answer to something else, a lost one, what is no frame and no answer."""
-    bad = [b"\x00\x00", b"\xff\xff", b"\x00\x02{}", b"\x00\x01\xff", b'\x00\x1d{"kind":"refused","code":1.0}',
-           b"\x00\x1c{\"code\":12,\"kind\":\"refused\"}"]
+    bad = [b"\x00\x00", frame(b"[" * 65_535), frame(b"{}"), frame(b"\xff"),
+           frame(b'{"kind":"refused","code":1.0}'), frame(b'{"code":12,"kind":"refused"}')]
     deeds = [waiting, HANG_UP, welcome, *bad, waiting, reply("received")]
     with opened(java, *deeds, patience=10_000) as server:
         java.expect("transfer a", "result received")
@@ -173,6 +240,12 @@ def interrupts(java):
         java.expect("put a", "result done")
         java.expect("interrupt 100", "result soon")
         java.expect("put a", "result done interrupted")
+    slow = lambda one: (time.sleep(0.6), texts(16)(one))[1]
+    with opened(java, slow, texts(3, 16)) as server:
+        java.expect("interrupt 100", "result soon")
+        java.expect("drain", "result 19 interrupted")
+        java.expect("drained", f"result [{', '.join(map(str, range(19)))}]")
+        demand(len(server.heard) == 3, f"{asked(server)}")
 
 
 def a_timeout_is_kept(java):
@@ -207,10 +280,11 @@ def refusals(java):
 def what_is_left_out(java):
     """Calls that the profile has not, and items and places that no request may have."""
     with opened(java) as server:
-        java.expect("left-out", "result 16")
-        java.expect("bad", "result 6")
+        java.expect("left-out", "result 14")
+        java.expect("bad", "result 10")
         demand(not server.heard, "something was sent")
 
 
-CASES = [each_call, repeats_until_it_is_told, an_unsettled_request, interrupts, a_timeout_is_kept, refusals,
-         what_is_left_out]
+CASES = [each_call, drains_by_steps, a_drain_is_asked_under_one_key, a_step_that_fails,
+         what_is_not_taken_in, repeats_until_it_is_told, an_unsettled_request, interrupts, a_timeout_is_kept,
+         refusals, what_is_left_out]

@@ -1,6 +1,7 @@
 """Unit tests of the Python client over a scripted server: what it sends, what it gives, what it raises, how
 long it waits."""
 import contextlib
+import json
 import os
 import signal
 import threading
@@ -42,6 +43,10 @@ def asked(server):
     return [(one["kind"], one.get("number"), one.get("call")) for one in server.heard]
 
 
+# As many texts as a drain gives, each as long as an item may be, and escaped.
+FULL = ["\u0001" * 512] * 16
+
+
 def each_call():
     """Each call's members, and its result."""
     calls = [
@@ -70,6 +75,12 @@ def each_call():
          rv.Counts(2, 0)),
         (lambda s: s.peek(3), reply("peeked", item="a"), {"call": "peek", "queue": 3}, "a"),
         (lambda s: s.peek(3), reply("empty"), {"call": "peek", "queue": 3}, None),
+        (lambda s: s.drain(3, 2), reply("drained", texts=["a", "b"]),
+         {"call": "drain", "queue": 3, "max": 2}, ["a", "b"]),
+        (lambda s: s.drain(0, max=1), reply("drained", texts=[]), {"call": "drain", "queue": 0, "max": 1},
+         []),
+        (lambda s: s.drain(63, 16), reply("drained", texts=FULL), {"call": "drain", "queue": 63, "max": 16},
+         FULL),
     ]
     for call, answer, members, result in calls:
         with Scripted(welcome, answer) as server, session(server) as one:
@@ -93,12 +104,60 @@ def repeats_until_it_is_told():
     other = {"kind": "reply", **key(7)._asdict(), "reply": "done"}
     cut = frame(b'{"kind":"reply"')[:-4]
     bad = [b"\x00\x00", b"\xff\xff", frame(b"{}"), frame(b"\xff"), frame(b'{"kind":"refused","code":1.0}'),
-           frame(b'{"code":12,"kind":"refused"}'), frame(b"[" * 2000)]
+           frame(b'{"code":12,"kind":"refused"}'), frame(b"[" * 65_535)]
     deeds = [waiting, SILENCE, HANG_UP, other, welcome, cut, *bad, waiting]
     with Scripted(welcome, *deeds, reply("received")) as server, session(server, patience=10) as one:
         same(one.transfer(3, "a"), rv.Receipt(key(1)))
         demand(all(members == server.heard[1] for members in server.heard[1:]), "another request was sent")
         same(len(server.heard), 2 + len(deeds))
+
+
+def a_drain_is_asked_under_one_key():
+    """Over links that break, or bring what no drain gives, one request is asked until its list comes."""
+    texts = [["a"] * 17, ["a", 1], ["a", "x" * 513], ["\ud800"], "a", {}, None]
+    bad = [written_out("drained", texts=text) for text in texts]
+    bad += [reply("drained"), reply("drained", texts=[], item="a"), reply("item", item="a", texts=[])]
+    deeds = [HANG_UP, SILENCE, *bad, refused(11)]
+    with Scripted(welcome, *deeds, reply("drained", texts=["b", "a"])) as server:
+        with session(server, patience=10) as one:
+            got = one.drain(3, 16)
+            same(got, ["b", "a"])
+            demand(all(one == server.heard[1] for one in server.heard[1:]), "another request was sent")
+            same(len(server.heard), 2 + len(deeds))
+            got.clear()
+            same(one.reply["texts"], ["b", "a"])
+
+
+def written_out(word, **more):
+    """A deed: the reply to whatever request comes, with each character beyond ASCII escaped."""
+    return lambda asked: frame(json.dumps(reply(word, **more)(asked)).encode())
+
+
+def a_drain_that_is_given_up():
+    """A drain that is unsettled gives its items when it is asked again; a cancelled one took none."""
+    for told, wanted in [(reply("cancelled"), rv.Cancelled), (reply("drained", texts=["a"]), ["a"])]:
+        with Scripted(welcome, HANG_UP) as server, session(server, patience=3.0, answer=0.6) as one:
+            with raises(rv.Unsettled, key=key(1)):
+                one.drain(3, 2)
+            same(one.cancel(), True)
+            with server.lock:
+                server.deeds += [told]
+            if wanted is rv.Cancelled:
+                with raises(rv.Cancelled, key=key(1)):
+                    one.again()
+            else:
+                same(one.again(), wanted)
+            same(asked(server)[-1], ("cancel", 1, None))
+
+
+def frames_of_each_length():
+    """An answer of 65,535 bytes is read; so is a frame of as many that is no answer, and one of no byte."""
+    def long(asked):
+        return frame(json.dumps(reply("drained", texts=FULL)(asked)).encode().ljust(65_535))
+    with Scripted(welcome, long, b"\x00\x00", frame(b" " * 65_535), long) as server:
+        with session(server) as one:
+            same((one.drain(3, 16), one.drain(3, 16)), (FULL, FULL))
+            same([number for _, number, _ in asked(server)], [None, 1, 2, 2, 2])
 
 
 def a_connection_that_is_out_of_step():
@@ -247,6 +306,8 @@ def what_is_not_sent():
                      lambda: one.put(3, "x" * 513), lambda: one.put(3, "é" * 257),
                      lambda: one.put(3, "\ud800"),
                      lambda: one.put(3, None), lambda: one.exchange(64, "a"),
+                     lambda: one.drain(64, 1), lambda: one.drain(3, 0), lambda: one.drain(3, 17),
+                     lambda: one.drain(3, True), lambda: one.drain(3, 2.0),
                      lambda: one.poll(3, 86_400.001)]:
             with raises(ValueError):
                 call()
@@ -279,7 +340,8 @@ def kind_of(call):
     return None
 
 
-CASES = [each_call, numbers_rise, repeats_until_it_is_told, a_connection_that_is_out_of_step,
+CASES = [each_call, numbers_rise, repeats_until_it_is_told, a_drain_is_asked_under_one_key,
+         a_drain_that_is_given_up, frames_of_each_length, a_connection_that_is_out_of_step,
          an_unsettled_request,
          nobody_listens, a_timeout_is_kept, cancelled_by_another_thread, an_unsettled_request_is_cancelled,
          interrupted_from_the_keyboard, refusals, no_session, ended_and_replaced, what_is_not_sent,

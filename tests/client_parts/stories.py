@@ -15,10 +15,12 @@ POLL = '{"call":"take","queue":3,"wait":"now"}'
 SHORT = '{"call":"take","queue":3,"wait":10}'
 PUT = '{"call":"put","item":"a","queue":3}'
 TRANSFER = '{"call":"transfer","item":"a","queue":3,"wait":"forever"}'
+OTHER = '{"call":"transfer","item":"b","queue":3,"wait":"forever"}'
 TRY = '{"call":"transfer","item":"a","queue":3,"wait":"now"}'
 SWAP = '{"call":"swap","exchanger":63,"item":"%s","wait":"forever"}'
 COUNT = '{"call":"count","queue":3}'
 PEEK = '{"call":"peek","queue":3}'
+DRAIN = '{"call":"drain","max":2,"queue":3}'
 # Two clients that are welcome: packets 0 and 1 each way.
 ONE = ["start 1 1", "server 0 0", "client 0"]
 TWO = [*ONE, "start 2 1", "server 1 0", "client 1"]
@@ -39,6 +41,15 @@ STORIES = {
                "client 3", "server 2 3", "client 4"],
     "counted and peeked": [*ONE, f"begin 1 {PUT}", "server 1 1", "client 1", f"begin 1 {COUNT}", "server 2 1",
                            "client 2", f"begin 1 {PEEK}", "server 3 1", "client 3"],
+    "a drain": [*TWO, f"begin 1 {PUT}", "server 2 1", "client 2", f"begin 1 {OTHER}", "server 3 1",
+                f"begin 2 {DRAIN}", "server 4 2", "client 3", "client 4", "client 4", "server 4 3",
+                "client 5", "server 3 4", "client 6", f"begin 2 {DRAIN}", "client 5", "server 5 5",
+                "client 7"],
+    "a drain cancelled before it came": [*ONE, f"begin 1 {DRAIN}", "cancel 1", "server 2 1", "server 1 2",
+                                         "client 2", f"begin 1 {DRAIN}", "client 1"],
+    "a drain is asked again": [*TWO, f"begin 1 {PUT}", "server 2 1", f"begin 2 {DRAIN}", "server 3 2",
+                               "resend 2", "resend 2", "server 4 3", "client 4", "resend 2", "server 5 4",
+                               "client 5"],
     "cancelled while it waits": [*ONE, f"begin 1 {TAKE}", "server 1 1", "client 1", "cancel 1", "server 2 2",
                                  "client 2", "client 2"],
     "cancelled before it came": [*ONE, f"begin 1 {TRANSFER}", "cancel 1", "server 2 1", "client 1",
@@ -105,6 +116,8 @@ BEYOND = [(process, answer) for process in (New(7, 3), Idle(Key(5, 7, 3, 4)), AS
     {"kind": "waiting", **vars(Key(5, 7, 3, 4))}, {"kind": "waiting", **vars(Key(5, 7, 3, 5))},
     replied(Key(5, 7, 3, 4), {"reply": "item", "item": "\u0001\"\\é"}),
     replied(Key(5, 7, 3, 4), {"reply": "counted", "items": 3, "consumers": 0}),
+    replied(Key(5, 7, 3, 4), {"reply": "drained", "texts": []}),
+    replied(Key(5, 7, 3, 4), {"reply": "drained", "texts": ["", "\u0001\"\\é", *["a"] * 14]}),
 ]] + [(GREATEST, replied(GREATEST.key, {"reply": "counted", "items": 0, "consumers": 0})),
       (Idle(None), replied(GREATEST.key, {"reply": "counted", "items": 0, "consumers": 0})),
       (None, replied(GREATEST.key, {"reply": "counted", "items": 0, "consumers": 0}))]

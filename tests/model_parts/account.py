@@ -12,6 +12,7 @@ SIDES = {
     "put": "giving",
     "transfer": "giving",
     "take": "taking",
+    "drain": "taking",
     "swap": "exchanging",
     "count": "looking",
     "peek": "looking",
@@ -29,16 +30,24 @@ class Key:
 
 @dataclass(frozen=True)
 class Call:
-    """A call; `at` is its queue or exchanger, `wait` is "now", "forever" or milliseconds."""
+    """A call; `at` is its queue or exchanger, `wait` is "now", "forever" or milliseconds, `max` is a drain's."""
 
     word: str
     at: int
     item: str | None = None
     wait: str | int | None = None
+    max: int | None = None
 
     @property
     def side(self):
         return SIDES[self.word]
+
+    @property
+    def may_name(self):
+        """How many partners its arrival may name."""
+        if self.word == "drain":
+            return self.max
+        return 1 if self.side in OTHER_SIDE else 0
 
 
 @dataclass(frozen=True)
@@ -65,11 +74,11 @@ class Tick:
 
 @dataclass(frozen=True)
 class Entry:
-    """A moment, an act (the message that came, or a tick), and perhaps a partner's place."""
+    """A moment, an act (the message that came, or a tick), and the places of its partners."""
 
     moment: int
     act: Hello | Request | Cancel | Tick
-    partner: int | None = None
+    partners: tuple = ()
 
 
 @dataclass(frozen=True)
@@ -103,7 +112,7 @@ def stays(call):
 
 def met(entries, r):
     """Whether the arrival is in a pair or swap."""
-    return entries[r].partner is not None or any(later.partner == r for later in entries[r + 1 :])
+    return bool(entries[r].partners) or any(r in later.partners for later in entries[r + 1 :])
 
 
 def stops(entries, r, later):
@@ -179,10 +188,9 @@ def arrival_of(entries, key):
 
 
 def met_with(entries, r):
-    """The other place of the arrival's pair or swap, if it is in one."""
-    if entries[r].partner is not None:
-        return entries[r].partner
-    return next((j for j in range(r + 1, len(entries)) if entries[j].partner == r), None)
+    """The other places of the arrival's pairs or swap, in their order."""
+    named_by = [j for j in range(r + 1, len(entries)) if r in entries[j].partners]
+    return sorted([*entries[r].partners, *named_by])
 
 
 def reply(entries, key):
@@ -194,6 +202,8 @@ def reply(entries, key):
     call = entries[r].act.call
     if call.word == "put":
         return {"reply": "done"}
+    if call.word == "drain":
+        return {"reply": "drained", "texts": [entries[giver].act.call.item for giver in met_with(entries, r)]}
     if call.side == "looking":
         return look(entries[:r], call)
     return reply_met(entries, r) or reply_unmet(entries, r)
@@ -211,10 +221,10 @@ def look(before, call):
 
 def reply_met(entries, r):
     """The reply of an arrival that is in a pair or swap."""
-    other = met_with(entries, r)
-    if other is None:
+    others = met_with(entries, r)
+    if not others:
         return None
-    item = entries[other].act.call.item
+    item = entries[others[0]].act.call.item
     return {
         "transfer": {"reply": "received"},
         "take": {"reply": "item", "item": item},

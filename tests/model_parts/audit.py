@@ -30,10 +30,20 @@ class Front:
         """Whether it is an arrival at an exchanger."""
         return self.side == "exchanging"
 
+    @property
+    def partners(self):
+        """The places that it names."""
+        return self.entry.partners
+
     @cached_property
     def opposites(self):
         """The open arrivals that it might meet, oldest first."""
         return open_at(self.before, OTHER_SIDE[self.side], self.act.call.at)
+
+    @cached_property
+    def unnamed(self):
+        """Those of them that it does not name."""
+        return [r for r in self.opposites if r not in self.partners]
 
 
 def moment_falls(front):
@@ -80,40 +90,49 @@ def number_is_wrong(front):
     return key != waits if waits else not is_next
 
 
-def partner_is_taken(front):
-    """It names a partner and may have none; or the partner is no earlier place, or is in a pair or swap already."""
-    partner = front.entry.partner
-    if partner is None:
+def partners_are_taken(front):
+    """It names partners and may have none, or not so many, or their places do not rise; or one of them is no earlier
+    place, or is in a pair or swap already."""
+    if not front.partners:
         return False
-    if front.side not in OTHER_SIDE or partner >= len(front.before):
+    if front.side not in OTHER_SIDE or len(front.partners) > front.act.call.may_name:
         return True
-    named = any(earlier.partner == partner for earlier in front.before)
-    return named or front.before[partner].partner is not None
+    if any(later <= earlier for earlier, later in zip(front.partners, front.partners[1:])):
+        return True
+    return any(is_taken(front.before, partner) for partner in front.partners)
+
+
+def is_taken(before, partner):
+    """Whether a place is none of these entries, or is in a pair or swap already."""
+    if partner >= len(before):
+        return True
+    return bool(before[partner].partners) or any(partner in earlier.partners for earlier in before)
 
 
 def partner_is_not_open(front):
-    """It gives or takes, and its partner is nobody who may be met there."""
-    return front.queues and front.entry.partner is not None and front.entry.partner not in front.opposites
+    """It gives or takes, and one of its partners is nobody who may be met there."""
+    return front.queues and any(partner not in front.opposites for partner in front.partners)
 
 
 def partner_is_not_first(front):
-    """It gives or takes, and passes over somebody who came before its partner."""
-    return front.queues and front.entry.partner is not None and any(r < front.entry.partner for r in front.opposites)
+    """It gives or takes, and passes over somebody who came before a partner and is none."""
+    return front.queues and any(r < partner for partner in front.partners for r in front.unnamed)
 
 
-def meets_nobody(front):
-    """It gives or takes alone, though somebody of the other side of its queue may still be met."""
-    return front.queues and front.entry.partner is None and bool(front.opposites)
+def meets_too_few(front):
+    """It gives or takes and might name more, and somebody of the other side of its queue whom it does not name may still
+    be met."""
+    return front.queues and len(front.partners) < front.act.call.may_name and bool(front.unnamed)
 
 
 def swaps_with_another(front):
     """It exchanges, and its partner is nobody who may be met there."""
-    return front.exchanges and front.entry.partner is not None and front.entry.partner not in front.opposites
+    return front.exchanges and any(partner not in front.opposites for partner in front.partners)
 
 
 def swaps_with_nobody(front):
     """It exchanges alone, though somebody at its exchanger may still be met."""
-    return front.exchanges and front.entry.partner is None and bool(front.opposites)
+    return front.exchanges and not front.partners and bool(front.opposites)
 
 
 # The rules in their order. Each says whether it is broken at a place.
@@ -124,10 +143,10 @@ RULES = {
     "N1": hello_is_old,
     "N2": is_of_no_session,
     "N3": number_is_wrong,
-    "P1": partner_is_taken,
+    "P1": partners_are_taken,
     "P2": partner_is_not_open,
     "P3": partner_is_not_first,
-    "P4": meets_nobody,
+    "P4": meets_too_few,
     "S1": swaps_with_another,
     "S2": swaps_with_nobody,
 }

@@ -27,6 +27,10 @@ def take(client, number, wait="now", at=3):
     return request(client, number, Call("take", at, wait=wait))
 
 
+def drain(client, number, most, at=3):
+    return request(client, number, Call("drain", at, max=most))
+
+
 def swap(client, number, item, at=3):
     return request(client, number, Call("swap", at, item, "forever"))
 
@@ -47,8 +51,8 @@ def at(entry, moment):
     return replace(entry, moment=moment)
 
 
-def meeting(entry, partner):
-    return replace(entry, partner=partner)
+def meeting(entry, *partners):
+    return replace(entry, partners=partners)
 
 
 def keyed(entry, **other):
@@ -197,6 +201,86 @@ BROKEN = [
         (meeting(take(3, 1), 3), None),
         (meeting(put(3, 1, "c"), 4), "P2"),
         (put(3, 1, "c"), None),
+    ]),
+    (0, [ONE, TWO, THREE, A, transfer(3, 1, "b", "forever"), B], [
+        (meeting(drain(2, 1, 2), 3, 4), None),
+        (meeting(drain(2, 1, 2), 3, 5), "P3"),
+        (meeting(drain(2, 1, 2), 4, 5), "P3"),
+        (meeting(drain(2, 1, 2), 3), "P4"),
+        (meeting(drain(2, 1, 2), 4), "P3"),
+        (drain(2, 1, 2), "P4"),
+        (meeting(drain(2, 1, 2), 4, 3), "P1"),
+        (meeting(drain(2, 1, 2), 3, 3), "P1"),
+        (meeting(drain(2, 1, 2), 3, 4, 5), "P1"),
+        (meeting(drain(2, 1, 2), 3, 6), "P1"),
+        (meeting(drain(2, 1, 2), 3, 9), "P1"),
+        (meeting(drain(2, 1, 2), 2, 3), "P2"),
+        (meeting(drain(2, 1, 2, at=4), 3, 4), "P2"),
+        (meeting(drain(2, 1, 2, at=4), 3), "P2"),
+        (drain(2, 1, 2, at=4), None),
+        (meeting(drain(2, 1, 3), 3, 4, 5), None),
+        (meeting(drain(2, 1, 3), 3, 4), "P4"),
+        (meeting(drain(2, 1, 3), 3, 5), "P3"),
+        (meeting(drain(2, 1, 16), 3, 4, 5), None),
+        (meeting(drain(2, 1, 16), 3, 4), "P4"),
+        (meeting(drain(2, 1, 16), *range(6)), "P2"),
+        (meeting(drain(2, 1, 16), *range(3, 20)), "P1"),
+        (meeting(drain(2, 1, 1), 3), None),
+        (meeting(drain(2, 1, 1), 4), "P3"),
+        (meeting(drain(2, 1, 1), 3, 4), "P1"),
+        (meeting(take(2, 1), 3, 4), "P1"),
+        (meeting(take(2, 1), 3), None),
+        (meeting(swap(2, 1, "x"), 3, 4), "P1"),
+        (meeting(count(2, 1), 3, 4), "P1"),
+        (meeting(cancel(3, 1), 3, 4), "P1"),
+        (meeting(drain(2, 2, 2), 3, 4), "N3"),
+        (meeting(keyed(drain(2, 1, 2), epoch=2), 3, 4), "N2"),
+        (meeting(hello(3, 2), 3, 4), "P1"),
+    ]),
+    (0, [ONE, TWO, THREE, A, transfer(3, 1, "b", "forever"), B, meeting(drain(2, 1, 2), 3, 4)], [
+        (meeting(drain(2, 2, 2), 5), None),
+        (drain(2, 2, 2), "P4"),
+        (meeting(drain(2, 2, 2), 4, 5), "P1"),
+        (meeting(drain(2, 2, 2), 3), "P1"),
+        (meeting(drain(2, 2, 2), 5, 6), "P1"),
+        (meeting(drain(2, 2, 2), 6), "P1"),
+        (meeting(take(2, 2), 4), "P1"),
+        (meeting(take(2, 2), 5), None),
+        (meeting(put(1, 3, "c"), 6), "P1"),
+        (cancel(3, 1), "N3"),
+        (count(3, 2), None),
+        (hello(3, 2), None),
+    ]),
+    (0, [ONE, TWO, THREE, transfer(1, 1, "a", "forever"), transfer(3, 1, "b", 10), cancel(1, 1)], [
+        (meeting(drain(2, 1, 2), 4), None),
+        (meeting(drain(2, 1, 2), 3, 4), "P2"),
+        (meeting(at(drain(2, 1, 2), 9), 4), None),
+        (meeting(at(drain(2, 1, 2), 10), 4), "M2"),
+        (drain(2, 1, 1), "P4"),
+    ]),
+    (0, [ONE, TWO, transfer(1, 1, "a", 10), meeting(drain(2, 1, 16), 2)], [
+        (tick(10), "M3"),
+        (at(count(2, 2), 10), None),
+        (at(drain(2, 2, 16), 10), None),
+        (meeting(at(drain(2, 2, 16), 10), 2), "P1"),
+    ]),
+    (0, [ONE, TWO, drain(2, 1, 1)], [
+        (A, None),
+        (meeting(A, 2), "P2"),
+        (transfer(1, 1, "a"), None),
+        (cancel(2, 1), "N3"),
+        (drain(2, 2, 1), None),
+        (meeting(drain(2, 2, 1), 2), "P2"),
+    ]),
+    (0, [ONE, TWO, THREE, take(1, 1, "forever")], [
+        (drain(2, 1, 2), None),
+        (meeting(drain(2, 1, 2), 3), "P2"),
+        (meeting(A, 3), "N3"),
+        (meeting(put(2, 1, "a"), 3), None),
+    ]),
+    (0, [ONE, TWO, THREE, take(1, 1, "forever"), take(2, 1, "forever")], [
+        (meeting(put(3, 1, "a"), 3, 4), "P1"),
+        (meeting(transfer(3, 1, "a"), 3, 4), "P1"),
     ]),
     (0, [ONE, TWO, take(2, 1, 0)], [(tick(0), "M3"), (put(1, 1, "b"), None)]),
     (0, [ONE, TWO, THREE, swap(1, 1, "a")], [

@@ -12,7 +12,9 @@ epoch 1 opened 0
 TAKE = b'{"call":"take","client":2,'
 HEAD = b"epoch 1 opened 0\n"
 HELLO = b'{"client":1,"incarnation":1,"kind":"hello"}'
-LONG = HELLO + b" " * (4_096 - len(HELLO))
+LONG = HELLO + b" " * (65_535 - len(HELLO))
+DRAIN = b'{"call":"drain","client":2,"epoch":1,"incarnation":1,"kind":"request","max":2,"number":1,"queue":3}'
+POLL = b'{"call":"take","client":2,"epoch":1,"incarnation":1,"kind":"request","number":1,"queue":3,"wait":"now"}'
 
 # What of the example is replaced by what, and the verdict.
 CHANGES = [
@@ -42,6 +44,43 @@ CHANGES = [
     (b'0 - {"client":2', b'0 0 {"client":2', "fault 1 P1"),
     (b'0 - {"client":2', b'0 00 {"client":2', "bad line 3"),
     (b'0 - {"client":2', b'0 -0 {"client":2', "bad line 3"),
+    *((b"1 2 " + POLL, b"1 " + partners + b" " + DRAIN, said) for partners, said in [
+        (b"2,3", "legal"),
+        (b"2", "fault 4 P4"),
+        (b"-", "fault 4 P4"),
+        (b"3", "fault 4 P3"),
+        (b"3,2", "fault 4 P1"),
+        (b"2,2", "fault 4 P1"),
+        (b"1,2", "fault 4 P2"),
+        (b"2,4", "fault 4 P1"),
+        (b"2,99999", "fault 4 P1"),
+        (b"2,100000", "bad line 6"),
+        (b"1,2,3", "fault 4 P1"),
+        (b",".join(b"%d" % place for place in range(17)), "fault 4 P1"),
+        (b",".join([b"99999"] * 2_000), "fault 4 P1"),
+        (b"2,", "bad line 6"),
+        (b",2", "bad line 6"),
+        (b",", "bad line 6"),
+        (b"2,,3", "bad line 6"),
+        (b"2,-", "bad line 6"),
+        (b"-,2", "bad line 6"),
+        (b"-2", "bad line 6"),
+        (b"2,03", "bad line 6"),
+        (b"02,3", "bad line 6"),
+        (b"2,+3", "bad line 6"),
+        (b"2;3", "bad line 6"),
+        (b"2, 3", "bad line 6"),
+        (b"2 ,3", "bad line 6"),
+        (b"2 3", "bad line 6"),
+        (b"2,\xef\xbc\x93", "bad line 6"),
+    ]),
+    (b"1 2 " + POLL, b"1 2,3 " + POLL, "fault 4 P1"),
+    (b"1 2 " + POLL, b"1 2,3 " + DRAIN.replace(b'"max":2', b'"max":1'), "fault 4 P1"),
+    (b"1 2 " + POLL, b"1 2 " + DRAIN.replace(b'"max":2', b'"max":1'), "legal"),
+    (b"1 2 " + POLL, b"1 2,3 " + DRAIN.replace(b'"max":2', b'"max":16'), "legal"),
+    (b"1 2 " + POLL, b"1 2,3 " + DRAIN.replace(b'"max":2', b'"max":17'), "bad line 6"),
+    (b"1 2 " + POLL, b"1 2,3 " + DRAIN.replace(b'"queue":3', b'"queue":4'), "fault 4 P2"),
+    (b"1 2 " + POLL, b"1 - " + DRAIN.replace(b'"queue":3', b'"queue":4'), "legal"),
 ]
 
 # A text and its verdict.
@@ -85,6 +124,10 @@ TEXTS = [
     (HEAD + b'0 - "tick"', "bad line 2"),
     (HEAD + b'0 - {"client":1,"epoch":1,"incarnation":1,"kind":"welcome"}', "bad line 2"),
     (HEAD + b"0 0 " + HELLO, "fault 0 P1"),
+    (HEAD + b"0 0,1 " + HELLO, "fault 0 P1"),
+    (HEAD + b"0 0, " + HELLO, "bad line 2"),
+    (HEAD + b"0 ,0 tick", "bad line 2"),
+    (HEAD + b"0 7,5,5 tick", "fault 0 M3"),
     (HEAD + b"0 99999 " + HELLO, "fault 0 P1"),
     (HEAD + b"0 100000 " + HELLO, "bad line 2"),
     (HEAD + b"0 - tick\n0 - tack", "bad line 3"),

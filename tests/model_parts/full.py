@@ -5,6 +5,7 @@ HEAD = b"epoch 1 opened 0\n"
 HELLO = b'0 - {"client":%d,"incarnation":1,"kind":"hello"}\n'
 ITEM = b'0 - {"call":"put","client":1,"epoch":1,"incarnation":1,"item":"","kind":"request","number":%d,"queue":3}\n'
 POLL = b'0 %s {"call":"take","client":2,"epoch":1,"incarnation":1,"kind":"request","number":1,"queue":3,"wait":"now"}'
+DRAIN = b'0 %s {"call":"drain","client":2,"epoch":1,"incarnation":1,"kind":"request","max":16,"number":1,"queue":3}'
 TAKE = b'0 - {"call":"take","client":%d,"epoch":1,"incarnation":1,"kind":"request","number":1,"queue":3,"wait":%d}\n'
 CANCEL = b'0 - {"client":%d,"epoch":1,"incarnation":1,"kind":"cancel","number":1}\n'
 TICK = b"0 - tick\n"
@@ -21,7 +22,7 @@ def ticks():
 
 
 def items():
-    """Items of one client, of which another takes one at the last place."""
+    """Items of one client, of which another takes one at the last place, or drains sixteen."""
     front = HEAD + HELLO % 1 + HELLO % 2 + b"".join(ITEM % number for number in range(1, MAX_ENTRIES - 2))
     last = MAX_ENTRIES - 1
     yield front + POLL % b"2", "legal"
@@ -29,6 +30,12 @@ def items():
     yield front + POLL % (b"%d" % (last - 1)), f"fault {last} P3"
     yield front + POLL % b"1", f"fault {last} P2"
     yield front + POLL % (b"%d" % last), f"fault {last} P1"
+    oldest = [b"%d" % place for place in range(2, 19)]
+    yield front + DRAIN % b",".join(oldest[:16]), "legal"
+    yield front + DRAIN % b",".join(oldest[:15]), f"fault {last} P4"
+    yield front + DRAIN % b",".join([*oldest[:15], oldest[16]]), f"fault {last} P3"
+    yield front + DRAIN % b",".join([*oldest[:15], b"%d" % (last - 1)]), f"fault {last} P3"
+    yield front + DRAIN % b",".join(oldest), f"fault {last} P1"
 
 
 def crowd():

@@ -19,9 +19,9 @@ def account_text(account):
 
 def entry_line(entry):
     """The line of an entry, without its LF."""
-    partner = b"-" if entry.partner is None else b"%d" % entry.partner
+    partners = b",".join(b"%d" % partner for partner in entry.partners) or b"-"
     body = b"tick" if isinstance(entry.act, Tick) else written(members_of(entry.act)).encode()
-    return b"%d %s %s" % (entry.moment, partner, body)
+    return b"%d %s %s" % (entry.moment, partners, body)
 
 
 def read_account(text):
@@ -57,11 +57,11 @@ def read_entry(line):
     """The entry of a line of three fields. White space about the JSON value belongs to the third."""
     fields = line.split(b" ", 2)
     demand(len(fields) == 3)
-    moment, partner, body = fields
+    moment, partners, body = fields
     return Entry(
         plain_number(moment, MAX_MOMENT),
         Tick() if body == b"tick" else read_message(body),
-        None if partner == b"-" else plain_number(partner, MAX_PARTNER),
+        () if partners == b"-" else tuple(plain_number(partner, MAX_PARTNER) for partner in partners.split(b",")),
     )
 
 

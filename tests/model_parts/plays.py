@@ -124,10 +124,10 @@ class Play:
         ])
 
 
-def make_play(chance, count):
+def make_play(chance, count, kind=Play):
     """So many lines of a world's play, each with the text that the program must print; and what the world then
     breaks of the headline, if something."""
-    play = Play(chance)
+    play = kind(chance)
     middle = chance.randrange(count)
     lines = [play.line() for _ in range(middle)]
     before = lists_of(play.world)

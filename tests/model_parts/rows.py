@@ -4,7 +4,7 @@ the long ones, and the program by those whose messages it knows.
 A row is lines `[@MOMENT] WHAT => ANSWER`; without @MOMENT the moment is 0. WHAT is `hello CLIENT/INCARNATION`,
 `cancel KEY`, `KEY CALL`, or `line` and the line's text itself. KEY is `CLIENT#NUMBER` with incarnation 1, or
 `CLIENT/INCARNATION#NUMBER`, and `EPOCH:` may stand before it. ANSWER is `welcome`, `waiting`, `refused CODE DETAIL`,
-a reply's word and members, or `{..`, the text itself.
+a reply's word and members (of `drained` its texts), or `{..`, the text itself.
 """
 import json
 import re
@@ -28,6 +28,23 @@ MANY_TAKERS = "\n".join([
 ])
 THREE = "hello 1/1 => welcome\nhello 2/1 => welcome\nhello 3/1 => welcome\n"
 DETAILS = {2: "current", 4: "current", 5: "last", 7: "open", 8: "last"}
+LONGEST = '"' + 512 * "\\u0001" + '"'
+# Three drains: of two items, of the one that is left, and of none; the first one's reply is told again.
+DRAIN_ROW = "a drain, its repeat and what is left"
+DRAIN_LINES = """
+        1#1 put 3 "a" => done
+        3#1 transfer 3 "b" forever => waiting
+        1#2 put 3 "c" => done
+        @1 2#1 drain 3 2 => drained "a" "b"
+        @1 3#1 transfer 3 "b" forever => received
+        @1 2#1 drain 3 2 => drained "a" "b"
+        @2 2#2 drain 3 16 => drained "c"
+        @2 2#3 drain 3 1 => drained
+"""
+# Where the account of those lines has its drains, with the second fields of their lines.
+DRAIN_FIELDS = {6: "3,4", 7: "5", 8: "-"}
+# What the audit tells of that account where the first of these fields is another one.
+DRAIN_CHANGES = [("3,4", "legal"), ("3,5", "fault 6 P3"), ("3", "fault 6 P4"), ("4,3", "fault 6 P1")]
 X512, X513 = '"' + 512 * "x" + '"', '"' + 513 * "x" + '"'
 
 # Name, epoch, lines.
@@ -317,6 +334,78 @@ ROWS = [
         1#1 put 3 "\u0001\"\\\u00e9" => done
         1#2 take 3 now => {"client":1,"epoch":1,"incarnation":1,"item":"\u0001\"\\é","kind":"reply","number":2,"reply":"item"}
         """),
+    ("a drain takes the oldest items, of puts and transfers alike", 1, THREE + DRAIN_LINES + """
+        @2 2#4 drain 3 17 => refused 1
+        """),
+    (DRAIN_ROW, 1, THREE + DRAIN_LINES),
+    ("a drain, in full bytes", 1, """
+        hello 1/1 => welcome
+        hello 2/1 => welcome
+        1#1 put 3 "a" => done
+        1#2 put 3 "b" => done
+        line 0 {"call":"drain","client":2,"epoch":1,"incarnation":1,"kind":"request","max":2,"number":1,"queue":3} => {"client":2,"epoch":1,"incarnation":1,"kind":"reply","number":1,"reply":"drained","texts":["a","b"]}
+        line 0 {"call":"drain","client":2,"epoch":1,"incarnation":1,"kind":"request","max":2,"number":2,"queue":3} => {"client":2,"epoch":1,"incarnation":1,"kind":"reply","number":2,"reply":"drained","texts":[]}
+        """),
+    ("sixteen items at most, and what is left stays in order", 1, "hello 1/1 => welcome\nhello 2/1 => welcome\n"
+        + "".join(f'1#{number} put 3 "{number}" => done\n' for number in range(1, 20)) + f"""
+        2#1 drain 3 16 => drained {" ".join(f'"{number}"' for number in range(1, 17))}
+        2#2 peek 3 => peeked "17"
+        2#3 count 3 => counted 3 0
+        2#4 drain 3 1 => drained "17"
+        2#5 take 3 now => item "18"
+        2#6 drain 3 16 => drained "19"
+        2#7 drain 3 16 => drained
+        2#1 drain 3 16 => refused 5 7
+        """),
+    ("a drain never waits, and leaves takes alone", 1, THREE + """
+        1#1 take 3 forever => waiting
+        2#1 drain 3 4 => drained
+        2#2 count 3 => counted 0 1
+        2#3 drain 4 4 => drained
+        3#1 put 3 "a" => done
+        1#1 take 3 forever => item "a"
+        2#3 drain 4 4 => drained
+        3#2 put 4 "b" => done
+        2#3 drain 4 4 => drained
+        2#3 drain 4 5 => refused 6
+        2#3 drain 3 4 => refused 6
+        2#3 take 4 now => refused 6
+        cancel 2#3 => drained
+        2#4 drain 4 5 => drained "b"
+        """),
+    ("a drain passes over what was ended, and settles what waited", 1, THREE + """
+        1#1 transfer 3 "a" 10 => waiting
+        2#1 transfer 3 "b" 20 => waiting
+        3#1 put 3 "c" => done
+        3#2 put 4 "d" => done
+        @10 3#3 drain 3 16 => drained "b" "c"
+        @10 1#1 transfer 3 "a" 10 => timedout
+        @30 2#1 transfer 3 "b" 20 => received
+        @30 cancel 2#1 => received
+        @30 1#2 transfer 4 "e" forever => waiting
+        @31 hello 1/2 => welcome
+        @31 2#2 drain 4 16 => drained "d"
+        @31 cancel 2#3 => cancelled
+        @31 2#3 drain 4 16 => cancelled
+        """),
+    ("limits of drains", 1, f"""
+        hello 1/1 => welcome
+        1#1 drain 3 0 => refused 1
+        1#1 drain 64 1 => refused 1
+        1#1 drain 3.0 1 => refused 1
+        1#1 drain 3 1.0 => refused 1
+        1#1 drain 3 "1" => refused 1
+        1#1 drain 3 now => refused 1
+        1#1 drain 3 => refused 1
+        1#1 put 63 {X512} => done
+        1#2 put 63 {X512} => done
+        1#3 drain 63 16 => drained {X512} {X512}
+        """),
+    ("the longest reply", 1, "hello 1/1 => welcome\n" + "".join(
+        f"1#{number} put 3 {LONGEST} => done\n" for number in range(1, 18)) + f"""
+        1#18 drain 3 16 => drained {" ".join([LONGEST] * 16)}
+        1#19 drain 3 16 => drained {LONGEST}
+        """),
 ]
 
 # Rows that are too long for the model, which goes over all entries at each line.
@@ -384,6 +473,30 @@ ANEW = """
     resend 1 => refused 6
     """
 
+# A drain comes twice, and its reply twice and late: the transfer that it took is received, and nothing is taken again.
+DRAINED = """
+    start 1 1 => sent 0
+    start 2 1 => sent 1
+    server 0 0 => answered 0 welcome 1/1
+    server 1 0 => answered 1 welcome 2/1
+    client 0 => welcomed
+    client 1 => welcomed
+    begin 1 {"call":"put","item":"a","queue":3} => sent 2
+    server 2 1 => answered 2 1#1 done
+    client 2 => settled 1#1 done
+    begin 1 {"call":"transfer","item":"b","queue":3,"wait":"forever"} => sent 3
+    server 3 1 => answered 3 1#2 waiting
+    begin 2 {"call":"drain","max":17,"queue":3} => bad line
+    begin 2 {"call":"drain","max":16,"queue":3} => sent 4
+    server 4 2 => answered 4 2#1 drained "a" "b"
+    server 4 3 => answered 5 2#1 drained "a" "b"
+    server 3 4 => answered 6 1#2 received
+    client 3 => ignored
+    client 5 => settled 2#1 drained "a" "b"
+    client 4 => ignored
+    client 6 => settled 1#2 received
+    """
+
 KEY = re.compile(r"(?:(\d+):)?(\d+)(?:/(\d+))?#(\d+)$")
 
 
@@ -401,7 +514,9 @@ def call_members(text):
     if word in ("put", "transfer", "swap"):
         item, end = json.JSONDecoder().raw_decode(rest)
         members["item"], rest = item, rest[end:].strip()
-    if rest:
+    if rest and word == "drain":
+        members["max"] = rest if rest == "now" else json.loads(rest)
+    elif rest:
         members["wait"] = int(rest) if rest.isdigit() else rest
     return members
 
@@ -433,9 +548,20 @@ def answer_of(text, key):
     members = {"reply": word}
     if word == "counted":
         members["items"], members["consumers"] = map(int, rest[0].split())
+    elif word == "drained":
+        members["texts"] = texts_of(rest[0] if rest else "")
     elif rest:
         members["item"] = json.loads(rest[0])
     return written({"kind": "reply", **key, **members})
+
+
+def texts_of(rest):
+    """The texts that stand one behind the other."""
+    texts = []
+    while rest:
+        text, end = json.JSONDecoder().raw_decode(rest)
+        texts, rest = [*texts, text], rest[end:].strip()
+    return texts
 
 
 def pairs_of(epoch, lines):
@@ -502,9 +628,10 @@ def again_pairs():
 
 # Each world's name, its lines with their results, the partners of each epoch's entries, and how many replies are held.
 WORLDS = [
-    ("the worked world", list(play_pairs()), [[None, None, None, 2, None]], 3),
-    ("the worked world, and all its packets again behind each event", list(again_pairs()), [[None, None, None, 2, None]], 3),
-    ("a client that starts anew, and another epoch", list(play_pairs(ANEW)), [[None] * 5, []], 1),
+    ("the worked world", list(play_pairs()), [[(), (), (), (2,), ()]], 3),
+    ("the worked world, and all its packets again behind each event", list(again_pairs()), [[(), (), (), (2,), ()]], 3),
+    ("a client that starts anew, and another epoch", list(play_pairs(ANEW)), [[()] * 5, []], 1),
+    ("a drain over a link", list(play_pairs(DRAINED)), [[(), (), (), (), (2, 3)]], 3),
 ]
 
 
@@ -515,7 +642,7 @@ def world_row_fault(pairs, partners, held):
         got = world.play(line.encode())
         if got != expected:
             return f"{line}: got {got}"
-    left = [[entry.partner for entry in account.entries] for account in world.accounts]
+    left = [[entry.partners for entry in account.entries] for account in world.accounts]
     if left != partners or len(world.held) != held or sum(result.startswith("settled") for _, result in pairs) != held:
         return f"left: {world.accounts}, {world.held}"
     said = [verdict(account_text(account)) for account in world.accounts]
@@ -543,3 +670,27 @@ def row_faults():
     """Each row by its name, with what is wrong with it, if something is."""
     for name, epoch, lines in ROWS:
         yield name, row_fault(epoch, lines)
+
+
+def drain_texts():
+    """The account of the drains, and the same with another list of partners; each with its verdict."""
+    account = Account(1, 0)
+    for line, _ in pairs_of(1, THREE + DRAIN_LINES):
+        account, _ = told(account, line.encode())
+    lines = account_text(account).decode().splitlines(keepends=True)
+    for partners, expected in DRAIN_CHANGES:
+        changed = lines[:]
+        moment, _, body = lines[7].split(" ", 2)
+        changed[7] = f"{moment} {partners} {body}"
+        yield "".join(changed), expected
+
+
+def drain_faults():
+    """What is wrong with the account of the drains, or with its verdicts, if something is."""
+    texts = list(drain_texts())
+    lines = texts[0][0].splitlines()
+    fields = {place: lines[place + 1].split(" ")[1] for place in DRAIN_FIELDS}
+    yield "the partners of drains", None if fields == DRAIN_FIELDS else f"got {fields}"
+    for text, expected in texts:
+        found = verdict(text.encode())
+        yield f"drains, {expected}", None if found == expected else f"{text}: got {found}"

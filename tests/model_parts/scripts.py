@@ -9,17 +9,20 @@ from model_parts.texts import KEY, MAX_BODY_BYTES, MAX_IDENTIFIER, members_of_ca
 
 LETTERS = ["a", "b", "x", " ", "/", '"', "\\", "\0", "\x01", "\b", "\t", "\n", "\f", "\r", "\x1f", "\x7f", "\x80",
            "é", "߿", "ࠀ", "\u2028", "\ud7ff", "\ue000", "�", "\uffff", "𝄞", "\U0010ffff"]
-NUMBERS = [0, 1, 2, 63, 64, 86_400_000, 86_400_001, 2**53 - 1, 2**53, 2**64 - 1, 2**64, -1, 1.0, 0.5]
+NUMBERS = [0, 1, 2, 16, 17, 63, 64, 86_400_000, 86_400_001, 2**53 - 1, 2**53, 2**64 - 1, 2**64, -1, 1.0, 0.5]
 VALUES = [*NUMBERS, None, True, "", "1", "now", "forever", "NOW", "put", "take", "transfer", "swap", "count", "peek",
-          "offer", "hello", "request", "cancel", "goodbye", [], [1], {}, {"kind": "hello"}]
+          "drain", "offer", "hello", "request", "cancel", "goodbye", [], [1], {}, {"kind": "hello"}]
 TEXTS = ["", "[]", '"hello"', "null", "{}", "{", "}", "01", "nul", "[" * 127 + "]" * 127, "[" * 128 + "]" * 128]
 NUMERALS = ["1.0", "1e2", "1E0", "-0", "-1", "01", "+1", ".5", "1.", "1e999", "1e-999", "0x1", "NaN", "Infinity",
             "18446744073709551615", "18446744073709551616", "9" * 400, '"1"', "0", "00"]
-FURTHER = ["x", "", "Kind", "item", "wait", "queue", "exchanger"]
+FURTHER = ["x", "", "Kind", "item", "wait", "queue", "exchanger", "max", "texts"]
 BYTES = [b"\xff", b"\xc0\x80", b"\xed\xa0\x80", b"\xc2\xa0", b"\x0b", b"\x00"]
 ESCAPES = [b"\\ud800", b"\\udc00", b"\\ud83d\\ude00", b"\\x", b"\\u12", b"\\"]
 MILLIS = [0, 0, 1, 1, 2, 3, 5, 10, 20, 100, 86_399_999, 86_400_000, 86_400_001]
 WAITS = ["forever", "now", *MILLIS]
+# How many items a drain may take, and two that it may not.
+MAXIMA = [1, 1, 2, 2, 3, 4, 5, 8, 15, 16, 16, 16]
+NO_MAXIMA = [0, 17]
 # What a moment rises or falls by from line to line, one pace for each script.
 PACES = [[0, 0, 0, 1, 1, 2, 5, -3], [0, 0, 0, 0, 0, 1], [0, 3, 10, 30, -20], [0, 1, -1, 1, -1, 2]]
 LEAPS = [0, 1000, 86_400_000, 10**9, 2**62 - 86_400_000, 2**62 - 1, 2**62, 2**62 + 1, 10**19 - 1]
@@ -49,11 +52,19 @@ class Script:
         self.puts = chance.choice([0.1, 0.4, 0.7])
         self.patience = chance.choice([0.2, 0.5, 0.9])
         self.haste = chance.choice([0.1, 0.5, 0.9])
+        self.drains = chance.choice([0, 0.1, 0.5])
+        if chance.random() < 0.3:
+            self.hoard()
         self.pace = chance.choice(PACES)
         self.longs = chance.random() < 0.2
         self.leaps = chance.random() < 0.2
         self.crowd = []
         self.newcomers = []
+
+    def hoard(self):
+        """Items gather in a queue or two, and mostly drains take them."""
+        self.gives, self.puts, self.drains = self.chance.choice([0.8, 0.9]), self.chance.choice([0.5, 0.8]), 0.9
+        self.queues, self.patience, self.haste = self.queues[:2], 0.9, 0.1
 
     def add_crowd(self, size):
         """Further clients, so many with the others; most of the next lines are their first hellos."""
@@ -160,7 +171,7 @@ class Script:
     def change(self, call):
         """Gives one member of a call another value, so that it is another call, or no message."""
         name = self.chance.choice(list(call))
-        others = {"call": ["put", "take", "transfer"], "item": [self.item()], "wait": WAITS}
+        others = {"call": ["put", "take", "transfer", "drain"], "item": [self.item()], "wait": WAITS, "max": range(18)}
         call[name] = self.chance.choice(others.get(name, range(65)))
 
     def call(self):
@@ -168,6 +179,8 @@ class Script:
         word = "take"
         if self.odds(self.gives):
             word = "put" if self.odds(self.puts) else "transfer"
+        elif self.odds(self.drains):
+            word = "drain"
         if self.odds(0.25):
             word = self.chance.choice(["swap", "swap", "count", "peek"])
         at = self.chance.randrange(65) if self.odds(0.02) else self.chance.choice(self.queues)
@@ -176,6 +189,8 @@ class Script:
             members["item"] = self.item()
         if word in ("transfer", "take", "swap"):
             members["wait"] = self.wait()
+        if word == "drain":
+            members["max"] = self.chance.choice(NO_MAXIMA if self.odds(0.02) else MAXIMA)
         return members
 
     def wait(self):
@@ -220,7 +235,7 @@ class Script:
             lambda: b"\xef\xbb\xbf" + body,
             lambda: body.replace(b":1", b":" + self.chance.choice(NUMERALS).encode(), 1),
             lambda: body.replace(b'":"', b'":"' + self.chance.choice(ESCAPES), 1),
-            lambda: padded(self.chance.choice([MAX_BODY_BYTES, MAX_BODY_BYTES + 1])),
+            lambda: padded(self.chance.choice([4_096, 4_097, MAX_BODY_BYTES, MAX_BODY_BYTES + 1])),
             lambda: nested(self.chance.choice([1, 125, 126, 127])),
             lambda: body[:-1] + b',"kind":"hello"}',
             lambda: self.chance.choice(TEXTS).encode(),

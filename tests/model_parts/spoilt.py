@@ -6,12 +6,12 @@ from model_parts.account import (
     last_number, limit, open_at, waiting)
 from model_parts.lines import MAX_PARTNER, account_text
 from model_parts.scripts import Script
-from model_parts.texts import MAX_IDENTIFIER, NoReading, members_of, read_message, written
+from model_parts.texts import MAX_DRAIN, MAX_IDENTIFIER, NoReading, members_of, read_message, written
 
 EPOCHS = [1, 1, 1, 1, 2, 7, MAX_IDENTIFIER]
 OPENINGS = [0] * 12 + [1, 5, 1_000, MAX_MOMENT - 86_400_000, MAX_MOMENT - 5, MAX_MOMENT]
 WAITS = ["now", "forever", 0, 1, 2, 5, 10, 86_400_000]
-WORDS = ["put", "transfer", "take", "swap", "count", "peek"]
+WORDS = ["put", "transfer", "take", "drain", "swap", "count", "peek"]
 NUMERALS = [b"", b"0", b"00", b"01", b"+1", b"-1", b"-0", b"1.0", b"1e0", b"0x1", b"1_0", b"x", b"-", b"--", b"tick",
             "１".encode(), "²".encode(), b"99998", b"99999", b"100000", b"100001", b"4611686018427387903",
             b"4611686018427387904", b"4611686018427387905", b"9223372036854775808", b"18446744073709551615",
@@ -43,6 +43,7 @@ class AccountScript(Script):
         self.longs = chance.random() < 0.02
         self.leaps = chance.random() < 0.1
         self.swaps = chance.choice([0, 0.2, 0.6])
+        self.drains = chance.choice([0, 0.3, 0.6])
 
     def body(self):
         """The body of a message."""
@@ -78,7 +79,7 @@ class SpoiltEntries:
     def change(self):
         """Makes one change."""
         self.chance.choices(
-            [self.partner, self.moment, self.order, self.drop, self.double, self.tick_in, self.tick_out, self.key,
+            [self.partners, self.moment, self.order, self.drop, self.double, self.tick_in, self.tick_out, self.key,
              self.greeting, self.call, self.act, self.further, self.several, self.opening],
             [9, 5, 3, 3, 2, 2, 2, 3, 2, 6, 2, 12, 5, 1])[0]()
 
@@ -100,7 +101,7 @@ class SpoiltEntries:
                 self.late()
             for _ in range(self.chance.randint(2, 4)):
                 at = self.last
-                self.chance.choice([self.partner, self.moment, self.key, self.call, self.greeting])()
+                self.chance.choice([self.partners, self.moment, self.key, self.call, self.greeting])()
                 self.last = at
 
     def opening(self):
@@ -110,19 +111,47 @@ class SpoiltEntries:
         if self.odds(0.4):
             self.epoch = self.chance.choice([1, 2, max(1, self.epoch - 1), MAX_IDENTIFIER])
 
-    def partner(self):
-        """Another partner: an arrival, any place near or far, none, itself or a later one."""
-        paired = [j for j, entry in enumerate(self.entries) if entry.partner is not None]
+    def partners(self):
+        """Other partners: arrivals, any places near or far, none, itself or a later one."""
+        paired = [j for j, entry in enumerate(self.entries) if entry.partners]
+        drains = [j for j in paired if len(self.entries[j].partners) > 1]
         if paired and self.odds(0.6):
-            self.last = self.chance.choice(paired)
+            self.last = self.chance.choice(drains if drains and self.odds(0.5) else paired)
         else:
             self.place(*self.chance.choice([[], [Request], [Request]]))
         if self.last is not None:
-            self.set(self.last, partner=self.any_partner(self.last))
+            self.set(self.last, partners=self.any_partners(self.last))
+
+    def any_partners(self, j):
+        """Partners for a place: those that it has, but for one change, or others."""
+        named, other = list(self.entries[j].partners), self.any_partner(j)
+        if self.odds(0.15):
+            return tuple(self.fronts(j))
+        if not named or self.odds(0.4):
+            return () if other is None else (other,)
+        at = self.chance.randrange(len(named))
+        more = [] if other is None else [other]
+        return tuple(self.chance.choice([
+            named[:at] + named[at + 1 :], named[:at] + named[at + 1 :], named[:at] + more + named[at + 1 :],
+            sorted(named[:at] + more + named[at + 1 :]), named + more, sorted(named + more), named[::-1],
+            named[: at + 1] + named[at:], self.chance.sample(named, len(named)), named[:at], named + [named[-1] + 1],
+            [partner + 1 for partner in named], named * 6,
+        ]))
+
+    def fronts(self, j):
+        """Of the open arrivals that a place might meet, the oldest, so many as it may name or nearly so; now and then one is
+        passed over."""
+        act = self.entries[j].act
+        if not isinstance(act, Request) or act.call.side not in OTHER_SIDE:
+            return [0]
+        meet = open_at(self.entries[:j], OTHER_SIDE[act.call.side], act.call.at)
+        if len(meet) > 1 and self.odds(0.3):
+            del meet[self.chance.randrange(min(act.call.may_name, len(meet) - 1))]
+        return meet[: max(0, act.call.may_name + self.chance.choice([0, 0, 0, 1, -1]))]
 
     def any_partner(self, j):
-        """A partner for a place: mostly one that might be right."""
-        act, named = self.entries[j].act, self.entries[j].partner
+        """A partner for a place: mostly one that might be right; or none."""
+        act, named = self.entries[j].act, next(iter(self.entries[j].partners), None)
         earlier = arrivals(self.entries[:j])
         if isinstance(act, Request) and self.odds(0.5):
             meet = open_at(self.entries[:j], OTHER_SIDE.get(act.call.side), act.call.at)
@@ -162,8 +191,8 @@ class SpoiltEntries:
         """Gives each partner its new number, or leaves all of them as they are."""
         if self.odds(0.75):
             for k, entry in enumerate(self.entries):
-                if entry.partner is not None:
-                    self.set(k, partner=max(0, name(entry.partner)))
+                if entry.partners:
+                    self.set(k, partners=tuple(max(0, name(partner)) for partner in entry.partners))
 
     def put_in(self, j, entry):
         """A further entry before a place."""
@@ -207,7 +236,7 @@ class SpoiltEntries:
         j = self.chance.randint(0, len(self.entries))
         limits, own = self.limits(j), self.entries[j - 1].moment if j else self.opened
         moment = self.chance.choice([own, own + 1, *limits, *limits, *(at - 1 for at in limits)])
-        self.put_in(j, Entry(min(moment, MAX_MOMENT), Tick(), self.chance.choice([None] * 4 + [0])))
+        self.put_in(j, Entry(min(moment, MAX_MOMENT), Tick(), self.chance.choice([()] * 4 + [(0,)])))
 
     def tick_out(self):
         """A tick is left out, or another one."""
@@ -247,8 +276,10 @@ class SpoiltEntries:
         if j is None:
             return
         call = self.entries[j].act.call
-        name = self.chance.choice(["at", "wait", "item", "word", "word"])
-        if name == "item":
+        name = self.chance.choice(["at", "wait", "item", "word", "word", *["max"] * 4 * (call.max is not None)])
+        if name == "max":
+            call = replace(call, max=min(max(1, call.max + self.chance.choice([-1, -1, 1, -3, 16])), MAX_DRAIN))
+        elif name == "item":
             call = replace(call, item=self.chance.choice(["", "other"]) if call.item is not None else None)
         elif name == "at":
             call = replace(call, at=self.chance.choice([*self.script.queues, 0, 63]))
@@ -262,7 +293,8 @@ class SpoiltEntries:
         wait = self.chance.choice(WAITS) if wait is None else wait
         wait = 1 if (word, wait) == ("swap", "now") else wait
         item = self.chance.choice(["a", "b"]) if word in ("put", "transfer", "swap") else None
-        return Call(word, at, item, wait if word in ("transfer", "take", "swap") else None)
+        most = self.chance.choice([1, 2, 2, 3, MAX_DRAIN]) if word == "drain" else None
+        return Call(word, at, item, wait if word in ("transfer", "take", "swap") else None, most)
 
     def act(self):
         """A request becomes the cancel of its key or a hello, a cancel a request, a hello a tick, a tick a hello."""
@@ -290,7 +322,7 @@ class SpoiltEntries:
         request = Request(key, self.meeting_call(before))
         act = self.chance.choice([request] * 9 + [Cancel(key), Hello(client, current + 1), Hello(client, current)])
         self.put_in(j, Entry(before[-1].moment if before else self.opened, act))
-        self.set(j, partner=self.any_partner(j) if self.odds(0.8) else None)
+        self.set(j, partners=self.any_partners(j) if self.odds(0.6) else tuple(self.fronts(j)))
 
     def free_client(self, before):
         """A client, mostly one that said hello and waits for nothing."""
@@ -304,7 +336,7 @@ class SpoiltEntries:
         if not there or self.odds(0.2):
             return self.any_call(self.chance.choice(WORDS), self.chance.choice(self.script.queues))
         met = self.chance.choice(there)
-        words = {"giving": ["take"], "taking": ["put", "transfer"], "exchanging": ["swap"]}[met.side]
+        words = {"giving": ["take", "drain"], "taking": ["put", "transfer"], "exchanging": ["swap"]}[met.side]
         return self.any_call(self.chance.choice(words), met.at)
 
 
@@ -340,8 +372,22 @@ class SpoiltLines:
         if name < len(fields):
             own = fields[name]
             other = self.chance.choice(NUMERALS)
-            fields[name] = self.chance.choice([other, b"0" + own, own + b"0", b"+" + own, own[1:]])
+            if at and name == 1 and self.chance.random() < 0.5:
+                fields[name] = self.partner_list(own, other)
+            else:
+                fields[name] = self.chance.choice([other, b"0" + own, own + b"0", b"+" + own, own[1:]])
         self.lines[at] = b" ".join(fields)
+
+    def partner_list(self, own, other):
+        """A field of partners that is spoilt as a list, or another list."""
+        place = b"%d" % self.chance.randrange(len(self.lines))
+        many = b",".join(b"%d" % number for number in range(self.chance.choice([15, 16, 17, 100, 2_000])))
+        return self.chance.choice([
+            own + b",", b"," + own, b",", b",,", own + b",," + place, own + b"," + other, other + b"," + own,
+            own + b"," + place, own + b"," + place, place + b"," + own, own + b"," + own, own + b",-", b"-," + own,
+            own + b", " + place, own + b";" + place, own.replace(b",", b",0"), own.replace(b",", b"-"), many,
+            own.replace(b",", b"", 1), own + b"," + place.zfill(2), own + b",99999", own + b",100000",
+        ])
 
     def body(self):
         """Another body: the same message with white space and escapes, something that is no message, or a tick."""

@@ -1,9 +1,14 @@
 """One step of an account by a moment and a message (docs/MODEL.md, section 9)."""
+from itertools import combinations
+
 from model_parts.account import (
     MAX_CLIENTS, MAX_ENTRIES, MAX_MOMENT, OTHER_SIDE, Cancel, Entry, Hello, Request, Tick, arrival_of, incarnation,
     last_number, open_at, overdue, reply, stays, waiting, waiting_of)
 from model_parts.audit import broken_rule
-from model_parts.texts import NoReading, read_line, written
+from model_parts.texts import MAX_DRAIN, NoReading, read_line, written
+
+# Of so many places all lists are tried.
+FEW = 3
 
 
 def told(account, line):
@@ -113,10 +118,17 @@ def full(account, message):
 
 
 def entered(account, moment, message):
-    """The one legal account with the message's entry. Only an open place of the other side can be its partner."""
-    partners = [None]
+    """The one legal account with the message's entry. Only open places of the other side can be its partners."""
+    lists = [()]
     if isinstance(message, Request) and message.call.side in OTHER_SIDE:
-        partners += open_at(account.entries, OTHER_SIDE[message.call.side], message.call.at)
-    choices = [account.with_entry(Entry(moment, message, partner)) for partner in partners]
+        lists += lists_of(open_at(account.entries, OTHER_SIDE[message.call.side], message.call.at))
+    choices = [account.with_entry(Entry(moment, message, partners)) for partners in lists]
     [legal] = [choice for choice in choices if broken_rule(choice, len(account.entries)) is None]
     return legal
+
+
+def lists_of(places):
+    """Rising lists of some places: all there are of a few, else each place by itself, and the fronts."""
+    if len(places) <= FEW:
+        return [some for size in range(1, len(places) + 1) for some in combinations(places, size)]
+    return [*((place,) for place in places), *(tuple(places[:size]) for size in range(2, min(len(places), MAX_DRAIN + 1) + 1))]

@@ -7,6 +7,7 @@ waits, and an exchanger at most one.
 import heapq
 from collections import OrderedDict
 from dataclasses import dataclass
+from itertools import islice
 
 from model_parts.account import OTHER_SIDE, Cancel, Hello, Request, Tick, stays
 
@@ -70,17 +71,20 @@ class Tables:
     def pair_fault(self, place, entry):
         """The first rule on pairs and swaps that an entry breaks, if it breaks one."""
         call = entry.act.call if isinstance(entry.act, Request) else None
-        partner, meets = entry.partner, call is not None and call.side in OTHER_SIDE
-        if partner is not None and (not meets or partner >= place or partner in self.paired):
+        most, partners = call.may_name if call else 0, entry.partners
+        rise = all(earlier < later for earlier, later in zip(partners, partners[1:]))
+        if partners and (len(partners) > most or not rise or partners[-1] >= place or self.paired.intersection(partners)):
             return "P1"
-        if not meets:
+        if not most:
             return None
         opposites, swaps = self.opposites(call), call.side == "exchanging"
-        if partner is None:
-            return ("S2" if swaps else "P4") if opposites else None
-        if partner not in opposites:
+        if any(partner not in opposites for partner in partners):
             return "S1" if swaps else "P2"
-        return "P3" if partner != next(iter(opposites)) else None
+        if list(partners) != list(islice(opposites, len(partners))):
+            return "P3"
+        if len(partners) < min(most, len(opposites)):
+            return "S2" if swaps else "P4"
+        return None
 
     def add(self, place, entry):
         """Takes an entry that breaks no rule."""
@@ -101,9 +105,10 @@ class Tables:
 
     def arrive(self, place, entry, call):
         """An arrival meets its partner, or is open where it stays."""
-        if entry.partner is not None:
-            self.paired |= {place, entry.partner}
-            self.close(entry.partner)
+        if entry.partners:
+            self.paired |= {place, *entry.partners}
+            for partner in entry.partners:
+                self.close(partner)
         elif stays(call):
             self.open.setdefault((call.side, call.at), OrderedDict())[place] = None
             if call.word != "put":

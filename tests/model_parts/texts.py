@@ -3,16 +3,18 @@ import json
 
 from model_parts.account import Call, Cancel, Hello, Key, Request
 
-MAX_BODY_BYTES = 4096
+MAX_BODY_BYTES = 65_535
 MAX_ITEM_BYTES = 512
 MAX_DEPTH = 127
 MAX_PLACE = 63
 MAX_IDENTIFIER = 2**53 - 1
 MAX_WAIT = 86_400_000
+MAX_DRAIN = 16
 CALLS = {
     "put": {"queue", "item"},
     "transfer": {"queue", "item", "wait"},
     "take": {"queue", "wait"},
+    "drain": {"queue", "max"},
     "swap": {"exchanger", "item", "wait"},
     "count": {"queue"},
     "peek": {"queue"},
@@ -41,7 +43,7 @@ def members_of(message):
 
 def members_of_call(call):
     """The members of a call."""
-    more = {"item": call.item, "wait": call.wait}
+    more = {"item": call.item, "wait": call.wait, "max": call.max}
     present = {name: value for name, value in more.items() if value is not None}
     return {"call": call.word, "exchanger" if call.word == "swap" else "queue": call.at, **present}
 
@@ -87,7 +89,7 @@ def read_call(members):
     if "wait" in members and wait not in ("now", "forever"):
         whole(wait, 0, MAX_WAIT)
     demand((word, wait) != ("swap", "now"))
-    return Call(word, at, item, wait)
+    return Call(word, at, item, wait, whole(members["max"], 1, MAX_DRAIN) if "max" in members else None)
 
 
 def whole(value, least, most):

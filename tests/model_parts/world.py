@@ -3,7 +3,7 @@ of a world after every list of events. Each epoch's account is that of the steps
 from dataclasses import dataclass, field
 
 from model_parts.account import (
-    Account, Call, Cancel, Hello, Key, Request, arrival_of, arrivals, met_with, open_at, reply)
+    Account, Call, Cancel, Hello, Key, Request, arrival_of, arrivals, is_open, met_with, open_at, reply)
 from model_parts.audit import audit
 from model_parts.steps import refused, step
 from model_parts.texts import (
@@ -39,7 +39,8 @@ class Outstanding:
 
 @dataclass
 class World:
-    """What was ever opened, started, begun, held and sent. The last account is the present epoch's."""
+    """What was ever opened, started, begun, held and sent, and the keys that were told to wait, each with the account that
+    the step left. The last account is the present epoch's."""
 
     accounts: list = field(default_factory=lambda: [Account(1, 0)])
     started: list = field(default_factory=list)
@@ -48,6 +49,7 @@ class World:
     held: list = field(default_factory=list)
     to_server: list = field(default_factory=list)
     to_client: list = field(default_factory=list)
+    waits: list = field(default_factory=list)
 
     def play(self, line):
         """The result of a line."""
@@ -109,6 +111,8 @@ class World:
         self.accounts[-1], answer = step(self.accounts[-1], moment, message)
         client = message.client if isinstance(message, Hello) else message.key.client
         self.to_client.append((client, answer))
+        if answer["kind"] == "waiting":
+            self.waits.append((key_of(answer), self.accounts[-1]))
         return f"answered {len(self.to_client) - 1} {written(answer)}"
 
     def do_client(self, packet):
@@ -220,12 +224,12 @@ def read_event(line):
 
 def pairs(account):
     """The pairs and swaps of an account, each as its place and its two arrivals."""
-    return [(p, entry.partner) for p, entry in enumerate(account.entries) if entry.partner is not None]
+    return [(p, partner) for p, entry in enumerate(account.entries) for partner in entry.partners]
 
 
 def world_fault(world):
     """What a world breaks of the headline, if something."""
-    for part in [two_replies, illegal, unassigned, after_a_no, disorder]:
+    for part in [two_replies, illegal, unassigned, after_a_no, disorder, no_wait]:
         fault = part(world)
         if fault:
             return f"{part.__name__}: {fault}"
@@ -263,19 +267,33 @@ def unassigned(world):
     """A transfer that was received by nobody, or an item that is not its one giver's, or that a partner got else."""
     calls = dict(world.asked)
     for key, told in world.answered():
-        if told["reply"] not in ("received", "item", "swapped"):
+        if told["reply"] not in ("received", "item", "drained", "swapped"):
             continue
         account = world.account_of(key.epoch)
         r = arrival_of(account.entries, key)
-        others = [q if r == p else p for p, q in pairs(account) if r in (p, q)]
-        if len(others) != 1:
+        others = sorted(q if r == p else p for p, q in pairs(account) if r in (p, q))
+        if len(others) != len(told.get("texts", [None])):
             return f"{key} was answered {told}, and is in {len(others)} pairs"
-        other = account.entries[others[0]].act
-        if told["reply"] == "received" and reply(account.entries, other.key).get("item") != calls[key].item:
-            return f"{key} was answered received, and {other.key} got another item"
-        if told["reply"] != "received" and told["item"] != calls[other.key].item:
-            return f"{key} was answered {told}, and {other.key} gave another item"
+        acts = [account.entries[other].act for other in others]
+        if told["reply"] == "received" and got_of(account, r, acts[0].key) != calls[key].item:
+            return f"{key} was answered received, and {acts[0].key} got another item"
+        gave = [calls[act.key].item for act in acts]
+        if told["reply"] != "received" and texts_of(told) != gave:
+            return f"{key} was answered {told}, and was given {gave}"
     return None
+
+
+def texts_of(told):
+    """The texts of a reply."""
+    return told["texts"] if "texts" in told else [told["item"]]
+
+
+def got_of(account, giver, taker):
+    """What a taker got from a giver: its item, or of a drain's texts the one in the giver's place; none where it got
+    none there."""
+    places = met_with(account.entries, arrival_of(account.entries, taker))
+    told = reply(account.entries, taker)
+    return dict(zip(places, texts_of(told))).get(giver) if {"item", "texts"} & told.keys() else None
 
 
 def after_a_no(world):
@@ -284,13 +302,14 @@ def after_a_no(world):
         entries = world.account_of(key.epoch).entries
         r = arrival_of(entries, key)
         looks = r is not None and entries[r].act.call.side == "looking"
-        if told["reply"] in NOES and r is not None and not looks and met_with(entries, r) is not None:
+        if told["reply"] in NOES and r is not None and not looks and met_with(entries, r):
             return f"{key} was answered {told}, and was met"
     return None
 
 
 def disorder(world):
-    """Two pairs of one queue whose takers do not follow their givers, or a giver that was passed over."""
+    """Two pairs of one queue whose takers do not follow their givers, unless one drain is both, or a giver that was
+    passed over."""
     for account in world.accounts:
         by_queue = {}
         for p, q in pairs(account):
@@ -299,13 +318,31 @@ def disorder(world):
                 g, t = (p, q) if call.side == "giving" else (q, p)
                 by_queue.setdefault(call.at, []).append((g, t, p))
         for queue, met in by_queue.items():
-            met.sort()
-            for (_, t, p), (_, later_t, later_p) in zip(met, met[1:]):
-                if t >= later_t or p >= later_p:
-                    return f"epoch {account.epoch}, queue {queue}: places {p} and {later_p}"
-            for g, _, p in met:
-                if any(r < g for r in open_at(account.entries[:p], "giving", queue)):
-                    return f"epoch {account.epoch}, queue {queue}: place {p} passes one over"
+            fault = queue_disorder(account.entries, queue, sorted(met))
+            if fault:
+                return f"epoch {account.epoch}, queue {queue}: {fault}"
+    return None
+
+
+def queue_disorder(entries, queue, met):
+    """What is out of order among the pairs of one queue, each a giver, a taker and a place, if something is."""
+    for (_, t, p), (_, later_t, later_p) in zip(met, met[1:]):
+        is_one_drain = t == later_t and entries[t].act.call.word == "drain"
+        if not is_one_drain and t >= later_t or p > later_p:
+            return f"places {p} and {later_p}"
+    for g, _, p in met:
+        paired = {giver for giver, _, place in met if place == p}
+        if any(r < g and r not in paired for r in open_at(entries[:p], "giving", queue)):
+            return f"place {p} passes one over"
+    return None
+
+
+def no_wait(world):
+    """A key that was told to wait, and did not wait in the account that the step left."""
+    for key, account in world.waits:
+        r = arrival_of(account.entries, key)
+        if r is None or account.entries[r].act.call.word == "put" or not is_open(account.entries, r):
+            return f"{key} was told to wait"
     return None
 
 

@@ -7,7 +7,7 @@ import time
 from model_parts.account import Key
 from serve_parts.programs import Server
 from serve_parts.wire import (
-    cancel, demand, frame, give, hello, key_of, members_of, reply_of, request, swap, take, together,
+    cancel, demand, drain, frame, give, hello, key_of, members_of, reply_of, request, swap, take, together,
     welcome)
 
 SIZES = (4, 10, 25, 60)
@@ -15,6 +15,7 @@ REQUESTS = 8
 # Connections that a crowd may make, for each of its clients; what is left is used up at the end.
 CONNECTIONS = 80
 QUEUES, EXCHANGERS = (3, 4, 63), (0, 5)
+MAXIMA = (1, 2, 2, 3, 16)
 # Replies after which an item goes to nobody.
 NOES = ("timedout", "cancelled", "nobody")
 WAITS = ["now", "now", "now", 0, 1, 3, 10, 10, 30, 60, 200, "forever", "forever", "forever"]
@@ -95,12 +96,14 @@ class Client:
         """The members of a call; its item names who gives it."""
         key, chance = self.next_key(), self.chance
         item, wait = f"{key.client}/{key.incarnation}#{key.number}", chance.choice(WAITS)
-        word = chance.choice(["put", "transfer", "transfer", "take", "take", "take", "swap", "count", "peek"])
+        word = chance.choice(["put", "transfer", "transfer", "take", "take", "take", "drain", "swap", "count", "peek"])
         if word == "swap":
             return swap(item, wait if wait != "now" else 0, chance.choice(EXCHANGERS))
         queue = chance.choice(QUEUES)
         if word == "take":
             return take(wait, queue)
+        if word == "drain":
+            return drain(chance.choice(MAXIMA), queue)
         return give(word, item, wait, queue) if word in ("put", "transfer") else {"call": word, "queue": queue}
 
     def settle(self, call):
@@ -210,7 +213,7 @@ class Client:
             self.ledger.tell(key, reply_of(answer))
 
 
-def drain(server, ledger, number):
+def take_the_rest(server, ledger, number):
     """Takes all that is left, in order; the items of each queue."""
     left = {queue: [] for queue in QUEUES}
     with server.greeted(number) as peer:
@@ -231,7 +234,7 @@ def drain(server, ledger, number):
 
 def crowd_fault(ledger, left):
     """What of all that was told cannot be, if something."""
-    for part in [wrong_kinds, twice_taken, after_a_no, unassigned, lost, untrue_swaps, disorder]:
+    for part in [wrong_kinds, wrong_texts, twice_taken, after_a_no, unassigned, lost, untrue_swaps, disorder]:
         fault = part(ledger, left)
         if fault:
             return f"{part.__name__.replace('_', ' ')}: {fault}"
@@ -239,7 +242,7 @@ def crowd_fault(ledger, left):
 
 
 REPLIES = {"put": ("done",), "transfer": ("received", *NOES), "take": ("item", "empty", "timedout", "cancelled"),
-           "swap": ("swapped", "timedout", "cancelled"), "count": ("counted",), "peek": ("peeked", "empty")}
+           "drain": ("drained",), "swap": ("swapped", "timedout", "cancelled"), "count": ("counted",), "peek": ("peeked", "empty")}
 
 
 def told_of(ledger, *words):
@@ -249,8 +252,13 @@ def told_of(ledger, *words):
 
 def taken(ledger):
     """Each item that was told to a consumer, with the consumer's key and its queue."""
-    takes = told_of(ledger, "take")
-    return [(told["item"], key, call["queue"]) for key, call, told in takes if told and told["reply"] == "item"]
+    takes = [(key, call, told) for key, call, told in told_of(ledger, "take", "drain") if told]
+    return [(item, key, call["queue"]) for key, call, told in takes for item in texts_of(told)]
+
+
+def texts_of(told):
+    """The items that a consumer was told."""
+    return {"item": [told.get("item")], "drained": told.get("texts")}.get(told["reply"], [])
 
 
 def wrong_kinds(ledger, left):
@@ -263,10 +271,23 @@ def wrong_kinds(ledger, left):
                 return f"{key} has no reply"
         elif told["reply"] not in (*REPLIES[call["call"]], "cancelled"):
             return f"{key} {call} was told {told}"
-        elif "item" in told:
+        elif "item" in told or "texts" in told:
             place = (call["call"] == "swap", call.get("queue", call.get("exchanger")))
-            if items.get(told["item"]) != place:
+            if any(items.get(text) != place for text in told.get("texts", [told.get("item")])):
                 return f"{key} {call} was told {told}, which was not given there"
+    return None
+
+
+def wrong_texts(ledger, left):
+    """A drain that was told more than it may take, or items of one client out of their order."""
+    for key, call, told in told_of(ledger, "drain"):
+        texts = texts_of(told) if told else []
+        if len(texts) > call.get("max", 0):
+            return f"{key} {call} was told {told}"
+        givers = [text.split("#") for text in texts]
+        for number, (giver, given) in enumerate(givers):
+            if any(giver == earlier and int(given) <= int(before) for earlier, before in givers[:number]):
+                return f"{key} was told {told}, out of order"
     return None
 
 
@@ -289,8 +310,9 @@ def after_a_no(ledger, left):
 
 
 def open_takes(ledger, queue):
-    """How many takes of a queue were given up: each may have got an item that nobody was told."""
-    return sum(told is None and call["queue"] == queue for _, call, told in told_of(ledger, "take"))
+    """How many items the takes and drains of a queue that were given up may have got: nobody was told these."""
+    given_up = [call for _, call, told in told_of(ledger, "take", "drain") if told is None]
+    return sum(call.get("max", 1) for call in given_up if call["queue"] == queue)
 
 
 def unassigned(ledger, left):
@@ -362,7 +384,7 @@ def one_crowd(program, size, chance):
     with Server(program, workers=size, connections=CONNECTIONS * size, epoch=epoch) as server:
         clients = [Client(server, ledger, number, random.Random(chance.random())) for number in range(1, size + 1)]
         together(*(client.run for client in clients))
-        left = drain(server, ledger, size + 1)
+        left = take_the_rest(server, ledger, size + 1)
         server.use_up()
         fault = crowd_fault(ledger, left)
         demand(not fault, f"of {size}: {fault}")

@@ -53,14 +53,16 @@ class Hostile:
         """Good frames and a bad length: they are answered, and the connection ends."""
         data, answers = self.good()
         with self.server.connect() as peer:
-            peer.send(data + self.chance.choice([b"\x00\x00", b"\x10\x01", b"\xff\xff", b"GET / HTTP/1.1\r\n\r\n"]))
+            peer.send(data + b"\x00\x00" + self.chance.choice([b"", b"\x00\x00", b"\xff\xff", b"GET / HTTP/1.1\r\n\r\n"]))
             self.hear(peer, answers)
             peer.expect_end()
 
     def cut_frame(self):
         """Good frames and one that is cut: they are answered."""
         data, answers = self.good()
-        cut = frame(hello(self.client))[: self.chance.randint(1, 44)]
+        whole = frame(hello(self.client))
+        cut = self.chance.choice([whole[: self.chance.randint(1, 44)], b"\x10\x01", b"\xff\xff" + whole,
+                                  b"GET / HTTP/1.1\r\n\r\n"])
         with self.server.connect() as peer:
             peer.send(data + cut)
             peer.end()
@@ -71,7 +73,7 @@ class Hostile:
         """Frames of any bytes are answered as bad text, and good ones between them as ever."""
         data, answers = self.good()
         count = self.chance.randint(1, 20)
-        bodies = [b"\xff" + self.bytes(0, self.chance.choice([10, 4095])) for _ in range(count)]
+        bodies = [b"\xff" + self.bytes(0, self.chance.choice([10, 10, 4095, 65_534])) for _ in range(count)]
         with self.server.connect() as peer:
             peer.send(data + b"".join(map(frame, bodies)) + data)
             self.hear(peer, [*answers, *[BAD_TEXT] * count, *answers])

@@ -105,7 +105,7 @@ def one_connection(program, chance):
 
 def shape(account: Account):
     """What an account has beside its moments."""
-    return [(entry.act, entry.partner) for entry in account.entries]
+    return [(entry.act, entry.partners) for entry in account.entries]
 
 
 def frames_in_pieces(program, seed):

@@ -7,8 +7,8 @@ import time
 from model_parts.account import Key
 from serve_parts.programs import Server, free_port
 from serve_parts.wire import (
-    BAD_TEXT, MAX_FRAME, PATIENCE, Peer, cancel, demand, frame, give, hello, key_of, members_of, replied, reply_of,
-    request, take, together, until, waits, welcome)
+    BAD_TEXT, MAX_FRAME, PATIENCE, Peer, cancel, demand, drain, frame, give, hello, key_of, members_of, replied,
+    reply_of, request, take, together, until, waits, welcome)
 
 GREATEST = 2**53 - 1
 FRAMES = 65_536
@@ -49,6 +49,32 @@ def a_consumer_that_waits(program):
             got = taker.hear()
             demand(got == replied(two, reply="item", item="a"), f"the take that waited was answered {got!r}")
         server.judged({one: give("put", "a"), two: take("forever")}, [])
+
+
+def a_drain(program):
+    """It takes the oldest items in one step, of a transfer that waits in another connection too, which is told so in its own
+    frame; its repeat is told the same, and what it did not take stays. Its longest reply comes in one frame."""
+    with Server(program, workers=2, connections=2) as server:
+        one, two = (lambda number: Key(1, 1, 1, number)), (lambda number: Key(1, 2, 1, number))
+        asked = {one(1): give("put", "a"), one(2): give("transfer", "b", "forever"), two(1): drain(16), two(2): drain(1)}
+        told = [(two(1), {"reply": "drained", "texts": ["a", "b"]}), (two(2), {"reply": "drained", "texts": []})]
+        with server.greeted(1) as giver, server.greeted(2) as taker:
+            giver.expect(request(one(1), asked[one(1)]), replied(one(1), reply="done"))
+            giver.send(frame(request(one(2), asked[one(2)])))
+            time.sleep(0.2)
+            for key, reply in [told[0], told[0], told[1]]:
+                taker.expect(request(key, asked[key]), replied(key, **reply))
+            got = giver.hear()
+            demand(got == replied(one(2), reply="received"), f"the transfer that was drained was answered {got!r}")
+            for number in range(3, 20):
+                asked[one(number)] = give("put", "\x01" * 512)
+                giver.expect(request(one(number), asked[one(number)]), replied(one(number), reply="done"))
+            for number, count in [(3, 16), (4, 1)]:
+                asked[two(number)] = drain(16)
+                texts = {"reply": "drained", "texts": ["\x01" * 512] * count}
+                taker.expect(request(two(number), asked[two(number)]), replied(two(number), **texts))
+                told.append((two(number), texts))
+        server.judged(asked, told)
 
 
 def a_request_that_waits_alone(program):
@@ -133,14 +159,14 @@ def long_texts(program):
 
 def ends_of_connections(program):
     """Frames before a cut frame or a bad length are answered, and nothing behind it."""
-    ends = [b"", b"\x00", b"\x00\x2b{", b"\x00\x00", b"\x10\x01", b"\xff\xff", b"\x00\x00" + frame(hello(1)),
-            b"\x10\x01" + 5000 * b"x"]
+    cut = [b"", b"\x00", b"\x00\x2b{", b"\x10\x01", b"\xff\xff", b"\xff\xff" + 5_000 * b"x", b"\xff\xff" + 65_534 * b"x"]
+    ends = [*cut, b"\x00\x00", b"\x00\x00" + frame(hello(1)), b"\x00\x00" + 5_000 * b"x"]
     with Server(program, workers=2, connections=2 * len(ends) + 1) as server:
         for end in ends:
             for count in (0, 3):
                 with server.connect() as peer:
                     peer.send(count * frame(hello(1)) + end)
-                    if len(end) < 2 or end == b"\x00\x2b{":
+                    if end in cut:
                         peer.end()
                     for _ in range(count):
                         got = peer.hear()
@@ -379,7 +405,7 @@ def bad_words(program):
 
 
 CASES = [
-    a_hand_over, a_consumer_that_waits, a_request_that_waits_alone, many_that_wait, a_new_incarnation, long_texts,
+    a_hand_over, a_consumer_that_waits, a_drain, a_request_that_waits_alone, many_that_wait, a_new_incarnation, long_texts,
     ends_of_connections, too_many_frames, no_packet_waits, its_connections, a_late_client, a_silent_peer, many_at_once,
     a_port_that_is_taken, nobody_listens, broken_streams, addresses, bad_words,
 ]

@@ -10,7 +10,7 @@ from model_parts.texts import KEY, read_json, written
 
 # How long a client waits for bytes, for room, or for a server that is to end, in seconds.
 PATIENCE = 30
-MAX_FRAME = 4096
+MAX_FRAME = 65_535
 BAD_TEXT = b'{"code":1,"kind":"refused"}'
 
 
@@ -52,6 +52,11 @@ def give(word, item, wait=None, queue=3):
 def take(wait, queue=3):
     """The members of a take."""
     return {"call": "take", "queue": queue, "wait": wait}
+
+
+def drain(most, queue=3):
+    """The members of a drain."""
+    return {"call": "drain", "queue": queue, "max": most}
 
 
 def swap(item, wait, exchanger=5):
@@ -128,7 +133,7 @@ class Peer:
                 demand(not self.got, f"the connection ends within a frame: {self.got[:60]!r}")
                 return None
         end = 2 + int.from_bytes(self.got[:2])
-        demand(2 < end <= 2 + MAX_FRAME, f"a frame of {end - 2} bytes")
+        demand(2 < end, "a frame of no bytes")
         body, self.got = self.got[2:end], self.got[end:]
         return body
 

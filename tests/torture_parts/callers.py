@@ -5,10 +5,11 @@ import subprocess
 
 from model_parts.account import Key
 from model_parts.texts import (
-    KEY, MAX_BODY_BYTES, MAX_IDENTIFIER, MAX_ITEM_BYTES, NoReading, demand as holds, read_json, whole, written)
+    KEY, MAX_BODY_BYTES, MAX_DRAIN, MAX_IDENTIFIER, MAX_ITEM_BYTES, NoReading, demand as holds, read_json, whole, written)
 from serve_parts.accounts import account_fault
 from serve_parts.listening import Listening
-from serve_parts.wire import MAX_FRAME, PATIENCE, demand, frame, give, key_of, members_of, reply_of, swap, take, together
+from serve_parts.wire import (
+    MAX_FRAME, PATIENCE, demand, drain, frame, give, key_of, members_of, reply_of, swap, take, together)
 from torture_parts.mutants import EDGES, Mutants
 from torture_parts.system import HostileServer, System
 
@@ -29,7 +30,7 @@ def any_call(chance, item):
     wait, queue = chance.choice(["now", 0, 5, 40]), chance.choice([3, 4])
     return chance.choice([
         give("put", item, queue=queue), give("transfer", item, wait, queue), take(wait, queue), take(wait, queue),
-        swap(item, wait if wait != "now" else 0), {"call": "count", "queue": queue}, {"call": "peek", "queue": queue}])
+        drain(chance.choice([1, 3]), queue), swap(item, wait if wait != "now" else 0), {"call": "count", "queue": queue}, {"call": "peek", "queue": queue}])
 
 
 def hostile_callers(program, seed):
@@ -79,7 +80,7 @@ def one_caller(program, server, client, calls, chance):
 # ---- answers that are spoilt
 
 REPLIES = {"done": (), "received": (), "nobody": (), "item": ("item",), "empty": (), "swapped": ("item",), "timedout": (),
-           "cancelled": (), "counted": ("consumers", "items"), "peeked": ("item",)}
+           "cancelled": (), "counted": ("consumers", "items"), "peeked": ("item",), "drained": ("texts",)}
 DETAILS = {2: "current", 4: "current", 5: "last", 7: "open", 8: "last"}
 LEAST = {"last": 0, "consumers": 0, "items": 0, "code": 1}
 MOST = {"consumers": MOST_PLACES, "items": MOST_PLACES, "code": CODES}
@@ -92,8 +93,9 @@ ANSWERS = [
     {"kind": "refused", "code": 2, "current": 9}, {"kind": "refused", "code": 4, "current": 1}, {"kind": "refused", "code": 11},
     {"kind": "refused", "code": 4, "current": 3}, {"kind": "refused", "code": 5, "last": 0}, {"kind": "refused", "code": 6},
     {"kind": "refused", "code": 7, "open": 1}, {"kind": "refused", "code": 1}, {"kind": "refused", "code": 3},
+    {"kind": "reply", **OWN, "reply": "drained", "texts": ["a", "", "\n\u00e9"]},
 ]
-ITEM, COUNTED = ANSWERS[4], ANSWERS[6]
+ITEM, COUNTED, DRAINED = ANSWERS[4], ANSWERS[6], ANSWERS[17]
 # Answers that settle nothing, and how many answers a caller is sent at most.
 STILL = [ANSWERS[at] for at in (2, 5, 7, 9, 10, 12, 13, 14, 15, 16)]
 MOST_ANSWERS = 6
@@ -114,10 +116,18 @@ def read_answer(body):
     holds(members.keys() == {"kind", *names})
     for name in names:
         if name == "item":
-            holds(isinstance(members["item"], str) and len(members["item"].encode()) <= MAX_ITEM_BYTES)
+            holds(is_item(members["item"]))
+        elif name == "texts":
+            texts = members["texts"]
+            holds(isinstance(texts, list) and len(texts) <= MAX_DRAIN and all(map(is_item, texts)))
         elif name != "reply":
             whole(members[name], LEAST.get(name, 1), MOST.get(name, MAX_IDENTIFIER))
     return members
+
+
+def is_item(value):
+    """Whether a value is a text of an item."""
+    return isinstance(value, str) and len(value.encode()) <= MAX_ITEM_BYTES
 
 
 def word_of(members, name):
@@ -191,7 +201,7 @@ def answers(chance):
     """The bytes of some answers, one of them spoilt or more."""
     mutants, data = Mutants(chance), b""
     for at in range(chance.randint(2, MOST_ANSWERS)):
-        known = chance.choice([WELCOME] * 60 + ANSWERS if at == 0 else [*STILL, *ANSWERS, *[COUNTED, ITEM] * 5])
+        known = chance.choice([WELCOME] * 60 + ANSWERS if at == 0 else [*STILL, *ANSWERS, *[COUNTED, ITEM, DRAINED] * 5])
         body = written(known).encode()
         if mutants.odds(0.2 if at == 0 else 0.6):
             body = chance.choice([lambda: mutants.flipped(body), lambda: spoilt(mutants, known), mutants.shape])()
@@ -206,11 +216,15 @@ def spoilt(mutants, members):
     at = mutants.chance.randrange(len(pairs))
     name, value = pairs[at]
     least, most = LEAST.get(name, 1), MOST.get(name, MAX_IDENTIFIER)
-    edges = EDGES["item"] if name == "item" else [least, max(0, least - 1), most, most + 1]
+    edges = [least, max(0, least - 1), most, most + 1]
+    if name == "item":
+        edges = EDGES["item"]
+    elif name == "texts":
+        edges = [[], [""] * MAX_DRAIN, [""] * (MAX_DRAIN + 1), ["a", 1], [["a"]], *([text] for text in EDGES["item"])]
     number = mutants.chance.choice(edges)
     pairs[at : at + 1] = mutants.chance.choice([
         [], [(name, number)], [(name, number)], [(name, mutants.value())], [(name, value), (name, value)],
-        [(name, value), (mutants.chance.choice([*REPLIES, *LEAST, "current", "item"]), number)],
+        [(name, value), (mutants.chance.choice([*REPLIES, *LEAST, "current", "item", "texts"]), number)],
         [(name, mutants.chance.choice([*REPLIES, "welcome", "reply", "waiting", "refused"]))]])
     mutants.chance.shuffle(pairs)
     return ("{" + ",".join(f"{written(name)}:{mutants.text(value)}" for name, value in pairs) + "}").encode()

@@ -6,7 +6,7 @@ import threading
 import time
 
 from serve_parts import crowds
-from serve_parts.crowds import Ledger, crowd_fault, drain
+from serve_parts.crowds import Ledger, crowd_fault, take_the_rest
 from serve_parts.wire import cancel, demand, hello, members_of, request, together, welcome
 from torture_parts.system import HostileServer, System
 
@@ -65,7 +65,7 @@ def one_crowd(program, chance, size, beside=None, **odds):
 
         together(all_clients, *([lambda: beside(server, done)] if beside else []))
         system.be()
-        left = drain(server, ledger, size + 1)
+        left = take_the_rest(server, ledger, size + 1)
         server.no_more()
         fault = crowd_fault(ledger, left)
         demand(not fault, f"of {size}: {fault}")

@@ -8,10 +8,11 @@ from model_parts.account import Account
 from model_parts.broken_lines import EXAMPLE
 from model_parts.lines import account_text
 from model_parts.plays import Play
+from model_parts.rows import drain_texts
 from model_parts.scripts import (
     BYTES, ESCAPES, FURTHER, LETTERS, NUMERALS, TEXTS, VALUES, Script)
 from model_parts.steps import told
-from model_parts.texts import MAX_IDENTIFIER, MAX_ITEM_BYTES, MAX_PLACE, MAX_WAIT, written
+from model_parts.texts import MAX_DRAIN, MAX_IDENTIFIER, MAX_ITEM_BYTES, MAX_PLACE, MAX_WAIT, written
 from model_parts.verdicts import verdict
 from model_parts.world import World
 from serve_parts.programs import Server
@@ -22,18 +23,22 @@ BOOK, PLAY, ACCOUNTS, STREAM = 60, 60, 20, 24
 # Streams, each over a connection, to one server.
 STREAMS = 8
 AT_ONCE = 2
+# The account of three drains: two items, one item, and none.
+DRAINS = next(drain_texts())[0].encode()
 KEY = {"client": 1, "epoch": 1, "incarnation": 1, "number": 1}
 SHAPES = [
     {"kind": "hello", "client": 1, "incarnation": 1},
     {"kind": "request", **KEY, "call": "put", "item": "a", "queue": 3},
     {"kind": "request", **KEY, "call": "transfer", "item": "a", "queue": 3, "wait": "now"},
     {"kind": "request", **KEY, "call": "take", "queue": 3, "wait": 0},
+    {"kind": "request", **KEY, "call": "drain", "max": 16, "queue": 3},
     {"kind": "request", **KEY, "call": "swap", "exchanger": 63, "item": "a", "wait": 5},
     {"kind": "request", **KEY, "call": "count", "queue": 3},
     {"kind": "request", **KEY, "call": "peek", "queue": 3},
     {"kind": "cancel", **KEY},
     {"kind": "welcome", "client": 1, "epoch": 1, "incarnation": 1},
     {"kind": "reply", **KEY, "reply": "item", "item": "a"},
+    {"kind": "reply", **KEY, "reply": "drained", "texts": ["a", ""]},
     {"kind": "waiting", **KEY},
     {"kind": "refused", "code": 4, "current": 2},
 ]
@@ -42,6 +47,7 @@ IDENTIFIERS = [0, 1, MAX_IDENTIFIER, MAX_IDENTIFIER + 1]
 EDGES = {
     **dict.fromkeys(KEY, IDENTIFIERS),
     **dict.fromkeys(("queue", "exchanger"), [0, MAX_PLACE, MAX_PLACE + 1, 2**64]),
+    "max": [0, 1, MAX_DRAIN, MAX_DRAIN + 1],
     "wait": ["now", "forever", 0, 1, MAX_WAIT, MAX_WAIT + 1],
     "item": ["", "x" * MAX_ITEM_BYTES, "x" * (MAX_ITEM_BYTES + 1), "\u00e9" * 256, "\u00e9" * 257],
 }
@@ -203,7 +209,7 @@ def accounts(program, chance, count):
     mutants, script = Mutants(chance), Script(chance, 1)
     for _ in range(chance.choice([3, 8, 15, 25])):
         script.line()
-    whole = chance.choice([EXAMPLE, *[account_text(script.account)] * 4])
+    whole = chance.choice([EXAMPLE, DRAINS, *[account_text(script.account)] * 4])
     for _ in range(min(count, ACCOUNTS)):
         text = spoilt_account(mutants, whole.split(b"\n")[:-1])
         wanted = verdict(text)
@@ -237,7 +243,10 @@ def of_fields(mutants, lines, at):
     fields, other = (line.split(b" ", 2) for line in (lines[at], mutants.chance.choice(lines)))
     name = mutants.chance.randrange(len(fields))
     number = mutants.chance.choice([0, 1, 2, max(0, at - 1), max(0, at - 2), at, 99_999, 100_000, 2**62, 2**62 + 1])
-    if name < 2 and mutants.odds(0.6):
+    if name == 1 and mutants.odds(0.3):
+        more = b"%d" % mutants.chance.choice([max(0, at - 2), number])
+        fields[1] = mutants.chance.choice([fields[1] + b"," + more, more + b"," + fields[1], fields[1].partition(b",")[2]])
+    elif name < 2 and mutants.odds(0.6):
         fields[name] = mutants.chance.choice([b"-", b"%d" % number])
     else:
         fields[name : name + 1] = other[name : name + 1]
@@ -330,7 +339,7 @@ def hear(server, stream):
 
 def shape(account):
     """What an account has beside its moments."""
-    return [(entry.act, entry.partner) for entry in account.entries]
+    return [(entry.act, entry.partners) for entry in account.entries]
 
 
 def case_of(part):

@@ -59,7 +59,7 @@ form_of line digits body parts lacks decided = elim decided [
 pub has_form : (line : List ℕ) → HasForm line ⊎ (HasForm line → ⊥)
 has_form line = elim (first_of 32 line) [
   | inl found ↦ form_of line found.0 found.1 found.2 found.3
-      (both (digits_or_not found.0) (both (at_most 1 (length found.1)) (at_most (length found.1) 4096)))
+      (both (digits_or_not found.0) (both (at_most 1 (length found.1)) (at_most (length found.1) 65535)))
   | inr lacks ↦ inr (λ form. not_lacking 32 form.digits form.body (subst (Lacks 32) form.parts lacks))
 ]
 

@@ -4,7 +4,7 @@ use Rattle.std.proofs.lemmas.List.{take-append-le}
 use Rattle.std.specs.Io.KnownBytes.{Appends, append_known}
 use Rattle.std.proofs.KnownBytes.{Appends-trans}
 use Rattle.rv_text.specs.declared.answer.Refusal.TheVariants.{BadText, NoMemory}
-use Rattle.rv_book.specs.Account.{Account}
+use Rattle.rv_account.specs.Account.{Account}
 use Rattle.rv_text.specs.Bodies.{HasBodyLength}
 use Rattle.rv_frame.specs.declared.sink.Sink.{Sink}
 use Rattle.rv_frame.specs.Sink.{SinkTakes, sink_contents}
@@ -47,7 +47,7 @@ pub record Progress (contents : Option (List ℕ)) (a : Account) (input : List �
   pub run : Runs a first bodies b
   pub took : Appends contents (append_known now waiting) (printed bodies)
   pub count : sent + length waiting ≡ length (printed bodies)
-  pub small : sent + length waiting + 4097 * length rest ≤ 4097 * length input
+  pub small : sent + length waiting + 65536 * length rest ≤ 65536 * length input
 
 pub progress_start : (contents : Option (List ℕ)) (a : Account) (input waiting : List ℕ) (sent : ℕ) → waiting ≡ [] → sent + length waiting ≡ 0 → Progress contents a input contents a input waiting sent
 progress_start contents a input waiting sent none zero = record {

@@ -1,7 +1,7 @@
 -- The lines that an audit prints.
 use Rattle.std.proofs.Common.{◌≡◌, ◌<◌, ℕ, Bool, true, false, List, [], ◌∷◌, ◌++◌, refl, sym, ap, ◌∙◌, append_assoc, arith, length, length-append, codes}
 use Rattle.std.specs.Fmt.{decimal}
-use Rattle.rv_book.specs.Account.{Account}
+use Rattle.rv_account.specs.Account.{Account}
 use Rattle.rv_audit.specs.declared.rule.Rule.{Rule}
 use Rattle.rv_audit.specs.Breaking.{FirstFault, name_of}
 use Rattle.rv_lines.specs.Lines.{lines}

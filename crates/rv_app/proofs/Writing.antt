@@ -6,8 +6,8 @@ use Rattle.std.specs.Io.KnownBytes.{Appends, append_known}
 use Rattle.std.proofs.KnownBytes.{Appends-trans}
 use Rattle.rv_frame.specs.declared.sink.Sink.{Sink}
 use Rattle.rv_frame.specs.Sink.{SinkTakes, sink_contents, sink_failed}
-use Rattle.rv_book.specs.declared.account.Entry.{Entry}
-use Rattle.rv_book.specs.Account.{Account}
+use Rattle.rv_account.specs.declared.entry.Entry.{Entry}
+use Rattle.rv_account.specs.Account.{Account}
 use Rattle.rv_book.proofs.Places.{within}
 use Rattle.rv_lines.specs.Lines.{printed}
 use Rattle.rv_lines.specs.Written.{account_lines, entry_text}
@@ -48,11 +48,11 @@ pub record Wrote (contents : Option (List ℕ)) (a : Account) (now : Option (Lis
   pub inside : place ≤ length a.entries
   pub took : Appends contents (append_known now waiting) (printed (take many (account_lines a)))
   pub count : sent + length waiting ≡ length (printed (take many (account_lines a)))
-  pub small : sent + length waiting ≤ 4160 * (place + 1)
+  pub small : sent + length waiting ≤ 65727 * (place + 1)
 
 module _ {contents : Option (List ℕ)} {a : Account} {now : Option (List ℕ)} {place : ℕ} {waiting : List ℕ} {sent : ℕ} (so_far : Wrote contents a now place waiting sent) where
   pub wrote_more : (now' : Option (List ℕ)) (waiting' text : List ℕ) (e : Entry) (sent' : ℕ) → slice_get a.entries place ≡ Some e → text ≡ entry_text e
-      → Appends (append_known now waiting) (append_known now' waiting') (text ++ 10 ∷ []) → sent' + length waiting' ≡ sent + length waiting + length text + 1 → length text < 4160
+      → Appends (append_known now waiting) (append_known now' waiting') (text ++ 10 ∷ []) → sent' + length waiting' ≡ sent + length waiting + length text + 1 → length text < 65727
       → Wrote contents a now' (place + 1) waiting' sent'
   wrote_more now' waiting' text e sent' there is took count short =
       let front = take so_far.many (account_lines a) in

@@ -2,7 +2,7 @@
 use Rattle.std.specs.Prelude.{ℕ, ◌≡◌, ◌<◌, true, List, Option, length, take}
 use Rattle.rv_frame.specs.declared.sink.Sink.{Sink}
 use Rattle.rv_frame.specs.Sink.{SinkTakes, sink_failed}
-use Rattle.rv_book.specs.Account.{Account}
+use Rattle.rv_account.specs.Account.{Account}
 use Rattle.rv_lines.specs.Lines.{printed}
 use Rattle.rv_lines.specs.Written.{account_lines}
 use Rattle.rv_run.specs.declared.fault.RunFault.{RunFault}

@@ -4,7 +4,7 @@ use Rattle.rv_frame.specs.declared.sink.Sink.{Sink}
 use Rattle.rv_frame.specs.declared.source.Source.{Source}
 use Rattle.rv_frame.specs.Sink.{SinkTakes, sink_failed}
 use Rattle.rv_frame.specs.Source.{source_remaining}
-use Rattle.rv_book.specs.Account.{Account}
+use Rattle.rv_account.specs.Account.{Account}
 pub use Rattle.rv_run.specs.Input.{FailedReading, FoundTooLong, LackedMemory, ReadsAll, max_input}
 use Rattle.rv_app.specs.Run.{Prints, opened_account}
 

@@ -4,7 +4,7 @@ use Rattle.rv_text.specs.declared.answer.Answer.{Answer}
 use Rattle.rv_text.specs.declared.answer.Refusal.TheVariants.{BadText, NoMemory}
 use Rattle.rv_text.specs.declared.message.Message.{Message}
 use Rattle.rv_text.specs.Bodies.{answer_text, refused_text}
-use Rattle.rv_book.specs.Account.{Account}
+use Rattle.rv_account.specs.Account.{Account}
 use Rattle.rv_book.specs.Steps.{Next}
 pub use Rattle.rv_lines.specs.Lines.{printed}
 use Rattle.rv_app.specs.Lines.{HasForm, IsBadLine, ReadsLine, lines}

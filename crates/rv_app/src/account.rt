@@ -44,7 +44,7 @@ fn write_lines<W: Write>(
 ) -> Result<(), RunFault>
     requires fits { FitsLines account.now.account }
     requires head { head.now ≡ head_text account.now.account.epoch account.now.account.opened }
-    requires short { length head.now < 4160 }
+    requires short { length head.now < 65727 }
     requires nothing_gathered { gathered output.old ≡ [] }
     requires nothing_sent { taken_in output.old ≡ 0 }
     ensures all { OnOk result (WritesAll W.contents account.now.account sink.old sink.new) }

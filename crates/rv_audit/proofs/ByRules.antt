@@ -4,8 +4,8 @@ use Rattle.std.specs.List.{slice_get}
 use Rattle.std.proofs.lemmas.Bool.{cases_lt, cases_order}
 use Rattle.std.proofs.lemmas.List.{take-take}
 use Rattle.std.proofs.lemmas.Option.{same_Some}
-use Rattle.rv_book.specs.declared.account.Entry.{Entry}
-use Rattle.rv_book.specs.Account.{Account}
+use Rattle.rv_account.specs.declared.entry.Entry.{Entry}
+use Rattle.rv_account.specs.Account.{Account}
 use Rattle.rv_book.specs.Legal.{before, Legal, MayFollow}
 use Rattle.rv_book.proofs.Fronts.{Legal-before, read_whole}
 use Rattle.rv_audit.specs.declared.rule.Audit.TheVariants as tells

@@ -1,11 +1,11 @@
 -- What is left in an audit's tables when a place is taken out of them.
-use Rattle.std.proofs.Common.{◌≡◌, ◌⊎◌, inl, inr, ℕ, ◌<◌, Bool, true, false, cond, nat_eq, List, Option, Some, None, IfSome, IfNone, take, option_and_then, refl, sym, ap, subst, ◌∙◌, arith}
+use Rattle.std.proofs.Common.{◌≡◌, ◌⊎◌, inl, inr, ℕ, ◌<◌, ◌≤◌, Bool, true, false, cond, nat_eq, List, length, get_or, ◌+◌, Option, Some, None, IfSome, IfNone, take, option_and_then, refl, sym, ap, subst, ◌∙◌, arith}
 use Rattle.std.proofs.lemmas.Bool.{false≢true}
 use Rattle.std.proofs.lemmas.Bool.Decides.{nat_tests}
 use Rattle.std.proofs.lemmas.Option.{same_Some}
 use Rattle.rv_text.specs.declared.call.Side.{Side}
-use Rattle.rv_book.specs.declared.account.Entry.{Entry}
-use Rattle.rv_book.specs.Account.{Account}
+use Rattle.rv_account.specs.declared.entry.Entry.{Entry}
+use Rattle.rv_account.specs.Account.{Account, Among}
 use Rattle.rv_book.specs.Legal.{IsDueAt}
 use Rattle.rv_book.specs.Waiting.{SideAt, limit_at, limit_in}
 use Rattle.rv_book.proofs.Deciding.{same_side}
@@ -14,9 +14,10 @@ use Rattle.rv_book.proofs.Growing.{call_read}
 use Rattle.rv_book.proofs.Numbers.{same_or_not}
 use Rattle.rv_book.proofs.Places.{get-take}
 use Rattle.rv_book.proofs.Sides.{one_side}
+use Rattle.rv_audit.proofs.Named.{all_first, first_back, first_on, first_own, none_first, one_at}
 use Rattle.rv_audit.specs.Lines.{Closes, stands_in}
 use Rattle.rv_audit.specs.Marks.{IsLeast, Loses, marked}
-use Rattle.rv_audit.specs.Passed.{AreLimits, AreLines, AreMet, AreSessions, AreTables, ClosesIf, Gone, IsArrived, IsFitting, IsFront, IsTakingOut, LosesIf, SameRest, TakesOut, gone_at, none_gone, passed, with_gone, with_tables}
+use Rattle.rv_audit.specs.Passed.{AmongFirst, AreLimits, AreLines, AreMet, AreSessions, AreTables, ClosesIf, Gone, IsArrived, IsFitting, IsFront, IsTakingOut, LosesIf, SameRest, TakesEach, TakesOut, gone_at, none_gone, passed, with_gone, with_tables}
 use Rattle.rv_audit.specs.declared.front.Front.{Front}
 use Rattle.rv_audit.specs.declared.lines.Lines.{Lines}
 use Rattle.rv_audit.specs.declared.marks.Marks.{Marks}
@@ -176,3 +177,57 @@ passed_limit whole n place arrived = ap (option_and_then limit_in) (get-take who
 pub found_limit : (has found : Option ℕ) (limit : ℕ) → IsFitting has found → limit < 18446744073709551616 → has ≡ Some limit → found ≡ Some limit
 found_limit has None limit is fits there = absurd (is limit fits there)
 found_limit has (Some l) limit is fits there = sym is.0 ∙ there
+
+-- ---- places of a list
+
+pub takes_none : (start : Front) (places : List ℕ) → IsFront start → TakesEach (AmongFirst places 0) start start
+takes_none start places front = record {
+  gone = none_gone;
+  are = λ r. (λ went. absurd (false≢true went), λ among. absurd (none_first places r among));
+  rest = refl;
+  tables = front;
+}
+
+gone_own : (gone : Gone) (place r : ℕ) → r ≡ place → with_gone gone place r ≡ true
+gone_own gone place r same = ap (λ b. cond b true (gone r)) (ap (λ n. nat_eq n place) same ∙ own_gone place)
+
+gone_still : (gone : Gone) (place r : ℕ) → gone r ≡ true → with_gone gone place r ≡ true
+gone_still gone place r went = by_value (nat_eq r place)
+  where
+    by_value : (b : Bool) → cond b true (gone r) ≡ true
+    by_value true = refl
+    by_value false = went
+
+pub takes_next : (start old new : Front) (places : List ℕ) (n : ℕ) → n < length places → TakesEach (AmongFirst places n) start old → TakesOut old new (get_or places n 0)
+    → TakesEach (AmongFirst places (n + 1)) start new
+takes_next start old new places n inside is out =
+    let place = get_or places n 0 in
+    let same : passed old ≡ passed start = same_passed start old is.rest in
+    record {
+      gone = with_gone is.gone place;
+      are = λ r. (
+        λ went. elim (who_is_gone is.gone place r went) [
+          | inl here ↦ first_own places n r inside here
+          | inr before ↦ first_on places n r ((is.are r).0 before)
+        ],
+        λ among. elim (first_back places n r among) [
+          | inl before ↦ gone_still is.gone place r ((is.are r).1 before)
+          | inr here ↦ gone_own is.gone place r here
+        ],
+      );
+      rest = same_rest start old new is.rest out.rest;
+      tables = subst (λ (a : Account). AreTables a (with_gone is.gone place) new) same (out.tables is.gone (subst (λ (a : Account). AreTables a is.gone old) (sym same) is.tables));
+    }
+
+pub takes_all : (start new : Front) (places : List ℕ) (n : ℕ) → length places ≤ n → TakesEach (AmongFirst places n) start new → TakesEach (Among places) start new
+takes_all start new places n whole is = record {
+  gone = is.gone;
+  are = λ r. (λ went. let among = (is.are r).0 went in (among.0, among.2), λ among. (is.are r).1 (all_first places n r whole among));
+  rest = is.rest;
+  tables = is.tables;
+}
+
+pub still_arrived : (start old : Front) (places : List ℕ) (n : ℕ) → n < length places → TakesEach (AmongFirst places n) start old → ((p : ℕ) → Among places p → IsArrived (passed start).entries p)
+    → IsArrived (passed old).entries (get_or places n 0)
+still_arrived start old places n inside is arrived =
+    subst (λ (a : Account). IsArrived a.entries (get_or places n 0)) (sym (same_passed start old is.rest)) (arrived (get_or places n 0) (one_at places n inside))

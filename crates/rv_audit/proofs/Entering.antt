@@ -3,12 +3,12 @@ use Rattle.std.proofs.Common.{◌≡◌, ◌⊎◌, inl, inr, ℕ, ◌+◌, ◌<
 use Rattle.std.proofs.lemmas.Option.{none-some, same_Some}
 use Rattle.rv_text.specs.declared.message.Key.{Key}
 use Rattle.rv_text.specs.declared.call.Call.{Call}
-use Rattle.rv_book.specs.declared.account.Entry.{Entry}
-use Rattle.rv_book.specs.declared.account.Act.{Act}
-use Rattle.rv_book.specs.declared.account.Act.TheVariants.{Arrive, Cancel, Hello, Tick}
-use Rattle.rv_book.specs.Account.{Account, act_at, call_in, key_in}
-use Rattle.rv_book.specs.Calls.{IsPut}
-use Rattle.rv_book.specs.Legal.{IsNextNumber, Legal, MayFollow, NamesFreePartner, WaitsUnder}
+use Rattle.rv_account.specs.declared.entry.Entry.{Entry}
+use Rattle.rv_account.specs.declared.entry.Act.{Act}
+use Rattle.rv_account.specs.declared.entry.Act.TheVariants.{Arrive, Cancel, Hello, Tick}
+use Rattle.rv_account.specs.Account.{Account, act_at, call_in, key_in}
+use Rattle.rv_account.specs.Calls.{IsPut}
+use Rattle.rv_book.specs.Legal.{IsNextNumber, Legal, MayFollow, NamesFreePartners, WaitsUnder}
 use Rattle.rv_book.specs.Sessions.{HasIncarnation, LastHello, LastNumber, NamesKey, SaidHello}
 use Rattle.rv_book.specs.Waiting.{Waiting}
 use Rattle.rv_book.proofs.Growing.{act_read, call_read, reads_back, reads_within}
@@ -32,7 +32,7 @@ is_at : (es : List Entry) (client : ℕ) (s : Session) → IsSession es client s
 is_at es client s is = record { incarnation = is.incarnation; number = is.number }
 
 -- who waits with one entry more, and isn't that entry, waited
-waited : (es : List Entry) (e : Entry) (r client : ℕ) (key : Key) → NamesFreePartner es e → Waiting (es ++ e ∷ []) r → NamesKey (es ++ e ∷ []) client r key → IsApart e.act client
+waited : (es : List Entry) (e : Entry) (r client : ℕ) (key : Key) → NamesFreePartners es e → Waiting (es ++ e ∷ []) r → NamesKey (es ++ e ∷ []) client r key → IsApart e.act client
     → Waiting es r × NamesKey es client r key
 waited es e r client key free waits names apart = elim (NamesKey-back es e client r key names) [
   | inr own ↦ absurd (apart.no_key key own.1 names.of_client)
@@ -50,7 +50,7 @@ no_hello_on es e client apart none said = elim (reads_back act_read refl es e sa
   | inr own ↦ apart.no_hello said.1 own.1
 ]
 
-session_on : (es : List Entry) (e : Entry) (client : ℕ) (s : Session) → NamesFreePartner es e → IsApart e.act client → IsSession es client s → IsSession (es ++ e ∷ []) client s
+session_on : (es : List Entry) (e : Entry) (client : ℕ) (s : Session) → NamesFreePartners es e → IsApart e.act client → IsSession es client s → IsSession (es ++ e ∷ []) client s
 session_on es e client s free apart is =
     let at = IsAt-on es e client s.incarnation s.last apart (is_at es client s is) in
     record {
@@ -60,7 +60,7 @@ session_on es e client s free apart is =
       alone = λ r key waits names. let was = waited es e r client key free waits names apart in is.alone r key was.0 was.1;
     }
 
-session_of_on : (es : List Entry) (e : Entry) (client : ℕ) (s : Option Session) → NamesFreePartner es e → IsApart e.act client → IsSessionOf es client s → IsSessionOf (es ++ e ∷ []) client s
+session_of_on : (es : List Entry) (e : Entry) (client : ℕ) (s : Option Session) → NamesFreePartners es e → IsApart e.act client → IsSessionOf es client s → IsSessionOf (es ++ e ∷ []) client s
 session_of_on es e client None free apart is = no_hello_on es e client apart is
 session_of_on es e client (Some s) free apart is = session_on es e client s free apart is
 
@@ -95,8 +95,8 @@ module _ (a : Account) (e : Entry) (legal : Legal a) (follows : MayFollow a e) w
   abbrev after : List Entry
   after = a.entries ++ e ∷ []
 
-  free : NamesFreePartner es e
-  free = follows.pairs.names_free_partner
+  free : NamesFreePartners es e
+  free = follows.pairs.names_free_partners
 
   key_of : (client r : ℕ) (key : Key) → Waiting es r → NamesKey es client r key → (call : Call) × (act_at es r ≡ Some (Arrive key call)) × (Waiting es r)
   key_of client r key waits names =

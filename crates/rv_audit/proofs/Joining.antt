@@ -1,33 +1,33 @@
 -- What an audit's tables are when one more entry was passed.
-use Rattle.std.proofs.Common.{◌≡◌, ◌⊎◌, inl, inr, ℕ, zero, suc, ◌+◌, ◌-◌, ◌<◌, Bool, true, false, List, [], ◌∷◌, ◌++◌, length, take, Option, Some, None, IfSome, IsSome, is_some, option_and_then, unwrap_or, refl, sym, ap, subst, ◌∙◌, arith, length-append}
+use Rattle.std.proofs.Common.{◌≡◌, ◌⊎◌, inl, inr, ℕ, zero, suc, ◌+◌, ◌-◌, ◌<◌, Bool, true, false, List, [], ◌∷◌, ◌++◌, length, take, Option, Some, None, IsSome, option_and_then, unwrap_or, refl, sym, ap, subst, ◌∙◌, arith, length-append}
 use Rattle.std.specs.List.{slice_get}
-use Rattle.std.specs.Prelude.{slice_set}
 use Rattle.std.proofs.lemmas.Bool.{false≢true}
 use Rattle.std.proofs.lemmas.Option.{none-some, same_Some}
 use Rattle.rv_text.specs.declared.call.Call.{Call}
 use Rattle.rv_text.specs.declared.call.Side.{Side}
 use Rattle.rv_text.specs.declared.call.Side.TheVariants.{Gives, Takes, Looks, Exchanges}
 use Rattle.rv_text.specs.Calls.{side_of}
-use Rattle.rv_book.specs.declared.account.Entry.{Entry}
-use Rattle.rv_book.specs.declared.account.Act.TheVariants.{Arrive}
-use Rattle.rv_book.specs.Account.{Account, act_at, moment_at, with_entry}
-use Rattle.rv_book.specs.Calls.{Stays, opposite}
-use Rattle.rv_book.specs.Legal.{Legal, MayFollow, NamesFreePartner, before}
+use Rattle.rv_account.specs.declared.entry.Entry.{Entry}
+use Rattle.rv_account.specs.declared.entry.Act.TheVariants.{Arrive}
+use Rattle.rv_account.specs.Account.{Account, Among, Names, act_at, moment_at, with_entry}
+use Rattle.rv_account.specs.Calls.{Stays, opposite}
+use Rattle.rv_book.specs.Legal.{Legal, MayFollow, NamesFreePartners, before}
 use Rattle.rv_book.specs.Steps.{own_moment}
 use Rattle.rv_book.specs.Waiting.{Met, Open, OpenAt, StoppedAt, Waiting, limit_at, limit_in}
 use Rattle.rv_book.proofs.Deciding.{same_side}
-use Rattle.rv_book.proofs.Growing.{Met-back, Met-on, call_read, limit_on, moment_read, partner_read}
+use Rattle.rv_book.proofs.Growing.{Met-back, Met-on, NamesAt-last, call_read, limit_on, moment_read}
 use Rattle.rv_book.proofs.Keys.{act_called}
 use Rattle.rv_book.proofs.Numbers.{same_or_not}
-use Rattle.rv_book.proofs.Places.{get-append, get-append_cases, get-append_end, get-set_other, get-set_same, within}
+use Rattle.rv_book.proofs.Places.{get-append, get-append_cases, get-append_end}
 use Rattle.rv_book.proofs.Sides.{OpenAt-back, OpenAt-last, OpenAt-on, Waiting-back, Waiting-last, Waiting-on, last_unmet, names_last, waiting_is_open}
 use Rattle.rv_book.proofs.Waiters.{met_last, open_inside}
 use Rattle.rv_audit.specs.Lines.{IsOpenable, stands_in}
 use Rattle.rv_audit.specs.Marks.{marked}
-use Rattle.rv_audit.specs.Passed.{AreLimits, AreLines, AreMet, AreTouched, EntersIf, GainsIf, Gone, IsNewOn, IsNewRequest, OpensIf, OpensOn, WaitsUntil, flagged, none_gone, session_after}
+use Rattle.rv_audit.specs.Passed.{AreLimits, AreLines, AreMet, AreTouched, AreWithin, EntersIf, Flags, GainsIf, Gone, IsNewOn, IsNewRequest, OpensIf, OpensOn, SetsFlags, WaitsUntil, is_any, none_gone, session_after}
 use Rattle.rv_audit.specs.Passed.{AreTables, HasPassed, IsReadyFor, passed}
 use Rattle.rv_audit.specs.declared.front.Front.{Front}
 use Rattle.rv_audit.proofs.Entering.{sessions_joined}
+use Rattle.rv_audit.proofs.Named.{is_any_or_none, some_among}
 use Rattle.rv_book.proofs.Legality.{Legal-with_entry}
 use Rattle.rv_audit.specs.declared.lines.Lines.{Lines}
 use Rattle.rv_audit.specs.declared.marks.Marks.{Marks}
@@ -41,39 +41,6 @@ own_last a e =
 
 -- ---- pairs and swaps
 
-flag_there : (met : List Bool) (partner : Option ℕ) (r : ℕ) → slice_get met r ≡ Some true → slice_get (flagged met partner) r ≡ Some true
-flag_there met None r there = there
-flag_there met (Some p) r there = elim (same_or_not r p) [
-  | inl same ↦ ap (slice_get (slice_set met p true)) same ∙ get-set_same met p true (subst (λ n. n < length met) same (within met r true there))
-  | inr apart ↦ get-set_other met p r true apart ∙ there
-]
-
-flag_own : (met : List Bool) (partner : Option ℕ) (p : ℕ) → partner ≡ Some p → p < length met → slice_get (flagged met partner) p ≡ Some true
-flag_own met None p names inside = absurd (none-some p names)
-flag_own met (Some q) p names inside =
-    let same : q ≡ p = same_Some _ _ names in
-    subst (λ n. slice_get (slice_set met n true) p ≡ Some true) (sym same) (get-set_same met p true inside)
-
-flag_back : (met : List Bool) (partner : Option ℕ) (r : ℕ) → slice_get (flagged met partner) r ≡ Some true → (slice_get met r ≡ Some true) ⊎ (partner ≡ Some r)
-flag_back met None r there = inl there
-flag_back met (Some p) r there = elim (same_or_not r p) [
-  | inl same ↦ inr (ap Some (sym same))
-  | inr apart ↦ inl (sym (get-set_other met p r true apart) ∙ there)
-]
-
-flag_count : (met : List Bool) (partner : Option ℕ) → length (flagged met partner) ≡ length met
-flag_count met None = refl
-flag_count met (Some p) = count met p
-  where
-    count : (l : List Bool) (n : ℕ) → length (slice_set l n true) ≡ length l
-    count [] n = refl
-    count (b ∷ l) zero = refl
-    count (b ∷ l) (suc n) = ap suc (count l n)
-
-some_partner : (o : Option ℕ) → is_some o ≡ true → (p : ℕ) × (o ≡ Some p)
-some_partner None is = absurd (false≢true is)
-some_partner (Some p) is = (p, refl)
-
 module _ (a : Account) (e : Entry) (legal : Legal a) (follows : MayFollow a e) where
   abbrev es : List Entry
   es = a.entries
@@ -81,13 +48,12 @@ module _ (a : Account) (e : Entry) (legal : Legal a) (follows : MayFollow a e) w
   abbrev after : List Entry
   after = a.entries ++ e ∷ []
 
-  free : NamesFreePartner es e
-  free = follows.pairs.names_free_partner
+  free : NamesFreePartners es e
+  free = follows.pairs.names_free_partners
 
-  own_named : (p : ℕ) → e.partner ≡ Some p → Met after (length es)
+  own_named : (p : ℕ) → Names e p → Met after (length es)
   own_named p named =
-      let there = names_last es e p free named in
-      let partner = free p named in
+      let partner = free.free p named in
       record {
         later = length es;
         earlier = p;
@@ -95,48 +61,51 @@ module _ (a : Account) (e : Entry) (legal : Legal a) (follows : MayFollow a e) w
           call = partner.call;
           arrived = ap call_read (get-append_end es e) ∙ partner.arrives;
           meets = partner.meets;
-          named = ap partner_read (get-append_end es e) ∙ named;
+          named = NamesAt-last es e p named;
         };
         part = inl refl;
       }
 
-  some_own : (o : Option ℕ) → e.partner ≡ o → Met after (length es) → is_some o ≡ true
-  some_own (Some p) names met = refl
-  some_own None names met = absurd (last_unmet a e legal names met)
+  some_own : Met after (length es) → is_any e.partners ≡ true
+  some_own met = elim (is_any_or_none e.partners) [
+    | inl any ↦ any
+    | inr none ↦ absurd (last_unmet a e legal none met)
+  ]
 
-  pub met_joined : (old new : List Bool) → AreMet es old → new ≡ flagged old e.partner ++ is_some e.partner ∷ [] → AreMet after new
-  met_joined old new are is =
-      let count : length (flagged old e.partner) ≡ length es = flag_count old e.partner ∙ are.count in
-      let P : List Bool → Type 0 = λ l. AreMet after l in
-      subst P (sym is) (record {
-        count = let n = length-append (flagged old e.partner) (is_some e.partner ∷ []) in let m = length-append es (e ∷ []) in omega arith;
-        flags = λ r. (flag_to count r, flag_from count r);
-      })
-    where
-      flag_to : length (flagged old e.partner) ≡ length es → (r : ℕ) → slice_get (flagged old e.partner ++ is_some e.partner ∷ []) r ≡ Some true → Met after r
-      flag_to count r there = elim (get-append_cases (flagged old e.partner) (is_some e.partner) true r there) [
-        | inl inside ↦ elim (flag_back old e.partner r inside.1) [
-          | inl was ↦ Met-on es (e ∷ []) r ((are.flags r).0 was)
-          | inr named ↦ names_last es e r free named
-        ]
-        | inr last ↦
-            let partner = some_partner e.partner last.1 in
-            subst (Met after) (sym (last.0 ∙ count)) (own_named partner.0 partner.1)
-      ]
+  module _ (old flags : List Bool) (are : AreMet es old) (sets : SetsFlags (Among e.partners) old flags) where
+    count : length flags ≡ length es
+    count = sets.count ∙ are.count
 
-      flag_from : length (flagged old e.partner) ≡ length es → (r : ℕ) → Met after r → slice_get (flagged old e.partner ++ is_some e.partner ∷ []) r ≡ Some true
-      flag_from count r met = elim (Met-back es e r met) [
-        | inl before ↦ get-append (flagged old e.partner) (is_some e.partner ∷ []) r true (flag_there old e.partner r ((are.flags r).1 before))
-        | inr new_one ↦ elim new_one [
-          | inl last ↦
-              let own : is_some e.partner ≡ true = some_own e.partner refl (subst (Met after) last met) in
-              ap (slice_get (flagged old e.partner ++ is_some e.partner ∷ [])) (last ∙ sym count) ∙ get-append_end (flagged old e.partner) (is_some e.partner) ∙ ap Some own
-          | inr named ↦
-              let inside : r < length es = (free r named).earlier in
-              let same : length old ≡ length es = are.count in
-              get-append (flagged old e.partner) (is_some e.partner ∷ []) r true (flag_own old e.partner r named (omega arith))
-        ]
+    flag_to : (r : ℕ) → slice_get (flags ++ is_any e.partners ∷ []) r ≡ Some true → Met after r
+    flag_to r there = elim (get-append_cases flags (is_any e.partners) true r there) [
+      | inl inside ↦ elim ((sets.flags r).0 inside.1) [
+        | inl was ↦ Met-on es (e ∷ []) r ((are.flags r).0 was)
+        | inr named ↦ names_last es e r free named
       ]
+      | inr last ↦
+          let partner = some_among e.partners last.1 in
+          subst (Met after) (sym (last.0 ∙ count)) (own_named partner.0 partner.1)
+    ]
+
+    flag_from : (r : ℕ) → Met after r → slice_get (flags ++ is_any e.partners ∷ []) r ≡ Some true
+    flag_from r met = elim (Met-back es e r met) [
+      | inl before ↦ get-append flags (is_any e.partners ∷ []) r true ((sets.flags r).1 (inl ((are.flags r).1 before)))
+      | inr new_one ↦ elim new_one [
+        | inl last ↦
+            let own : is_any e.partners ≡ true = some_own (subst (Met after) last met) in
+            ap (slice_get (flags ++ is_any e.partners ∷ [])) (last ∙ sym count) ∙ get-append_end flags (is_any e.partners) ∙ ap Some own
+        | inr named ↦ get-append flags (is_any e.partners ∷ []) r true ((sets.flags r).1 (inr named))
+      ]
+    ]
+
+    met_with : AreMet after (flags ++ is_any e.partners ∷ [])
+    met_with = record {
+      count = let all = count in let n = length-append flags (is_any e.partners ∷ []) in let m = length-append es (e ∷ []) in omega arith;
+      flags = λ r. (flag_to r, flag_from r);
+    }
+
+  pub met_joined : (old new : List Bool) → AreMet es old → Flags old new e.partners → AreMet after new
+  met_joined old new are is = subst (λ (l : List Bool). AreMet after l) (sym is.one_more) (met_with old is.flags are is.sets)
 
   -- ---- who is open
 
@@ -145,7 +114,7 @@ module _ (a : Account) (e : Entry) (legal : Legal a) (follows : MayFollow a e) w
     stays_open side r there left = OpenAt-on es e side r there
         (λ named. touched.untouched r there.is_open left (inl named)) (λ stopped. touched.untouched r there.is_open left (inr stopped))
 
-    left_by : (r : ℕ) (b : Bool) → gone r ≡ b → Open es r → (e.partner ≡ Some r → ⊥) → (StoppedAt after r (length es) → ⊥) → gone r ≡ false
+    left_by : (r : ℕ) (b : Bool) → gone r ≡ b → Open es r → (Names e r → ⊥) → (StoppedAt after r (length es) → ⊥) → gone r ≡ false
     left_by r true went opened unnamed unstopped = absurd (elim (touched.touched r opened went) [ inl named ↦ unnamed named | inr stopped ↦ unstopped stopped ])
     left_by r false left opened unnamed unstopped = left
 
@@ -155,12 +124,14 @@ module _ (a : Account) (e : Entry) (legal : Legal a) (follows : MayFollow a e) w
       | inr own ↦ inr (own.0, record { call = own.1.call; arrives = own.1.arrives; is = own.1.is; stays = own.1.stays })
     ]
 
-    own_opens : (side : Side) → e.partner ≡ None → IsNewOn e side → OpenAt after side (length es)
+    own_opens : (side : Side) → e.partners ≡ [] → IsNewOn e side → OpenAt after side (length es)
     own_opens side alone new = OpenAt-last a e side legal alone (record { call = new.call; arrives = new.arrives; is = new.is; stays = new.stays })
 
-    own_alone : (o : Option ℕ) (side : Side) → e.partner ≡ o → OpenAt after side (length es) → e.partner ≡ None
-    own_alone None side names there = names
-    own_alone (Some p) side names there = absurd (met_last es e side p free names there)
+    own_alone : (side : Side) → OpenAt after side (length es) → e.partners ≡ []
+    own_alone side there = elim (is_any_or_none e.partners) [
+      | inr none ↦ none
+      | inl any ↦ let one = some_among e.partners any in absurd (met_last es e side one.0 free one.1 there)
+    ]
 
     inside_apart : (side : Side) (r : ℕ) → OpenAt es side r → r ≡ length es → ⊥
     inside_apart side r there same = let inside : r < length es = open_inside es side r there in omega arith
@@ -178,7 +149,7 @@ module _ (a : Account) (e : Entry) (legal : Legal a) (follows : MayFollow a e) w
           (stays_open side r was.0 was.1, refl),
       λ there. ap (λ (l : Lines). stands_in l side r) same ∙ elim (was_open side r there.0) [
         | inl was ↦ (are side r).1 was
-        | inr own ↦ absurd (none side (own_alone e.partner side refl (subst (OpenAt after side) own.0 there.0)) own.1)
+        | inr own ↦ absurd (none side (own_alone side (subst (OpenAt after side) own.0 there.0)) own.1)
       ],
     )
     lines_joined old new (Some on) are is opens side r = (
@@ -230,7 +201,7 @@ module _ (a : Account) (e : Entry) (legal : Legal a) (follows : MayFollow a e) w
       each = λ limit r is. ap (λ (m : Marks). marked m limit r) same ∙ elim (was_waiting r is.waits) [
         | inl was ↦ are.each limit r (record { waits = was.0; left = was.1; has = sym (kept_limit r was.0) ∙ is.has; fits = is.fits })
         | inr own ↦ absurd (none limit (record {
-          alone = own_alone e.partner _ refl (subst (OpenAt after _) own.0 (waiting_is_open after r is.waits));
+          alone = own_alone _ (subst (OpenAt after _) own.0 (waiting_is_open after r is.waits));
           new = own.1;
           has = sym own_limit ∙ ap (limit_at after) (sym own.0) ∙ is.has;
           fits = is.fits;
@@ -269,23 +240,22 @@ take_next [] n x there = absurd (none-some x there)
 take_next (y ∷ ys) zero x there = ap (λ z. z ∷ []) (same_Some y x there)
 take_next (y ∷ ys) (suc n) x there = ap (λ zs. y ∷ zs) (take_next ys n x there)
 
-pub partner_within : (front : Front) (e : Entry) → IsReadyFor front e → (o : Option ℕ) → e.partner ≡ o → IfSome o (λ p. p < length front.met.items)
-partner_within front e ready None names = tt
-partner_within front e ready (Some p) names =
-    let inside : p < length (passed front).entries = (ready.may.follows.pairs.names_free_partner p names).earlier in
+pub partner_within : (front : Front) (e : Entry) → IsReadyFor front e → AreWithin e.partners (length front.met.items)
+partner_within front e ready p names =
+    let inside : p < length (passed front).entries = (ready.may.follows.pairs.names_free_partners.free p names).earlier in
     let count : length front.met.items ≡ length (passed front).entries = ready.tables.met.count in
     omega arith
 
 module _ (old new : Front) (e : Entry) (place : ℕ) (ready : IsReadyFor old e) (at : place ≡ length old.met.items) (account : new.account ≡ old.account)
-    (met : new.met.items ≡ flagged old.met.items e.partner ++ is_some e.partner ∷ []) where
+    (met : Flags old.met.items new.met.items e.partners) where
   abbrev b : Account
   b = passed old
 
   counted : length new.met.items ≡ length old.met.items + 1
   counted =
-      let both = ap length met in
-      let n = length-append (flagged old.met.items e.partner) (is_some e.partner ∷ []) in
-      let m = flag_count old.met.items e.partner in
+      let both = ap length met.one_more in
+      let n = length-append met.flags (is_any e.partners ∷ []) in
+      let m = met.sets.count in
       omega arith
 
   grown : passed new ≡ with_entry b e

@@ -1,8 +1,10 @@
 pub mod Pairs
+pub mod Beside
 pub mod Queries
-pub mod Telling
+pub mod Named
 pub mod RulesKept
 pub mod RulesSuffice
+pub mod Telling
 pub mod ByRules
 pub mod Closing
 pub mod Joining

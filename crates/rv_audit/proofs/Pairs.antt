@@ -4,14 +4,14 @@ use Rattle.std.specs.declared.cmp.Ordering.{Ordering}
 use Rattle.std.specs.declared.cmp.Ordering.TheVariants.{Less, Equal, Greater}
 use Rattle.std.specs.Ordering.{nat_cmp, ordering_then, is_eq, is_gt}
 use Rattle.std.specs.BTreeSet.{BTreeSet, contains, IsKeyInRange, IsKeyRangeOf}
-use Rattle.std.specs.declared.ops.Bound.TheVariants.{Included, Unbounded}
+use Rattle.std.specs.declared.ops.Bound.TheVariants.{Excluded, Included, Unbounded}
 use Rattle.std.specs.Bool.{then_some}
 use Rattle.std.proofs.lemmas.Bool.Decides.{nat_tests}
 use Rattle.std.specs.Cmp.{IsTotalOrder, nat_cmp_total, then_total, on_total, ranked, Equal-is, eq_by_cmp_equiv}
 use Rattle.std.proofs.lemmas.Bool.{false≢true}
 use Rattle.rv_audit.specs.declared.marks.Marks.{Marks}
 use Rattle.std.specs.Bool.{IsTrue}
-use Rattle.rv_audit.specs.Marks.{Gains, IsLowest, Loses, NoneUnder, NoneUntil}
+use Rattle.rv_audit.specs.Marks.{Gains, IsLowest, IsNext, Loses, NoneBehind, NoneUnder, NoneUntil}
 
 abbrev pub Pair : Type 0
 Pair = ℕ × ℕ
@@ -150,3 +150,79 @@ pub found_until : (s : BTreeSet Pair) (limit : ℕ) (k : Pair) (b : Bool) → ((
     → IfNone (then_some b k) (NoneUntil (as_marks s) limit)
 found_until s limit k true least until = tt
 found_until s limit k false least above = none_until s limit k least (grind (arith, nat_tests))
+
+-- ---- what is found behind a place
+
+abbrev RangeBehind : BTreeSet Pair → ℕ → ℕ → List Pair → Type 0
+RangeBehind s n last r = IsKeyRangeOf pair_cmp (Excluded (n, last)) Unbounded s r
+
+-- a place under a number is below each place behind it, and below nothing else that has the number
+pub behind_less : (n last p : ℕ) → last < p → pair_cmp (n, last) (n, p) ≡ Less
+behind_less n last p less = by_order (nat_cmp n n) (nat_cmp last p) refl refl
+  where
+    by_order : (a b : Ordering) → a ≡ nat_cmp n n → b ≡ nat_cmp last p → ordering_then a b ≡ Less
+    by_order Less b f s = absurd (let low : n < n = ranked n n Less f in omega arith)
+    by_order Equal Less f s = refl
+    by_order Equal Equal f s = absurd (let same : last ≡ p = ranked last p Equal s in omega arith)
+    by_order Equal Greater f s = absurd (let more : p < last = ranked last p Greater s in omega arith)
+    by_order Greater b f s = absurd (let low : n < n = ranked n n Greater f in omega arith)
+
+less_by : (x y : Pair) (a b : Ordering) → a ≡ nat_cmp x.0 y.0 → b ≡ nat_cmp x.1 y.1 → ordering_then a b ≡ Less → (x.0 < y.0) ⊎ ((x.0 ≡ y.0) × (x.1 < y.1))
+less_by x y Less b f s e = inl (ranked x.0 y.0 Less f)
+less_by x y Equal Less f s e = let less : x.1 < y.1 = ranked x.1 y.1 Less s in inr (ranked x.0 y.0 Equal f, less)
+less_by x y Equal Equal f s e = absurd (cc)
+less_by x y Equal Greater f s e = absurd (cc)
+less_by x y Greater b f s e = absurd (cc)
+
+pub is_below : (x y : Pair) → pair_cmp x y ≡ Less → (x.0 < y.0) ⊎ ((x.0 ≡ y.0) × (x.1 < y.1))
+is_below x y e = less_by x y (nat_cmp x.0 y.0) (nat_cmp x.1 y.1) refl refl e
+
+least_behind : (s : BTreeSet Pair) (n last : ℕ) (r rest : List Pair) (k : Pair) → RangeBehind s n last r → r ≡ k ∷ rest
+    → (q : Pair) → pair_cmp (n, last) q ≡ Less → IsTrue (contains pair_cmp s q) → is_gt (pair_cmp k q) ≡ false
+least_behind s n last r rest k range is q from there = (subst (RangeBehind s n last) is range).2 q (from, tt) there
+
+found_behind : (s : BTreeSet Pair) (n last : ℕ) (r rest : List Pair) (k : Pair) → RangeBehind s n last r → r ≡ k ∷ rest → IsKeyInRange pair_cmp (Excluded (n, last)) Unbounded s k
+found_behind s n last r rest k range is = (subst (RangeBehind s n last) is range).1
+
+pub nothing_behind : (s : BTreeSet Pair) (n last : ℕ) (r : List Pair) → RangeBehind s n last r → r ≡ [] → NoneBehind (as_marks s) n last
+nothing_behind s n last r range none p less = range.5 none (n, p) (behind_less n last p less, tt)
+
+is_next : (s : BTreeSet Pair) (n last : ℕ) (k : Pair) → IsKeyInRange pair_cmp (Excluded (n, last)) Unbounded s k
+    → ((q : Pair) → pair_cmp (n, last) q ≡ Less → IsTrue (contains pair_cmp s q) → is_gt (pair_cmp k q) ≡ false)
+    → k.0 ≡ n → IsNext (as_marks s) n last k.1
+is_next s n last k there least is = record {
+  there = subst (λ m. contains pair_cmp s (m, k.1) ≡ true) is there.1;
+  behind = elim (is_below (n, last) k there.0.0) [
+    | inl under ↦ let less : n < k.0 = under in absurd (omega arith)
+    | inr same ↦ same.1
+  ];
+  next = λ p after less. true_or_false _ (λ other. elim (not_above k (n, p) (least (n, p) (behind_less n last p after) other)) [
+    | inl under ↦ let low : k.0 < n = under in omega arith
+    | inr same ↦ let most : k.1 ≤ p = same.1 in omega arith
+  ]);
+}
+
+none_behind : (s : BTreeSet Pair) (n last : ℕ) (k : Pair) → pair_cmp (n, last) k ≡ Less
+    → ((q : Pair) → pair_cmp (n, last) q ≡ Less → IsTrue (contains pair_cmp s q) → is_gt (pair_cmp k q) ≡ false)
+    → (k.0 ≡ n → ⊥) → NoneBehind (as_marks s) n last
+none_behind s n last k from least apart p after = true_or_false _ (λ other. elim (is_below (n, last) k from) [
+  | inl above ↦ elim (not_above k (n, p) (least (n, p) (behind_less n last p after) other)) [
+    | inl under ↦ let one : n < k.0 = above in let two : k.0 < n = under in omega arith
+    | inr same ↦ apart same.0
+  ]
+  | inr same ↦ apart (sym same.0)
+])
+
+pub found_next : (s : BTreeSet Pair) (n last : ℕ) (r rest : List Pair) (k : Pair) (b : Bool) → RangeBehind s n last r → r ≡ k ∷ rest → nat_eq k.0 n ≡ b
+    → IfSome (then_some b k.1) (IsNext (as_marks s) n last)
+found_next s n last r rest k true range is same = is_next s n last k (found_behind s n last r rest k range is) (least_behind s n last r rest k range is) (grind (arith, nat_tests))
+found_next s n last r rest k false range is same = tt
+
+pub found_none_next : (s : BTreeSet Pair) (n last : ℕ) (r rest : List Pair) (k : Pair) (b : Bool) → RangeBehind s n last r → r ≡ k ∷ rest → nat_eq k.0 n ≡ b
+    → IfNone (then_some b k.1) (NoneBehind (as_marks s) n last)
+found_none_next s n last r rest k true range is same = tt
+found_none_next s n last r rest k false range is apart =
+    none_behind s n last k (found_behind s n last r rest k range is).0.0 (least_behind s n last r rest k range is) (λ same. differ apart same)
+  where
+    differ : nat_eq k.0 n ≡ false → k.0 ≡ n → ⊥
+    differ apart same = grind (arith, nat_tests)

@@ -8,21 +8,21 @@ use Rattle.rv_text.specs.declared.call.Call.{Call}
 use Rattle.rv_text.specs.declared.call.Wait.{Wait}
 use Rattle.rv_text.specs.declared.call.Side.{Side}
 use Rattle.rv_text.specs.Calls.{side_of, wait_of}
-use Rattle.rv_book.specs.declared.account.Entry.{Entry}
-use Rattle.rv_book.specs.declared.account.Act.TheVariants.{Hello}
-use Rattle.rv_book.specs.Account.{Account, act_at, call_at, key_in}
-use Rattle.rv_book.specs.Calls.{IsPut, Stays}
+use Rattle.rv_account.specs.declared.entry.Entry.{Entry}
+use Rattle.rv_account.specs.declared.entry.Act.TheVariants.{Hello}
+use Rattle.rv_account.specs.Account.{Account, Among, act_at, call_at, key_in}
+use Rattle.rv_account.specs.Calls.{IsPut, Stays}
 use Rattle.rv_book.specs.Legal.{HasWaiting, Legal, SomethingDue}
 use Rattle.rv_book.specs.Sessions.{NamesKey}
-use Rattle.rv_book.specs.Waiting.{IsOldest, OpenAt, Waiting}
+use Rattle.rv_book.specs.Waiting.{OpenAt, Waiting}
 use Rattle.rv_book.proofs.Fronts.{read_whole}
 use Rattle.rv_book.proofs.Growing.{call_read}
 use Rattle.rv_book.proofs.Keys.{act_called}
 use Rattle.rv_book.proofs.Sides.{waiting_is_open}
 use Rattle.rv_book.proofs.Waits.{waiting_is_last}
-use Rattle.rv_audit.specs.Lines.{IsFirstOn, NobodyOn, stands_in}
+use Rattle.rv_audit.specs.Lines.{IsFirstBeside, NobodyBeside, stands_in}
 use Rattle.rv_audit.specs.Marks.{IsLeast, NoneUntil}
-use Rattle.rv_audit.specs.Passed.{AreLimits, AreLines, IsSessionOf, WaitsOf, none_gone}
+use Rattle.rv_audit.specs.Passed.{AreLimits, AreLines, IsOldestBeside, IsSessionOf, WaitsOf, none_gone}
 use Rattle.rv_audit.specs.declared.lines.Lines.{Lines}
 use Rattle.rv_audit.specs.declared.marks.Marks.{Marks}
 use Rattle.rv_audit.specs.declared.sessions.Session.{Session}
@@ -44,18 +44,18 @@ some_due es limits moment None are fits some none = (
 
 -- ---- lines
 
-pub oldest_there : (es : List Entry) (lines : Lines) (side : Side) (first : Option ℕ) → AreLines es none_gone lines → IfSome first (IsFirstOn lines side)
-    → IfSome first (IsOldest es side)
-oldest_there es lines side None are some = tt
-oldest_there es lines side (Some p) are some = record {
-  there = ((are side p).0 some.there).0;
-  oldest = λ r less there. false≢true (sym (some.lowest r less) ∙ (are side r).1 (there, refl));
-}
+module _ (es : List Entry) (lines : Lines) (side : Side) (places : List ℕ) where
+  pub oldest_there : (first : Option ℕ) → AreLines es none_gone lines → IfSome first (IsFirstBeside lines side places) → IfSome first (IsOldestBeside es side places)
+  oldest_there None are some = tt
+  oldest_there (Some p) are some = record {
+    there = ((are side p).0 some.there).0;
+    beside = some.beside;
+    oldest = λ r less there. some.lowest r less ((are side r).1 (there, refl));
+  }
 
-pub nobody_there : (es : List Entry) (lines : Lines) (side : Side) (first : Option ℕ) → AreLines es none_gone lines → IfNone first (NobodyOn lines side)
-    → IfNone first ((r : ℕ) → OpenAt es side r → ⊥)
-nobody_there es lines side (Some p) are none = tt
-nobody_there es lines side None are none = λ r there. false≢true (sym (none r) ∙ (are side r).1 (there, refl))
+  pub nobody_there : (first : Option ℕ) → AreLines es none_gone lines → IfNone first (NobodyBeside lines side places) → IfNone first ((r : ℕ) → OpenAt es side r → Among places r)
+  nobody_there (Some p) are none = tt
+  nobody_there None are none = λ r there. none r ((are side r).1 (there, refl))
 
 -- ---- who waits
 

@@ -1,26 +1,26 @@
 -- An entry that may follow those of a legal account breaks no rule behind them: of each rule what keeps it.
 use Rattle.std.proofs.Common.{◌≡◌, ◌≢◌, ◌⊎◌, inl, inr, ℕ, ◌+◌, ◌-◌, ◌<◌, ◌≤◌, List, length, Option, Some, None, IsSome, refl, ap, subst, ◌∙◌, arith}
 use Rattle.std.specs.Prelude.{unwrap_or}
-use Rattle.std.specs.List.{slice_get}
 use Rattle.rv_text.specs.declared.message.Key.{Key}
+use Rattle.rv_text.specs.declared.call.Call.{Call}
 use Rattle.rv_text.specs.declared.call.Side.{Side}
 use Rattle.rv_text.specs.declared.call.Side.TheVariants.{Gives, Takes, Looks, Exchanges}
 use Rattle.rv_text.specs.Calls.{side_of}
-use Rattle.rv_book.specs.declared.account.Entry.{Entry}
-use Rattle.rv_book.specs.declared.account.Act.{Act}
-use Rattle.rv_book.specs.declared.account.Act.TheVariants.{Hello, Arrive, Cancel, Tick}
-use Rattle.rv_book.specs.Account.{Account, moment_at, partner_at}
-use Rattle.rv_book.specs.Calls.{opposite}
+use Rattle.rv_account.specs.declared.entry.Entry.{Entry}
+use Rattle.rv_account.specs.declared.entry.Act.{Act}
+use Rattle.rv_account.specs.declared.entry.Act.TheVariants.{Hello, Arrive, Cancel, Tick}
+use Rattle.rv_account.specs.Account.{Account, NamesAt, call_in, moment_at}
+use Rattle.rv_account.specs.Calls.{may_name, opposite}
 use Rattle.rv_book.specs.Waiting.{Met, NamesPartner}
-use Rattle.rv_book.specs.Legal.{CancelsInTurn, CountsUp, IsNextNumber, IsOfSession, KeepsLimits, KeepsTime, Legal, MayFollow, NamesFreePartner}
+use Rattle.rv_book.specs.Legal.{CancelsInTurn, CountsUp, IsNextNumber, IsOfSession, KeepsLimits, KeepsTime, Legal, MayFollow, NamesFreePartners}
 use Rattle.rv_book.specs.Legal.{PairsOldest, PairsOpposites, PairsWherePossible, RaisesIncarnation, SomethingDue}
 use Rattle.rv_book.specs.Steps.{own_moment}
-use Rattle.rv_book.proofs.Growing.{call_read, partner_read, read_there}
+use Rattle.rv_book.proofs.Growing.{call_read}
 use Rattle.rv_book.proofs.Histories.{one_last_number}
 use Rattle.rv_audit.specs.declared.rule.Rule.{Rule}
 use Rattle.rv_audit.specs.declared.rule.Rule.TheVariants.{M1, M2, M3, N1, N2, N3, P1, P2, P3, P4, S1, S2}
 use Rattle.rv_audit.specs.Breaking.{BreaksBehind, BreaksCount, FallsBack, IsNoFreePlace, IsOfNoSession, IsOutOfTurn, IsPaired, IsSwapped}
-use Rattle.rv_audit.specs.Breaking.{MeetsNobody, MeetsWrongly, NamesOne, NamesWrongly, PassesLimit, PassesOver, StartsNoNewer, TicksForNothing, WasNamed}
+use Rattle.rv_audit.specs.Breaking.{MeetsNobody, MeetsWrongly, NamesOne, NamesTaken, NamesTooMany, NamesWrongly, PassesLimit, PassesOver, StartsNoNewer, TicksForNothing, WasNamed}
 
 -- ---- moments
 
@@ -80,20 +80,19 @@ counts_in_turn es Tick counts cancels breaks = breaks
 -- ---- partners
 
 -- in a legal account only arrivals that may meet name partners
-pub names_partner : (a : Account) (r q : ℕ) → Legal a → partner_at a.entries r ≡ Some q → NamesPartner a.entries r q
+pub names_partner : (a : Account) (r q : ℕ) → Legal a → NamesAt a.entries r q → NamesPartner a.entries r q
 names_partner a r q legal named =
-    let at = read_there partner_read refl (slice_get a.entries r) q named in
-    let free = (legal r at.0 at.1).pairs.names_free_partner q at.2 in
-    record { call = free.call; arrived = ap call_read at.1 ∙ free.arrives; meets = free.meets; named = named }
+    let free = (legal r named.entry named.there).pairs.names_free_partners.free q named.names in
+    record { call = free.call; arrived = ap call_read named.there ∙ free.arrives; meets = free.meets; named = named }
 
 -- so who was named, or named a partner itself, is in a pair or swap
 pub named_is_met : (a : Account) (p : ℕ) → Legal a → WasNamed a.entries p ⊎ NamesOne a.entries p → Met a.entries p
 named_is_met a p legal (inl named) = record { later = named.0; earlier = p; names = names_partner a named.0 p legal named.1; part = inr refl }
 named_is_met a p legal (inr names) = record { later = p; earlier = names.0; names = names_partner a p names.0 legal names.1; part = inl refl }
 
-pub names_rightly : (a : Account) (e : Entry) → Legal a → NamesFreePartner a.entries e → NamesWrongly a.entries e → ⊥
-names_rightly a e legal names wrongly =
-    let free = names wrongly.partner wrongly.names in
+names_free : (a : Account) (e : Entry) → Legal a → NamesFreePartners a.entries e → NamesTaken a.entries e → ⊥
+names_free a e legal names wrongly =
+    let free = names.free wrongly.partner wrongly.names in
     elim wrongly.wrong [
       | inl nobody ↦ nobody (free.call, free.arrives, free.meets)
       | inr no_free ↦ taken free.earlier (λ named. free.unmet (named_is_met a wrongly.partner legal named)) no_free
@@ -102,6 +101,17 @@ names_rightly a e legal names wrongly =
     taken : {p : ℕ} → p < length a.entries → (WasNamed a.entries p ⊎ NamesOne a.entries p → ⊥) → IsNoFreePlace a.entries p → ⊥
     taken earlier unnamed (inl later) = omega arith
     taken earlier unnamed (inr named) = unnamed named
+
+names_few : (e : Entry) → ((call : Call) → call_in e.act ≡ Some call → length e.partners ≤ may_name call) → NamesTooMany e → ⊥
+names_few e few too =
+    let most : length e.partners ≤ may_name too.call = few too.call too.arrives in
+    let many : may_name too.call < length e.partners = too.many in
+    omega arith
+
+pub names_rightly : (a : Account) (e : Entry) → Legal a → NamesFreePartners a.entries e → NamesWrongly a.entries e → ⊥
+names_rightly a e legal names (inl taken) = names_free a e legal names taken
+names_rightly a e legal names (inr (inl many)) = names_few e names.few many
+names_rightly a e legal names (inr (inr falls)) = falls names.rising
 
 pub paired_meets : (side : Side) → IsPaired side → IsSome (opposite side)
 paired_meets (Gives queue) paired = refl
@@ -122,10 +132,10 @@ module _ (Is : Side → Type 0) (es : List Entry) (e : Entry) where
       wrongly.no_opposite (pairs wrongly.partner wrongly.call wrongly.names own.arrives (meets (side_of wrongly.call) own.is))
 
   pub meets_somebody : PairsWherePossible es e → MeetsNobody Is es e → ⊥
-  meets_somebody possible nobody = possible nobody.other nobody.call nobody.alone nobody.arrives.arrives nobody.opposite_there
+  meets_somebody possible nobody = nobody.unnamed (possible nobody.other nobody.call nobody.arrives.arrives nobody.fewer nobody.opposite_there)
 
 pub passes_nobody_over : (es : List Entry) (e : Entry) → PairsOldest es e → PassesOver es e → ⊥
-passes_nobody_over es e oldest passes = oldest passes.partner passes.passed passes.side passes.names passes.is_partners passes.earlier passes.there
+passes_nobody_over es e oldest passes = passes.unnamed (oldest passes.partner passes.passed passes.side passes.names passes.is_partners passes.earlier passes.there)
 
 -- ---- all rules
 
@@ -136,7 +146,7 @@ breaks_nothing a e legal follows M3 breaks = ticks_for_something a.entries e fol
 breaks_nothing a e legal follows N1 breaks = starts_newer a.entries e.act follows.numbers.raises_incarnation breaks
 breaks_nothing a e legal follows N2 breaks = is_of_session a e.act follows.numbers.of_session breaks
 breaks_nothing a e legal follows N3 breaks = counts_in_turn a.entries e.act follows.numbers.counts_up follows.numbers.cancels breaks
-breaks_nothing a e legal follows P1 breaks = names_rightly a e legal follows.pairs.names_free_partner breaks
+breaks_nothing a e legal follows P1 breaks = names_rightly a e legal follows.pairs.names_free_partners breaks
 breaks_nothing a e legal follows P2 breaks = meets_rightly IsPaired a.entries e paired_meets follows.pairs.pairs_opposites breaks
 breaks_nothing a e legal follows P3 breaks = passes_nobody_over a.entries e follows.pairs.pairs_oldest breaks
 breaks_nothing a e legal follows P4 breaks = meets_somebody IsPaired a.entries e follows.pairs.pairs_where_possible breaks

@@ -1,31 +1,34 @@
 -- An entry that breaks no rule behind those of a legal account may follow them: of each rule what it gives.
-use Rattle.std.proofs.Common.{◌≡◌, ◌≢◌, ◌⊎◌, inl, inr, ℕ, ◌+◌, ◌<◌, ◌≤◌, List, length, take, Option, Some, None, IsSome, refl, sym, ap, subst, ◌∙◌, arith}
+use Rattle.std.proofs.Common.{◌≡◌, ◌≢◌, ◌⊎◌, inl, inr, ℕ, ◌+◌, ◌<◌, ◌≤◌, List, [], ◌∷◌, length, take, Option, Some, None, IsSome, refl, sym, ap, subst, ◌∙◌, arith}
 use Rattle.std.specs.Prelude.{is_some}
-use Rattle.std.specs.List.{slice_get}
+use Rattle.std.specs.List.{slice_get, slice_index}
+use Rattle.std.specs.List.Sorted.{IsStrictlyIncreasing}
 use Rattle.std.proofs.lemmas.Bool.{cases_lt}
 use Rattle.std.proofs.lemmas.Option.{none-some, same_Some}
 use Rattle.rv_text.specs.declared.message.Key.{Key}
 use Rattle.rv_text.specs.declared.call.Call.{Call}
+use Rattle.rv_text.specs.declared.call.Call.TheVariants.{Drain}
 use Rattle.rv_text.specs.declared.call.Side.{Side}
 use Rattle.rv_text.specs.declared.call.Side.TheVariants.{Gives, Takes, Looks, Exchanges}
 use Rattle.rv_text.specs.Calls.{side_of}
-use Rattle.rv_book.specs.declared.account.Entry.{Entry}
-use Rattle.rv_book.specs.declared.account.Act.{Act}
-use Rattle.rv_book.specs.declared.account.Act.TheVariants.{Hello, Arrive, Cancel, Tick}
-use Rattle.rv_book.specs.Account.{Account, act_at, call_at, call_in, key_in, partner_at}
-use Rattle.rv_book.specs.Calls.{MayMeet, opposite}
+use Rattle.rv_account.specs.declared.entry.Entry.{Entry}
+use Rattle.rv_account.specs.declared.entry.Act.{Act}
+use Rattle.rv_account.specs.declared.entry.Act.TheVariants.{Hello, Arrive, Cancel, Tick}
+use Rattle.rv_account.specs.Account.{Account, Names, NamesAt, act_at, call_at, call_in, key_in}
+use Rattle.rv_account.specs.Calls.{MayMeet, may_name, opposite}
 use Rattle.rv_book.specs.Sessions.{HasIncarnation}
 use Rattle.rv_book.specs.Waiting.{Met, OpenAt, Waiting}
 use Rattle.rv_book.specs.Legal.{CancelsInTurn, CountsUp, IsFreePartner, IsNextNumber, IsOfSession, IsOpenOpposite, KeepsLimits, KeepsTime, Legal}
-use Rattle.rv_book.specs.Legal.{MayFollow, NamesFreePartner, NothingDue, PairsOldest, PairsOpposites, PairsWherePossible, RaisesIncarnation}
+use Rattle.rv_book.specs.Legal.{MayFollow, NamesFreePartners, NothingDue, PairsOldest, PairsOpposites, PairsWherePossible, RaisesIncarnation}
 use Rattle.rv_book.specs.Legal.{SomethingDue, WaitsUnder}
 use Rattle.rv_book.specs.Steps.{own_moment}
 use Rattle.rv_book.proofs.Deciding.{find_hello, find_last, key_or_other, open_by, waits_or_not}
 use Rattle.rv_book.proofs.Entering.{step_keeps_time}
 use Rattle.rv_book.proofs.Fronts.{open_in_front, read_front}
-use Rattle.rv_book.proofs.Growing.{act_read, call_read, partner_read, read_there, reads_within}
+use Rattle.rv_book.proofs.Growing.{act_read, call_read, read_there, reads_within}
 use Rattle.rv_book.proofs.Histories.{one_incarnation}
 use Rattle.rv_book.proofs.Keys.{act_called}
+use Rattle.rv_book.proofs.Naming.{among_none, among_or_not}
 use Rattle.rv_book.proofs.Numbers.{first_below, same_or_not}
 use Rattle.rv_book.proofs.Opposites.{looks_alone}
 use Rattle.rv_book.proofs.Sides.{one_side}
@@ -33,7 +36,7 @@ use Rattle.rv_book.proofs.Ticking.{something_or_nothing}
 use Rattle.rv_audit.specs.declared.rule.Rule.{Rule}
 use Rattle.rv_audit.specs.declared.rule.Rule.TheVariants.{M1, M2, M3, N1, N2, N3, P1, P2, P3, P4, S1, S2}
 use Rattle.rv_audit.specs.Breaking.{BreaksBehind, BreaksCount, FallsBack, IsOfNoSession, IsOutOfTurn, IsPaired, IsSwapped}
-use Rattle.rv_audit.specs.Breaking.{MeetsNobody, MeetsWrongly, NamesOne, NamesWrongly, PassesOver, StartsNoNewer, WasNamed}
+use Rattle.rv_audit.specs.Breaking.{MeetsNobody, MeetsWrongly, NamesOne, NamesTaken, NamesWrongly, PassesOver, StartsNoNewer, WasNamed}
 
 -- ---- moments
 
@@ -183,12 +186,12 @@ meets_or_not (Some call) = elim (side_meets (side_of call)) [
 -- who is in a pair or swap was named, or named a partner itself
 pub met_is_named : (es : List Entry) (p : ℕ) → Met es p → WasNamed es p ⊎ NamesOne es p
 met_is_named es p met = elim met.part [
-  | inl later ↦ inr (met.earlier, ap (partner_at es) later ∙ met.names.named)
-  | inr earlier ↦ inl (met.later, met.names.named ∙ ap Some (sym earlier))
+  | inl later ↦ inr (met.earlier, subst (λ r. NamesAt es r met.earlier) (sym later) met.names.named)
+  | inr earlier ↦ inl (met.later, subst (NamesAt es met.later) (sym earlier) met.names.named)
 ]
 
-pub names_free_partner : (es : List Entry) (e : Entry) → (NamesWrongly es e → ⊥) → NamesFreePartner es e
-names_free_partner es e rightly p names = elim (meets_or_not (call_in e.act)) [
+names_free : (es : List Entry) (e : Entry) → (NamesTaken es e → ⊥) → (p : ℕ) → Names e p → IsFreePartner es e p
+names_free es e rightly p names = elim (meets_or_not (call_in e.act)) [
   | inr nobody ↦ absurd (rightly (record { partner = p; names = names; wrong = inl nobody }))
   | inl meets ↦ record {
     call = meets.0;
@@ -201,6 +204,23 @@ names_free_partner es e rightly p names = elim (meets_or_not (call_in e.act)) [
     unmet = λ met. rightly (record { partner = p; names = names; wrong = inr (inr (met_is_named es p met)) });
   }
 ]
+
+-- each place of a list is below the next, or at some place it is not
+rises : (xs : List ℕ) → ((IsStrictlyIncreasing xs → ⊥) → ⊥) → IsStrictlyIncreasing xs
+rises xs no_fall k within = elim (cases_lt (slice_index xs k) (slice_index xs (k + 1))) [
+  | inl less ↦ less
+  | inr most ↦ absurd (no_fall (λ rising. let less : slice_index xs k < slice_index xs (k + 1) = rising k within in omega arith))
+]
+
+pub names_free_partners : (es : List Entry) (e : Entry) → (NamesWrongly es e → ⊥) → NamesFreePartners es e
+names_free_partners es e rightly = record {
+  rising = rises e.partners (λ falls. rightly (inr (inr falls)));
+  few = λ call arrives. elim (cases_lt (may_name call) (length e.partners)) [
+    | inl many ↦ absurd (rightly (inr (inl (record { call = call; arrives = arrives; many = many }))))
+    | inr most ↦ most
+  ];
+  free = names_free es e (λ taken. rightly (inl taken));
+}
 
 opposite_by : (es : List Entry) (call : Call) (p : ℕ) (o : Option Side) → opposite (side_of call) ≡ o → IsOpenOpposite es call p ⊎ (IsOpenOpposite es call p → ⊥)
 opposite_by es call p None opposes = inr (λ h. none-some h.side (sym opposes ∙ h.opposes))
@@ -222,22 +242,30 @@ pairs_opposites es e pairs swaps p call names arrives meets = elim (opposite_or_
 ]
 
 pub pairs_where_possible : (es : List Entry) (e : Entry) → (MeetsNobody IsPaired es e → ⊥) → (MeetsNobody IsSwapped es e → ⊥) → PairsWherePossible es e
-pairs_where_possible es e pairs swaps r call alone arrives there = elim (paired_or_swapped (side_of call) (ap is_some there.opposes)) [
-  | inl paired ↦ pairs (record { call = call; arrives = record { arrives = arrives; is = paired }; alone = alone; other = r; opposite_there = there })
-  | inr swapped ↦ swaps (record { call = call; arrives = record { arrives = arrives; is = swapped }; alone = alone; other = r; opposite_there = there })
+pairs_where_possible es e pairs swaps r call arrives fewer there = elim (among_or_not e.partners r) [
+  | inl named ↦ named
+  | inr unnamed ↦ elim (paired_or_swapped (side_of call) (ap is_some there.opposes)) [
+    | inl paired ↦ absurd (pairs (record { call = call; arrives = record { arrives = arrives; is = paired }; fewer = fewer; other = r; opposite_there = there; unnamed = unnamed }))
+    | inr swapped ↦ absurd (swaps (record { call = call; arrives = record { arrives = arrives; is = swapped }; fewer = fewer; other = r; opposite_there = there; unnamed = unnamed }))
+  ]
 ]
+
+-- who exchanges names one partner at most
+one_partner : (call : Call) → IsSwapped (side_of call) → may_name call ≡ 1
+one_partner (Drain queue max) swapped = absurd swapped
+one_partner _ swapped = refl
 
 -- ---- the oldest
 
 -- at the later of two that are open at one exchanger stands an entry that names no partner, and none that names one
 module _ (a : Account) (side : Side) (r s : ℕ) (first : OpenAt a.entries side r) (second : OpenAt a.entries side s) (less : r < s) where
-  named_there : (e : Entry) (q : ℕ) → slice_get a.entries s ≡ Some e → e.partner ≡ Some q → ⊥
+  named_there : (e : Entry) (q : ℕ) → slice_get a.entries s ≡ Some e → Names e q → ⊥
   named_there e q there named =
       let own = second.is_open in
       own.unmet (record {
         later = s;
         earlier = q;
-        names = record { call = own.call; arrived = own.arrived; meets = own.stays.0; named = ap partner_read there ∙ named };
+        names = record { call = own.call; arrived = own.arrived; meets = own.stays.0; named = record { entry = e; there = there; names = named } };
         part = inl refl;
       })
 
@@ -251,48 +279,54 @@ module _ (a : Account) (side : Side) (r s : ℕ) (first : OpenAt a.entries side 
     is_open = open_in_front a.entries s r less first.is_open;
   }
 
-  alone_there : (e : Entry) → IsSwapped side → MayFollow (record { epoch = a.epoch; opened = a.opened; entries = take s a.entries }) e → call_in e.act ≡ Some second.of_side.call → e.partner ≡ None → ⊥
+  alone_there : (e : Entry) → IsSwapped side → MayFollow (record { epoch = a.epoch; opened = a.opened; entries = take s a.entries }) e → call_in e.act ≡ Some second.of_side.call → e.partners ≡ [] → ⊥
   alone_there e swapped follows arrives alone =
-      follows.pairs.pairs_where_possible r second.of_side.call alone arrives (record {
+      let one : may_name second.of_side.call ≡ 1 = one_partner second.of_side.call (subst IsSwapped (sym second.of_side.is) swapped) in
+      let none : length e.partners ≡ 0 = ap length alone in
+      among_none e.partners r alone (follows.pairs.pairs_where_possible r second.of_side.call arrives (omega arith) (record {
         side = side;
         opposes = ap opposite second.of_side.is ∙ swapped_opposite side swapped;
         there = open_before;
-      })
+      }))
 
-  one_at_exchanger_by : (e : Entry) (o : Option ℕ) → IsSwapped side → MayFollow (record { epoch = a.epoch; opened = a.opened; entries = take s a.entries }) e → slice_get a.entries s ≡ Some e
-      → call_in e.act ≡ Some second.of_side.call → e.partner ≡ o → ⊥
-  one_at_exchanger_by e None swapped follows there arrives partner = alone_there e swapped follows arrives partner
-  one_at_exchanger_by e (Some q) swapped follows there arrives partner = named_there e q there partner
+  one_at_exchanger_by : (e : Entry) (places : List ℕ) → IsSwapped side → MayFollow (record { epoch = a.epoch; opened = a.opened; entries = take s a.entries }) e → slice_get a.entries s ≡ Some e
+      → call_in e.act ≡ Some second.of_side.call → e.partners ≡ places → ⊥
+  one_at_exchanger_by e [] swapped follows there arrives are = alone_there e swapped follows arrives are
+  one_at_exchanger_by e (q ∷ qs) swapped follows there arrives are = named_there e q there (0, ap (λ l. slice_get l 0) are)
 
   -- in a legal account one at most is open at an exchanger
   pub one_at_exchanger : Legal a → IsSwapped side → ⊥
   one_at_exchanger legal swapped =
       let at = read_there call_read refl (slice_get a.entries s) second.of_side.call second.of_side.arrived in
-      one_at_exchanger_by at.0 at.0.partner swapped (legal s at.0 at.1) at.1 at.2 refl
+      one_at_exchanger_by at.0 at.0.partners swapped (legal s at.0 at.1) at.1 at.2 refl
 
--- an open arrival that stands before the partner, on its side
-pub pairs_oldest : (a : Account) (e : Entry) → Legal a → NamesFreePartner a.entries e → PairsOpposites a.entries e → (PassesOver a.entries e → ⊥) → PairsOldest a.entries e
+-- an open arrival that stands before a partner, on its side, is a partner too
+pub pairs_oldest : (a : Account) (e : Entry) → Legal a → NamesFreePartners a.entries e → PairsOpposites a.entries e → (PassesOver a.entries e → ⊥) → PairsOldest a.entries e
 pairs_oldest a e legal names_free pairs passes p r side names of_side less there =
-    let free : IsFreePartner a.entries e p = names_free p names in
+    let free : IsFreePartner a.entries e p = names_free.free p names in
     let meets : IsOpenOpposite a.entries free.call p = pairs p free.call names free.arrives free.meets in
     let same : meets.side ≡ side = one_side a.entries meets.side side p meets.there.of_side of_side in
     let opposes : opposite (side_of free.call) ≡ Some side = meets.opposes ∙ ap Some same in
-    elim (paired_or_swapped (side_of free.call) free.meets) [
-      | inl paired ↦ passes (record {
-        call = free.call;
-        arrives = record { arrives = free.arrives; is = paired };
-        partner = p;
-        names = names;
-        side = side;
-        of_queue = paired_opposite (side_of free.call) side opposes paired;
-        is_partners = of_side;
-        passed = r;
-        earlier = less;
-        there = there;
-      })
-      | inr swapped ↦
-          let own : side_of free.call ≡ side = same_Some _ _ (sym (swapped_opposite (side_of free.call) swapped) ∙ opposes) in
-          one_at_exchanger a side r p there (subst (λ s. OpenAt a.entries s p) same meets.there) less legal (subst IsSwapped own swapped)
+    elim (among_or_not e.partners r) [
+      | inl named ↦ named
+      | inr unnamed ↦ elim (paired_or_swapped (side_of free.call) free.meets) [
+        | inl paired ↦ absurd (passes (record {
+          call = free.call;
+          arrives = record { arrives = free.arrives; is = paired };
+          partner = p;
+          names = names;
+          side = side;
+          of_queue = paired_opposite (side_of free.call) side opposes paired;
+          is_partners = of_side;
+          passed = r;
+          earlier = less;
+          there = there;
+          unnamed = unnamed;
+        }))
+        | inr swapped ↦
+            let own : side_of free.call ≡ side = same_Some _ _ (sym (swapped_opposite (side_of free.call) swapped) ∙ opposes) in
+            absurd (one_at_exchanger a side r p there (subst (λ s. OpenAt a.entries s p) same meets.there) less legal (subst IsSwapped own swapped))
+      ]
     ]
 
 -- ---- all rules
@@ -300,7 +334,7 @@ pairs_oldest a e legal names_free pairs passes p r side names of_side less there
 pub may_follow : (a : Account) (e : Entry) → Legal a → ((rule : Rule) → BreaksBehind rule a e → ⊥) → MayFollow a e
 may_follow a e legal keeps =
     let session : IsOfSession a e.act = of_session a e.act (keeps N2) in
-    let free : NamesFreePartner a.entries e = names_free_partner a.entries e (keeps P1) in
+    let free : NamesFreePartners a.entries e = names_free_partners a.entries e (keeps P1) in
     let opposites : PairsOpposites a.entries e = pairs_opposites a.entries e (keeps P2) (keeps S1) in
     record {
       moments = record {
@@ -315,7 +349,7 @@ may_follow a e legal keeps =
         cancels = cancels_in_turn a e.act session (keeps N3);
       };
       pairs = record {
-        names_free_partner = free;
+        names_free_partners = free;
         pairs_opposites = opposites;
         pairs_oldest = pairs_oldest a e legal free opposites (keeps P3);
         pairs_where_possible = pairs_where_possible a.entries e (keeps P4) (keeps S2);

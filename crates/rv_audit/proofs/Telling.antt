@@ -1,6 +1,5 @@
 -- What one test on an audit's tables tells, of what the rules ask.
 use Rattle.std.proofs.Common.{◌≡◌, ◌≢◌, ◌⊎◌, inl, inr, ℕ, ◌+◌, ◌-◌, ◌<◌, ◌≤◌, Bool, true, false, not, nat_eq, nat_lt, nat_le, List, length, take, Option, Some, None, IfSome, IfNone, is_some, option_and_then, refl, sym, ap, subst, ◌∙◌, arith}
-use Rattle.std.specs.List.{slice_get}
 use Rattle.std.specs.Bool.{IsTrue}
 use Rattle.std.proofs.lemmas.Bool.{cases_lt, false≢true}
 use Rattle.std.proofs.lemmas.Bool.Decides.{nat_tests}
@@ -9,20 +8,23 @@ use Rattle.rv_text.specs.declared.message.Key.{Key}
 use Rattle.rv_text.specs.declared.call.Call.{Call}
 use Rattle.rv_text.specs.declared.call.Side.{Side}
 use Rattle.rv_text.specs.Calls.{side_of}
-use Rattle.rv_book.specs.declared.account.Entry.{Entry}
-use Rattle.rv_book.specs.declared.account.Act.TheVariants.{Arrive, Hello, Tick}
-use Rattle.rv_book.specs.Account.{Account, act_at, key_in, partner_at}
-use Rattle.rv_book.specs.Calls.{opposite}
+use Rattle.rv_account.specs.declared.entry.Entry.{Entry}
+use Rattle.rv_account.specs.declared.entry.Act.TheVariants.{Arrive, Hello, Tick}
+use Rattle.rv_account.specs.Account.{Account, Among, act_at, call_in, key_in}
+use Rattle.rv_account.specs.Calls.{may_name, opposite}
 use Rattle.rv_book.specs.Legal.{HasWaiting, IsOpenOpposite, Legal, SomethingDue, WaitsUnder}
 use Rattle.rv_book.specs.Sessions.{LastNumber, NamesKey, SaidHello}
-use Rattle.rv_book.specs.Waiting.{IsOldest, Met, NamesPartner, OpenAt, SideAt, Waiting}
+use Rattle.rv_book.specs.Waiting.{Met, OpenAt, SideAt, Waiting}
 use Rattle.rv_book.proofs.Fronts.{read_front, read_whole}
-use Rattle.rv_book.proofs.Growing.{act_read, call_read, partner_read, read_there}
+use Rattle.rv_book.proofs.Growing.{act_read, call_read}
 use Rattle.rv_book.proofs.Histories.{hellos_at_most, one_last_number}
 use Rattle.rv_book.proofs.Sides.{one_side}
 use Rattle.rv_book.proofs.Waits.{one_waits}
-use Rattle.rv_audit.specs.Breaking.{ArrivesAs, CountsTo, IsNoFreePlace, IsNotNext, IsOutOfTurn, IsPaired, Meets, MeetsNobody, NamesWrongly, PassesOver, StartsNoNewer, TicksForNothing}
-use Rattle.rv_audit.specs.Passed.{ArrivesWith, FindsOne, HasOlder, HasOne, IsPassedBy, IsSession, Leaves, WaitsOf}
+use Rattle.rv_audit.specs.Breaking.{ArrivesAs, CountsTo, IsNoFreePlace, IsNotNext, IsOutOfTurn, IsPaired, Meets, MeetsNobody, MeetsWrongly, NamesTaken, NamesTooMany, PassesOver, StartsNoNewer, TicksForNothing}
+use Rattle.rv_audit.specs.Passed.{ArrivesWith, FindsOne, HasAmong, HasOlder, HasOne, IsOldestBeside, IsPassedBy, IsSession, Leaves, Misses, WaitsOf, is_any}
+use Rattle.rv_audit.proofs.Named.{any_among, some_among}
+use Rattle.rv_audit.proofs.RulesKept.{named_is_met}
+use Rattle.rv_audit.proofs.RulesSuffice.{met_is_named}
 use Rattle.rv_audit.specs.declared.sessions.Session.{Session}
 
 abbrev pub Iff : Type 0 → Type 0 → Type 0
@@ -34,123 +36,153 @@ never A none = (λ t. absurd (false≢true t), λ h. absurd (none h))
 
 -- ---- lines
 
-older_by : (es : List Entry) (side : Side) (first place : ℕ) (b : Bool) → nat_lt first place ≡ b → IsOldest es side first → Iff (IsTrue b) (HasOlder es side place)
-older_by es side first place true less is = (λ t. let below : first < place = grind (arith, nat_tests) in (first, below, is.there), λ has. refl)
-older_by es side first place false more is = (
-  λ t. absurd (false≢true t),
-  λ has.
-      let least : place ≤ first = grind (arith, nat_tests) in
-      let below : has.0 < place = has.1 in
-      absurd (is.oldest has.0 (omega arith) has.2),
-)
+module _ (es : List Entry) (side : Side) (places : List ℕ) where
+  older_by : (first place : ℕ) (b : Bool) → nat_lt first place ≡ b → IsOldestBeside es side places first → Iff (IsTrue b) (HasOlder es side places place)
+  older_by first place true less is = (λ t. let below : first < place = grind (arith, nat_tests) in (first, below, is.there, is.beside), λ has. refl)
+  older_by first place false more is = (
+    λ t. absurd (false≢true t),
+    λ has.
+        let least : place ≤ first = grind (arith, nat_tests) in
+        let below : has.0 < place = has.1 in
+        absurd (has.3 (is.oldest has.0 (omega arith) has.2)),
+  )
 
-pub older : (es : List Entry) (side : Side) (first place : ℕ) → IsOldest es side first → Iff (IsTrue (nat_lt first place)) (HasOlder es side place)
-older es side first place is = older_by es side first place (nat_lt first place) refl is
+  pub older : (first place : ℕ) → IsOldestBeside es side places first → Iff (IsTrue (nat_lt first place)) (HasOlder es side places place)
+  older first place is = older_by first place (nat_lt first place) refl is
 
-pub no_older : (es : List Entry) (side : Side) (place : ℕ) → ((r : ℕ) → OpenAt es side r → ⊥) → Iff (IsTrue false) (HasOlder es side place)
-no_older es side place none = never (HasOlder es side place) (λ has. none has.0 has.2)
+  pub no_older : (place : ℕ) → ((r : ℕ) → OpenAt es side r → Among places r) → Iff (IsTrue false) (HasOlder es side places place)
+  no_older place none = never (HasOlder es side places place) (λ has. has.3 (none has.0 has.2))
 
-pub no_one : (es : List Entry) (side : Side) → ((r : ℕ) → OpenAt es side r → ⊥) → Iff (IsTrue false) (HasOne es side)
-no_one es side none = never (HasOne es side) (λ has. none has.0 has.1)
+  pub has_first : (first : ℕ) → IsOldestBeside es side places first → Iff (IsTrue true) (HasOne es side places)
+  has_first first is = (λ t. (first, is.there, is.beside), λ has. refl)
+
+  pub no_one : ((r : ℕ) → OpenAt es side r → Among places r) → Iff (IsTrue false) (HasOne es side places)
+  no_one none = never (HasOne es side places) (λ has. has.2 (none has.0 has.1))
 
 -- ---- partners
 
-pub finds : (es : List Entry) (call : Call) (side : Side) (b : Bool) → opposite (side_of call) ≡ Some side → Iff (IsTrue b) (HasOne es side) → Iff (IsTrue b) (FindsOne es call)
-finds es call side b opposes has = (
-  λ t. let one = has.0 t in (one.0, record { side = side; opposes = opposes; there = one.1 }),
-  λ found. has.1 (found.0, subst (λ s. OpenAt es s found.0) (same_Some _ _ (sym found.1.opposes ∙ opposes)) found.1.there),
+pub finds : (es : List Entry) (call : Call) (places : List ℕ) (side : Side) (b : Bool) → opposite (side_of call) ≡ Some side → Iff (IsTrue b) (HasOne es side places) → Iff (IsTrue b) (FindsOne es call places)
+finds es call places side b opposes has = (
+  λ t. let one = has.0 t in (one.0, record { side = side; opposes = opposes; there = one.1 }, one.2),
+  λ found. has.1 (found.0, subst (λ s. OpenAt es s found.0) (same_Some _ _ (sym found.1.opposes ∙ opposes)) found.1.there, found.2),
 )
 
-pub passed_by : (es : List Entry) (side : Side) (place : ℕ) (b : Bool) → SideAt es side place → IsPaired side → Iff (IsTrue b) (HasOlder es side place)
-    → Iff (IsTrue b) (IsPassedBy es place)
-passed_by es side place b at is has = (
-  λ t. (side, is, at, has.0 t),
-  λ passed. has.1 (subst (λ s. HasOlder es s place) (one_side es passed.0 side place passed.2 at) passed.3),
-)
+module _ (es : List Entry) (partners : List ℕ) where
+  pub passed_by : (side : Side) (place : ℕ) (b : Bool) → SideAt es side place → IsPaired side → Iff (IsTrue b) (HasOlder es side partners place)
+      → Iff (IsTrue b) (IsPassedBy es partners place)
+  passed_by side place b at is has = (
+    λ t. (side, is, at, has.0 t),
+    λ passed. has.1 (subst (λ s. HasOlder es s partners place) (one_side es passed.0 side place passed.2 at) passed.3),
+  )
 
-pub not_passed : (es : List Entry) (side : Side) (place : ℕ) (b : Bool) → b ≡ false → SideAt es side place → (IsPaired side → IsTrue b) → Iff (IsTrue b) (IsPassedBy es place)
-not_passed es side place b low at is = (
-  λ t. absurd (false≢true (sym low ∙ t)),
-  λ passed. is (subst IsPaired (one_side es passed.0 side place passed.2 at) passed.1),
-)
+  pub not_passed : (side : Side) (place : ℕ) (b : Bool) → b ≡ false → SideAt es side place → (IsPaired side → IsTrue b) → Iff (IsTrue b) (IsPassedBy es partners place)
+  not_passed side place b low at is = (
+    λ t. absurd (false≢true (sym low ∙ t)),
+    λ passed. is (subst IsPaired (one_side es passed.0 side place passed.2 at) passed.1),
+  )
 
-pub nobody_passed : (es : List Entry) (place : ℕ) → ((side : Side) → SideAt es side place → ⊥) → Iff (IsTrue false) (IsPassedBy es place)
-nobody_passed es place none = never (IsPassedBy es place) (λ passed. none passed.0 passed.2)
+  pub nobody_passed : (place : ℕ) → ((side : Side) → SideAt es side place → ⊥) → Iff (IsTrue false) (IsPassedBy es partners place)
+  nobody_passed place none = never (IsPassedBy es partners place) (λ passed. none passed.0 passed.2)
 
-pub over : (es : List Entry) (e : Entry) (call : Call) (place : ℕ) (b : Bool) → ArrivesAs IsPaired e call → e.partner ≡ Some place → Iff (IsTrue b) (IsPassedBy es place) → Iff (IsTrue b) (PassesOver es e)
-over es e call place b arrives names is = (
+pub over : (es : List Entry) (e : Entry) (call : Call) (b : Bool) → ArrivesAs IsPaired e call → Iff (IsTrue b) (HasAmong (IsPassedBy es e.partners) e.partners) → Iff (IsTrue b) (PassesOver es e)
+over es e call b arrives is = (
   λ t.
-      let passed = is.0 t in
+      let has = is.0 t in
+      let passed = has.2 in
       record {
         call = call;
         arrives = arrives;
-        partner = place;
-        names = names;
+        partner = has.0;
+        names = has.1;
         side = passed.0;
         of_queue = passed.1;
         is_partners = passed.2;
         passed = passed.3.0;
         earlier = passed.3.1;
         there = passed.3.2;
+        unnamed = passed.3.3;
       },
-  λ breaks.
-      let same : breaks.partner ≡ place = same_Some _ _ (sym breaks.names ∙ names) in
-      is.1 (subst (IsPassedBy es) same (breaks.side, breaks.of_queue, breaks.is_partners, (breaks.passed, breaks.earlier, breaks.there))),
+  λ breaks. is.1 (breaks.partner, breaks.names, (breaks.side, breaks.of_queue, breaks.is_partners, (breaks.passed, breaks.earlier, breaks.there, breaks.unnamed))),
 )
 
-pub nobody_met : (Is : Side → Type 0) (es : List Entry) (e : Entry) (call : Call) (b : Bool) → ArrivesAs Is e call → Iff (IsTrue b) (Leaves es call e.partner) → Iff (IsTrue b) (MeetsNobody Is es e)
-nobody_met Is es e call b arrives is = (
-  λ t. let leaves = is.0 t in record { call = call; arrives = arrives; alone = leaves.0; other = leaves.1.0; opposite_there = leaves.1.1 },
-  λ breaks.
-      let same : breaks.call ≡ call = same_Some _ _ (sym breaks.arrives.arrives ∙ arrives.arrives) in
-      is.1 (breaks.alone, (breaks.other, subst (λ c. IsOpenOpposite es c breaks.other) same breaks.opposite_there)),
+pub one_left : (es : List Entry) (call : Call) (partners : List ℕ) (b : Bool) → length partners < may_name call → Iff (IsTrue b) (FindsOne es call partners) → Iff (IsTrue b) (Leaves es call partners)
+one_left es call partners b fewer finds = (
+  λ t. let one = finds.0 t in record { fewer = fewer; other = one.0; there = one.1; unnamed = one.2 },
+  λ leaves. finds.1 (leaves.other, leaves.there, leaves.unnamed),
 )
 
--- in a legal account a place is in a pair or swap where it was named, or names one
-named_met : (a : Account) (p r : ℕ) → Legal a → partner_at a.entries r ≡ Some p → NamesPartner a.entries r p
-named_met a p r legal named =
-    let at = read_there partner_read refl (slice_get a.entries r) p named in
-    let free = (legal r at.0 at.1).pairs.names_free_partner p at.2 in
-    record { call = free.call; arrived = ap call_read at.1 ∙ free.arrives; meets = free.meets; named = named }
+module _ (Is : Side → Type 0) (es : List Entry) (e : Entry) (call : Call) (b : Bool) (arrives : ArrivesAs Is e call) where
+  own_call : (other : Call) → ArrivesAs Is e other → other ≡ call
+  own_call other is = same_Some _ _ (sym is.arrives ∙ arrives.arrives)
 
+  pub nobody_met : Iff (IsTrue b) (Leaves es call e.partners) → Iff (IsTrue b) (MeetsNobody Is es e)
+  nobody_met is = (
+    λ t. let leaves = is.0 t in record { call = call; arrives = arrives; fewer = leaves.fewer; other = leaves.other; opposite_there = leaves.there; unnamed = leaves.unnamed },
+    λ breaks.
+        let same = own_call breaks.call breaks.arrives in
+        is.1 (record {
+          fewer = subst (λ c. length e.partners < may_name c) same breaks.fewer;
+          other = breaks.other;
+          there = subst (λ c. IsOpenOpposite es c breaks.other) same breaks.opposite_there;
+          unnamed = breaks.unnamed;
+        }),
+  )
+
+  pub wrong_met : Iff (IsTrue b) (Misses es call e.partners) → Iff (IsTrue b) (MeetsWrongly Is es e)
+  wrong_met is = (
+    λ t. let has = is.0 t in record { call = call; arrives = arrives; partner = has.0; names = has.1; no_opposite = has.2 },
+    λ breaks.
+        let same = own_call breaks.call breaks.arrives in
+        is.1 (breaks.partner, breaks.names, subst (λ c. IsOpenOpposite es c breaks.partner → ⊥) same breaks.no_opposite),
+  )
+
+-- a place that isn't free is none of an earlier entry, or is in a pair or swap, in a legal account
 pub no_free_met : (a : Account) (p : ℕ) → Legal a → IsNoFreePlace a.entries p → (length a.entries ≤ p) ⊎ Met a.entries p
 no_free_met a p legal (inl past) = inl past
-no_free_met a p legal (inr (inl was)) = inr (record { later = was.0; earlier = p; names = named_met a p was.0 legal was.1; part = inr refl })
-no_free_met a p legal (inr (inr names)) = inr (record { later = p; earlier = names.0; names = named_met a names.0 p legal names.1; part = inl refl })
+no_free_met a p legal (inr named) = inr (named_is_met a p legal named)
 
-met_no_free : (es : List Entry) (p : ℕ) → Met es p → IsNoFreePlace es p
-met_no_free es p met = elim met.part [
-  | inl is ↦ inr (inr (met.earlier, ap (partner_at es) is ∙ met.names.named))
-  | inr is ↦ inr (inl (met.later, met.names.named ∙ ap Some (sym is)))
-]
-
--- who meets names wrongly where the place isn't free
-pub wrongly : (a : Account) (e : Entry) (p : ℕ) (b : Bool) → Legal a → e.partner ≡ Some p → Meets e → ((Met a.entries p) ⊎ (Met a.entries p → ⊥))
-    → Iff (IsTrue b) ((p < length a.entries) × (Met a.entries p → ⊥)) → Iff (IsTrue (not b)) (NamesWrongly a.entries e)
-wrongly a e p true legal names meets met free = (
+pub taken : (a : Account) (p : ℕ) (b : Bool) → Legal a → ((Met a.entries p) ⊎ (Met a.entries p → ⊥)) → Iff (IsTrue b) ((p < length a.entries) × (Met a.entries p → ⊥))
+    → Iff (IsTrue (not b)) (IsNoFreePlace a.entries p)
+taken a p true legal met free = (
   λ t. absurd (false≢true t),
-  λ breaks. elim breaks.wrong [
-    | inl meets_not ↦ absurd (meets_not meets)
-    | inr taken ↦
-        let same : breaks.partner ≡ p = same_Some _ _ (sym breaks.names ∙ names) in
-        elim (no_free_met a p legal (subst (IsNoFreePlace a.entries) same taken)) [
-          | inl past ↦ let inside : p < length a.entries = (free.0 refl).0 in absurd (omega arith)
-          | inr is ↦ absurd ((free.0 refl).1 is)
-        ]
+  λ no_free. elim (no_free_met a p legal no_free) [
+    | inl past ↦ let inside : p < length a.entries = (free.0 refl).0 in absurd (omega arith)
+    | inr is ↦ absurd ((free.0 refl).1 is)
   ],
 )
-wrongly a e p false legal names meets met free = (
-  λ t. record { partner = p; names = names; wrong = inr (taken met) },
-  λ breaks. refl,
-)
+taken a p false legal met free = (λ t. by_met met, λ no_free. refl)
   where
     past : (p < length a.entries) ⊎ (length a.entries ≤ p) → (Met a.entries p → ⊥) → IsNoFreePlace a.entries p
     past (inl inside) unmet = absurd (false≢true (free.1 (inside, unmet)))
     past (inr outside) unmet = inl outside
 
-    taken : (Met a.entries p) ⊎ (Met a.entries p → ⊥) → IsNoFreePlace a.entries p
-    taken (inl is) = met_no_free a.entries p is
-    taken (inr unmet) = past (cases_lt p (length a.entries)) unmet
+    by_met : (Met a.entries p) ⊎ (Met a.entries p → ⊥) → IsNoFreePlace a.entries p
+    by_met (inl is) = inr (met_is_named a.entries p is)
+    by_met (inr unmet) = past (cases_lt p (length a.entries)) unmet
+
+-- who meets names what is taken, and who doesn't names anything
+pub who_meets : (es : List Entry) (e : Entry) (b : Bool) → Meets e → Iff (IsTrue b) (HasAmong (IsNoFreePlace es) e.partners) → Iff (IsTrue b) (NamesTaken es e)
+who_meets es e b meets is = (
+  λ t. let has = is.0 t in record { partner = has.0; names = has.1; wrong = inr has.2 },
+  λ breaks. is.1 (breaks.partner, breaks.names, elim breaks.wrong [ inl meets_not ↦ absurd (meets_not meets) | inr no_free ↦ no_free ]),
+)
+
+pub who_meets_not : (es : List Entry) (e : Entry) → (Meets e → ⊥) → Iff (IsTrue (is_any e.partners)) (NamesTaken es e)
+who_meets_not es e meets_not = (
+  λ t. let one = some_among e.partners t in record { partner = one.0; names = one.1; wrong = inl meets_not },
+  λ breaks. any_among e.partners breaks.partner breaks.names,
+)
+
+pub too_many : (e : Entry) (call : Call) (b : Bool) → call_in e.act ≡ Some call → nat_lt (may_name call) (length e.partners) ≡ b → Iff (IsTrue b) (NamesTooMany e)
+too_many e call true arrives is = (λ t. record { call = call; arrives = arrives; many = grind (arith, nat_tests) }, λ breaks. refl)
+too_many e call false arrives is = (
+  λ t. absurd (false≢true t),
+  λ breaks.
+      let same : breaks.call ≡ call = same_Some _ _ (sym breaks.arrives ∙ arrives) in
+      let many : may_name call < length e.partners = subst (λ c. may_name c < length e.partners) same breaks.many in
+      let few : length e.partners ≤ may_name call = grind (arith, nat_tests) in
+      absurd (omega arith),
+)
 
 -- ---- moments
 

@@ -6,11 +6,11 @@ use Rattle.std.proofs.lemmas.Option.{none-some, same_Some}
 use Rattle.std.specs.Bool.{IsTrue, then_some}
 use Rattle.rv_text.specs.declared.message.Key.{Key}
 use Rattle.rv_text.specs.declared.call.Call.{Call}
-use Rattle.rv_book.specs.declared.account.Entry.{Entry}
-use Rattle.rv_book.specs.declared.account.Act.{Act}
-use Rattle.rv_book.specs.declared.account.Act.TheVariants.{Arrive, Cancel, Hello, Tick}
-use Rattle.rv_book.specs.Account.{Account, act_at, call_in, key_in}
-use Rattle.rv_book.specs.Calls.{IsPut}
+use Rattle.rv_account.specs.declared.entry.Entry.{Entry}
+use Rattle.rv_account.specs.declared.entry.Act.{Act}
+use Rattle.rv_account.specs.declared.entry.Act.TheVariants.{Arrive, Cancel, Hello, Tick}
+use Rattle.rv_account.specs.Account.{Account, Names, act_at, call_in, key_in}
+use Rattle.rv_account.specs.Calls.{IsPut}
 use Rattle.rv_book.specs.Legal.{HasWaiting, Legal, MayFollow, WaitsUnder}
 use Rattle.rv_book.specs.Sessions.{NamesKey}
 use Rattle.rv_book.specs.Waiting.{Open, Waiting}
@@ -20,7 +20,7 @@ use Rattle.rv_book.proofs.Keys.{act_called}
 use Rattle.rv_book.proofs.Sides.{IsRequestOf, IsRequestUnder, arrival_stops_nobody, cancel_stops, due_until, hello_stops, stopped_by_cancel, stopped_by_hello, stopped_by_tick, tick_stops, until_due}
 use Rattle.rv_book.proofs.Waits.{one_waits}
 use Rattle.rv_audit.specs.Marks.{NoneUntil}
-use Rattle.rv_audit.specs.Passed.{AreTouched, ArrivesWith, IsArrived, IsTakingOut, TakesTouched, WaitsOf, WaitsWith, gone_at, passed}
+use Rattle.rv_audit.specs.Passed.{AreTables, AreTouched, ArrivesWith, Gone, IsArrived, IsFront, IsTakingOut, SameRest, TakesEach, TakesTouched, WaitsOf, WaitsWith, gone_at, passed}
 use Rattle.rv_audit.specs.declared.front.Front.{Front}
 
 at_gone : (o : Option ℕ) (r : ℕ) → gone_at o r ≡ true → o ≡ Some r
@@ -38,9 +38,9 @@ gone_here (Some p) r is = same (same_Some _ _ is)
     same t = grind (arith, nat_tests)
 
 -- an entry that is no arrival names nobody
-names_nobody : (a : Account) (e : Entry) (does : Act) (r : ℕ) → MayFollow a e → e.act ≡ does → call_in does ≡ None → e.partner ≡ Some r → ⊥
+names_nobody : (a : Account) (e : Entry) (does : Act) (r : ℕ) → MayFollow a e → e.act ≡ does → call_in does ≡ None → Names e r → ⊥
 names_nobody a e does r follows is none named =
-    let free = follows.pairs.names_free_partner r named in
+    let free = follows.pairs.names_free_partners.free r named in
     none-some free.call (sym none ∙ ap call_in (sym is) ∙ free.arrives)
 
 module _ (a : Account) (e : Entry) (legal : Legal a) (follows : MayFollow a e) where
@@ -92,24 +92,20 @@ module _ (a : Account) (e : Entry) (legal : Legal a) (follows : MayFollow a e) w
 
   -- ---- an arrival
 
-  pub arrival_touches : (key : Key) (call : Call) → e.act ≡ Arrive key call → AreTouched es e (gone_at e.partner)
-  arrival_touches key call arrives = record {
-    touched = λ r opened went. inl (at_gone e.partner r went);
+  pub arrival_touches : (key : Key) (call : Call) (gone : Gone) → e.act ≡ Arrive key call → ((r : ℕ) → (gone r ≡ true → Names e r) × (Names e r → gone r ≡ true)) → AreTouched es e gone
+  arrival_touches key call gone arrives are = record {
+    touched = λ r opened went. inl ((are r).0 went);
     untouched = λ r opened left touches. elim touches [
-      | inl named ↦ false≢true (sym left ∙ gone_here e.partner r named)
+      | inl named ↦ false≢true (sym left ∙ (are r).1 named)
       | inr stopped ↦ arrival_stops_nobody es e key call r arrives stopped
     ];
   }
 
-  partner_by : (o : Option ℕ) → e.partner ≡ o → IfSome o (IsArrived es)
-  partner_by None names = tt
-  partner_by (Some p) names =
-      let free = follows.pairs.names_free_partner p names in
+  pub each_arrived : (p : ℕ) → Names e p → IsArrived es p
+  each_arrived p names =
+      let free = follows.pairs.names_free_partners.free p names in
       let opened = (follows.pairs.pairs_opposites p free.call names free.arrives free.meets).there.is_open in
       (opened.call, opened.arrived)
-
-  pub partner_arrived : IfSome e.partner (IsArrived es)
-  partner_arrived = partner_by e.partner refl
 
   -- ---- a cancel
 
@@ -140,6 +136,19 @@ module _ (a : Account) (e : Entry) (legal : Legal a) (follows : MayFollow a e) w
       | inr stopped ↦ cancel_untouched key r o some none left (waits_by key r opened (stopped_by_cancel es e key r says stopped)) refl
     ];
   }
+
+-- ---- what is taken out
+
+pub takes_partners : (start new : Front) (e : Entry) (key : Key) (call : Call) → IsFront start → MayFollow (passed start) e → e.act ≡ Arrive key call → TakesEach (Names e) start new → TakesTouched start new e
+takes_partners start new e key call front follows arrives takes = record {
+  gone = takes.gone;
+  touched = arrival_touches (passed start) e front.legal follows key call takes.gone arrives takes.are;
+  rest = takes.rest;
+  tables = takes.tables;
+}
+
+pub takes_stopped : (start new : Front) (e : Entry) (o : Option ℕ) → AreTouched (passed start).entries e (gone_at o) → SameRest start new → AreTables (passed start) (gone_at o) new → TakesTouched start new e
+takes_stopped start new e o touched rest tables = record { gone = gone_at o; touched = touched; rest = rest; tables = tables }
 
 -- ---- a tick
 

@@ -4,17 +4,18 @@
 -- entry may stand where. Of each rule is said what breaks it, whether another is broken there or not. Who is
 -- open is said by pairs and swaps, which only arrivals that may meet make; in a legal account no others name
 -- partners.
-use Rattle.std.specs.Prelude.{◌≡◌, ◌≢◌, ◌⊎◌, ◌<◌, ◌≤◌, ◌+◌, ℕ, List, length, Some, None, slice_get, codes}
+use Rattle.std.specs.Prelude.{◌≡◌, ◌≢◌, ◌⊎◌, ◌<◌, ◌≤◌, ◌+◌, ℕ, List, length, Some, slice_get, codes}
+use Rattle.std.specs.List.Sorted.{IsStrictlyIncreasing}
 use Rattle.rv_text.specs.declared.message.Key.{Key}
 use Rattle.rv_text.specs.declared.call.Call.{Call}
 use Rattle.rv_text.specs.declared.call.Side.{Side}
 use Rattle.rv_text.specs.declared.call.Side.TheVariants.{Gives, Takes, Looks, Exchanges}
 use Rattle.rv_text.specs.Calls.{side_of}
-use Rattle.rv_book.specs.declared.account.Entry.{Entry}
-use Rattle.rv_book.specs.declared.account.Act.{Act}
-use Rattle.rv_book.specs.declared.account.Act.TheVariants.{Hello, Arrive, Cancel, Tick}
-use Rattle.rv_book.specs.Account.{Account, act_at, partner_at, call_in, key_in}
-use Rattle.rv_book.specs.Calls.{MayMeet}
+use Rattle.rv_account.specs.declared.entry.Entry.{Entry}
+use Rattle.rv_account.specs.declared.entry.Act.{Act}
+use Rattle.rv_account.specs.declared.entry.Act.TheVariants.{Hello, Arrive, Cancel, Tick}
+use Rattle.rv_account.specs.Account.{Account, Names, NamesAt, act_at, call_in, key_in}
+use Rattle.rv_account.specs.Calls.{MayMeet, may_name}
 use Rattle.rv_book.specs.Sessions.{HasIncarnation, LastNumber, SaidHello}
 use Rattle.rv_book.specs.Waiting.{OpenAt, SideAt}
 use Rattle.rv_book.specs.Legal.{before, HasWaiting, IsOpenOpposite, Legal, NothingDue}
@@ -87,22 +88,32 @@ BreaksCount entries Tick = ⊥
 abbrev pub Meets : Entry → Type 0
 Meets e = (call : Call) × (call_in e.act ≡ Some call) × MayMeet call
 
--- an entry names this place as its partner; the entry at this place names a partner
+-- an entry names this place as a partner; the entry at this place names a partner
 abbrev pub WasNamed : List Entry → ℕ → Type 0
-WasNamed entries place = (r : ℕ) × (partner_at entries r ≡ Some place)
+WasNamed entries place = (r : ℕ) × NamesAt entries r place
 
 abbrev pub NamesOne : List Entry → ℕ → Type 0
-NamesOne entries place = (q : ℕ) × (partner_at entries place ≡ Some q)
+NamesOne entries place = (q : ℕ) × NamesAt entries place q
 
 -- the place isn't that of an earlier entry, or was named already, or named a partner itself
 abbrev pub IsNoFreePlace : List Entry → ℕ → Type 0
 IsNoFreePlace entries place = (length entries ≤ place) ⊎ (WasNamed entries place ⊎ NamesOne entries place)
 
 -- the entry names a partner, and may name none, or not this one
-pub record NamesWrongly (entries : List Entry) (e : Entry) : Type 0 where
+pub record NamesTaken (entries : List Entry) (e : Entry) : Type 0 where
   pub partner : ℕ
-  pub names : e.partner ≡ Some partner
+  pub names : Names e partner
   pub wrong : (¬ Meets e) ⊎ IsNoFreePlace entries partner
+
+-- the entry names more partners than its call may
+pub record NamesTooMany (e : Entry) : Type 0 where
+  pub call : Call
+  pub arrives : call_in e.act ≡ Some call
+  pub many : may_name call < length e.partners
+
+-- that, or its partners don't rise
+abbrev pub NamesWrongly : List Entry → Entry → Type 0
+NamesWrongly entries e = NamesTaken entries e ⊎ (NamesTooMany e ⊎ ¬ IsStrictlyIncreasing e.partners)
 
 -- the side gives or takes; the side exchanges
 abbrev pub IsPaired : Side → Type 0
@@ -128,29 +139,33 @@ pub record MeetsWrongly (Is : Side → Type 0) (entries : List Entry) (e : Entry
   pub call : Call
   pub arrives : ArrivesAs Is e call
   pub partner : ℕ
-  pub names : e.partner ≡ Some partner
+  pub names : Names e partner
   pub no_opposite : ¬ IsOpenOpposite entries call partner
 
--- the entry gives or takes, and an open arrival of its partner's side and queue stands before its partner
+-- the entry gives or takes, and an open arrival of a partner's side and queue, which is none of its partners,
+-- stands before that partner
 pub record PassesOver (entries : List Entry) (e : Entry) : Type 0 where
   pub call : Call
   pub arrives : ArrivesAs IsPaired e call
   pub partner : ℕ
-  pub names : e.partner ≡ Some partner
+  pub names : Names e partner
   pub side : Side
   pub of_queue : IsPaired side
   pub is_partners : SideAt entries side partner
   pub passed : ℕ
   pub earlier : passed < partner
   pub there : OpenAt entries side passed
+  pub unnamed : ¬ Names e passed
 
--- the entry is an arrival of such a side and names no partner, though an open arrival which it meets is there
+-- the entry is an arrival of such a side and names fewer partners than it may, though an open arrival which
+-- it meets is there and is none of them
 pub record MeetsNobody (Is : Side → Type 0) (entries : List Entry) (e : Entry) : Type 0 where
   pub call : Call
   pub arrives : ArrivesAs Is e call
-  pub alone : e.partner ≡ None
+  pub fewer : length e.partners < may_name call
   pub other : ℕ
   pub opposite_there : IsOpenOpposite entries call other
+  pub unnamed : ¬ Names e other
 
 -- ---- the rules
 

@@ -1,7 +1,8 @@
 -- Who is open on each side, as a table keeps it: who stands there, and what changes when one comes or goes.
-use Rattle.std.specs.Prelude.{◌≡◌, ◌⊎◌, ◌≢◌, ◌<◌, ℕ, Bool, true, false, Option, None, Some}
+use Rattle.std.specs.Prelude.{◌≡◌, ◌⊎◌, ◌≢◌, ◌<◌, ℕ, Bool, true, false, List, Option, None, Some}
 use Rattle.rv_text.specs.declared.call.Side.{Side}
 use Rattle.rv_text.specs.declared.call.Side.TheVariants.{Gives, Takes, Looks, Exchanges}
+use Rattle.rv_account.specs.Account.{Among}
 use Rattle.rv_audit.specs.Marks.{marked}
 use Rattle.rv_audit.specs.declared.lines.Lines.{Lines}
 
@@ -29,13 +30,14 @@ pub record Closes (old new : Lines) (side : Side) (place : ℕ) : Type 0 where
   pub own : stands_in new side place ≡ false
   pub others : (s : Side) (p : ℕ) → (s ≢ side) ⊎ (p ≢ place) → stands_in new s p ≡ stands_in old s p
 
--- the place is the first on the side
-pub record IsFirstOn (lines : Lines) (side : Side) (place : ℕ) : Type 0 where
+-- the place is the first on the side that is none of these; all that stand there are of these
+pub record IsFirstBeside (lines : Lines) (side : Side) (places : List ℕ) (place : ℕ) : Type 0 where
   pub there : stands_in lines side place ≡ true
-  pub lowest : (p : ℕ) → p < place → stands_in lines side p ≡ false
+  pub beside : ¬ Among places place
+  pub lowest : (p : ℕ) → p < place → stands_in lines side p ≡ true → Among places p
 
-abbrev pub NobodyOn : Lines → Side → Type 0
-NobodyOn lines side = (p : ℕ) → stands_in lines side p ≡ false
+abbrev pub NobodyBeside : Lines → Side → List ℕ → Type 0
+NobodyBeside lines side places = (p : ℕ) → stands_in lines side p ≡ true → Among places p
 
 -- the same of a side, if one is handed in
 abbrev pub OpensIf : Lines → Lines → Option Side → ℕ → Type 0

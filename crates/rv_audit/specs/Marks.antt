@@ -1,7 +1,8 @@
 -- Sets of places, each under a number: what one has marked, and what one more or one less changes.
-use Rattle.std.specs.Prelude.{◌≡◌, ◌⊎◌, ◌≢◌, ◌≤◌, ◌<◌, ℕ, Bool, true, false, Option, None, Some}
+use Rattle.std.specs.Prelude.{◌≡◌, ◌⊎◌, ◌≢◌, ◌≤◌, ◌<◌, ℕ, Bool, true, false, List, Option, None, Some}
 use Rattle.std.specs.Ordering.{ordering_then, nat_cmp}
 use Rattle.std.specs.BTreeSet.{btree_set_len, contains}
+use Rattle.rv_account.specs.Account.{Among}
 use Rattle.rv_audit.specs.declared.marks.Marks.{Marks}
 
 -- whether the place is marked under the number
@@ -23,13 +24,37 @@ pub record Loses (old new : Marks) (number place : ℕ) : Type 0 where
   pub own : marked new number place ≡ false
   pub others : (n p : ℕ) → (n ≢ number) ⊎ (p ≢ place) → marked new n p ≡ marked old n p
 
--- the place is the lowest that is marked under the number
+-- the place is the lowest that is marked under the number; none is marked there
 pub record IsLowest (m : Marks) (number place : ℕ) : Type 0 where
   pub there : marked m number place ≡ true
   pub lowest : (p : ℕ) → p < place → marked m number p ≡ false
 
 abbrev pub NoneUnder : Marks → ℕ → Type 0
 NoneUnder m number = (p : ℕ) → marked m number p ≡ false
+
+-- the same of those behind a place
+pub record IsNext (m : Marks) (number last place : ℕ) : Type 0 where
+  pub there : marked m number place ≡ true
+  pub behind : last < place
+  pub next : (p : ℕ) → last < p → p < place → marked m number p ≡ false
+
+abbrev pub NoneBehind : Marks → ℕ → ℕ → Type 0
+NoneBehind m number last = (p : ℕ) → last < p → marked m number p ≡ false
+
+-- the same of those that are none of these places
+pub record IsLowestBeside (m : Marks) (number : ℕ) (places : List ℕ) (place : ℕ) : Type 0 where
+  pub there : marked m number place ≡ true
+  pub beside : ¬ Among places place
+  pub lowest : (p : ℕ) → p < place → marked m number p ≡ true → Among places p
+
+abbrev pub NoneBeside : Marks → ℕ → List ℕ → Type 0
+NoneBeside m number places = (p : ℕ) → marked m number p ≡ true → Among places p
+
+-- the place, or none, is where those under the number go on that may be no one of these places
+abbrev pub GoesOnAt : Marks → ℕ → List ℕ → Option ℕ → Type 0
+GoesOnAt m number places None = NoneBeside m number places
+GoesOnAt m number places (Some place) = (marked m number place ≡ true)
+    × ((p : ℕ) → p < place → marked m number p ≡ true → Among places p)
 
 -- the place is marked under a number at or below the limit
 pub record IsLeast (m : Marks) (limit : ℕ) (mark : ℕ × ℕ) : Type 0 where

@@ -1,17 +1,17 @@
 -- What an audit's tables are to the entries that it has passed.
-use Rattle.std.specs.Prelude.{◌≡◌, ◌⊎◌, ◌↔◌, ◌<◌, ◌+◌, ◌++◌, ◌∷◌, [], ◌^◌, ℕ, Bool, true, false, cond, nat_eq}
-use Rattle.std.specs.Prelude.{List, length, Option, Some, None, slice_get, slice_set}
+use Rattle.std.specs.Prelude.{◌≡◌, ◌⊎◌, ◌↔◌, ◌<◌, ◌+◌, ◌++◌, ◌∷◌, [], ◌^◌, ℕ, Bool, true, false, cond}
+use Rattle.std.specs.Prelude.{nat_eq, not, List, length, Option, Some, None, slice_get}
 use Rattle.rv_text.specs.declared.message.Key.{Key}
 use Rattle.rv_text.specs.declared.call.Side.{Side}
 use Rattle.rv_text.specs.declared.call.Call.{Call}
-use Rattle.rv_book.specs.declared.account.Act.{Act}
-use Rattle.rv_book.specs.declared.account.Act.TheVariants.{Arrive, Cancel, Hello, Tick}
-use Rattle.rv_book.specs.declared.account.Entry.{Entry}
-use Rattle.rv_book.specs.Account.{Account, act_at, call_at, call_in}
+use Rattle.rv_account.specs.declared.entry.Act.{Act}
+use Rattle.rv_account.specs.declared.entry.Act.TheVariants.{Arrive, Cancel, Hello, Tick}
+use Rattle.rv_account.specs.declared.entry.Entry.{Entry}
+use Rattle.rv_account.specs.Account.{Account, Among, Names, act_at, call_at, call_in}
 use Rattle.rv_book.specs.Sessions.{HasIncarnation, LastNumber, NamesKey, SaidHello}
 use Rattle.rv_book.specs.Legal.{IsDueAt, IsOpenOpposite, Legal, MayFollow, before}
 use Rattle.rv_book.specs.Steps.{own_moment}
-use Rattle.rv_book.specs.Calls.{IsPut, Stays}
+use Rattle.rv_account.specs.Calls.{IsPut, Stays, may_name}
 use Rattle.rv_text.specs.Calls.{side_of}
 use Rattle.rv_book.specs.Waiting.{Met, Open, OpenAt, SideAt, StoppedAt, Waiting, limit_at, limit_in}
 use Rattle.rv_audit.specs.Breaking.{BreaksBehind, IsPaired, rank_of}
@@ -108,28 +108,46 @@ ArrivesWith entries key r = (call : Call) × (act_at entries r ≡ Some (Arrive 
 abbrev pub IsOfSessionOf : Account → Key → Type 0
 IsOfSessionOf a key = (key.epoch ≡ a.epoch) × HasIncarnation a.entries key.client key.incarnation
 
--- an open arrival of the side stands before the place; one stands anywhere
-abbrev pub HasOlder : List Entry → Side → ℕ → Type 0
-HasOlder entries side place = (r : ℕ) × (r < place) × OpenAt entries side r
+-- the place is that of the oldest open arrival of the side that is none of these places
+pub record IsOldestBeside (entries : List Entry) (side : Side) (places : List ℕ) (place : ℕ) : Type 0 where
+  pub there : OpenAt entries side place
+  pub beside : ¬ Among places place
+  pub oldest : (r : ℕ) → r < place → OpenAt entries side r → Among places r
 
-abbrev pub HasOne : List Entry → Side → Type 0
-HasOne entries side = (r : ℕ) × OpenAt entries side r
+-- an open arrival of the side that is none of these stands before the place; one stands anywhere
+abbrev pub HasOlder : List Entry → Side → List ℕ → ℕ → Type 0
+HasOlder entries side places place = (r : ℕ) × (r < place) × OpenAt entries side r × (¬ Among places r)
 
--- who may meet the call is open somewhere
-abbrev pub FindsOne : List Entry → Call → Type 0
-FindsOne entries call = (r : ℕ) × IsOpenOpposite entries call r
+abbrev pub HasOne : List Entry → Side → List ℕ → Type 0
+HasOne entries side places = (r : ℕ) × OpenAt entries side r × (¬ Among places r)
 
--- the call names a partner that it may not meet there; it names none, where one is there
-abbrev pub Misses : List Entry → Call → Option ℕ → Type 0
-Misses entries call partner = (p : ℕ) × (partner ≡ Some p) × (¬ IsOpenOpposite entries call p)
+-- who may meet the call is open somewhere beside these
+abbrev pub FindsOne : List Entry → Call → List ℕ → Type 0
+FindsOne entries call places = (r : ℕ) × IsOpenOpposite entries call r × (¬ Among places r)
 
-abbrev pub Leaves : List Entry → Call → Option ℕ → Type 0
-Leaves entries call partner = (partner ≡ None) × FindsOne entries call
+-- one of these places is such a one; before a number of them none is
+abbrev pub HasAmong : (ℕ → Type 0) → List ℕ → Type 0
+HasAmong Is places = (p : ℕ) × Among places p × Is p
 
--- before the place, which is that of one that gives or takes, an open arrival of its side stands
-abbrev pub IsPassedBy : List Entry → ℕ → Type 0
-IsPassedBy entries place =
-    (side : Side) × IsPaired side × SideAt entries side place × HasOlder entries side place
+abbrev pub NoneBefore : (ℕ → Type 0) → List ℕ → ℕ → Type 0
+NoneBefore Is places n = (i p : ℕ) → i < n → slice_get places i ≡ Some p → ¬ Is p
+
+-- one of these partners is none that the call may meet there
+abbrev pub Misses : List Entry → Call → List ℕ → Type 0
+Misses entries call partners = HasAmong (λ p. ¬ IsOpenOpposite entries call p) partners
+
+-- these partners are fewer than the call may name, and one that it may meet is there beside them
+pub record Leaves (entries : List Entry) (call : Call) (partners : List ℕ) : Type 0 where
+  pub fewer : length partners < may_name call
+  pub other : ℕ
+  pub there : IsOpenOpposite entries call other
+  pub unnamed : ¬ Among partners other
+
+-- before the place, which is that of one that gives or takes, an open arrival of its side stands that is none
+-- of these partners
+abbrev pub IsPassedBy : List Entry → List ℕ → ℕ → Type 0
+IsPassedBy entries partners place = (side : Side) × IsPaired side × SideAt entries side place
+    × HasOlder entries side partners place
 
 -- ---- what an entry takes out of the tables
 
@@ -142,7 +160,7 @@ gone_at (Some place) r = nat_eq r place
 
 -- the entry names the arrival, or stops it
 abbrev pub Touches : List Entry → Entry → ℕ → Type 0
-Touches entries e r = (e.partner ≡ Some r) ⊎ StoppedAt (entries ++ e ∷ []) r (length entries)
+Touches entries e r = Names e r ⊎ StoppedAt (entries ++ e ∷ []) r (length entries)
 
 -- of those that are open, those that the entry touches are gone, and no others
 pub record AreTouched (entries : List Entry) (e : Entry) (gone : Gone) : Type 0 where
@@ -190,6 +208,13 @@ pub record IsTakingOut (start front : Front) (moment : ℕ) : Type 0 where
 abbrev pub IsUnderway : Front → ℕ → Type 0
 IsUnderway front moment = (start : Front) × IsTakingOut start front moment
 
+-- such places were taken out, and no others
+pub record TakesEach (Is : ℕ → Type 0) (old new : Front) : Type 0 where
+  pub gone : Gone
+  pub are : (r : ℕ) → (gone r ≡ true) ↔ Is r
+  pub rest : SameRest old new
+  pub tables : AreTables (passed old) gone new
+
 -- all that the entry touches was taken out
 pub record TakesTouched (old new : Front) (e : Entry) : Type 0 where
   pub gone : Gone
@@ -199,9 +224,28 @@ pub record TakesTouched (old new : Front) (e : Entry) : Type 0 where
 
 -- ---- what an entry brings
 
-abbrev pub flagged : List Bool → Option ℕ → List Bool
-flagged met None = met
-flagged met (Some place) = slice_set met place true
+-- the first of these places, up to a number of them
+abbrev pub AmongFirst : List ℕ → ℕ → ℕ → Type 0
+AmongFirst places n p = (i : ℕ) × (i < n) × (slice_get places i ≡ Some p)
+
+-- those flags are set that were, and those of such places
+pub record SetsFlags (Is : ℕ → Type 0) (old new : List Bool) : Type 0 where
+  pub count : length new ≡ length old
+  pub flags : (r : ℕ) → (slice_get new r ≡ Some true) ↔ ((slice_get old r ≡ Some true) ⊎ Is r)
+
+-- whether there are any
+abbrev pub is_any : List ℕ → Bool
+is_any places = not (nat_eq (length places) 0)
+
+-- the flags of these places were set, and one more stands at the end: whether there are any of them
+pub record Flags (old new : List Bool) (places : List ℕ) : Type 0 where
+  pub flags : List Bool
+  pub sets : SetsFlags (Among places) old flags
+  pub one_more : new ≡ flags ++ is_any places ∷ []
+
+-- these places are flagged already, or have a flag to be set
+abbrev pub AreWithin : List ℕ → ℕ → Type 0
+AreWithin places n = (p : ℕ) → Among places p → p < n
 
 -- the entry arrives on this side, and stays; it is no put besides
 pub record IsNewOn (e : Entry) (side : Side) : Type 0 where
@@ -218,11 +262,11 @@ pub record IsNewRequest (e : Entry) : Type 0 where
 
 -- the side on which the entry opens, and the limit until which it waits, if it fits a moment
 abbrev pub OpensOn : Entry → Option Side → Type 0
-OpensOn e None = (side : Side) → e.partner ≡ None → ¬ IsNewOn e side
-OpensOn e (Some side) = (e.partner ≡ None) × IsNewOn e side
+OpensOn e None = (side : Side) → e.partners ≡ [] → ¬ IsNewOn e side
+OpensOn e (Some side) = (e.partners ≡ []) × IsNewOn e side
 
 pub record WaitsFor (e : Entry) (limit : ℕ) : Type 0 where
-  pub alone : e.partner ≡ None
+  pub alone : e.partners ≡ []
   pub new : IsNewRequest e
   pub has : limit_in e ≡ Some limit
   pub fits : limit < 2 ^ 64

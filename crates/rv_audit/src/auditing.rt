@@ -54,7 +54,8 @@ fn first_broken(front: &Front<'_>, entry: &Entry) -> Option<Rule>
 /// broken, and of the rules that are broken there the first in their order. It fails only where memory was
 /// refused. The account stays as it is.
 ///
-/// Whatever the account, an entry takes time logarithmic in the number of entries before it.
+/// Whatever the account, an entry takes time logarithmic in the number of entries before it, and linear in
+/// that of its partners.
 pub fn audit(alloc: Global, account: &Account) -> Result<Audit, NoMemory>
     ensures told { IfOk result (IsToldOf account.now.account) }
     ensures legal { IfOk result (λ told. (told ≡ tells.Legal) ↔ Legal account.now.account) }

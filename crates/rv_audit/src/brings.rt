@@ -2,7 +2,7 @@
 //! and what it makes of its client's session.
 ghost use Rattle.std.specs.Prelude.{◌≡◌, ◌↔◌, IfNone, IfSome, IsTrue};
 ghost use Rattle.rv_text.specs.Calls.{side_of};
-ghost use Rattle.rv_book.specs.Calls.{Lasts, MayMeet, Stays};
+ghost use Rattle.rv_account.specs.Calls.{Lasts, MayMeet, Stays};
 ghost use Rattle.rv_book.specs.Waiting.{limit_in};
 ghost use Rattle.rv_audit.specs.Passed.{IsFitting, OpensOn, WaitsUntil, session_after};
 
@@ -65,9 +65,12 @@ fn staying_on(call: &Call) -> Option<Side>
 pub(crate) fn opening(entry: &Entry) -> Option<Side>
     ensures { OpensOn entry.now result }
 {
-    match (&entry.act, entry.partner) {
-        (Act::Arrive { call, .. }, None) => staying_on(call),
-        _ => None,
+    if !entry.partners.as_slice().is_empty() {
+        return None;
+    }
+    match &entry.act {
+        Act::Arrive { call, .. } => staying_on(call),
+        Act::Hello { .. } | Act::Cancel { .. } | Act::Tick => None,
     }
 }
 

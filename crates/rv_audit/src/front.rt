@@ -1,20 +1,21 @@
 //! What an audit keeps of the entries that it has passed.
-ghost use Rattle.std.specs.Prelude.{◌≡◌, ◌↔◌, ◌<◌, ◌^◌, ◌++◌, ◌∷◌, [], ℕ, Some, None, true, false, is_some};
+ghost use Rattle.std.specs.Prelude.{◌≡◌, ◌↔◌, ◌<◌, ◌^◌, ℕ, Some, None, true, false};
 ghost use Rattle.std.specs.Prelude.{option_and_then, option_map, length, IfNone, IfSome, IsTrue, OnOk};
 ghost use Rattle.rv_text.specs.declared.call.Side.{Side};
-ghost use Rattle.rv_book.specs.declared.account.Act.TheVariants.{Hello, Tick};
-ghost use Rattle.rv_book.specs.Account.{call_at};
+ghost use Rattle.rv_account.specs.declared.entry.Act.TheVariants.{Hello};
+ghost use Rattle.rv_account.specs.Account.{Among, call_at};
 ghost use Rattle.rv_book.specs.Legal.{HasWaiting, MayFollow, SomethingDue, WaitsUnder};
 ghost use Rattle.rv_book.specs.Steps.{own_moment};
-ghost use Rattle.rv_book.specs.Waiting.{IsOldest, Met, OpenAt, SideAt, Waiting, limit_at};
+ghost use Rattle.rv_book.specs.Waiting.{Met, OpenAt, SideAt, Waiting, limit_at};
 ghost use Rattle.rv_audit.specs.Breaking.{IsNotNext, StartsNoNewer};
 ghost use Rattle.rv_audit.specs.Marks.{NoneUntil, count_of};
 ghost use Rattle.rv_audit.specs.Sessions.{session_in};
-ghost use Rattle.rv_audit.specs.Passed.{AreTables, AreTouched, ArrivesWith, HasOlder, HasOne, HasPassed};
-ghost use Rattle.rv_audit.specs.Passed.{IsArrivalOf, IsArrived, IsFitting, IsFront, IsOfSessionOf};
-ghost use Rattle.rv_audit.specs.Passed.{IsReadyFor, IsTakingOut, IsUnderway, MayPass, SameRest};
-ghost use Rattle.rv_audit.specs.Passed.{TakesOut, TakesTouched};
-ghost use Rattle.rv_audit.specs.Passed.{WaitsOf, WaitsWith, flagged, gone_at, passed};
+ghost use Rattle.rv_audit.specs.Passed.{AreTables, AreWithin, ArrivesWith, Flags, HasOlder, HasOne};
+ghost use Rattle.rv_audit.specs.Passed.{HasPassed, IsArrivalOf, IsArrived, IsFitting, IsFront, IsOfSessionOf};
+ghost use Rattle.rv_audit.specs.Passed.{IsOldestBeside, IsReadyFor, IsTakingOut, IsUnderway, MayPass};
+ghost use Rattle.rv_audit.specs.Passed.{SameRest};
+ghost use Rattle.rv_audit.specs.Passed.{SetsFlags, TakesEach, TakesOut, TakesTouched};
+ghost use Rattle.rv_audit.specs.Passed.{WaitsOf, WaitsWith, gone_at, passed};
 ghost use Rattle.rv_audit.specs.declared.front.Front.{Front as FrontOf};
 
 use crate::brings::{limit_of, opening, session_after, waiting_until};
@@ -49,15 +50,23 @@ fn is_arrival_of(act: &Act, key: &Key) -> bool
     }
 }
 
-// Flags the partner, if there is one, and the entry that names it.
-fn flag(met: &mut Vec<bool>, partner: Option<Place>) -> Result<(), NoMemory>
-    requires { IfSome partner (λ place. place < length met.old.items) }
-    ensures { OnOk result (met.new.items ≡ flagged met.old.items partner ++ is_some partner ∷ []) }
+// Sets the flags of these places.
+fn set_flags(met: &mut Vec<bool>, places: &[Place])
+    requires { AreWithin places.now (length met.old.items) }
+    ensures { SetsFlags (Among places.now) met.old.items met.new.items }
 {
-    if let Some(place) = partner {
-        met[place] = true;
+    for place in places {
+        met[*place] = true;
     }
-    met.push(partner.is_some()).map_err(AllocError::from)
+}
+
+// Flags the partners, and the entry that names them, if there are any.
+fn flag(met: &mut Vec<bool>, partners: &[Place]) -> Result<(), NoMemory>
+    requires { AreWithin partners.now (length met.old.items) }
+    ensures { OnOk result (Flags met.old.items met.new.items partners.now) }
+{
+    set_flags(met, partners);
+    met.push(!partners.is_empty()).map_err(AllocError::from)
 }
 
 impl<'a> Front<'a> {
@@ -116,14 +125,14 @@ impl<'a> Front<'a> {
         self.lines.has(side, place)
     }
 
-    // The oldest open arrival of the side.
-    fn oldest(&self, side: Side) -> Option<Place>
+    // The oldest open arrival of the side that is none of these.
+    fn oldest_beside(&self, side: Side, places: &[Place]) -> Option<Place>
         requires { IsFront self.now }
-        ensures some { IfSome result (IsOldest (passed self.now).entries side) }
+        ensures some { IfSome result (IsOldestBeside (passed self.now).entries side places.now) }
         ensures none { IfNone result ((place : ℕ)
-            → ¬ OpenAt (passed self.now).entries side place) }
+            → OpenAt (passed self.now).entries side place → Among places.now place) }
     {
-        self.lines.oldest(side)
+        self.lines.oldest_beside(side, places)
     }
 
     // The call of the arrival at a place, if one stands there.
@@ -235,23 +244,23 @@ impl<'a> Front<'a> {
         }
     }
 
-    // Whether an open arrival of the side stands before the place.
-    pub(crate) fn has_older(&self, side: Side, place: Place) -> bool
+    // Whether an open arrival of the side that is none of these stands before the place.
+    pub(crate) fn has_older(&self, side: Side, places: &[Place], place: Place) -> bool
         requires { IsFront self.now }
-        ensures { IsTrue result ↔ HasOlder (passed self.now).entries side place }
+        ensures { IsTrue result ↔ HasOlder (passed self.now).entries side places.now place }
     {
-        match self.oldest(side) {
+        match self.oldest_beside(side, places) {
             Some(first) => first < place,
             None => false,
         }
     }
 
-    // Whether an arrival of the side is open anywhere.
-    pub(crate) fn has_one(&self, side: Side) -> bool
+    // Whether an arrival of the side that is none of these is open anywhere.
+    pub(crate) fn has_one(&self, side: Side, places: &[Place]) -> bool
         requires { IsFront self.now }
-        ensures { IsTrue result ↔ HasOne (passed self.now).entries side }
+        ensures { IsTrue result ↔ HasOne (passed self.now).entries side places.now }
     {
-        match self.oldest(side) {
+        match self.oldest_beside(side, places) {
             Some(_) => true,
             None => false,
         }
@@ -318,19 +327,14 @@ impl<'a> Front<'a> {
         }
     }
 
-    // Whom an entry that is no tick names or stops, if anybody.
-    fn touched(&self, entry: &Entry) -> Option<Place>
-        requires front { IsFront self.now }
-        requires follows { MayFollow (passed self.now) entry.now }
-        ensures touched { ¬ (entry.now.act ≡ Tick)
-            → AreTouched (passed self.now).entries entry.now (gone_at result) }
-        ensures arrived { IfSome result (IsArrived (passed self.now).entries) }
+    // Takes out the arrivals at these places.
+    fn close_each(&mut self, places: &[Place])
+        requires front { IsFront self.old }
+        requires arrived { (p : ℕ) → Among places.now p → IsArrived (passed self.old).entries p }
+        ensures { TakesEach (Among places.now) self.old self.new }
     {
-        match &entry.act {
-            Act::Hello { client, .. } => self.waiting(*client),
-            Act::Arrive { .. } => entry.partner,
-            Act::Cancel { key } => self.cancelled(key),
-            Act::Tick => None,
+        for place in places {
+            self.close(*place);
         }
     }
 
@@ -354,9 +358,14 @@ impl<'a> Front<'a> {
     {
         match &entry.act {
             Act::Tick => self.close_due(entry.moment),
-            Act::Hello { .. } | Act::Arrive { .. } | Act::Cancel { .. } => {
-                let touched = self.touched(entry);
-                self.close_if(touched);
+            Act::Arrive { .. } => self.close_each(entry.partners.as_slice()),
+            Act::Hello { client, .. } => {
+                let waiting = self.waiting(*client);
+                self.close_if(waiting);
+            }
+            Act::Cancel { key } => {
+                let cancelled = self.cancelled(key);
+                self.close_if(cancelled);
             }
         }
     }
@@ -367,7 +376,7 @@ impl<'a> Front<'a> {
         ensures { OnOk result (HasPassed self.old self.new) }
     {
         let place = self.met.len();
-        flag(&mut self.met, entry.partner)?;
+        flag(&mut self.met, entry.partners.as_slice())?;
         open_line(&mut self.lines, opening(entry), place)?;
         add_limit(&mut self.limits, waiting_until(entry), place)?;
         enter_session(&mut self.sessions, session_after(&entry.act, place))?;

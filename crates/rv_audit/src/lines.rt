@@ -17,7 +17,7 @@ pub(crate) struct Lines {
 }
 
 impl Lines {
-    ghost use Rattle.rv_audit.specs.Lines.{Opens, Closes, IsFirstOn, NobodyOn, stands_in};
+    ghost use Rattle.rv_audit.specs.Lines.{Opens, Closes, IsFirstBeside, NobodyBeside, stands_in};
 
     // Nobody is open. It takes no memory yet.
     pub(crate) fn empty(alloc: Global) -> Lines
@@ -42,16 +42,16 @@ impl Lines {
         }
     }
 
-    // The oldest place on the side.
-    pub(crate) fn oldest(&self, side: Side) -> Option<Place>
-        ensures some { IfSome result (IsFirstOn self.now side) }
-        ensures none { IfNone result (NobodyOn self.now side) }
+    // The oldest place on the side that is none of these.
+    pub(crate) fn oldest_beside(&self, side: Side, places: &[Place]) -> Option<Place>
+        ensures some { IfSome result (IsFirstBeside self.now side places.now) }
+        ensures none { IfNone result (NobodyBeside self.now side places.now) }
     {
         match side {
-            Side::Gives(queue) => self.givers.lowest(queue),
-            Side::Takes(queue) => self.takers.lowest(queue),
+            Side::Gives(queue) => self.givers.lowest_beside(queue, places),
+            Side::Takes(queue) => self.takers.lowest_beside(queue, places),
             Side::Looks(_) => None,
-            Side::Exchanges(exchanger) => self.exchangers.lowest(exchanger),
+            Side::Exchanges(exchanger) => self.exchangers.lowest_beside(exchanger, places),
         }
     }
 

@@ -1,12 +1,15 @@
 //! Sets of places, each under a number: that of a queue, of an exchanger, or a limit.
-ghost use Rattle.std.specs.Prelude.{◌≡◌, ◌<◌, ℕ, Some, false, true, IfNone, IfSome, OnErr, OnOk};
-ghost use Rattle.rv_audit.specs.Marks.{Gains, GainsIf, IsLeast, IsLowest, Loses, LosesIf};
+ghost use Rattle.std.specs.Prelude.{◌≡◌, ◌<◌, ℕ, Some, false, true};
+ghost use Rattle.std.specs.Prelude.{IfNone, IfSome, OnErr, OnOk};
+ghost use Rattle.rv_audit.specs.Marks.{Gains, GainsIf, IsLeast, IsLowest, IsLowestBeside, IsNext};
+ghost use Rattle.rv_audit.specs.Marks.{Loses, LosesIf, NoneBehind, NoneBeside};
 ghost use Rattle.rv_audit.specs.Marks.{NoneUnder, NoneUntil, count_of, marked};
 
 use rv_book::Place;
 use rv_text::NoMemory;
 use std::alloc::{AllocError, Global};
 use std::collections::BTreeSet;
+use std::ops::Bound;
 
 // Places, each under a number.
 #[derive(Drop)]
@@ -50,12 +53,37 @@ impl Marks {
     }
 
     // The lowest place that is marked under the number.
-    pub(crate) fn lowest(&self, number: u64) -> Option<Place>
+    fn lowest(&self, number: u64) -> Option<Place>
         ensures some { IfSome result (IsLowest self.now number) }
         ensures none { IfNone result (NoneUnder self.now number) }
     {
         let (least, place) = *self.marks.range((number, 0)..).next()?;
         (least == number).then_some(place)
+    }
+
+    // The lowest place behind another that is marked under the number.
+    fn next(&self, number: u64, last: Place) -> Option<Place>
+        ensures some { IfSome result (IsNext self.now number last) }
+        ensures none { IfNone result (NoneBehind self.now number last) }
+    {
+        let behind = (Bound::Excluded((number, last)), Bound::Unbounded);
+        let (least, place) = *self.marks.range(behind).next()?;
+        (least == number).then_some(place)
+    }
+
+    // The lowest place marked under the number that is none of these.
+    pub(crate) fn lowest_beside(&self, number: u64, places: &[Place]) -> Option<Place>
+        ensures some { IfSome result (IsLowestBeside self.now number places.now) }
+        ensures none { IfNone result (NoneBeside self.now number places.now) }
+    {
+        let mut found = self.lowest(number);
+        while let Some(place) = found {
+            if !places.contains(&place) {
+                return Some(place);
+            }
+            found = self.next(number, place);
+        }
+        None
     }
 
     // The least number under which a place is marked, with the lowest such place, if it is at most the limit.

@@ -22,13 +22,14 @@ pub enum Rule {
     /// A session counts its requests up by one, with one waiting at most; a cancel is of that one, or of the
     /// next.
     N3,
-    /// Only who gives, takes or exchanges has a partner: an earlier place that was not named and names none.
+    /// Only who gives, takes or exchanges has partners: earlier places that were not named and name none,
+    /// which rise, and of which there are no more than its call may name.
     P1,
-    /// Who gives is paired with who takes of that queue, and the other way round, while the partner is open.
+    /// Who gives is paired with who takes of that queue, and the other way round, while that one is open.
     P2,
-    /// The oldest is paired first: none of the partner's side is open before the partner.
+    /// The oldest is paired first: who is open on a partner's side before that partner is a partner too.
     P3,
-    /// Who gives or takes is paired where one of the other side is open.
+    /// Who gives or takes, and names fewer partners than it may, names all of the other side that are open.
     P4,
     /// Who exchanges swaps with who exchanges there, while the partner is open.
     S1,

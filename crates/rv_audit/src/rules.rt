@@ -1,18 +1,20 @@
 //! Whether an entry breaks a rule, behind the entries that an audit has passed.
 ghost use Rattle.std.specs.Prelude.{◌≡◌, ◌↔◌, IfNone, IfSome, IsTrue, option_map};
+ghost use Rattle.std.specs.List.Sorted.{IsStrictlyIncreasing};
 ghost use Rattle.rv_text.specs.declared.message.Key.{Key};
 ghost use Rattle.rv_text.specs.declared.call.Call.{Call};
-ghost use Rattle.rv_book.specs.Account.{call_in};
-ghost use Rattle.rv_book.specs.Calls.{opposite};
+ghost use Rattle.rv_account.specs.Account.{call_in};
+ghost use Rattle.rv_account.specs.Calls.{may_name, opposite};
 ghost use Rattle.rv_book.specs.Legal.{IsOpenOpposite, WaitsUnder};
 ghost use Rattle.rv_audit.specs.Breaking.{ArrivesAs, BreaksBehind, IsOutOfTurn, IsPaired, IsSwapped, Meets};
-ghost use Rattle.rv_audit.specs.Breaking.{FallsBack, IsOfNoSession, PassesLimit, StartsNoNewer};
-ghost use Rattle.rv_audit.specs.Breaking.{BreaksCount, MeetsNobody, MeetsWrongly, NamesWrongly};
-ghost use Rattle.rv_audit.specs.Breaking.{PassesOver, TicksForNothing};
-ghost use Rattle.rv_audit.specs.Passed.{FindsOne, IsFront, IsPassedBy, Leaves, Misses, passed};
+ghost use Rattle.rv_audit.specs.Breaking.{FallsBack, IsNoFreePlace, IsOfNoSession, PassesLimit};
+ghost use Rattle.rv_audit.specs.Breaking.{BreaksCount, MeetsNobody, MeetsWrongly, NamesTaken, NamesTooMany};
+ghost use Rattle.rv_audit.specs.Breaking.{NamesWrongly, PassesOver, StartsNoNewer, TicksForNothing};
+ghost use Rattle.rv_audit.specs.Passed.{FindsOne, HasAmong, IsFront, IsPassedBy, Leaves, Misses, passed};
 
 use crate::front::Front;
 use crate::rule::Rule;
+use rv_account::may_name;
 use rv_book::{Act, Entry, Place};
 use rv_text::{Call, Key, Side};
 
@@ -146,14 +148,67 @@ fn meets(entry: &Entry) -> bool
     }
 }
 
+// Whether the place isn't that of an earlier entry which was not named and names nobody.
+fn is_taken(front: &Front<'_>, place: Place) -> bool
+    requires { IsFront front.now }
+    ensures { IsTrue result ↔ IsNoFreePlace (passed front.now).entries place }
+{
+    !front.is_free(place)
+}
+
+// Whether one of these places is taken.
+fn any_taken(front: &Front<'_>, places: &[Place]) -> bool
+    requires { IsFront front.now }
+    ensures { IsTrue result ↔ HasAmong (IsNoFreePlace (passed front.now).entries) places.now }
+{
+    for place in places {
+        if is_taken(front, *place) {
+            return true;
+        }
+    }
+    false
+}
+
+// Whether the entry names a partner that it may not name.
+fn names_taken(front: &Front<'_>, entry: &Entry) -> bool
+    requires { IsFront front.now }
+    ensures { IsTrue result ↔ NamesTaken (passed front.now).entries entry.now }
+{
+    let partners = entry.partners.as_slice();
+    if meets(entry) {
+        any_taken(front, partners)
+    } else {
+        !partners.is_empty()
+    }
+}
+
+// Whether the entry names more partners than its call may.
+fn names_too_many(entry: &Entry) -> bool
+    ensures { IsTrue result ↔ NamesTooMany entry.now }
+{
+    match call_of(entry) {
+        Some(call) => may_name(call) < entry.partners.as_slice().len(),
+        None => false,
+    }
+}
+
+// Whether each of these places is below the next.
+fn rise(places: &[Place]) -> bool
+    ensures { IsTrue result ↔ IsStrictlyIncreasing places.now }
+{
+    for next in 1..places.len() {
+        if places[next] <= places[next - 1] {
+            return false;
+        }
+    }
+    true
+}
+
 fn names_wrongly(front: &Front<'_>, entry: &Entry) -> bool
     requires { IsFront front.now }
     ensures { IsTrue result ↔ NamesWrongly (passed front.now).entries entry.now }
 {
-    match entry.partner {
-        Some(partner) => !meets(entry) || !front.is_free(partner),
-        None => false,
-    }
+    names_taken(front, entry) || names_too_many(entry) || !rise(entry.partners.as_slice())
 }
 
 // The call of an entry that gives or takes.
@@ -189,48 +244,61 @@ fn may_meet(front: &Front<'_>, call: &Call, place: Place) -> bool
     }
 }
 
-// Whether one that the call may meet is open anywhere.
-fn finds_one(front: &Front<'_>, call: &Call) -> bool
+// Whether one that the call may meet is open anywhere beside these places.
+fn finds_one(front: &Front<'_>, call: &Call, places: &[Place]) -> bool
     requires { IsFront front.now }
-    ensures { IsTrue result ↔ FindsOne (passed front.now).entries call.now }
+    ensures { IsTrue result ↔ FindsOne (passed front.now).entries call.now places.now }
 {
     match opposite(call.side()) {
-        Some(side) => front.has_one(side),
+        Some(side) => front.has_one(side, places),
         None => false,
     }
 }
 
 // Whether the call names a partner that it may not meet there.
-fn misses(front: &Front<'_>, call: &Call, partner: Option<Place>) -> bool
+fn misses(front: &Front<'_>, call: &Call, partners: &[Place]) -> bool
     requires { IsFront front.now }
-    ensures { IsTrue result ↔ Misses (passed front.now).entries call.now partner }
+    ensures { IsTrue result ↔ Misses (passed front.now).entries call.now partners.now }
 {
-    match partner {
-        Some(place) => !may_meet(front, call, place),
-        None => false,
+    for place in partners {
+        if !may_meet(front, call, *place) {
+            return true;
+        }
     }
+    false
 }
 
-// Whether the call names no partner, where one is there.
-fn leaves(front: &Front<'_>, call: &Call, partner: Option<Place>) -> bool
+// Whether the call names fewer partners than it may, where one more is there.
+fn leaves(front: &Front<'_>, call: &Call, partners: &[Place]) -> bool
     requires { IsFront front.now }
-    ensures { IsTrue result ↔ Leaves (passed front.now).entries call.now partner }
+    ensures { IsTrue result ↔ Leaves (passed front.now).entries call.now partners.now }
 {
-    match partner {
-        Some(_) => false,
-        None => finds_one(front, call),
-    }
+    partners.len() < may_name(call) && finds_one(front, call, partners)
 }
 
-// Whether before the place of one that gives or takes an open arrival of its side stands.
-fn is_passed_by(front: &Front<'_>, place: Place) -> bool
+// Whether before the place of one that gives or takes an open arrival of its side stands that is none of
+// these partners.
+fn is_passed_by(front: &Front<'_>, partners: &[Place], place: Place) -> bool
     requires { IsFront front.now }
-    ensures { IsTrue result ↔ IsPassedBy (passed front.now).entries place }
+    ensures { IsTrue result ↔ IsPassedBy (passed front.now).entries partners.now place }
 {
     match front.side(place) {
-        Some(side) => is_paired(side) && front.has_older(side, place),
+        Some(side) => is_paired(side) && front.has_older(side, partners, place),
         None => false,
     }
+}
+
+// Whether one of these partners is passed by.
+fn any_passed(front: &Front<'_>, partners: &[Place]) -> bool
+    requires { IsFront front.now }
+    ensures { IsTrue result ↔ HasAmong (IsPassedBy (passed front.now).entries partners.now) partners.now }
+{
+    for place in partners {
+        if is_passed_by(front, partners, *place) {
+            return true;
+        }
+    }
+    false
 }
 
 fn pairs_wrongly(front: &Front<'_>, entry: &Entry) -> bool
@@ -238,7 +306,7 @@ fn pairs_wrongly(front: &Front<'_>, entry: &Entry) -> bool
     ensures { IsTrue result ↔ MeetsWrongly IsPaired (passed front.now).entries entry.now }
 {
     match paired(entry) {
-        Some(call) => misses(front, call, entry.partner),
+        Some(call) => misses(front, call, entry.partners.as_slice()),
         None => false,
     }
 }
@@ -247,9 +315,9 @@ fn passes_over(front: &Front<'_>, entry: &Entry) -> bool
     requires { IsFront front.now }
     ensures { IsTrue result ↔ PassesOver (passed front.now).entries entry.now }
 {
-    match (paired(entry), entry.partner) {
-        (Some(_), Some(place)) => is_passed_by(front, place),
-        _ => false,
+    match paired(entry) {
+        Some(_) => any_passed(front, entry.partners.as_slice()),
+        None => false,
     }
 }
 
@@ -258,7 +326,7 @@ fn pairs_nobody(front: &Front<'_>, entry: &Entry) -> bool
     ensures { IsTrue result ↔ MeetsNobody IsPaired (passed front.now).entries entry.now }
 {
     match paired(entry) {
-        Some(call) => leaves(front, call, entry.partner),
+        Some(call) => leaves(front, call, entry.partners.as_slice()),
         None => false,
     }
 }
@@ -268,7 +336,7 @@ fn swaps_wrongly(front: &Front<'_>, entry: &Entry) -> bool
     ensures { IsTrue result ↔ MeetsWrongly IsSwapped (passed front.now).entries entry.now }
 {
     match swapped(entry) {
-        Some(call) => misses(front, call, entry.partner),
+        Some(call) => misses(front, call, entry.partners.as_slice()),
         None => false,
     }
 }
@@ -278,7 +346,7 @@ fn swaps_nobody(front: &Front<'_>, entry: &Entry) -> bool
     ensures { IsTrue result ↔ MeetsNobody IsSwapped (passed front.now).entries entry.now }
 {
     match swapped(entry) {
-        Some(call) => leaves(front, call, entry.partner),
+        Some(call) => leaves(front, call, entry.partners.as_slice()),
         None => false,
     }
 }

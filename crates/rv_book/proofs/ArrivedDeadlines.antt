@@ -9,17 +9,18 @@ use Rattle.rv_text.specs.declared.call.Wait.TheVariants.{Forever, Millis, Now}
 use Rattle.rv_text.specs.declared.message.Key.{Key}
 use Rattle.rv_text.specs.Calls.{side_of, wait_of}
 use Rattle.rv_session.specs.Owed.{Owed}
-use Rattle.rv_book.specs.Account.{Account, call_in}
+use Rattle.rv_account.specs.Account.{Account, Names, call_in, just}
 use Rattle.rv_book.specs.Arriving.{GoesOn}
-use Rattle.rv_book.specs.Calls.{IsPut, Lasts, Stays, limit_after, limit_of}
+use Rattle.rv_account.specs.Calls.{IsPut, Lasts, Stays, limit_after, limit_of}
 use Rattle.rv_book.specs.Elapsing.{AreDeadlines, deadline_after, deadline_of, with_deadline, without_duty}
-use Rattle.rv_book.specs.Legal.{Legal, NamesFreePartner}
+use Rattle.rv_book.specs.Legal.{Legal, NamesFreePartners}
 use Rattle.rv_book.specs.Meeting.{OwnDuty, PartnersDuty}
 use Rattle.rv_book.specs.Waiting.{Waiting, limit_at, limit_in}
-use Rattle.rv_book.specs.declared.account.Act.TheVariants.{Arrive}
-use Rattle.rv_book.specs.declared.account.Entry.{Entry}
+use Rattle.rv_account.specs.declared.entry.Act.TheVariants.{Arrive}
+use Rattle.rv_account.specs.declared.entry.Entry.{Entry}
 use Rattle.rv_book.proofs.DeadlineTable.{ButDuty, due_on, due_same, due_with, due_without_duty, limit_waits}
 use Rattle.rv_book.proofs.Lasting.{lasting_deadline}
+use Rattle.rv_book.proofs.Naming.{just_none, names_it, names_only}
 use Rattle.rv_book.proofs.Owing.{goes_not_on, goes_on, unowed_waits_not, waiting_inside}
 use Rattle.rv_book.proofs.Places.{get-append_end}
 use Rattle.rv_book.proofs.Sides.{IsNewRequest, Waiting-back, Waiting-last, Waiting-on, arrival_stops_nobody, waiting_is_open}
@@ -40,7 +41,7 @@ but_has : (P : ℕ → Type 0) (duty : Option Owed) (r : ℕ) → ButDuty P duty
 but_has P None r but = but
 but_has P (Some d) r but = but.0
 
-module _ (a : Account) (e : Entry) (key : Key) (call : Call) (legal : Legal a) (free : NamesFreePartner a.entries e) (arrives : e.act ≡ Arrive key call) where
+module _ (a : Account) (e : Entry) (key : Key) (call : Call) (legal : Legal a) (free : NamesFreePartners a.entries e) (arrives : e.act ≡ Arrive key call) where
   abbrev after : List Entry
   after = a.entries ++ e ∷ []
 
@@ -59,35 +60,35 @@ module _ (a : Account) (e : Entry) (key : Key) (call : Call) (legal : Legal a) (
 
   -- ---- the request that it met
 
-  unnamed : (partner : Option ℕ) (other : Option Owed) (r : ℕ) → e.partner ≡ partner → PartnersDuty a.entries partner other → ButDuty Either other r → Waiting a.entries r → e.partner ≡ Some r → ⊥
-  unnamed None other r names is but waits named = none-some r (sym names ∙ named)
+  unnamed : (partner : Option ℕ) (other : Option Owed) (r : ℕ) → e.partners ≡ just partner → PartnersDuty a.entries partner other → ButDuty Either other r → Waiting a.entries r → Names e r → ⊥
+  unnamed None other r names is but waits named = just_none e r names named
   unnamed (Some p) None r names is but waits named =
-      let same : p ≡ r = same_Some _ _ (sym names ∙ named) in
+      let same : p ≡ r = same_Some _ _ (names_only e (Some p) r names named) in
       unowed_waits_not a.entries p (sym is) (subst (Waiting a.entries) (sym same) waits)
   unnamed (Some p) (Some d) r names is but waits named =
-      let same : p ≡ r = same_Some _ _ (sym names ∙ named) in
+      let same : p ≡ r = same_Some _ _ (names_only e (Some p) r names named) in
       but.1 (sym same ∙ sym (owed_place a.entries p d (sym is)))
 
-  but_other : (partner : Option ℕ) (other : Option Owed) (r : ℕ) → e.partner ≡ partner → PartnersDuty a.entries partner other → Either r → (e.partner ≡ Some r → ⊥) → ButDuty Either other r
+  but_other : (partner : Option ℕ) (other : Option Owed) (r : ℕ) → e.partners ≡ just partner → PartnersDuty a.entries partner other → Either r → (Names e r → ⊥) → ButDuty Either other r
   but_other partner None r names is either apart = either
   but_other None (Some d) r names is either apart = absurd (none-some d (sym is))
-  but_other (Some p) (Some d) r names is either apart = (either, λ here. apart (names ∙ ap Some (sym (here ∙ owed_place a.entries p d (sym is)))))
+  but_other (Some p) (Some d) r names is either apart = (either, λ here. apart (names_it e r (names ∙ ap (λ q. just (Some q)) (sym (here ∙ owed_place a.entries p d (sym is))))))
 
   -- a request that waits at its place met nobody
-  goes : (partner : Option ℕ) (new : IsNewRequest e) → e.partner ≡ partner → Waiting after place → GoesOn call partner
+  goes : (partner : Option ℕ) (new : IsNewRequest e) → e.partners ≡ just partner → Waiting after place → GoesOn call partner
   goes None new names waits =
       let same : new.call ≡ call = same_Some _ _ (sym new.arrives ∙ ap call_in arrives) in
       record { unmet = refl; stays = subst Stays same new.stays; no_put = subst (λ c. IsPut c → ⊥) same new.no_put }
-  goes (Some p) new names waits = absurd (met_last a.entries e _ p free names (waiting_is_open after place waits))
+  goes (Some p) new names waits = absurd (met_last a.entries e _ p free (names_it e p names) (waiting_is_open after place waits))
 
-  module _ (partner : Option ℕ) (duty : Owed) (own other : Option Owed) (names : e.partner ≡ partner) (at : duty.place ≡ place) (own_is : OwnDuty (side_of call) (wait_of call) partner duty own)
+  module _ (partner : Option ℕ) (duty : Owed) (own other : Option Owed) (names : e.partners ≡ just partner) (at : duty.place ≡ place) (own_is : OwnDuty (side_of call) (wait_of call) partner duty own)
       (other_is : PartnersDuty a.entries partner other) where
     -- ---- who is left waits
 
     new_waits : (mine : Option Owed) → mine ≡ own → ButDuty (ButDuty Either other) mine place → Waiting after place
     new_waits None same but =
         let is = goes_on call partner duty own own_is (sym same) in
-        Waiting-last a e legal (names ∙ is.unmet) (record { call = call; arrives = ap call_in arrives; stays = is.stays; no_put = is.no_put })
+        Waiting-last a e legal (names ∙ ap just is.unmet) (record { call = call; arrives = ap call_in arrives; stays = is.stays; no_put = is.no_put })
     new_waits (Some d) same but =
         let mine : OwnDuty (side_of call) (wait_of call) partner duty (Some d) = subst (OwnDuty (side_of call) (wait_of call) partner duty) (sym same) own_is in
         absurd (but.1 (sym at ∙ ap (λ (x : Owed). x.place) (sym mine.0)))
@@ -124,7 +125,7 @@ module _ (a : Account) (e : Entry) (key : Key) (call : Call) (legal : Legal a) (
           let on = goes partner new.1 names (subst (Waiting after) new.0 waits) in
           let lasts : Lasts (wait_of call) = on.stays.1 in
           let deadline : deadline_of e.moment call ≡ Some limit = lasting_deadline e.moment (wait_of call) lasts ∙ sym own_limit ∙ ap (limit_at after) (sym new.0) ∙ has in
-          let nobody = λ (named : e.partner ≡ Some place). none-some place (sym on.unmet ∙ sym names ∙ named) in
+          let nobody = just_none e place (names ∙ ap just on.unmet) in
           subst (ButDuty (ButDuty Either other) own) (sym new.0) (new_left own refl on (but_other partner other place names other_is (inr (refl, ap is_some deadline)) nobody))
     ]
 

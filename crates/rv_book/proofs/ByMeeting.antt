@@ -1,16 +1,16 @@
 -- The reply of a request that may wait, by whether it was met: what that tells; unmet, what its wait tells.
-use Rattle.std.proofs.Common.{◌≡◌, ◌⊎◌, inl, inr, ℕ, List, ◌++◌, length, Some, None, refl}
+use Rattle.std.proofs.Common.{◌≡◌, ◌⊎◌, inl, inr, ℕ, List, ◌++◌, [], length, Some, None, refl}
 use Rattle.rv_text.specs.declared.answer.Reply.{Reply}
 use Rattle.rv_text.specs.declared.call.Call.{Call}
 use Rattle.rv_text.specs.declared.call.Wait.{Wait}
 use Rattle.rv_text.specs.Calls.{side_of, wait_of}
 use Rattle.rv_text.specs.Limits.{FitsReply}
 use Rattle.rv_session.specs.declared.kept.Kept.{Kept}
-use Rattle.rv_book.specs.declared.account.Act.TheVariants.{Arrive}
-use Rattle.rv_book.specs.declared.account.Entry.{Entry}
-use Rattle.rv_book.specs.Account.{Account, call_at, with_entry}
+use Rattle.rv_account.specs.declared.entry.Act.TheVariants.{Arrive}
+use Rattle.rv_account.specs.declared.entry.Entry.{Entry}
+use Rattle.rv_account.specs.Account.{Account, call_at, with_entry}
 use Rattle.rv_book.specs.Arriving.{GoesOn, IsKept, WillReply, entry}
-use Rattle.rv_book.specs.Calls.{MayMeet, opposite}
+use Rattle.rv_account.specs.Calls.{MayMeet, opposite}
 use Rattle.rv_book.specs.Legal.{Legal}
 use Rattle.rv_book.specs.Limits.{FitsAccount}
 use Rattle.rv_book.specs.Replies.{RepliesAt, RepliesUnmet}
@@ -39,7 +39,7 @@ pub record RepliesByMeeting (TellsMet : List Entry → ℕ → Reply → Type 0)
   pub exists : (a : Account) (r : ℕ) → Legal a → call_at a.entries r ≡ Some call → Met a.entries r → (told : Reply) × TellsMet a.entries r told
   -- it stays, is the only thing, and is within the limits
   pub stays : (es more : List Entry) (r : ℕ) (told : Reply) → TellsMet es r told → TellsMet (es ++ more) r told
-  pub one : (b : Account) (r : ℕ) (x y : Reply) → Legal b → TellsMet b.entries r x → TellsMet b.entries r y → y ≡ x
+  pub one : (b : Account) (r : ℕ) (x y : Reply) → Legal b → call_at b.entries r ≡ Some call → TellsMet b.entries r x → TellsMet b.entries r y → y ≡ x
   pub fits : (a : Account) (r : ℕ) (told : Reply) → FitsAccount a → TellsMet a.entries r told → FitsReply told
 
 module _ (TellsMet : List Entry → ℕ → Reply → Type 0) (call : Call) (wait : Wait) (alone : Reply) (by : RepliesByMeeting TellsMet call wait alone) where
@@ -53,11 +53,11 @@ module _ (TellsMet : List Entry → ℕ → Reply → Type 0) (call : Call) (wai
     unmet_stays wait es more r alone told unmet.1,
   )
 
-  one_by : (b : Account) (r : ℕ) (x y : Reply) → Legal b → Told b.entries r x → Told b.entries r y → y ≡ x
-  one_by b r x y legal (inl first) (inl second) = by.one b r x y legal first second
-  one_by b r x y legal (inl first) (inr second) = absurd (second.0 (by.was_met b.entries r x first))
-  one_by b r x y legal (inr first) (inl second) = absurd (first.0 (by.was_met b.entries r y second))
-  one_by b r x y legal (inr first) (inr second) = one_unmet wait b.entries r alone x y first.1 second.1
+  one_by : (b : Account) (r : ℕ) (x y : Reply) → Legal b → call_at b.entries r ≡ Some call → Told b.entries r x → Told b.entries r y → y ≡ x
+  one_by b r x y legal arrived (inl first) (inl second) = by.one b r x y legal arrived first second
+  one_by b r x y legal arrived (inl first) (inr second) = absurd (second.0 (by.was_met b.entries r x first))
+  one_by b r x y legal arrived (inr first) (inl second) = absurd (first.0 (by.was_met b.entries r y second))
+  one_by b r x y legal arrived (inr first) (inr second) = one_unmet wait b.entries r alone x y first.1 second.1
 
   fits_by : (a : Account) (r : ℕ) (told : Reply) → FitsAccount a → Told a.entries r told → FitsReply told
   fits_by a r told within (inl met) = by.fits a r told within met
@@ -81,8 +81,8 @@ module _ (TellsMet : List Entry → ℕ → Reply → Type 0) (call : Call) (wai
       → IsKept b.entries earlier call (partners_reply (side_of other) later)) → ReplyLaws call
   laws_by kept = record {
     stays = λ es more epoch opened r told legal arrived replies. by.back (es ++ more) r told (stays_by es more epoch opened r told legal arrived (by.from es r told replies));
-    one = λ b r x y legal first second. one_by b r x y legal (by.from b.entries r x first) (by.from b.entries r y second);
-    fits = λ a r told within replies. fits_by a r told within (by.from a.entries r told replies);
+    one = λ b r x y legal arrived first second. one_by b r x y legal arrived (by.from b.entries r x first) (by.from b.entries r y second);
+    fits = λ a r told legal within arrived replies. fits_by a r told within (by.from a.entries r told replies);
     exists = exists_by;
     waits_not = λ a r told legal arrived w replies. waits_not_by a r told arrived w (by.from a.entries r told replies);
     met = λ b earlier later other legal arrived also names opposes waits. kept b earlier later other also names opposes;
@@ -91,7 +91,7 @@ module _ (TellsMet : List Entry → ℕ → Reply → Type 0) (call : Call) (wai
   -- an unmet request that does not go on is one whose wait does not last
   pub unmet_by : (a : Account) (kept : Kept) → ((es : List Entry) → reply_of es kept ≡ Some alone) → (GoesOn call None → ⊥) → WillReply a call None (kept_at_once wait kept)
   unmet_by a kept is ends moment key before after =
-      let e = entry moment (Arrive key call) None in
+      let e = entry moment (Arrive key call) [] in
       let es = (with_entry a e).entries in
       let r = length a.entries in
       let told = told_at_once wait alone in

@@ -6,6 +6,7 @@ use Rattle.rv_text.specs.declared.call.Side.TheVariants.{Gives, Takes, Looks, Ex
 use Rattle.rv_text.specs.declared.call.Call.{Call}
 use Rattle.rv_text.specs.declared.call.Call as call
 use Rattle.rv_text.specs.Calls.{side_of, wait_of, item_of}
+use Rattle.rv_account.specs.Calls.{Stays, may_name}
 
 abbrev pub IsKind : Side → Option Wait → Option (List ℕ) → Type 0
 IsKind (Gives queue) wait (Some item) = Unit {0}
@@ -51,3 +52,8 @@ exchanges_item call exchanger is = let has = exchanger_has (wait_of call) (item_
 -- and has a wait
 pub exchanges_wait : (call : Call) (exchanger : ℕ) → side_of call ≡ Exchanges exchanger → (wait : Wait) × (wait_of call ≡ Some wait)
 exchanges_wait call exchanger is = let has = exchanger_has (wait_of call) (item_of call) exchanger (kind_at call (Exchanges exchanger) is) in (has.0, has.2)
+
+-- what stays may name one
+pub staying_single : (call : Call) → Stays call → may_name call ≡ 1
+staying_single (call.TheVariants.Drain queue max) stays = absurd stays.1
+staying_single _ stays = refl

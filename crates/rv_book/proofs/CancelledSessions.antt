@@ -1,16 +1,16 @@
 -- After a cancel the table of sessions is what the account says: the request that waited is settled as cancelled, or the
 -- session's next number is, and all others stay.
 use Rattle.std.proofs.Common.{◌≡◌, ℕ, ◌+◌, ◌≤◌, [], ◌∷◌, Some, None, refl, sym, ap, subst, ◌∙◌, arith}
-use Rattle.std.proofs.lemmas.Option.{none-some, same_Some}
+use Rattle.std.proofs.lemmas.Option.{same_Some}
 use Rattle.rv_text.specs.declared.answer.Reply as reply
 use Rattle.rv_text.specs.declared.call.Call.{Call}
 use Rattle.rv_text.specs.declared.message.Key.{Key}
 use Rattle.rv_session.specs.declared.kept.Kept as kept
 use Rattle.rv_session.specs.declared.session.Session.{Session}
 use Rattle.rv_session.specs.Table.{Table, OnlySets, OnlySettles, settled_session}
-use Rattle.rv_book.specs.declared.account.Act.TheVariants.{Arrive, Cancel}
-use Rattle.rv_book.specs.declared.account.Entry.{Entry}
-use Rattle.rv_book.specs.Account.{Account, act_at, key_in, with_entry}
+use Rattle.rv_account.specs.declared.entry.Act.TheVariants.{Arrive, Cancel}
+use Rattle.rv_account.specs.declared.entry.Entry.{Entry}
+use Rattle.rv_account.specs.Account.{Account, act_at, key_in, with_entry}
 use Rattle.rv_book.specs.Arriving.{IsNext}
 use Rattle.rv_book.specs.Legal.{IsNextNumber, Legal, WaitsUnder}
 use Rattle.rv_book.specs.Replies.{CancelledFirst}
@@ -19,21 +19,22 @@ use Rattle.rv_book.specs.Tables.{AreSessions, IsSession, last_key}
 use Rattle.rv_book.specs.Waiting.{Waiting}
 use Rattle.rv_book.proofs.Growing.{act_read, reads_on}
 use Rattle.rv_book.proofs.Keys.{client_of}
+use Rattle.rv_book.proofs.Naming.{just_none}
 use Rattle.rv_book.proofs.SessionTable.{StillWaits, named_at, sessions_changed, set_changes}
 use Rattle.rv_book.proofs.Sides.{Waiting-on, stopped_by_cancel}
 use Rattle.rv_book.proofs.ToldCancelled.{cancelled_first, ended_reply}
 use Rattle.rv_book.proofs.WaitingTable.{waiting_there, waits_in_table}
 
 -- what waits of other clients than the cancel's still does
-still_waits : (a : Account) (e : Entry) (key : Key) (other : ℕ) → e.act ≡ Cancel key → e.partner ≡ None → (other ≡ key.client → ⊥) → StillWaits a e other
+still_waits : (a : Account) (e : Entry) (key : Key) (other : ℕ) → e.act ≡ Cancel key → e.partners ≡ [] → (other ≡ key.client → ⊥) → StillWaits a e other
 still_waits a e key other says none apart = λ r own call of_client arrived w.
-    Waiting-on a.entries e r w (λ named. none-some r (sym none ∙ named)) (λ stopped.
+    Waiting-on a.entries e r w (just_none e r none) (λ stopped.
     let request = stopped_by_cancel a.entries e key r says stopped in
     let same : Arrive key request.call ≡ Arrive own call = same_Some _ _ (sym request.arrived ∙ arrived) in
     apart (sym of_client ∙ sym (ap client_of same)))
 
 -- after the cancel of a request that waited the table is what the account says
-pub sessions_ended : (a : Account) (e : Entry) (old new : Table) (key : Key) (call : Call) (place : ℕ) → AreSessions a old → Legal a → Legal (with_entry a e) → e.act ≡ Cancel key → e.partner ≡ None
+pub sessions_ended : (a : Account) (e : Entry) (old new : Table) (key : Key) (call : Call) (place : ℕ) → AreSessions a old → Legal a → Legal (with_entry a e) → e.act ≡ Cancel key → e.partners ≡ []
     → act_at a.entries place ≡ Some (Arrive key call) → Waiting a.entries place → OnlySettles old new key.client place kept.TheVariants.Cancelled → AreSessions (with_entry a e) new
 sessions_ended a e old new key call place are before legal says none arrived waits settles =
     let b = with_entry a e in
@@ -60,7 +61,7 @@ sessions_ended a e old new key call place are before legal says none arrived wai
     (λ other. still_waits a e key other says none) (set_changes old new key.client _ settles.sets) its
 
 -- after the cancel of a session's next number the table is what the account says
-pub sessions_buried : (a : Account) (e : Entry) (old new : Table) (key : Key) → AreSessions a old → Legal a → Legal (with_entry a e) → IsNext a key → e.act ≡ Cancel key → e.partner ≡ None
+pub sessions_buried : (a : Account) (e : Entry) (old new : Table) (key : Key) → AreSessions a old → Legal a → Legal (with_entry a e) → IsNext a key → e.act ≡ Cancel key → e.partners ≡ []
     → OnlySets old new key.client (settled_session key.incarnation key.number None kept.TheVariants.Cancelled) → AreSessions (with_entry a e) new
 sessions_buried a e old new key are before legal next says none sets =
     let above : key.number ≡ next.last + 1 = next.next in

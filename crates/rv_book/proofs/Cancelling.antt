@@ -1,5 +1,5 @@
 -- What a cancel that is recorded leaves: a sound state.
-use Rattle.std.proofs.Common.{◌≡◌, inl, inr, ℕ, ◌+◌, ◌≤◌, None, refl, sym, ap, subst, ◌∙◌, arith, option_and_then}
+use Rattle.std.proofs.Common.{◌≡◌, inl, inr, ℕ, ◌+◌, ◌≤◌, [], None, refl, sym, ap, subst, ◌∙◌, arith, option_and_then}
 use Rattle.std.proofs.lemmas.Option.{same_Some}
 use Rattle.rv_text.specs.declared.message.Key.{Key}
 use Rattle.rv_session.specs.Meanings.{HasLast, HasNext}
@@ -7,11 +7,11 @@ use Rattle.rv_session.specs.declared.session.State.TheVariants as state
 use Rattle.rv_session.specs.Owed.{Owed}
 use Rattle.rv_session.specs.Table.{OnlySets, OnlySettles, settled_session}
 use Rattle.rv_session.specs.declared.kept.Kept.TheVariants as kept
-use Rattle.rv_book.specs.Account.{Account, call_in, key_in, with_entry}
+use Rattle.rv_account.specs.Account.{Account, call_in, key_in, with_entry}
 use Rattle.rv_book.specs.Arriving.{IsCancelled, IsNext, entry}
-use Rattle.rv_book.specs.Calls.{IsPut}
-use Rattle.rv_book.specs.declared.account.Act.TheVariants.{Cancel}
-use Rattle.rv_book.specs.declared.account.Entry.{Entry}
+use Rattle.rv_account.specs.Calls.{IsPut}
+use Rattle.rv_account.specs.declared.entry.Act.TheVariants.{Cancel}
+use Rattle.rv_account.specs.declared.entry.Entry.{Entry}
 use Rattle.rv_book.specs.declared.state.State.{State}
 use Rattle.rv_book.specs.Legal.{MayFollow}
 use Rattle.rv_book.specs.Tables.{Comes, EndsAt, HasSpace, IsSound, account_of}
@@ -33,7 +33,7 @@ module _ (old : State) (moment : ℕ) (key : Key) (comes : Comes old moment (Can
   before = account_of old
 
   abbrev pub own_entry : Entry
-  own_entry = entry moment (Cancel key) None
+  own_entry = entry moment (Cancel key) []
 
   abbrev pub UnderKey : ℕ → Type 0
   UnderKey r = IsRequestUnder (account_of old).entries key r

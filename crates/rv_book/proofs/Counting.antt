@@ -10,7 +10,7 @@ use Rattle.std.proofs.lemmas.List.Kept.{AllPairs-from_increasing}
 use Rattle.std.proofs.lemmas.Option.{get_or_from_slice_get, none-some, same_Some, slice_get-get_or}
 use Rattle.rv_book.proofs.Numbers.{first_below, same_or_not}
 use Rattle.rv_text.specs.declared.call.Side.{Side}
-use Rattle.rv_book.specs.declared.account.Entry.{Entry}
+use Rattle.rv_account.specs.declared.entry.Entry.{Entry}
 use Rattle.rv_book.specs.Counting.{NumberOf}
 use Rattle.rv_book.specs.Parked.{IsLine}
 use Rattle.rv_book.specs.Waiting.{OpenAt}
@@ -29,7 +29,7 @@ same_number P Q n same count = record {
 -- ---- there is one
 
 -- a greater number behind numbers that rise
-rising_push : (places : List ℕ) (n : ℕ) → IsStrictlyIncreasing places → ((r : ℕ) → Contains places r → r < n) → IsStrictlyIncreasing (places ++ n ∷ [])
+pub rising_push : (places : List ℕ) (n : ℕ) → IsStrictlyIncreasing places → ((r : ℕ) → Contains places r → r < n) → IsStrictlyIncreasing (places ++ n ∷ [])
 rising_push places n rising below k less =
     let long : length (places ++ n ∷ []) ≡ length places + 1 = length_push places n in
     let inside : k < length places = omega arith in
@@ -105,11 +105,11 @@ find_number P decide n bound =
 -- ---- how great it can be
 
 -- in numbers that rise, one that stands further on is greater
-later_is_greater : (places : List ℕ) (i j : ℕ) → IsStrictlyIncreasing places → i < j → j < length places → slice_index places i < slice_index places j
+pub later_is_greater : (places : List ℕ) (i j : ℕ) → IsStrictlyIncreasing places → i < j → j < length places → slice_index places i < slice_index places j
 later_is_greater places i j rising less inside = AllPairs-from_increasing places rising i j 0 less inside
 
 -- numbers that rise and all stand in others that rise stand there no earlier
-no_earlier : (few many : List ℕ) → IsStrictlyIncreasing few → IsStrictlyIncreasing many → ((r : ℕ) → Contains few r → Contains many r)
+pub no_earlier : (few many : List ℕ) → IsStrictlyIncreasing few → IsStrictlyIncreasing many → ((r : ℕ) → Contains few r → Contains many r)
     → (k j : ℕ) → k < length few → j < length many → slice_index many j ≡ slice_index few k → k ≤ j
 no_earlier few many few_rise many_rise there zero j inside within is = omega arith
 no_earlier few many few_rise many_rise there (suc k) j inside within is =

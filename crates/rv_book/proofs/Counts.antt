@@ -7,18 +7,19 @@ use Rattle.rv_text.specs.declared.call.Call.TheVariants.{Count}
 use Rattle.rv_text.specs.declared.call.Side.{Side}
 use Rattle.rv_text.specs.declared.call.Side.TheVariants.{Gives, Takes}
 use Rattle.rv_text.specs.Limits.{FitsReply}
-use Rattle.rv_book.specs.declared.account.Act.TheVariants.{Arrive}
-use Rattle.rv_book.specs.declared.account.Entry.{Entry}
+use Rattle.rv_account.specs.declared.entry.Act.TheVariants.{Arrive}
+use Rattle.rv_account.specs.declared.entry.Entry.{Entry}
 use Rattle.rv_session.specs.declared.kept.Kept as kept
-use Rattle.rv_book.specs.Account.{Account, call_at}
+use Rattle.rv_account.specs.Account.{Account, call_at, just}
 use Rattle.rv_book.specs.Arriving.{WillReply, entry}
 use Rattle.rv_book.specs.Counting.{NumberOf}
 use Rattle.rv_book.specs.Legal.{before}
 use Rattle.rv_book.specs.Limits.{FitsAccount}
 use Rattle.rv_book.specs.Replies.{Counts, RepliesAt}
 use Rattle.rv_book.specs.Waiting.{OpenAt}
-use Rattle.rv_book.proofs.Counting.{find_number, number_below, one_number}
-use Rattle.rv_book.proofs.Deciding.{find_waiting, open_by}
+use Rattle.rv_book.proofs.Counting.{number_below, one_number}
+use Rattle.rv_book.proofs.Deciding.{find_waiting}
+use Rattle.rv_book.proofs.FrontPairs.{find_open}
 use Rattle.rv_book.proofs.Growing.{call_read, reads_within}
 use Rattle.rv_book.proofs.Looking.{looks_waits_not, same_before}
 use Rattle.rv_book.proofs.ReplyLaws.{ReplyLaws}
@@ -28,7 +29,7 @@ use Rattle.rv_book.proofs.ReplyLaws.{ReplyLaws}
 pub count_replies : (a : Account) (queue items consumers : ℕ) (partner : Option ℕ) → NumberOf (OpenAt a.entries (Gives queue)) items → NumberOf (OpenAt a.entries (Takes queue)) consumers
     → WillReply a (Count queue) partner (kept.TheVariants.Counted items consumers)
 count_replies a queue items consumers partner items_are consumers_are moment key before after =
-    let e = entry moment (Arrive key (Count queue)) partner in
+    let e = entry moment (Arrive key (Count queue)) (just partner) in
     let counts : Counts a.entries queue items consumers = record { items_are = items_are; consumers_are = consumers_are } in
     record {
       reply = reply.TheVariants.Counted items consumers;
@@ -62,9 +63,6 @@ number_fits a r side n fits count =
 fits : (queue : ℕ) (a : Account) (r : ℕ) (told : Reply) → FitsAccount a → RepliesAt a.entries r (Count queue) told → FitsReply told
 fits queue a r told within (items, consumers, counts, is) = subst FitsReply (sym is) (number_fits a r (Gives queue) items within counts.items_are, number_fits a r (Takes queue) consumers within counts.consumers_are)
 
-find_open : (es : List Entry) (side : Side) → (n : ℕ) × NumberOf (OpenAt es side) n
-find_open es side = find_number (OpenAt es side) (λ r. open_by es side r (call_at es r) refl) (length es) (λ r opened. reads_within call_read refl es r opened.of_side.call opened.of_side.arrived)
-
 exists_at : (queue : ℕ) (es : List Entry) (r : ℕ) → (told : Reply) × RepliesAt es r (Count queue) told
 exists_at queue es r =
     let items = find_open (take r es) (Gives queue) in
@@ -74,8 +72,8 @@ exists_at queue es r =
 pub counts : (queue : ℕ) → ReplyLaws (Count queue)
 counts queue = record {
   stays = λ es more epoch opened r told legal. stays queue es more r told;
-  one = λ b r x y legal. one queue b.entries r x y;
-  fits = fits queue;
+  one = λ b r x y legal arrived. one queue b.entries r x y;
+  fits = λ a r told legal within arrived. fits queue a r told within;
   exists = λ a r legal arrived. inl (exists_at queue a.entries r);
   waits_not = λ a r told legal arrived w replies. looks_waits_not a.entries r queue (Count queue) arrived refl w;
   met = λ b earlier later other legal arrived also names opposes waits. absurd (let no : ⊥ = cc in no);

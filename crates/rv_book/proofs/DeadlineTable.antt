@@ -9,10 +9,10 @@ use Rattle.std.proofs.lemmas.Cmp.{eq_by_cmp_equiv}
 use Rattle.rv_due.specs.Deadlines.{Deadline, Deadlines, by_moment}
 use Rattle.rv_due.proofs.Order.{by_moment_total, by_moment-IsAntisymmetric}
 use Rattle.rv_session.specs.Owed.{Owed}
-use Rattle.rv_book.specs.declared.account.Entry.{Entry}
+use Rattle.rv_account.specs.declared.entry.Entry.{Entry}
 use Rattle.rv_book.specs.Elapsing.{AreDeadlinesOf, with_deadline, without_deadline, without_duty}
-use Rattle.rv_book.specs.Account.{act_at}
-use Rattle.rv_book.specs.declared.account.Act.TheVariants.{Arrive}
+use Rattle.rv_account.specs.Account.{act_at}
+use Rattle.rv_account.specs.declared.entry.Act.TheVariants.{Arrive}
 use Rattle.rv_book.specs.Waiting.{Waiting, limit_at}
 use Rattle.rv_book.proofs.Growing.{limit_on}
 use Rattle.rv_book.proofs.Keys.{act_called}

@@ -1,24 +1,24 @@
--- What any list of entries decides: a client's last hello and last number, who is met, stopped, open or waiting, and whom an arrival meets.
-use Rattle.rv_book.specs.declared.account.Act.{Act}
-use Rattle.rv_book.specs.declared.account.Act.TheVariants.{Arrive, Cancel, Hello, Tick}
+-- What any list of entries decides: a client's last hello and last number, and who is met, stopped, open or waiting.
+use Rattle.rv_account.specs.declared.entry.Act.{Act}
+use Rattle.rv_account.specs.declared.entry.Act.TheVariants.{Arrive, Cancel, Hello, Tick}
 use Rattle.std.proofs.Common.{Bool, List, None, Option, Some, ap, arith, false, inl, inr, length, refl, subst, suc, sym, true, zero, ℕ, ◌<◌, ◌∙◌, ◌≡◌, ◌≤◌, ◌⊎◌, [], ◌+◌, ◌∷◌}
 use Rattle.rv_text.specs.declared.call.Call.{Call}
-use Rattle.rv_book.specs.declared.account.Entry.{Entry}
+use Rattle.rv_account.specs.declared.entry.Entry.{Entry}
 use Rattle.rv_text.specs.declared.call.Side.TheVariants.{Exchanges, Gives, Looks, Takes}
 use Rattle.rv_book.specs.Sessions.{HasIncarnation, LastHello, LastNumber, NamesKey, SaidHello}
-use Rattle.rv_book.specs.Arriving.{MeetsOldest}
 use Rattle.rv_text.specs.declared.message.Key.{Key}
-use Rattle.rv_book.specs.Calls.{IsPut, Lasts, MayMeet, Stays, opposite}
+use Rattle.rv_account.specs.Calls.{IsPut, Lasts, MayMeet, Stays, opposite}
 use Rattle.rv_book.specs.Waiting.{EndsWait, HasElapsed, IsOldest, Met, NamesPartner, Open, OpenAt, Stopped, StoppedAt, Waiting, limit_at}
 use Rattle.rv_text.specs.declared.call.Wait.TheVariants.{Now, Millis, Forever}
 use Rattle.rv_text.specs.declared.call.Side.{Side}
 use Rattle.rv_text.specs.declared.call.Wait.{Wait}
-use Rattle.rv_book.specs.Account.{act_at, call_at, key_at, partner_at}
+use Rattle.rv_account.specs.Account.{Among, act_at, call_at, key_at}
 use Rattle.rv_book.proofs.Growing.{act_read, call_read, reads_within}
 use Rattle.std.proofs.lemmas.Bool.{cases_lt}
 use Rattle.rv_book.proofs.Places.{within}
 use Rattle.rv_book.proofs.Numbers.{first_below, last_below, same_or_not}
 use Rattle.std.specs.Prelude.{is_some}
+use Rattle.rv_book.proofs.Naming.{among_named, among_none, among_or_not, first_among, named_among, partners_of}
 use Rattle.rv_book.proofs.Keys.{key_read, client_of, hello_is_own, cancel_no_hello, tick_no_hello}
 use Rattle.std.proofs.lemmas.Option.{none-some, same_Some}
 use Rattle.rv_text.specs.Calls.{side_of, wait_of}
@@ -162,12 +162,42 @@ some_or_none false = inr (λ e. absurd (let no : ⊥ = cc in no))
 meets_or_not : (call : Call) → MayMeet call ⊎ (MayMeet call → ⊥)
 meets_or_not call = some_or_none (is_some (opposite (side_of call)))
 
-names_of : (es : List Entry) (p : ℕ) (c : Option Call) (o : Option ℕ) → call_at es p ≡ c → partner_at es p ≡ o → ((q : ℕ) × NamesPartner es p q) ⊎ ((q : ℕ) → NamesPartner es p q → ⊥)
-names_of es p None o calls named = inr (λ q names. none-some names.call (sym calls ∙ names.arrived))
-names_of es p (Some call) None calls named = inr (λ q names. none-some q (sym named ∙ names.named))
-names_of es p (Some call) (Some q) calls named = elim (meets_or_not call) [
-  | inl meets ↦ inl (q, record { call = call; arrived = calls; meets = meets; named = named })
-  | inr alone ↦ inr (λ r names. alone (subst MayMeet (same_Some _ _ (sym names.arrived ∙ calls)) names.meets))
+-- the arrival at p may name partners
+record CanName (es : List Entry) (p : ℕ) : Type 0 where
+  call : Call
+  arrived : call_at es p ≡ Some call
+  meets : MayMeet call
+
+can_name : (es : List Entry) (p : ℕ) (c : Option Call) → call_at es p ≡ c → CanName es p ⊎ (CanName es p → ⊥)
+can_name es p None calls = inr (λ can. none-some can.call (sym calls ∙ can.arrived))
+can_name es p (Some call) calls = elim (meets_or_not call) [
+  | inl meets ↦ inl (record { call = call; arrived = calls; meets = meets })
+  | inr alone ↦ inr (λ can. alone (subst MayMeet (same_Some _ _ (sym can.arrived ∙ calls)) can.meets))
+]
+
+as_named : (es : List Entry) (p q : ℕ) → CanName es p → Among (partners_of (slice_get es p)) q → NamesPartner es p q
+as_named es p q can at = record { call = can.call; arrived = can.arrived; meets = can.meets; named = among_named es p q at }
+
+by_name : (es : List Entry) (p q : ℕ) → NamesPartner es p q → CanName es p
+by_name es p q names = record { call = names.call; arrived = names.arrived; meets = names.meets }
+
+names_or_not : (es : List Entry) (p q : ℕ) → NamesPartner es p q ⊎ (NamesPartner es p q → ⊥)
+names_or_not es p q = elim (can_name es p (call_at es p) refl) [
+  | inr cannot ↦ inr (λ names. cannot (by_name es p q names))
+  | inl can ↦ elim (among_or_not (partners_of (slice_get es p)) q) [
+    | inl at ↦ inl (as_named es p q can at)
+    | inr apart ↦ inr (λ names. apart (named_among es p q names.named))
+  ]
+]
+
+-- the first that the arrival at p names, or that it names nobody
+first_named : (es : List Entry) (p : ℕ) → ((q : ℕ) × NamesPartner es p q) ⊎ ((q : ℕ) → NamesPartner es p q → ⊥)
+first_named es p = elim (can_name es p (call_at es p) refl) [
+  | inr cannot ↦ inr (λ q names. cannot (by_name es p q names))
+  | inl can ↦ elim (first_among (partners_of (slice_get es p))) [
+    | inl first ↦ inl (first.0, as_named es p first.0 can first.1)
+    | inr none ↦ inr (λ q names. among_none (partners_of (slice_get es p)) q none (named_among es p q names.named))
+  ]
 ]
 
 -- the pair whose place is p has r
@@ -175,13 +205,13 @@ abbrev pub PartAt : List Entry → ℕ → ℕ → Type 0
 PartAt es r p = (q : ℕ) × NamesPartner es p q × ((r ≡ p) ⊎ (r ≡ q))
 
 part_at : (es : List Entry) (r p : ℕ) → PartAt es r p ⊎ (PartAt es r p → ⊥)
-part_at es r p = elim (names_of es p (call_at es p) (partner_at es p) refl refl) [
-  | inr none ↦ inr (λ part. none part.0 part.1)
-  | inl names ↦ elim (same_or_not r p) [
-    | inl own ↦ inl (names.0, names.1, inl own)
-    | inr not_own ↦ elim (same_or_not r names.0) [
-      | inl partner ↦ inl (names.0, names.1, inr partner)
-      | inr apart ↦ inr (λ part. elim part.2 [ inl is ↦ not_own is | inr is ↦ apart (is ∙ same_Some _ _ (sym part.1.named ∙ names.1.named)) ])
+part_at es r p = elim (names_or_not es p r) [
+  | inl names ↦ inl (r, names, inr refl)
+  | inr unnamed ↦ elim (same_or_not r p) [
+    | inr apart ↦ inr (λ part. elim part.2 [ inl is ↦ apart is | inr is ↦ unnamed (subst (NamesPartner es p) (sym is) part.1) ])
+    | inl own ↦ elim (first_named es p) [
+      | inl first ↦ inl (first.0, first.1, inl own)
+      | inr none ↦ inr (λ part. none part.0 part.1)
     ]
   ]
 ]
@@ -408,14 +438,3 @@ find_oldest es side = elim (first_below (OpenAt es side) (λ r. open_by es side 
   | inl found ↦ inl (found.0, record { there = found.2; oldest = found.3 })
   | inr none ↦ inr (λ r opened. none r (reads_within call_read refl es r opened.of_side.call opened.of_side.arrived) opened)
 ]
-
-partner_of : (es : List Entry) (side : Side) (o : Option Side) → opposite side ≡ o → (partner : Option ℕ) × MeetsOldest es side partner
-partner_of es side None opposes = (None, λ other r is opened. none-some other (sym opposes ∙ is))
-partner_of es side (Some other) opposes = elim (find_oldest es other) [
-  | inl found ↦ (Some found.0, (other, opposes, found.1))
-  | inr none ↦ (None, λ third r is opened. none r (subst (λ s. OpenAt es s r) (same_Some _ _ (sym is ∙ opposes)) opened))
-]
-
--- whom an arrival of the side meets
-pub find_partner : (es : List Entry) (side : Side) → (partner : Option ℕ) × MeetsOldest es side partner
-find_partner es side = partner_of es side (opposite side) refl

@@ -1,8 +1,8 @@
 -- Where an own entry is due, a legal next account exists.
-use Rattle.rv_book.specs.Account.{Account, with_entry, act_at, call_in, key_at, key_in}
+use Rattle.rv_account.specs.Account.{Account, with_entry, act_at, call_in, key_at, key_in}
 use Rattle.rv_book.specs.Steps.{Adds, EpochFullDue, HelloLines, KeyLines, RefuseOr, max_entries, own_moment, step_moment, ClientsFullDue, OtherCallDue, Answers, Replies, WhereElse}
-use Rattle.rv_book.specs.declared.account.Act.TheVariants.{Arrive, Cancel, Hello, Tick}
-use Rattle.rv_book.specs.declared.account.Act.{Act}
+use Rattle.rv_account.specs.declared.entry.Act.TheVariants.{Arrive, Cancel, Hello, Tick}
+use Rattle.rv_account.specs.declared.entry.Act.{Act}
 use Rattle.rv_book.specs.Replies.{CancelledFirst, HasReply}
 use Rattle.rv_text.specs.declared.answer.Reply.TheVariants.{Cancelled}
 use Rattle.rv_book.proofs.Numbers.{first_below}
@@ -10,28 +10,28 @@ use Rattle.rv_book.proofs.Waits.{waiting_is_last}
 use Rattle.rv_book.proofs.ToldCancelled.{next_replies, waiting_replies}
 use Rattle.rv_text.specs.declared.call.Call.{Call}
 use Rattle.rv_book.specs.Laws.{CanCancel, CanEnter, CancelsCanEnter, HellosCanEnter, RequestsCanEnter, TicksCanEnter}
-use Rattle.rv_book.specs.declared.account.Entry.{Entry}
+use Rattle.rv_account.specs.declared.entry.Entry.{Entry}
 use Rattle.rv_text.specs.declared.answer.Refusal.TheVariants.{EpochFull}
 use Rattle.rv_book.specs.Sessions.{HasIncarnation, HasOnlyLower, LastHello, LastNumber, SaidHello}
 use Rattle.rv_book.specs.Arriving.{IsNext, entry}
 use Rattle.rv_book.specs.Legal.{KeepsTime, Legal, MayFollow, WaitsUnder}
 use Rattle.rv_text.specs.declared.message.Key.{Key}
 use Rattle.rv_book.proofs.Legality.{Legal-with_entry}
-use Rattle.std.proofs.Common.{None, Option, Some, ap, arith, ◌⊎◌, inl, inr, length, option_map, refl, subst, sym, ℕ, ◌+◌, ◌-◌, ◌<◌, ◌∙◌, ◌≡◌, ◌≤◌, List, option_and_then, take}
+use Rattle.std.proofs.Common.{None, Option, Some, ap, arith, ◌⊎◌, inl, inr, [], length, option_map, refl, subst, sym, ℕ, ◌+◌, ◌-◌, ◌<◌, ◌∙◌, ◌≡◌, ◌≤◌, List, option_and_then, take}
 use Rattle.rv_text.specs.declared.answer.Answer.TheVariants.{Replied, Waiting}
-use Rattle.rv_book.proofs.Following.{arrival_follows, cancel_follows, hello_follows, next_number}
+use Rattle.rv_book.proofs.FrontPairs.{find_pairs}
+use Rattle.rv_book.proofs.Following.{arrival_by_pairs, cancel_follows, hello_follows, next_number}
 use Rattle.std.proofs.lemmas.Bool.{cases_lt, cases_order}
-use Rattle.rv_book.proofs.Deciding.{arrives_no_cancel, arrives_no_tick, find_hello, find_last, key_or_other, same_key, find_partner, find_clients, find_waiting, has_waiting_or_not, said_or_not}
+use Rattle.rv_book.proofs.Deciding.{arrives_no_cancel, arrives_no_tick, find_hello, find_last, key_or_other, same_key, find_clients, find_waiting, has_waiting_or_not, said_or_not}
 use Rattle.rv_book.proofs.Histories.{hellos_at_most, one_incarnation}
 use Rattle.rv_book.proofs.Lines.{line_again, line_busy, line_gap, line_newer, line_next, line_no_session, line_old_hello, line_old_incarnation, line_old_number, line_other_epoch, no_room, room_left}
 use Rattle.rv_book.proofs.Growing.{moment_read, reads_within, act_read, read_there}
-use Rattle.rv_book.specs.Calls.{need_of}
+use Rattle.rv_account.specs.Calls.{need_of}
 use Rattle.std.proofs.lemmas.Option.{none-some, same_Some, slice_get_cases}
 use Rattle.rv_book.proofs.Keys.{act_named, key_read, no_hello}
 use Rattle.rv_book.proofs.Places.{get-append_end}
 use Rattle.rv_book.proofs.Replying.{reply_laws}
 use Rattle.rv_book.proofs.Fronts.{read_front, read_whole}
-use Rattle.rv_text.specs.Calls.{side_of}
 use Rattle.std.specs.List.{slice_get}
 use Rattle.std.specs.Prelude.{unwrap_or}
 use Rattle.rv_text.proofs.Kept.{same_call}
@@ -162,9 +162,9 @@ answer_at a place key call legal arrived = elim ((reply_laws call).exists a plac
 
 enters : (a : Account) (moment : ℕ) (key : Key) (call : Call) → IsTicked a moment → IsNext a key → CanEnter a moment key call
 enters a moment key call is next =
-    let partner = find_partner a.entries (side_of call) in
-    let e = entry moment (Arrive key call) partner.0 in
-    let after = Legal-with_entry a e is.legal (arrival_follows a moment key call partner.0 is.time is.nothing_due next partner.1) in
+    let pairs = find_pairs a.entries moment key call in
+    let e = entry moment (Arrive key call) pairs.0 in
+    let after = Legal-with_entry a e is.legal (arrival_by_pairs a moment key call pairs.0 is.time is.nothing_due next pairs.1) in
     let arrived : act_at (with_entry a e).entries (length a.entries) ≡ Some (Arrive key call) = ap act_read (get-append_end a.entries e) in
     let told = answer_at (with_entry a e) (length a.entries) key call after arrived in
     record {
@@ -252,9 +252,9 @@ requests_can_enter before a now key call legal ticks =
 
 -- ---- cancels
 
-can_cancel : (a : Account) (moment : ℕ) (key : Key) → Legal a → MayFollow a (entry moment (Cancel key) None) → Replies (with_entry a (entry moment (Cancel key) None)) key (Replied key Cancelled) → CanCancel a moment key
+can_cancel : (a : Account) (moment : ℕ) (key : Key) → Legal a → MayFollow a (entry moment (Cancel key) []) → Replies (with_entry a (entry moment (Cancel key) [])) key (Replied key Cancelled) → CanCancel a moment key
 can_cancel a moment key legal follows replies =
-    let e = entry moment (Cancel key) None in
+    let e = entry moment (Cancel key) [] in
     record {
       after = with_entry a e;
       adds = record { entry = e; moment_is = refl; act_is = refl; follows = refl; legal = Legal-with_entry a e legal follows };
@@ -264,12 +264,12 @@ can_cancel a moment key legal follows replies =
 cancels_waiting : (a : Account) (moment : ℕ) (key : Key) → IsTicked a moment → WaitsUnder a.entries key → CanCancel a moment key
 cancels_waiting a moment key is waits =
     let last = waiting_is_last a waits.place key waits.call is.legal waits.waits waits.arrived in
-    can_cancel a moment key is.legal (cancel_follows a moment key is.time is.nothing_due last.epoch last.incarnation (inl waits)) (waiting_replies a (entry moment (Cancel key) None) key refl refl waits)
+    can_cancel a moment key is.legal (cancel_follows a moment key is.time is.nothing_due last.epoch last.incarnation (inl waits)) (waiting_replies a (entry moment (Cancel key) []) key refl refl waits)
 
 cancels_next : (a : Account) (moment : ℕ) (key : Key) → IsTicked a moment → IsNext a key → CanCancel a moment key
 cancels_next a moment key is next =
     let number = next_number a key next in
-    can_cancel a moment key is.legal (cancel_follows a moment key is.time is.nothing_due next.epoch next.incarnation (inr number)) (next_replies a (entry moment (Cancel key) None) key is.legal next.incarnation number refl)
+    can_cancel a moment key is.legal (cancel_follows a moment key is.time is.nothing_due next.epoch next.incarnation (inr number)) (next_replies a (entry moment (Cancel key) []) key is.legal next.incarnation number refl)
 
 -- what a cancel of the last number does: it ends the wait, or repeats the reply
 cancels_last : (a : Account) (moment : ℕ) (key : Key) → IsTicked a moment → Arrived a key ⊎ CancelledFirst a.entries key
@@ -316,7 +316,7 @@ clients_or a client G goes_on = elim (said_or_not a.entries client) [
 newer_enters : (a : Account) (moment client incarnation : ℕ) → IsTicked a moment → HasOnlyLower a.entries client incarnation
     → HelloLines a client incarnation (λ refusal. Unit {0}) (Unit {0}) ((b : Account) × Adds a moment (Hello client incarnation) b)
 newer_enters a moment client incarnation is raises =
-    let e = entry moment (Hello client incarnation) None in
+    let e = entry moment (Hello client incarnation) [] in
     let after = Legal-with_entry a e is.legal (hello_follows a moment client incarnation is.time is.nothing_due raises) in
     let added : Adds a moment (Hello client incarnation) (with_entry a e) = record { entry = e; moment_is = refl; act_is = refl; follows = refl; legal = after } in
     line_newer _ _ _ a client incarnation raises (clients_or a client _ (room_or a 1 ((b : Account) × Adds a moment (Hello client incarnation) b) (with_entry a e, added)))

@@ -8,9 +8,9 @@ use Rattle.rv_text.specs.declared.call.Wait.{Wait}
 use Rattle.rv_session.specs.Owed.{Owed}
 use Rattle.rv_dual.specs.Offers.{places_of}
 use Rattle.rv_dual.specs.Queue.{SameLists}
-use Rattle.rv_book.specs.declared.account.Entry.{Entry}
+use Rattle.rv_account.specs.declared.entry.Entry.{Entry}
 use Rattle.rv_book.specs.declared.arrived.Arrived.{Arrived}
-use Rattle.rv_book.specs.Calls.{Lasts}
+use Rattle.rv_account.specs.Calls.{Lasts}
 use Rattle.rv_book.specs.Meeting.{ArrivedOn, Exchanged, FindsNobody, Leaves, LeftExchanger, StandsOn, SwappedNothing, SwappedWith, WaitsAlone}
 use Rattle.rv_book.specs.Parked.{AreParked, IsParked, owed_at}
 use Rattle.rv_book.specs.Views.{AllFree, OnlyExchanger, SameStations, Stations, exchanger_at, place_of_duty, queue_at, takers_places, waiting_on}

@@ -4,9 +4,9 @@ use Rattle.std.proofs.lemmas.Bool.{cases_lt}
 use Rattle.std.proofs.lemmas.Option.{none-some}
 use Rattle.rv_text.specs.declared.answer.Refusal.{Refusal}
 use Rattle.rv_text.specs.declared.answer.Refusal.TheVariants.{ClientsFull}
-use Rattle.rv_book.specs.declared.account.Act.TheVariants.{Hello}
-use Rattle.rv_book.specs.declared.account.Entry.{Entry}
-use Rattle.rv_book.specs.Account.{Account, act_at}
+use Rattle.rv_account.specs.declared.entry.Act.TheVariants.{Hello}
+use Rattle.rv_account.specs.declared.entry.Entry.{Entry}
+use Rattle.rv_account.specs.Account.{Account, act_at}
 use Rattle.rv_book.specs.Counting.{NumberOf}
 use Rattle.rv_book.specs.Sessions.{SaidHello}
 use Rattle.rv_book.specs.Steps.{ClientsFullDue, max_clients}

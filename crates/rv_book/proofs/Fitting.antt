@@ -1,8 +1,8 @@
 -- What a step answers is within the limits, where its message and its account are.
-use Rattle.rv_book.specs.declared.account.Act as act
+use Rattle.rv_account.specs.declared.entry.Act as act
 use Rattle.rv_text.specs.declared.message.Message.TheVariants.{Cancel, Hello, Request}
-use Rattle.rv_book.specs.Account.{Account, act_at, key_in}
-use Rattle.rv_book.specs.declared.account.Act.{Act}
+use Rattle.rv_account.specs.Account.{call_in, Account, act_at, key_in}
+use Rattle.rv_account.specs.declared.entry.Act.{Act}
 use Rattle.rv_text.specs.declared.answer.Answer.{Answer}
 use Rattle.rv_book.specs.Steps.{EntersOrNoMemory, EpochFullDue, GapDue, NextAt, NoSessionDue, OldIncarnationDue, OldNumberDue, OtherEpochDue, RefuseOr, Refuses, Answers, BusyDue, ClientsFullDue, OtherCallDue, Replies}
 use Rattle.rv_book.specs.Limits.{FitsAccount}
@@ -12,7 +12,7 @@ use Rattle.rv_text.proofs.Kept.{cancelled_fits}
 use Rattle.rv_book.specs.Replies.{HasReply}
 use Rattle.rv_book.specs.Sessions.{HasIncarnation, LastNumber}
 use Rattle.rv_text.specs.declared.message.Key.{Key}
-use Rattle.std.proofs.Common.{Some, ap, arith, inl, inr, subst, sym, ℕ, ◌∙◌, ◌≡◌, ◌≤◌}
+use Rattle.std.proofs.Common.{option_and_then, Some, ap, arith, inl, inr, subst, sym, ℕ, ◌∙◌, ◌≡◌, ◌≤◌}
 use Rattle.rv_text.specs.declared.message.Message.{Message}
 use Rattle.rv_text.specs.declared.answer.Refusal.{Refusal}
 use Rattle.rv_book.proofs.Limits.{act_fits, act_there, key_of_act}
@@ -20,7 +20,7 @@ use Rattle.rv_book.proofs.Lines.{RefuseOr-elim, WhereElse-elim}
 use Rattle.rv_book.proofs.Replying.{reply_laws}
 use Rattle.rv_text.specs.declared.answer.Answer.TheVariants.{Replied, Welcome}
 use Rattle.rv_text.specs.declared.answer.Reply.TheVariants.{Cancelled}
-use Rattle.rv_book.specs.Legal.{HasWaiting, before}
+use Rattle.rv_book.specs.Legal.{HasWaiting, Legal, before}
 use Rattle.rv_book.proofs.Keys.{act_arrives, no_hello}
 use Rattle.rv_book.proofs.Waits.{no_hello_behind}
 use Rattle.std.proofs.lemmas.Bool.{cases_order}
@@ -44,13 +44,13 @@ last_fits a client last fits is = elim is.reached [
 
 -- ---- what a step answers fits
 
-reply_fits : (b : Account) (key : Key) (told : Reply) → FitsAccount b → HasReply b.entries key told → FitsReply told
-reply_fits b key told fits (inl has) = (reply_laws has.call).fits b has.place told fits has.replies
-reply_fits b key told fits (inr first) = subst FitsReply (sym first.1) cancelled_fits
+reply_fits : (b : Account) (key : Key) (told : Reply) → Legal b → FitsAccount b → HasReply b.entries key told → FitsReply told
+reply_fits b key told legal fits (inl has) = (reply_laws has.call).fits b has.place told legal fits (ap (option_and_then call_in) has.arrived) has.replies
+reply_fits b key told legal fits (inr first) = subst FitsReply (sym first.1) cancelled_fits
 
-told_fits : (b : Account) (key : Key) (x : Answer) → FitsAccount b → FitsKey key → Answers b key x → FitsAnswer x
-told_fits b key x fits key_fits (inr waits) = subst FitsAnswer (sym waits.1) key_fits
-told_fits b key x fits key_fits (inl told) = subst FitsAnswer (sym told.is) (key_fits, reply_fits b key told.reply fits told.has)
+told_fits : (b : Account) (key : Key) (x : Answer) → Legal b → FitsAccount b → FitsKey key → Answers b key x → FitsAnswer x
+told_fits b key x legal fits key_fits (inr waits) = subst FitsAnswer (sym waits.1) key_fits
+told_fits b key x legal fits key_fits (inl told) = subst FitsAnswer (sym told.is) (key_fits, reply_fits b key told.reply legal fits told.has)
 
 entered_fits : (a b : Account) (moment : ℕ) (does : Act) (x : Answer) (G : Type 0) → (G → FitsAnswer x) → EntersOrNoMemory a moment does b x G → FitsAnswer x
 entered_fits a b moment does x G answers (inl refuses) = subst FitsAnswer (sym refuses.1) tt
@@ -116,32 +116,32 @@ full_fits a need refusal due = refusal_is _ refusal due.is tt
 line_fits : (D : Refusal → Type 0) (O : Type 0) (a b : Account) (x : Answer) → DueFits D → (O → FitsAnswer x) → RefuseOr D (Refuses a b x) O → FitsAnswer x
 line_fits D O a b x due goes_on = RefuseOr-elim D (Refuses a b x) O (FitsAnswer x) (λ refusal is refuses. subst FitsAnswer (sym refuses.1) (due refusal is)) goes_on
 
-pub step_fits : (a b : Account) (moment : ℕ) (m : Message) (x : Answer) → FitsAccount a → FitsAccount b → FitsMessage m → NextAt a moment m b x → FitsAnswer x
-step_fits a b moment (Hello client incarnation) x before after fits =
+pub step_fits : (a b : Account) (moment : ℕ) (m : Message) (x : Answer) → Legal b → FitsAccount a → FitsAccount b → FitsMessage m → NextAt a moment m b x → FitsAnswer x
+step_fits a b moment (Hello client incarnation) x legal before after fits =
     let welcome = λ (is : x ≡ Welcome a.epoch client incarnation). subst FitsAnswer (sym is) (before.epoch, fits.0, fits.1) in
     line_fits _ _ a b x (old_incarnation_fits a client incarnation before)
     (WhereElse-elim _ _ _ (FitsAnswer x) (λ has again. welcome again.1)
     (line_fits _ _ a b x (clients_full_fits a client)
     (line_fits _ _ a b x (full_fits a 1)
     (entered_fits a b moment _ x _ welcome))))
-step_fits a b moment (Request key call) x before after fits =
+step_fits a b moment (Request key call) x legal before after fits =
     line_fits _ _ a b x (other_epoch_fits a key before)
     (line_fits _ _ a b x (no_session_fits a key)
     (line_fits _ _ a b x (old_incarnation_fits a key.client key.incarnation before)
     (line_fits _ _ a b x (old_number_fits a key before)
-    (WhereElse-elim _ _ _ (FitsAnswer x) (λ is. line_fits _ _ a b x (other_call_fits a key call) (λ again. told_fits a key x before fits.0 again.answers))
+    (WhereElse-elim _ _ _ (FitsAnswer x) (λ is. line_fits _ _ a b x (other_call_fits a key call) (λ again. told_fits a key x (subst Legal again.account legal) before fits.0 again.answers))
     (line_fits _ _ a b x (busy_fits a key before)
     (line_fits _ _ a b x (gap_fits a key before)
     (line_fits _ _ a b x (full_fits a _)
-    (entered_fits a b moment _ x _ (told_fits b key x after fits.0)))))))))
-step_fits a b moment (Cancel key) x before after fits =
+    (entered_fits a b moment _ x _ (told_fits b key x legal after fits.0)))))))))
+step_fits a b moment (Cancel key) x legal before after fits =
     let cancelled = λ (is : x ≡ Replied key Cancelled). subst FitsAnswer (sym is) (fits, cancelled_fits) in
     line_fits _ _ a b x (other_epoch_fits a key before)
     (line_fits _ _ a b x (no_session_fits a key)
     (line_fits _ _ a b x (old_incarnation_fits a key.client key.incarnation before)
     (line_fits _ _ a b x (old_number_fits a key before)
-    (WhereElse-elim _ _ _ (FitsAnswer x) (λ is. WhereElse-elim _ _ _ (FitsAnswer x) (λ waits ends. cancelled ends.1) (λ again. told_fits a key x before fits again.answers))
+    (WhereElse-elim _ _ _ (FitsAnswer x) (λ is. WhereElse-elim _ _ _ (FitsAnswer x) (λ waits ends. cancelled ends.1) (λ again. told_fits a key x (subst Legal again.account legal) before fits again.answers))
     (line_fits _ _ a b x (busy_fits a key before)
     (line_fits _ _ a b x (gap_fits a key before)
     (line_fits _ _ a b x (full_fits a 1)
-    (entered_fits a b moment _ x _ (λ (replies : Replies b key x). told_fits b key x after fits (inl replies))))))))))
+    (entered_fits a b moment _ x _ (λ (replies : Replies b key x). told_fits b key x legal after fits (inl replies))))))))))

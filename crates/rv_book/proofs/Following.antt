@@ -1,10 +1,10 @@
 -- Which entries may stand behind an account: a hello, a cancel, an arrival that meets the oldest, and a tick; each by its moments, its numbers and its pairs.
-use Rattle.std.proofs.Common.{◌≡◌, ◌⊎◌, ℕ, List, Option, Some, None, refl, sym, ap, subst, ◌∙◌, arith}
-use Rattle.rv_book.specs.Account.{Account, call_in}
-use Rattle.rv_book.specs.declared.account.Act.{Act}
-use Rattle.rv_book.specs.declared.account.Act.TheVariants.{Arrive, Cancel, Hello, Tick}
+use Rattle.std.proofs.Common.{◌≡◌, ◌⊎◌, ℕ, ◌≤◌, List, [], length, Option, Some, None, refl, sym, ap, subst, ◌∙◌, arith}
+use Rattle.rv_account.specs.Account.{Account, call_in, just}
+use Rattle.rv_account.specs.declared.entry.Act.{Act}
+use Rattle.rv_account.specs.declared.entry.Act.TheVariants.{Arrive, Cancel, Hello, Tick}
 use Rattle.rv_text.specs.declared.call.Call.{Call}
-use Rattle.rv_book.specs.declared.account.Entry.{Entry}
+use Rattle.rv_account.specs.declared.entry.Entry.{Entry}
 use Rattle.rv_text.specs.declared.message.Key.{Key}
 use Rattle.std.specs.Prelude.{is_some}
 use Rattle.std.proofs.lemmas.Option.{none-some, same_Some}
@@ -12,10 +12,12 @@ use Rattle.rv_text.specs.Calls.{side_of}
 use Rattle.rv_book.specs.Sessions.{HasIncarnation, HasOnlyLower}
 use Rattle.rv_book.specs.Legal.{IsFreePartner, IsNextNumber, IsOpenOpposite, KeepsLimits, KeepsMoments, KeepsNumbers, KeepsPairs, KeepsTime, MayFollow, NothingDue, SomethingDue, WaitsUnder}
 use Rattle.rv_book.specs.Arriving.{IsNext, MeetsOldest, entry}
-use Rattle.rv_book.specs.Calls.{MayMeet}
+use Rattle.rv_account.specs.Calls.{MayMeet, may_name}
 use Rattle.rv_book.specs.Waiting.{OpenAt, SideAt}
 use Rattle.rv_book.proofs.Growing.{call_read, reads_within}
+use Rattle.rv_book.proofs.Naming.{just_few, just_none, just_rises, named_just}
 use Rattle.rv_book.proofs.Sides.{one_side}
+use Rattle.std.specs.List.Sorted.{IsStrictlyIncreasing}
 
 -- ---- moments
 
@@ -32,7 +34,7 @@ keeps_limits es moment (Arrive key call) no_tick nothing = nothing
 keeps_limits es moment (Cancel key) no_tick nothing = nothing
 keeps_limits es moment Tick no_tick nothing = absurd (no_tick tt)
 
-keeps_moments : (a : Account) (moment : ℕ) (does : Act) → (IsTick does → ⊥) → KeepsTime a moment → NothingDue a.entries moment → KeepsMoments a moment does
+pub keeps_moments : (a : Account) (moment : ℕ) (does : Act) → (IsTick does → ⊥) → KeepsTime a moment → NothingDue a.entries moment → KeepsMoments a moment does
 keeps_moments a moment does no_tick time nothing = record { keeps_time = time; keeps_limits = keeps_limits a.entries moment does no_tick nothing }
 
 -- ---- numbers
@@ -54,7 +56,7 @@ next_number a key next = record { last = next.last; is_last = next.is_last; next
 same_key : (key other : Key) (call more : Call) → Arrive key call ≡ Arrive other more → key ≡ other
 same_key key other call more e = cc
 
-arrival_numbers : (a : Account) (key : Key) (call : Call) → IsNext a key → KeepsNumbers a (Arrive key call)
+pub arrival_numbers : (a : Account) (key : Key) (call : Call) → IsNext a key → KeepsNumbers a (Arrive key call)
 arrival_numbers a key call next = record {
   raises_incarnation = λ c i is. absurd (let no : ⊥ = cc in no);
   of_session = λ other is. subst (λ (k : Key). (k.epoch ≡ a.epoch) × HasIncarnation a.entries k.client k.incarnation) (same_Some _ _ is) (next.epoch, next.incarnation);
@@ -83,76 +85,105 @@ tick_numbers a = record {
 
 -- ---- pairs
 
-no_pairs : (es : List Entry) (e : Entry) → e.partner ≡ None → call_in e.act ≡ None → KeepsPairs es e
+no_pairs : (es : List Entry) (e : Entry) → e.partners ≡ just None → call_in e.act ≡ None → KeepsPairs es e
 no_pairs es e none no_call = record {
-  names_free_partner = λ p is. absurd (none-some p (sym none ∙ is));
-  pairs_opposites = λ p call is calls meets. absurd (none-some p (sym none ∙ is));
-  pairs_oldest = λ p r side is at less opened. none-some p (sym none ∙ is);
-  pairs_where_possible = λ r call is calls opposes. none-some call (sym no_call ∙ calls);
+  names_free_partners = record {
+    rising = subst IsStrictlyIncreasing (sym none) (just_rises None);
+    few = λ call calls. absurd (none-some call (sym no_call ∙ calls));
+    free = λ p names. absurd (just_none e p none names);
+  };
+  pairs_opposites = λ p call names calls meets. absurd (just_none e p none names);
+  pairs_oldest = λ p r side names at less opened. absurd (just_none e p none names);
+  pairs_where_possible = λ r call calls fewer opposes. absurd (none-some call (sym no_call ∙ calls));
 }
 
 one_place : (p q : ℕ) → Some p ≡ Some q → p ≡ q
 one_place p q e = cc
 
-arrival_pairs : (es : List Entry) (moment : ℕ) (key : Key) (call : Call) (partner : Option ℕ) → MeetsOldest es (side_of call) partner → KeepsPairs es (entry moment (Arrive key call) partner)
-arrival_pairs es moment key call None nobody = record {
-  names_free_partner = λ p is. absurd (none-some p is);
-  pairs_opposites = λ p other is calls meets. absurd (none-some p is);
-  pairs_oldest = λ p r side is at less opened. none-some p is;
-  pairs_where_possible = λ r other is calls opposes.
-      let same : call ≡ other = same_Some _ _ calls in
-      let there = subst (λ c. IsOpenOpposite es c r) (sym same) opposes in
-      nobody there.side r there.opposes there.there;
-}
-arrival_pairs es moment key call (Some p) (side, opposes, oldest) =
+-- one partner at most is no more than an arrival may name
+few_named : (call other : Call) (partner : Option ℕ) → may_name call ≡ 1 → Some call ≡ Some other → length (just partner) ≤ may_name other
+few_named call other partner single calls =
+    let number : may_name other ≡ 1 = sym (ap may_name (same_Some _ _ calls)) ∙ single in
+    let few : length (just partner) ≤ 1 = just_few partner in
+    omega arith
+
+arrival_pairs : (es : List Entry) (moment : ℕ) (key : Key) (call : Call) (partner : Option ℕ) → may_name call ≡ 1 → MeetsOldest es (side_of call) partner → KeepsPairs es (entry moment (Arrive key call) (just partner))
+arrival_pairs es moment key call None single nobody =
+    let e = entry moment (Arrive key call) (just None) in
+    record {
+      names_free_partners = record {
+        rising = just_rises None;
+        few = λ other calls. few_named call other None single calls;
+        free = λ p names. absurd (just_none e p refl names);
+      };
+      pairs_opposites = λ p other names calls meets. absurd (just_none e p refl names);
+      pairs_oldest = λ p r side names at less opened. absurd (just_none e p refl names);
+      pairs_where_possible = λ r other calls fewer opposes.
+          let same : call ≡ other = same_Some _ _ calls in
+          let there = subst (λ c. IsOpenOpposite es c r) (sym same) opposes in
+          absurd (nobody there.side r there.opposes there.there);
+    }
+arrival_pairs es moment key call (Some p) single (side, opposes, oldest) =
     let meets : MayMeet call = ap is_some opposes in
     let there = oldest.there in
+    let e = entry moment (Arrive key call) (just (Some p)) in
     record {
-      names_free_partner = λ q is. subst (IsFreePartner es (entry moment (Arrive key call) (Some p))) (one_place p q is) (record {
-        call = call;
-        arrives = refl;
-        meets = meets;
-        earlier = reads_within call_read refl es p there.of_side.call there.of_side.arrived;
-        unmet = there.is_open.unmet;
-      });
-      pairs_opposites = λ q other is calls may.
+      names_free_partners = record {
+        rising = just_rises (Some p);
+        few = λ other calls. few_named call other (Some p) single calls;
+        free = λ q names. subst (IsFreePartner es e) (one_place p q (named_just (Some p) q names)) (record {
+          call = call;
+          arrives = refl;
+          meets = meets;
+          earlier = reads_within call_read refl es p there.of_side.call there.of_side.arrived;
+          unmet = there.is_open.unmet;
+        });
+      };
+      pairs_opposites = λ q other names calls may.
           let partner : IsOpenOpposite es call p = record { side = side; opposes = opposes; there = there } in
-          subst (λ c. IsOpenOpposite es c q) (same_Some _ _ calls) (subst (IsOpenOpposite es call) (one_place p q is) partner);
-      pairs_oldest = λ q r other is at less opened.
-          let same : p ≡ q = one_place p q is in
+          subst (λ c. IsOpenOpposite es c q) (same_Some _ _ calls) (subst (IsOpenOpposite es call) (one_place p q (named_just (Some p) q names)) partner);
+      pairs_oldest = λ q r other names at less opened.
+          let same : p ≡ q = one_place p q (named_just (Some p) q names) in
           let sides : other ≡ side = one_side es other side q at (subst (SideAt es side) same there.of_side) in
-          oldest.oldest r (omega arith) (subst (λ s. OpenAt es s r) sides opened);
-      pairs_where_possible = λ r other is calls opposes. none-some p (sym is);
+          absurd (oldest.oldest r (omega arith) (subst (λ s. OpenAt es s r) sides opened));
+      pairs_where_possible = λ r other calls fewer opposes.
+          let number : may_name other ≡ 1 = sym (ap may_name (same_Some _ _ calls)) ∙ single in
+          absurd (omega arith);
     }
 
 -- ---- each kind of entry
 
-pub hello_follows : (a : Account) (moment client incarnation : ℕ) → KeepsTime a moment → NothingDue a.entries moment → HasOnlyLower a.entries client incarnation → MayFollow a (entry moment (Hello client incarnation) None)
+pub hello_follows : (a : Account) (moment client incarnation : ℕ) → KeepsTime a moment → NothingDue a.entries moment → HasOnlyLower a.entries client incarnation → MayFollow a (entry moment (Hello client incarnation) [])
 hello_follows a moment client incarnation time nothing lower = record {
   moments = keeps_moments a moment (Hello client incarnation) (λ no. no) time nothing;
   numbers = hello_numbers a client incarnation lower;
-  pairs = no_pairs a.entries (entry moment (Hello client incarnation) None) refl refl;
+  pairs = no_pairs a.entries (entry moment (Hello client incarnation) []) refl refl;
 }
 
-pub arrival_follows : (a : Account) (moment : ℕ) (key : Key) (call : Call) (partner : Option ℕ) → KeepsTime a moment → NothingDue a.entries moment → IsNext a key → MeetsOldest a.entries (side_of call) partner
-    → MayFollow a (entry moment (Arrive key call) partner)
-arrival_follows a moment key call partner time nothing next meets = record {
+pub arrival_by_pairs : (a : Account) (moment : ℕ) (key : Key) (call : Call) (places : List ℕ) → KeepsTime a moment → NothingDue a.entries moment → IsNext a key → KeepsPairs a.entries (entry moment (Arrive key call) places)
+    → MayFollow a (entry moment (Arrive key call) places)
+arrival_by_pairs a moment key call places time nothing next pairs = record {
   moments = keeps_moments a moment (Arrive key call) (λ no. no) time nothing;
   numbers = arrival_numbers a key call next;
-  pairs = arrival_pairs a.entries moment key call partner meets;
+  pairs = pairs;
 }
 
+pub arrival_follows : (a : Account) (moment : ℕ) (key : Key) (call : Call) (partner : Option ℕ) → KeepsTime a moment → NothingDue a.entries moment → IsNext a key → may_name call ≡ 1 → MeetsOldest a.entries (side_of call) partner
+    → MayFollow a (entry moment (Arrive key call) (just partner))
+arrival_follows a moment key call partner time nothing next single meets =
+    arrival_by_pairs a moment key call (just partner) time nothing next (arrival_pairs a.entries moment key call partner single meets)
+
 pub cancel_follows : (a : Account) (moment : ℕ) (key : Key) → KeepsTime a moment → NothingDue a.entries moment → key.epoch ≡ a.epoch → HasIncarnation a.entries key.client key.incarnation → WaitsUnder a.entries key ⊎ IsNextNumber a.entries key
-    → MayFollow a (entry moment (Cancel key) None)
+    → MayFollow a (entry moment (Cancel key) [])
 cancel_follows a moment key time nothing epoch has turn = record {
   moments = keeps_moments a moment (Cancel key) (λ no. no) time nothing;
   numbers = cancel_numbers a key epoch has turn;
-  pairs = no_pairs a.entries (entry moment (Cancel key) None) refl refl;
+  pairs = no_pairs a.entries (entry moment (Cancel key) []) refl refl;
 }
 
-pub tick_follows : (a : Account) (moment : ℕ) → KeepsTime a moment → SomethingDue a.entries moment → MayFollow a (entry moment Tick None)
+pub tick_follows : (a : Account) (moment : ℕ) → KeepsTime a moment → SomethingDue a.entries moment → MayFollow a (entry moment Tick [])
 tick_follows a moment time due = record {
   moments = record { keeps_time = time; keeps_limits = due };
   numbers = tick_numbers a;
-  pairs = no_pairs a.entries (entry moment Tick None) refl refl;
+  pairs = no_pairs a.entries (entry moment Tick []) refl refl;
 }

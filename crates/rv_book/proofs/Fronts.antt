@@ -1,13 +1,13 @@
 -- What a front of an account's entries and the whole say of one another.
 use Rattle.std.proofs.Common.{◌≡◌, ℕ, zero, suc, ◌<◌, ◌≤◌, List, [], ◌∷◌, ◌++◌, length, take, drop, Option, Some, None, refl, sym, ap, subst, ◌∙◌, arith, length-take}
 use Rattle.std.specs.List.{slice_get}
-use Rattle.rv_book.specs.declared.account.Entry.{Entry}
-use Rattle.rv_book.specs.Account.{Account}
+use Rattle.rv_account.specs.declared.entry.Entry.{Entry}
+use Rattle.rv_account.specs.Account.{Account, Names, NamesAt}
 use Rattle.rv_book.specs.Waiting.{Met, NamesPartner, Open, Stopped, Waiting}
 use Rattle.rv_book.specs.Legal.{Legal, MayFollow, before}
 use Rattle.rv_book.proofs.Places.{get-take}
 use Rattle.std.proofs.lemmas.List.{take-append-drop}
-use Rattle.rv_book.proofs.Growing.{Met-on, Open-back, Stopped-on, call_read, partner_read, read_there, reads_within}
+use Rattle.rv_book.proofs.Growing.{Met-on, Open-back, Stopped-on, call_read, reads_within}
 
 -- a front and what follows it up to a longer front
 pub longer_front : {X : Type 0} (xs : List X) (m n : ℕ) → m ≤ n → take m xs ++ drop m (take n xs) ≡ take n xs
@@ -30,12 +30,15 @@ read_whole F none es n r y there =
     let below : r < n = omega (arith, length-take n es) in
     (below, ap F (sym (get-take es n r below)) ∙ there)
 
+pub named_in_front : (es : List Entry) (n p q : ℕ) → p < n → NamesAt es p q → NamesAt (take n es) p q
+named_in_front es n p q h at = record { entry = at.entry; there = get-take es n p h ∙ at.there; names = at.names }
+
 pub names_in_front : (es : List Entry) (n p q : ℕ) → p < n → NamesPartner es p q → NamesPartner (take n es) p q
 names_in_front es n p q h names = record {
   call = names.call;
   arrived = read_front call_read es n p names.call h names.arrived;
   meets = names.meets;
-  named = read_front partner_read es n p q h names.named;
+  named = named_in_front es n p q h names.named;
 }
 
 -- who is open in a longer front and stands in a shorter one is open there
@@ -63,13 +66,13 @@ waiting_in_front es n r inside w = record { is_open = open_in_front es n r insid
 pub record Naming (a : Account) (p q : ℕ) : Type 0 where
   pub entry : Entry
   pub there : slice_get a.entries p ≡ Some entry
-  pub named : entry.partner ≡ Some q
+  pub named : Names entry q
   pub follows : MayFollow (before a p) entry
 
 pub naming : (a : Account) (p q : ℕ) → Legal a → NamesPartner a.entries p q → Naming a p q
 naming a p q legal names =
-    let at = read_there partner_read refl (slice_get a.entries p) q names.named in
-    record { entry = at.0; there = at.1; named = at.2; follows = legal p at.0 at.1 }
+    let at = names.named in
+    record { entry = at.entry; there = at.there; named = at.names; follows = legal p at.entry at.there }
 
 -- ---- a front of a legal account is legal
 

@@ -1,11 +1,13 @@
 -- Who gets an item from whom it meets: it stays so, it is one item, and it is within the limits.
-use Rattle.std.proofs.Common.{◌≡◌, inl, inr, ℕ, List, ◌++◌, refl, sym, ap, ◌∙◌}
+use Rattle.std.proofs.Common.{◌≡◌, inl, inr, ℕ, List, ◌++◌, Some, refl, sym, ap, ◌∙◌}
 use Rattle.std.proofs.lemmas.Option.{same_Some}
+use Rattle.rv_text.specs.declared.call.Call.{Call}
 use Rattle.rv_text.specs.Calls.{item_of}
+use Rattle.rv_account.specs.Calls.{may_name}
 use Rattle.rv_text.specs.Limits.{FitsItem}
 use Rattle.rv_text.proofs.Kept.{item_fits}
-use Rattle.rv_book.specs.declared.account.Entry.{Entry}
-use Rattle.rv_book.specs.Account.{Account, act_at, call_at, call_in}
+use Rattle.rv_account.specs.declared.entry.Entry.{Entry}
+use Rattle.rv_account.specs.Account.{Account, act_at, call_at, call_in}
 use Rattle.rv_book.specs.Legal.{Legal}
 use Rattle.rv_book.specs.Limits.{FitsAccount}
 use Rattle.rv_book.specs.Replies.{Gets, Meet}
@@ -33,11 +35,12 @@ gets_met es r item gets = elim gets.meet [
   | inr names ↦ record { later = r; earlier = gets.giver; names = names; part = inl refl }
 ]
 
-pub one_item : (b : Account) (r : ℕ) (x y : List ℕ) → Legal b → Gets b.entries r x → Gets b.entries r y → x ≡ y
-one_item b r x y legal first second =
-    let giver : first.giver ≡ second.giver = meets_one b r first.giver second.giver legal first.meet second.meet in
-    let call : first.call ≡ second.call = same_Some _ _ (sym first.arrived ∙ ap (call_at b.entries) giver ∙ second.arrived) in
-    same_Some _ _ (sym first.hands_over ∙ ap item_of call ∙ second.hands_over)
+-- what gets an item, and may name one, gets one item
+pub one_item : (b : Account) (r : ℕ) (call : Call) (x y : List ℕ) → Legal b → call_at b.entries r ≡ Some call → may_name call ≡ 1 → Gets b.entries r x → Gets b.entries r y → x ≡ y
+one_item b r call x y legal arrived single first second =
+    let giver : first.giver ≡ second.giver = meets_one b r first.giver second.giver call legal arrived single first.meet second.meet in
+    let same : first.call ≡ second.call = same_Some _ _ (sym first.arrived ∙ ap (call_at b.entries) giver ∙ second.arrived) in
+    same_Some _ _ (sym first.hands_over ∙ ap item_of same ∙ second.hands_over)
 
 pub given_fits : (a : Account) (r : ℕ) (item : List ℕ) → FitsAccount a → Gets a.entries r item → FitsItem item
 given_fits a r item fits gets =

@@ -1,17 +1,17 @@
 -- What a hello that is recorded leaves: a sound state.
-use Rattle.std.proofs.Common.{◌≡◌, inl, inr, ℕ, ◌≤◌, List, length, Option, Some, None, IfSome, IsSome, is_some, refl, sym, ap, subst, ◌∙◌, arith, option_and_then}
+use Rattle.std.proofs.Common.{◌≡◌, inl, inr, ℕ, ◌≤◌, List, [], length, Option, Some, None, IfSome, IsSome, is_some, refl, sym, ap, subst, ◌∙◌, arith, option_and_then}
 use Rattle.std.proofs.lemmas.Option.{same_Some}
 use Rattle.rv_text.specs.declared.answer.Refusal.{Refusal}
 use Rattle.rv_text.specs.declared.call.Side.{Side}
 use Rattle.rv_session.specs.Owed.{Owed}
 use Rattle.rv_session.specs.Table.{OnlySets, OnlySettles, fresh, session_of, waiting_of}
 use Rattle.rv_session.specs.declared.kept.Kept.{Kept}
-use Rattle.rv_book.specs.Account.{Account, call_in, key_in, with_entry}
+use Rattle.rv_account.specs.Account.{Account, call_in, key_in, with_entry}
 use Rattle.rv_book.specs.Arriving.{entry}
-use Rattle.rv_book.specs.Calls.{IsPut}
-use Rattle.rv_book.specs.declared.account.Act.{Act}
-use Rattle.rv_book.specs.declared.account.Act.TheVariants.{Hello}
-use Rattle.rv_book.specs.declared.account.Entry.{Entry}
+use Rattle.rv_account.specs.Calls.{IsPut}
+use Rattle.rv_account.specs.declared.entry.Act.{Act}
+use Rattle.rv_account.specs.declared.entry.Act.TheVariants.{Hello}
+use Rattle.rv_account.specs.declared.entry.Entry.{Entry}
 use Rattle.rv_book.specs.declared.state.State.{State}
 use Rattle.rv_book.specs.Legal.{HasWaiting, KeepsTime, NothingDue}
 use Rattle.rv_book.specs.Sessions.{HasOnlyLower}
@@ -84,7 +84,7 @@ module _ (old : State) (moment client incarnation : ℕ) (comes : Comes old mome
   before = account_of old
 
   abbrev pub own_entry : Entry
-  own_entry = entry moment (Hello client incarnation) None
+  own_entry = entry moment (Hello client incarnation) []
 
   abbrev pub OfClient : ℕ → Type 0
   OfClient r = IsRequestOf (account_of old).entries client r

@@ -3,12 +3,12 @@ use Rattle.std.proofs.Common.{◌≡◌, ◌⊎◌, inl, inr, ℕ, ◌<◌, List
 use Rattle.std.specs.List.{slice_get}
 use Rattle.std.proofs.lemmas.Option.{none-some}
 use Rattle.rv_text.specs.declared.call.Call.{Call}
-use Rattle.rv_book.specs.declared.account.Entry.{Entry}
-use Rattle.rv_book.specs.declared.account.Act.{Act}
-use Rattle.rv_book.specs.declared.account.Act.TheVariants.{Arrive}
-use Rattle.rv_book.specs.Account.{act_at, call_at, call_in}
+use Rattle.rv_account.specs.declared.entry.Entry.{Entry}
+use Rattle.rv_account.specs.declared.entry.Act.{Act}
+use Rattle.rv_account.specs.declared.entry.Act.TheVariants.{Arrive}
+use Rattle.rv_account.specs.Account.{Names, NamesAt, act_at, call_at, call_in}
 use Rattle.rv_book.specs.Waiting.{NamesPartner, Met, limit_in, limit_at, EndsWait, StoppedAt, Stopped, Open}
-use Rattle.rv_book.proofs.Places.{get-append, get-append_within, get-append_cases, within}
+use Rattle.rv_book.proofs.Places.{get-append, get-append_within, get-append_cases, get-append_end, within}
 
 -- ---- what is read at a place, by a reading that gives nothing where nothing stands
 
@@ -40,11 +40,24 @@ act_read o = option_map (λ e. e.act) o
 abbrev pub moment_read : Option Entry → Option ℕ
 moment_read o = option_map (λ e. e.moment) o
 
-abbrev pub partner_read : Option Entry → Option ℕ
-partner_read o = option_and_then (λ e. e.partner) o
-
 abbrev pub call_read : Option Entry → Option Call
 call_read o = option_and_then call_in (option_map (λ e. e.act) o)
+
+-- ---- partners
+
+pub NamesAt-on : (es more : List Entry) (p q : ℕ) → NamesAt es p q → NamesAt (es ++ more) p q
+NamesAt-on es more p q h = record { entry = h.entry; there = get-append es more p h.entry h.there; names = h.names }
+
+pub NamesAt-back : (es : List Entry) (e : Entry) (p q : ℕ) → NamesAt (es ++ e ∷ []) p q → ((p < length es) × NamesAt es p q) ⊎ ((p ≡ length es) × Names e q)
+NamesAt-back es e p q h =
+    elim (get-append_cases es e h.entry p h.there) [
+      | inl inside ↦ inl (inside.0, record { entry = h.entry; there = inside.1; names = h.names })
+      | inr last ↦ inr (last.0, subst (λ (x : Entry). Names x q) (sym last.1) h.names)
+    ]
+
+-- the last entry names its partners
+pub NamesAt-last : (es : List Entry) (e : Entry) (q : ℕ) → Names e q → NamesAt (es ++ e ∷ []) (length es) q
+NamesAt-last es e q names = record { entry = e; there = get-append_end es e; names = names }
 
 -- ---- pairs
 
@@ -53,12 +66,12 @@ NamesPartner-on es more p q h = record {
   call = h.call;
   arrived = reads_on call_read refl es more p h.call h.arrived;
   meets = h.meets;
-  named = reads_on partner_read refl es more p q h.named;
+  named = NamesAt-on es more p q h.named;
 }
 
-pub NamesPartner-back : (es : List Entry) (e : Entry) (p q : ℕ) → NamesPartner (es ++ e ∷ []) p q → NamesPartner es p q ⊎ ((p ≡ length es) × (e.partner ≡ Some q))
+pub NamesPartner-back : (es : List Entry) (e : Entry) (p q : ℕ) → NamesPartner (es ++ e ∷ []) p q → NamesPartner es p q ⊎ ((p ≡ length es) × Names e q)
 NamesPartner-back es e p q h =
-    elim (reads_back partner_read refl es e p q h.named) [
+    elim (NamesAt-back es e p q h.named) [
       | inl named ↦ elim (reads_back call_read refl es e p h.call h.arrived) [
         | inl arrived ↦ inl (record { call = h.call; arrived = arrived.1; meets = h.meets; named = named.1 })
         | inr arrived ↦ absurd (omega arith)
@@ -69,14 +82,14 @@ NamesPartner-back es e p q h =
 pub Met-on : (es more : List Entry) (r : ℕ) → Met es r → Met (es ++ more) r
 Met-on es more r h = record { later = h.later; earlier = h.earlier; names = NamesPartner-on es more h.later h.earlier h.names; part = h.part }
 
--- who is met with one more entry was met before, or is that entry, or is its partner
-pub Met-back : (es : List Entry) (e : Entry) (r : ℕ) → Met (es ++ e ∷ []) r → Met es r ⊎ ((r ≡ length es) ⊎ (e.partner ≡ Some r))
+-- who is met with one more entry was met before, or is that entry, or is one of its partners
+pub Met-back : (es : List Entry) (e : Entry) (r : ℕ) → Met (es ++ e ∷ []) r → Met es r ⊎ ((r ≡ length es) ⊎ Names e r)
 Met-back es e r h =
     elim (NamesPartner-back es e h.later h.earlier h.names) [
       | inl names ↦ inl (record { later = h.later; earlier = h.earlier; names = names; part = h.part })
       | inr new ↦ elim h.part [
         | inl is ↦ inr (inl (is ∙ new.0))
-        | inr is ↦ inr (inr (new.1 ∙ ap Some (sym is)))
+        | inr is ↦ inr (inr (subst (Names e) (sym is) new.1))
       ]
     ]
 
@@ -129,7 +142,7 @@ Stopped-back es e r h =
 
 -- ---- who is open
 
-unfoldable pub Open-on : (es : List Entry) (e : Entry) (r : ℕ) → Open es r → (e.partner ≡ Some r → ⊥) → (StoppedAt (es ++ e ∷ []) r (length es) → ⊥) → Open (es ++ e ∷ []) r
+unfoldable pub Open-on : (es : List Entry) (e : Entry) (r : ℕ) → Open es r → (Names e r → ⊥) → (StoppedAt (es ++ e ∷ []) r (length es) → ⊥) → Open (es ++ e ∷ []) r
 Open-on es e r h unnamed unstopped = record {
   call = h.call;
   arrived = reads_on call_read refl es (e ∷ []) r h.call h.arrived;

@@ -8,11 +8,11 @@ use Rattle.rv_text.specs.declared.call.Wait.{Wait}
 use Rattle.rv_text.specs.Calls.{item_of, side_of, wait_of}
 use Rattle.rv_text.specs.Limits.{FitsItem, FitsReply}
 use Rattle.rv_session.specs.declared.kept.Kept.{Kept}
-use Rattle.rv_book.specs.declared.account.Act.TheVariants.{Arrive}
-use Rattle.rv_book.specs.declared.account.Entry.{Entry}
-use Rattle.rv_book.specs.Account.{Account, call_at, with_entry}
+use Rattle.rv_account.specs.declared.entry.Act.TheVariants.{Arrive}
+use Rattle.rv_account.specs.declared.entry.Entry.{Entry}
+use Rattle.rv_account.specs.Account.{Account, call_at, just, with_entry}
 use Rattle.rv_book.specs.Arriving.{IsKept, WillReply, entry}
-use Rattle.rv_book.specs.Calls.{opposite}
+use Rattle.rv_account.specs.Calls.{may_name, opposite}
 use Rattle.rv_book.specs.Legal.{Legal}
 use Rattle.rv_book.specs.Replies.{Gets, RepliesAt}
 use Rattle.rv_book.specs.Tables.{partners_reply}
@@ -21,8 +21,9 @@ use Rattle.rv_book.specs.Waiting.{Met, NamesPartner}
 use Rattle.rv_book.proofs.ByMeeting.{ByMeeting, RepliesByMeeting, laws_by}
 use Rattle.rv_book.proofs.Fronts.{read_whole}
 use Rattle.rv_book.proofs.Getting.{gets_met, gets_on, given_fits, one_item}
-use Rattle.rv_book.proofs.Growing.{call_read, partner_read, reads_on}
+use Rattle.rv_book.proofs.Growing.{NamesAt-last, call_read, reads_on}
 use Rattle.rv_book.proofs.Legality.{follows_itself}
+use Rattle.rv_book.proofs.Naming.{just_names}
 use Rattle.rv_book.proofs.OnePartner.{partner_open}
 use Rattle.rv_book.proofs.Opposites.{one_opposed, one_opposite}
 use Rattle.rv_book.proofs.Places.{get-append_end}
@@ -36,6 +37,7 @@ TellsItem told_with es r told = (item : List ℕ) × Gets es r item × (told ≡
 pub record IsHanded (call : Call) (wait : Wait) (alone : Reply) (other : Side) (told_with : List ℕ → Reply) (kept_from : ℕ → Kept) : Type 0 where
   pub waits : wait_of call ≡ Some wait
   pub opposes : opposite (side_of call) ≡ Some other
+  pub single : may_name call ≡ 1
   pub alone_fits : FitsReply alone
   pub item_fits : (item : List ℕ) → FitsItem item → FitsReply (told_with item)
   pub hands : (giver : Call) → side_of giver ≡ other → (item : List ℕ) × (item_of giver ≡ Some item)
@@ -85,7 +87,7 @@ module _ (call : Call) (wait : Wait) (alone : Reply) (other : Side) (told_with :
     was_met = λ es r told tells. gets_met es r tells.0 tells.1;
     exists = λ a r legal arrived met. let got = gets_item a r legal arrived met in (told_with got.0, (got.0, got.1, refl));
     stays = λ es more r told tells. (tells.0, gets_on es more r tells.0 tells.1, tells.2);
-    one = λ b r x y legal first second. second.2 ∙ ap told_with (one_item b r second.0 first.0 legal second.1 first.1) ∙ sym first.2;
+    one = λ b r x y legal arrived first second. second.2 ∙ ap told_with (one_item b r call second.0 first.0 legal arrived handed.single second.1 first.1) ∙ sym first.2;
     fits = λ a r told within tells. subst FitsReply (sym tells.2) (handed.item_fits tells.0 (given_fits a r tells.0 within tells.1));
   }
 
@@ -105,16 +107,16 @@ module _ (call : Call) (wait : Wait) (alone : Reply) (other : Side) (told_with :
 
   pub handed_replies : (a : Account) (place : ℕ) → WillReply a call (Some place) (kept_from place)
   handed_replies a place moment key before after =
-      let e = entry moment (Arrive key call) (Some place) in
+      let e = entry moment (Arrive key call) (just (Some place)) in
       let es = (with_entry a e).entries in
-      let partner = (follows_itself a e after).pairs.pairs_opposites place call refl refl handed_by.meets in
+      let partner = (follows_itself a e after).pairs.pairs_opposites place call (just_names place) refl handed_by.meets in
       let giver = partner.there.of_side in
       let arrived : call_at es place ≡ Some giver.call = reads_on call_read refl a.entries (e ∷ []) place giver.call giver.arrived in
       let names : NamesPartner es (length a.entries) place = record {
         call = call;
         arrived = ap call_read (get-append_end a.entries e);
         meets = handed_by.meets;
-        named = ap partner_read (get-append_end a.entries e);
+        named = NamesAt-last a.entries e place (just_names place);
       } in
       kept_item es (length a.entries) place giver.call arrived (giver.is ∙ one_opposite (side_of call) other partner.side handed.opposes partner.opposes) (inr names)
 

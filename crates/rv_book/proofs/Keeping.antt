@@ -6,9 +6,9 @@ use Rattle.std.specs.List.{slice_get}
 use Rattle.std.proofs.lemmas.Option.{none-some}
 use Rattle.rv_text.specs.Limits.{FitsIdentifier}
 use Rattle.rv_session.specs.Table.{Table, session_of}
-use Rattle.rv_book.specs.Account.{Account, with_entry}
+use Rattle.rv_account.specs.Account.{Account, with_entry}
 use Rattle.rv_book.specs.Counting.{NumberOf}
-use Rattle.rv_book.specs.declared.account.Entry.{Entry}
+use Rattle.rv_account.specs.declared.entry.Entry.{Entry}
 use Rattle.rv_book.specs.declared.state.State.{State}
 use Rattle.rv_book.specs.Legal.{Legal}
 use Rattle.rv_book.specs.Limits.{FitEntries, FitsAccount, FitsEntry}

@@ -1,9 +1,9 @@
 -- Whose session an act belongs to, and what one more entry leaves of hellos and keys.
-use Rattle.rv_book.specs.Account.{call_in, key_in}
-use Rattle.rv_book.specs.declared.account.Act.{Act}
-use Rattle.rv_book.specs.declared.account.Act.TheVariants.{Arrive, Cancel, Hello, Tick}
+use Rattle.rv_account.specs.Account.{call_in, key_in}
+use Rattle.rv_account.specs.declared.entry.Act.{Act}
+use Rattle.rv_account.specs.declared.entry.Act.TheVariants.{Arrive, Cancel, Hello, Tick}
 use Rattle.rv_text.specs.declared.call.Call.{Call}
-use Rattle.rv_book.specs.declared.account.Entry.{Entry}
+use Rattle.rv_account.specs.declared.entry.Entry.{Entry}
 use Rattle.rv_book.specs.Sessions.{LastHello, NamesKey}
 use Rattle.rv_text.specs.declared.message.Key.{Key}
 use Rattle.std.proofs.Common.{List, None, Option, Some, [], ap, inl, inr, length, option_and_then, refl, ℕ, ◌++◌, ◌∙◌, ◌∷◌, ◌≡◌, ◌⊎◌}

@@ -4,7 +4,7 @@ use Rattle.std.specs.Prelude.{IsSome}
 use Rattle.std.proofs.lemmas.Option.{none-some, same_Some}
 use Rattle.rv_text.specs.declared.call.Wait.{Wait}
 use Rattle.rv_text.specs.declared.call.Wait.TheVariants.{Now, Millis, Forever}
-use Rattle.rv_book.specs.Calls.{Lasts, limit_after, need_by}
+use Rattle.rv_account.specs.Calls.{Lasts, limit_after, need_by}
 use Rattle.rv_book.specs.Elapsing.{deadline_after}
 
 -- ---- what it may need

@@ -1,18 +1,20 @@
 -- Items leave each queue in their order of arrival.
-use Rattle.rv_book.specs.Account.{Account, partner_at}
-use Rattle.rv_book.specs.declared.account.Entry.{Entry}
+use Rattle.rv_account.specs.Account.{Account}
+use Rattle.rv_account.specs.declared.entry.Entry.{Entry}
 use Rattle.rv_text.specs.declared.call.Side.TheVariants.{Gives, Takes}
 use Rattle.rv_book.specs.Laws.{ItemsLeaveInOrder}
 use Rattle.rv_book.specs.Legal.{IsOpenOpposite, Legal}
-use Rattle.std.proofs.Common.{List, None, Option, Some, ap, arith, inl, inr, refl, subst, sym, take, ℕ, ◌<◌, ◌∙◌, ◌≡◌, ◌≤◌}
+use Rattle.std.proofs.Common.{List, [], Some, ap, arith, inl, inr, length, refl, subst, sym, take, ℕ, ◌<◌, ◌∙◌, ◌≡◌, ◌≤◌}
 use Rattle.rv_book.specs.Waiting.{NamesPartner, OpenAt, SideAt}
-use Rattle.rv_book.specs.Order.{PairAt}
+use Rattle.rv_book.specs.Order.{MayTakeSeveral, PairAt, TakesInTurn}
 use Rattle.rv_text.specs.declared.call.Side.{Side}
-use Rattle.rv_book.specs.Calls.{opposite}
-use Rattle.rv_book.proofs.Growing.{call_read, partner_read, read_there}
+use Rattle.rv_account.specs.Calls.{Stays, may_name, opposite}
+use Rattle.rv_book.proofs.Growing.{call_read, read_there}
 use Rattle.std.proofs.lemmas.Bool.{cases_lt, cases_order}
-use Rattle.rv_book.proofs.OnePartner.{named_once, names_and_named, partner_open}
-use Rattle.rv_book.proofs.Fronts.{naming, open_in_shorter, read_front, read_whole}
+use Rattle.rv_book.proofs.OnePartner.{named_once, names_and_named, names_both, partner_open}
+use Rattle.rv_book.proofs.CallKinds.{staying_single}
+use Rattle.rv_book.proofs.Naming.{among_none, first_among, two_among}
+use Rattle.rv_book.proofs.Fronts.{named_in_front, naming, open_in_shorter, read_front, read_whole}
 use Rattle.rv_book.proofs.Sides.{one_side, partner_before}
 use Rattle.std.proofs.lemmas.Option.{same_Some}
 use Rattle.std.specs.List.{slice_get}
@@ -41,30 +43,41 @@ named_open a p q side legal names at = record {
 
 -- ---- never are both sides of a queue open
 
--- the later of the two names no partner, as it is unmet, and so found nobody
-later_found : (a : Account) (n r s : ℕ) (side other : Side) (o : Option ℕ) → Legal a → opposite side ≡ Some other → OpenAt (take n a.entries) other r → (later : OpenAt (take n a.entries) side s)
-    → r < s → partner_at a.entries s ≡ o → ⊥
-later_found a n r s side other None legal opposes earlier later less named =
-    let whole = read_whole call_read refl a.entries n s later.of_side.call later.of_side.arrived in
-    let at = read_there call_read refl (slice_get a.entries s) later.of_side.call whole.1 in
+-- the later of the two names no partner, as it is unmet
+later_unnaming : (es : List Entry) (n s : ℕ) (side : Side) (e : Entry) → OpenAt (take n es) side s → slice_get es s ≡ Some e → e.partners ≡ []
+later_unnaming es n s side e later there = elim (first_among e.partners) [
+  | inr none ↦ none
+  | inl named ↦
+      let opened = later.is_open in
+      let whole = read_whole call_read refl es n s opened.call opened.arrived in
+      let names : NamesPartner (take n es) s named.0 = record {
+        call = opened.call;
+        arrived = opened.arrived;
+        meets = opened.stays.0;
+        named = named_in_front es n s named.0 whole.0 (record { entry = e; there = there; names = named.1 });
+      } in
+      absurd (opened.unmet (record { later = s; earlier = named.0; names = names; part = inl refl }))
+]
+
+-- and so found nobody
+later_found : (a : Account) (n r s : ℕ) (side other : Side) → Legal a → opposite side ≡ Some other → OpenAt (take n a.entries) other r → (later : OpenAt (take n a.entries) side s) → r < s → ⊥
+later_found a n r s side other legal opposes earlier later less =
+    let opened = later.is_open in
+    let own = later.of_side in
+    let whole = read_whole call_read refl a.entries n s own.call own.arrived in
+    let at = read_there call_read refl (slice_get a.entries s) own.call whole.1 in
     let inside : s < n = whole.0 in
-    let none = sym (ap partner_read at.1) ∙ named in
-    let found : IsOpenOpposite (take s a.entries) later.of_side.call r = record {
+    let none : at.0.partners ≡ [] = later_unnaming a.entries n s side at.0 later at.1 in
+    let same : own.call ≡ opened.call = same_Some _ _ (sym own.arrived ∙ opened.arrived) in
+    let single : may_name own.call ≡ 1 = staying_single own.call (subst Stays (sym same) opened.stays) in
+    let nobody : length at.0.partners ≡ 0 = ap (λ (places : List ℕ). length places) none in
+    let found : IsOpenOpposite (take s a.entries) own.call r = record {
       side = other;
-      opposes = ap opposite later.of_side.is ∙ opposes;
+      opposes = ap opposite own.is ∙ opposes;
       there = open_earlier a.entries s n r other (omega arith) less earlier;
     } in
-    (legal s at.0 at.1).pairs.pairs_where_possible r later.of_side.call none at.2 found
-later_found a n r s side other (Some q) legal opposes earlier later less named =
-    let opened = later.is_open in
-    let whole = read_whole call_read refl a.entries n s opened.call opened.arrived in
-    let names : NamesPartner (take n a.entries) s q = record {
-      call = opened.call;
-      arrived = opened.arrived;
-      meets = opened.stays.0;
-      named = read_front partner_read a.entries n s q whole.0 named;
-    } in
-    opened.unmet (record { later = s; earlier = q; names = names; part = inl refl })
+    let named = (legal s at.0 at.1).pairs.pairs_where_possible r own.call at.2 (omega arith) found in
+    among_none at.0.partners r none named
 
 pub one_side_open : (a : Account) (n queue g t : ℕ) → Legal a → OpenAt (take n a.entries) (Gives queue) g → OpenAt (take n a.entries) (Takes queue) t → ⊥
 one_side_open a n queue g t legal gives takes = elim (cases_order g t) [
@@ -72,49 +85,75 @@ one_side_open a n queue g t legal gives takes = elim (cases_order g t) [
       let apart : Gives queue ≡ Takes queue = one_side (take n a.entries) (Gives queue) (Takes queue) t (subst (SideAt (take n a.entries) (Gives queue)) same gives.of_side) takes.of_side in
       cc
   | inr differ ↦ elim differ [
-    | inl less ↦ later_found a n g t (Takes queue) (Gives queue) (partner_at a.entries t) legal refl gives takes less refl
-    | inr more ↦ later_found a n t g (Gives queue) (Takes queue) (partner_at a.entries g) legal refl takes gives more refl
+    | inl less ↦ later_found a n g t (Takes queue) (Gives queue) legal refl gives takes less
+    | inr more ↦ later_found a n t g (Gives queue) (Takes queue) legal refl takes gives more
   ]
 ]
 
 -- ---- none is passed over
 
-passed : (a : Account) (p q r : ℕ) (side : Side) → Legal a → NamesPartner a.entries p q → SideAt a.entries side q → r < q → OpenAt (take p a.entries) side r → ⊥
+-- who is open before an arrival, and stands before one that it names, is named by it too
+passed : (a : Account) (p q r : ℕ) (side : Side) → Legal a → NamesPartner a.entries p q → SideAt a.entries side q → r < q → OpenAt (take p a.entries) side r → NamesPartner a.entries p r
 passed a p q r side legal names at less opened =
     let named = naming a p q legal names in
-    named.follows.pairs.pairs_oldest q r side named.named (in_front a.entries p q side (partner_before a p q legal names) at) less opened
+    record {
+      call = names.call;
+      arrived = names.arrived;
+      meets = names.meets;
+      named = record {
+        entry = named.entry;
+        there = named.there;
+        names = named.follows.pairs.pairs_oldest q r side named.named (in_front a.entries p q side (partner_before a p q legal names) at) less opened;
+      };
+    }
 
-none_passed : (a : Account) (queue p g t r : ℕ) → Legal a → PairAt a.entries queue p g t → r < g → OpenAt (take p a.entries) (Gives queue) r → ⊥
+none_passed : (a : Account) (queue p g t r : ℕ) → Legal a → PairAt a.entries queue p g t → r < g → OpenAt (take p a.entries) (Gives queue) r → PairAt a.entries queue p r t
 none_passed a queue p g t r legal pair less opened = elim pair.names [
   | inl give ↦
       let there = subst (λ n. OpenAt (take n a.entries) (Gives queue) r) give.0 opened in
-      one_side_open a g queue r t legal there (named_open a g t (Takes queue) legal give.1 pair.takes)
+      absurd (one_side_open a g queue r t legal there (named_open a g t (Takes queue) legal give.1 pair.takes))
   | inr take_it ↦
       let there = subst (λ n. OpenAt (take n a.entries) (Gives queue) r) take_it.0 opened in
-      passed a t g r (Gives queue) legal take_it.1 pair.gives less there
+      record {
+        gives = in_whole a.entries p r (Gives queue) opened.of_side;
+        takes = pair.takes;
+        names = inr (take_it.0, passed a t g r (Gives queue) legal take_it.1 pair.gives less there);
+      }
 ]
 
 -- ---- in turn
 
--- who came earlier on a side is named earlier
-named_in_turn : (a : Account) (side : Side) (p1 q1 p2 q2 : ℕ) → Legal a → NamesPartner a.entries p1 q1 → NamesPartner a.entries p2 q2 → SideAt a.entries side q1 → SideAt a.entries side q2 → q1 < q2 → p1 < p2
+-- who came earlier on a side is named no later
+named_in_turn : (a : Account) (side : Side) (p1 q1 p2 q2 : ℕ) → Legal a → NamesPartner a.entries p1 q1 → NamesPartner a.entries p2 q2 → SideAt a.entries side q1 → SideAt a.entries side q2 → q1 < q2 → p1 ≤ p2
 named_in_turn a side p1 q1 p2 q2 legal first second at1 at2 less =
-    elim (cases_order p1 p2) [
-      | inl same ↦
-          let one : q1 ≡ q2 = same_Some _ _ (sym first.named ∙ ap (partner_at a.entries) same ∙ second.named) in
+    elim (cases_lt p2 p1) [
+      | inr right ↦ right
+      | inl wrong ↦
+          let before : q2 < p2 = partner_before a p2 q2 legal second in
+          let both = passed a p2 q2 q1 side legal second at2 less (open_earlier a.entries p2 p1 q1 side (omega arith) (omega arith) (named_open a p1 q1 side legal first at1)) in
+          let one : p1 ≡ p2 = named_once a p1 p2 q1 legal first both in
           absurd (omega arith)
-      | inr differ ↦ elim differ [
-        | inl right ↦ right
-        | inr wrong ↦
-            let before : q2 < p2 = partner_before a p2 q2 legal second in
-            absurd (passed a p2 q2 q1 side legal second at2 less (open_earlier a.entries p2 p1 q1 side (omega arith) (omega arith) (named_open a p1 q1 side legal first at1)))
-      ]
     ]
+
+-- who names two may name several
+takes_several : (a : Account) (t g1 g2 : ℕ) → Legal a → NamesPartner a.entries t g1 → NamesPartner a.entries t g2 → (g1 ≡ g2 → ⊥) → MayTakeSeveral a.entries t
+takes_several a t g1 g2 legal first second differ =
+    let both = names_both a t g1 g2 first.call legal first.arrived first second in
+    let few : length both.entry.partners ≤ may_name first.call = both.few in
+    let two : 1 < length both.entry.partners = two_among both.entry.partners g1 g2 differ both.first both.second in
+    record { call = first.call; arrived = first.arrived; several = omega arith }
 
 -- where both were named by their takers, or both by their givers
 givers_named : (a : Account) (queue p1 g1 t1 p2 g2 t2 : ℕ) → Legal a → PairAt a.entries queue p1 g1 t1 → PairAt a.entries queue p2 g2 t2
-    → NamesPartner a.entries t1 g1 → NamesPartner a.entries t2 g2 → g1 < g2 → t1 < t2
-givers_named a queue p1 g1 t1 p2 g2 t2 legal one two first second = named_in_turn a (Gives queue) t1 g1 t2 g2 legal first second one.gives two.gives
+    → NamesPartner a.entries t1 g1 → NamesPartner a.entries t2 g2 → g1 < g2 → TakesInTurn a.entries t1 t2 × (t1 ≤ t2)
+givers_named a queue p1 g1 t1 p2 g2 t2 legal one two first second less =
+    let turn : t1 ≤ t2 = named_in_turn a (Gives queue) t1 g1 t2 g2 legal first second one.gives two.gives less in
+    elim (cases_lt t1 t2) [
+      | inl sooner ↦ (inl sooner, turn)
+      | inr most ↦
+          let same : t1 ≡ t2 = omega arith in
+          (inr (same, takes_several a t1 g1 g2 legal first (subst (λ t. NamesPartner a.entries t g2) (sym same) second) (λ is. omega arith)), turn)
+    ]
 
 takers_named : (a : Account) (queue p1 g1 t1 p2 g2 t2 : ℕ) → Legal a → PairAt a.entries queue p1 g1 t1 → PairAt a.entries queue p2 g2 t2
     → NamesPartner a.entries g1 t1 → NamesPartner a.entries g2 t2 → g1 < g2 → t1 < t2
@@ -124,7 +163,7 @@ takers_named a queue p1 g1 t1 p2 g2 t2 legal one two first second less = elim (c
       absurd (omega arith)
   | inr differ ↦ elim differ [
     | inl right ↦ right
-    | inr wrong ↦ let turn : g2 < g1 = named_in_turn a (Takes queue) g2 t2 g1 t1 legal second first two.takes one.takes wrong in absurd (omega arith)
+    | inr wrong ↦ let turn : g2 ≤ g1 = named_in_turn a (Takes queue) g2 t2 g1 t1 legal second first two.takes one.takes wrong in absurd (omega arith)
   ]
 ]
 
@@ -148,21 +187,22 @@ taker_then_giver a queue p1 g1 t1 p2 g2 t2 legal one two first second less = eli
   ]
 ]
 
-in_turn : (a : Account) (queue p1 g1 t1 p2 g2 t2 : ℕ) → Legal a → PairAt a.entries queue p1 g1 t1 → PairAt a.entries queue p2 g2 t2 → g1 < g2 → (t1 < t2) × (p1 < p2)
+in_turn : (a : Account) (queue p1 g1 t1 p2 g2 t2 : ℕ) → Legal a → PairAt a.entries queue p1 g1 t1 → PairAt a.entries queue p2 g2 t2 → g1 < g2 → TakesInTurn a.entries t1 t2 × (p1 ≤ p2)
 in_turn a queue p1 g1 t1 p2 g2 t2 legal one two less = elim one.names [
   | inr first ↦ elim two.names [
-    | inr second ↦ let turn : t1 < t2 = givers_named a queue p1 g1 t1 p2 g2 t2 legal one two first.1 second.1 less in (turn, omega arith)
+    | inr second ↦ let turn = givers_named a queue p1 g1 t1 p2 g2 t2 legal one two first.1 second.1 less in let sooner : t1 ≤ t2 = turn.1 in (turn.0, omega arith)
     | inl second ↦
         let turn : t1 < t2 = taker_then_giver a queue p1 g1 t1 p2 g2 t2 legal one two first.1 second.1 less in
         let before : t2 < g2 = partner_before a g2 t2 legal second.1 in
-        (turn, omega arith)
+        (inl turn, omega arith)
   ]
   | inl first ↦ elim two.names [
-    | inl second ↦ let turn : t1 < t2 = takers_named a queue p1 g1 t1 p2 g2 t2 legal one two first.1 second.1 less in (turn, omega arith)
+    | inl second ↦ let turn : t1 < t2 = takers_named a queue p1 g1 t1 p2 g2 t2 legal one two first.1 second.1 less in (inl turn, omega arith)
     | inr second ↦
         let before1 : t1 < g1 = partner_before a g1 t1 legal first.1 in
         let before2 : g2 < t2 = partner_before a t2 g2 legal second.1 in
-        (omega arith, omega arith)
+        let sooner : t1 < t2 = omega arith in
+        (inl sooner, omega arith)
   ]
 ]
 

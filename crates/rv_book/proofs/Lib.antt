@@ -1,5 +1,6 @@
 pub mod Numbers
 pub mod Places
+pub mod Naming
 pub mod Counting
 pub mod Growing
 pub mod CallKinds
@@ -34,12 +35,12 @@ pub mod Takes
 pub mod Transfers
 pub mod Swaps
 pub mod Looking
+pub mod Drains
 pub mod Counts
 pub mod Peeks
 pub mod Replying
 pub mod WaitingTable
 pub mod SessionTable
-pub mod TimedOutSessions
 pub mod CancelledSessions
 pub mod Settling
 pub mod Deciding
@@ -48,9 +49,12 @@ pub mod Staying
 pub mod StoppedReplies
 pub mod ToldCancelled
 pub mod Entering
+pub mod SamePartners
+pub mod FrontPairs
 pub mod OneStep
 pub mod Fitting
 pub mod Stamping
+pub mod Texts
 pub mod ToldNow
 pub mod Ending
 pub mod Keeping
@@ -63,5 +67,13 @@ pub mod Cancelling
 pub mod Standing
 pub mod Repeating
 mod DeadlineTable
-mod EndingTables
+mod Closing
+mod TakenTables
+mod TakenSessions
+mod TakingOut
+mod Overdue
+mod TakingItems
+mod TakingUpTo
+mod NamingFront
+mod Draining
 mod TimingOut

@@ -1,7 +1,7 @@
 -- What stands in an account that is within its limits is within them too.
-use Rattle.rv_book.specs.declared.account.Act as act
-use Rattle.rv_book.specs.declared.account.Act.{Act}
-use Rattle.rv_book.specs.Account.{Account, act_at, call_in, key_in}
+use Rattle.rv_account.specs.declared.entry.Act as act
+use Rattle.rv_account.specs.declared.entry.Act.{Act}
+use Rattle.rv_account.specs.Account.{Account, act_at, call_in, key_in}
 use Rattle.rv_book.specs.Limits.{FitsAccount, FitsAct}
 use Rattle.rv_text.specs.declared.call.Call.{Call}
 use Rattle.rv_text.specs.declared.message.Key.{Key}

@@ -1,5 +1,5 @@
 -- Which line of a step decides.
-use Rattle.rv_book.specs.Account.{Account}
+use Rattle.rv_account.specs.Account.{Account}
 use Rattle.rv_text.specs.declared.answer.Refusal.TheVariants.{EpochFull, Gap, NoSession, OldIncarnation, OldNumber, OtherEpoch, Busy}
 use Rattle.rv_book.specs.Steps.{EpochFullDue, GapDue, KeyLines, NoSessionDue, OldIncarnationDue, OldNumberDue, OtherEpochDue, RefuseOr, WhereElse, BusyDue}
 use Rattle.rv_book.specs.Sessions.{HasIncarnation, HasOnlyLower, LastNumber}

@@ -7,9 +7,9 @@ use Rattle.std.specs.Prelude.{is_some}
 use Rattle.rv_text.specs.declared.call.Call.{Call}
 use Rattle.rv_text.specs.declared.call.Side.TheVariants.{Looks}
 use Rattle.rv_text.specs.Calls.{side_of}
-use Rattle.rv_book.specs.declared.account.Entry.{Entry}
-use Rattle.rv_book.specs.Account.{call_at}
-use Rattle.rv_book.specs.Calls.{opposite}
+use Rattle.rv_account.specs.declared.entry.Entry.{Entry}
+use Rattle.rv_account.specs.Account.{call_at}
+use Rattle.rv_account.specs.Calls.{opposite}
 use Rattle.rv_book.specs.Waiting.{Waiting}
 use Rattle.rv_book.proofs.Growing.{call_read, reads_within}
 

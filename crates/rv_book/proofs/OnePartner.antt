@@ -1,19 +1,20 @@
--- In a legal account each arrival is in one pair at most, a key arrives once, and nobody meets a request that does not stay.
-use Rattle.rv_book.specs.Account.{Account, act_at, call_at, call_in, key_at, key_in}
-use Rattle.rv_book.specs.declared.account.Act.{Act}
-use Rattle.rv_book.specs.declared.account.Act.TheVariants.{Arrive, Hello}
+-- In a legal account each arrival that may name one partner is in one pair at most, a key arrives once, and nobody meets a request that does not stay.
+use Rattle.rv_account.specs.Account.{Account, Names, act_at, call_at, call_in, key_at, key_in}
+use Rattle.rv_account.specs.declared.entry.Act.{Act}
+use Rattle.rv_account.specs.declared.entry.Act.TheVariants.{Arrive, Hello}
 use Rattle.rv_text.specs.declared.call.Call.{Call}
-use Rattle.rv_book.specs.declared.account.Entry.{Entry}
+use Rattle.rv_account.specs.declared.entry.Entry.{Entry}
 use Rattle.rv_book.specs.Sessions.{HasIncarnation}
 use Rattle.rv_book.specs.Legal.{IsNextNumber, IsOpenOpposite, Legal, before}
 use Rattle.rv_text.specs.declared.message.Key.{Key}
-use Rattle.std.proofs.Common.{List, Option, Some, ap, arith, inl, inr, option_and_then, refl, subst, sym, take, ℕ, ◌+◌, ◌<◌, ◌∙◌, ◌≡◌, ◌≤◌}
+use Rattle.std.proofs.Common.{Option, Some, ap, arith, inl, inr, length, option_and_then, refl, subst, sym, take, ℕ, ◌+◌, ◌<◌, ◌∙◌, ◌≡◌, ◌≤◌}
 use Rattle.rv_book.specs.Replies.{Meet}
 use Rattle.rv_book.specs.Waiting.{Met, NamesPartner}
-use Rattle.rv_book.specs.Calls.{Stays}
+use Rattle.rv_account.specs.Calls.{Stays, may_name}
 use Rattle.rv_book.proofs.Growing.{act_read, call_read, read_there}
 use Rattle.std.proofs.lemmas.Bool.{cases_order}
 use Rattle.rv_book.proofs.Keys.{key_read}
+use Rattle.rv_book.proofs.Naming.{one_among}
 use Rattle.rv_book.proofs.Fronts.{Legal-before, names_in_front, naming, read_front, read_whole}
 use Rattle.rv_book.proofs.Histories.{one_last_hello}
 use Rattle.rv_book.proofs.Sides.{partner_before}
@@ -22,7 +23,7 @@ use Rattle.std.specs.List.{slice_get}
 
 -- ---- partners
 
--- the partner that an arrival names, as it stands before that arrival
+-- each partner that an arrival names, as it stands before that arrival
 pub partner_open : (a : Account) (p q : ℕ) → Legal a → (names : NamesPartner a.entries p q) → IsOpenOpposite (take p a.entries) names.call q
 partner_open a p q legal names =
     let at = naming a p q legal names in
@@ -30,7 +31,7 @@ partner_open a p q legal names =
     at.follows.pairs.pairs_opposites q names.call at.named call names.meets
 
 pub partner_unmet : (a : Account) (p q : ℕ) → Legal a → NamesPartner a.entries p q → Met (take p a.entries) q → ⊥
-partner_unmet a p q legal names met = let at = naming a p q legal names in (at.follows.pairs.names_free_partner q at.named).unmet met
+partner_unmet a p q legal names met = let at = naming a p q legal names in (at.follows.pairs.names_free_partners.free q at.named).unmet met
 
 -- nobody names an arrival that does not stay
 pub goes_unnamed : (a : Account) (p r : ℕ) (call : Call) → Legal a → call_at a.entries r ≡ Some call → (Stays call → ⊥) → NamesPartner a.entries p r → ⊥
@@ -39,8 +40,29 @@ goes_unnamed a p r call legal arrived goes names =
     let whole = read_whole call_read refl a.entries p r opened.call opened.arrived in
     goes (subst Stays (same_Some _ _ (sym whole.1 ∙ arrived)) opened.stays)
 
-names_one : (es : List Entry) (r s t : ℕ) → NamesPartner es r s → NamesPartner es r t → s ≡ t
-names_one es r s t first second = same_Some _ _ (sym first.named ∙ second.named)
+-- all that an arrival names stand in one entry, and are no more than it may name
+pub record NamesBoth (a : Account) (r s t : ℕ) (call : Call) : Type 0 where
+  pub entry : Entry
+  pub first : Names entry s
+  pub second : Names entry t
+  pub few : length entry.partners ≤ may_name call
+
+pub names_both : (a : Account) (r s t : ℕ) (call : Call) → Legal a → call_at a.entries r ≡ Some call → NamesPartner a.entries r s → NamesPartner a.entries r t → NamesBoth a r s t call
+names_both a r s t call legal arrived first second =
+    let at = naming a r s legal first in
+    let same : second.named.entry ≡ at.entry = same_Some _ _ (sym second.named.there ∙ at.there) in
+    record {
+      entry = at.entry;
+      first = at.named;
+      second = subst (λ (e : Entry). Names e t) same second.named.names;
+      few = at.follows.pairs.names_free_partners.few call (ap call_read (sym at.there) ∙ arrived);
+    }
+
+pub names_one : (a : Account) (r s t : ℕ) (call : Call) → Legal a → call_at a.entries r ≡ Some call → may_name call ≡ 1 → NamesPartner a.entries r s → NamesPartner a.entries r t → s ≡ t
+names_one a r s t call legal arrived single first second =
+    let both = names_both a r s t call legal arrived first second in
+    let few : length both.entry.partners ≤ may_name call = both.few in
+    one_among both.entry.partners s t (omega arith) both.first both.second
 
 named_before : (a : Account) (p q r : ℕ) → Legal a → NamesPartner a.entries p r → NamesPartner a.entries q r → p < q → ⊥
 named_before a p q r legal first second less =
@@ -59,11 +81,12 @@ names_and_named a p r s legal names named =
     let less : r < p = partner_before a p r legal named in
     partner_unmet a p r legal named (record { later = r; earlier = s; names = names_in_front a.entries p r s less names; part = inl refl })
 
-pub meets_one : (a : Account) (r s t : ℕ) → Legal a → Meet a.entries s r → Meet a.entries t r → s ≡ t
-meets_one a r s t legal (inl first) (inl second) = named_once a s t r legal first second
-meets_one a r s t legal (inl first) (inr second) = absurd (names_and_named a s r t legal second first)
-meets_one a r s t legal (inr first) (inl second) = absurd (names_and_named a t r s legal first second)
-meets_one a r s t legal (inr first) (inr second) = names_one a.entries r s t first second
+-- an arrival that may name one is in one pair at most
+pub meets_one : (a : Account) (r s t : ℕ) (call : Call) → Legal a → call_at a.entries r ≡ Some call → may_name call ≡ 1 → Meet a.entries s r → Meet a.entries t r → s ≡ t
+meets_one a r s t call legal arrived single (inl first) (inl second) = named_once a s t r legal first second
+meets_one a r s t call legal arrived single (inl first) (inr second) = absurd (names_and_named a s r t legal second first)
+meets_one a r s t call legal arrived single (inr first) (inl second) = absurd (names_and_named a t r s legal first second)
+meets_one a r s t call legal arrived single (inr first) (inr second) = names_one a r s t call legal arrived single first second
 
 -- ---- keys
 

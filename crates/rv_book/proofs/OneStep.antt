@@ -1,27 +1,24 @@
 -- A step leaves no choice, want of memory aside.
-use Rattle.rv_book.specs.declared.account.Act as act
+use Rattle.rv_account.specs.declared.entry.Act as act
 use Rattle.rv_text.specs.declared.message.Message.TheVariants.{Cancel, Hello, Request}
-use Rattle.rv_book.specs.Account.{Account, call_in, with_entry}
-use Rattle.rv_book.specs.declared.account.Act.{Act}
+use Rattle.rv_account.specs.Account.{Account, with_entry}
+use Rattle.rv_account.specs.declared.entry.Act.{Act}
 use Rattle.rv_book.specs.Steps.{Adds, EntersOrNoMemory, EpochFullDue, GapDue, NextAt, NoSessionDue, OldIncarnationDue, OldNumberDue, OtherEpochDue, RefuseOr, Refuses, Answers, Ticks, WhereElse, step_moment, BusyDue, ClientsFullDue, OtherCallDue, Repeats, Replies}
 use Rattle.rv_text.specs.declared.answer.Answer.{Answer}
 use Rattle.rv_text.specs.declared.call.Call.{Call}
-use Rattle.rv_book.specs.declared.account.Entry.{Entry}
+use Rattle.rv_account.specs.declared.entry.Entry.{Entry}
 use Rattle.rv_text.specs.declared.answer.Refusal.TheVariants.{Busy, Gap, NoMemory, OldIncarnation, OldNumber}
-use Rattle.rv_book.specs.Legal.{IsOpenOpposite, Legal, MayFollow}
+use Rattle.rv_book.specs.Legal.{Legal}
 use Rattle.rv_text.specs.declared.message.Key.{Key}
-use Rattle.rv_book.specs.Calls.{MayMeet}
 use Rattle.rv_text.specs.declared.message.Message.{Message}
-use Rattle.std.proofs.Common.{None, Option, Some, ap, inl, inr, refl, subst, sym, ℕ, ◌<◌, ◌∙◌, ◌≡◌, ◌≢◌}
+use Rattle.std.proofs.Common.{List, ap, inl, inr, subst, sym, ℕ, ◌∙◌, ◌≡◌, ◌≢◌}
 use Rattle.rv_book.specs.Laws.{OneNext}
-use Rattle.rv_book.specs.Waiting.{OpenAt}
 use Rattle.rv_text.specs.declared.answer.Refusal.{Refusal}
 use Rattle.rv_text.specs.declared.answer.Answer.TheVariants.{Refused}
-use Rattle.std.proofs.lemmas.Bool.{cases_order}
 use Rattle.rv_book.proofs.Legality.{follows_itself}
 use Rattle.rv_book.proofs.Histories.{one_incarnation, one_last_number}
+use Rattle.rv_book.proofs.SamePartners.{same_partners}
 use Rattle.rv_book.proofs.Staying.{one_told}
-use Rattle.std.proofs.lemmas.Option.{same_Some}
 
 -- ---- the lines
 
@@ -68,39 +65,8 @@ one_full a need p q first second = first.is ∙ sym second.is
 
 -- ---- the entry
 
-partner_first : (a : Account) (e : Entry) (p q : ℕ) (call : Call) → MayFollow a e → e.partner ≡ Some q → call_in e.act ≡ Some call → MayMeet call → IsOpenOpposite a.entries call p
-    → p < q → ⊥
-partner_first a e p q call follows named calls meets partner less =
-    let later = follows.pairs.pairs_opposites q call named calls meets in
-    let sides : partner.side ≡ later.side = same_Some _ _ (sym partner.opposes ∙ later.opposes) in
-    follows.pairs.pairs_oldest q p later.side named later.there.of_side less (subst (λ s. OpenAt a.entries s p) sides partner.there)
-
--- two entries of one act that may follow name the same partner
-one_partner : (a : Account) (e f : Entry) (p q : Option ℕ) → MayFollow a e → MayFollow a f → e.act ≡ f.act → e.partner ≡ p → f.partner ≡ q → p ≡ q
-one_partner a e f None None first second same is also = refl
-one_partner a e f None (Some q) first second same is also =
-    let free = second.pairs.names_free_partner q also in
-    let partner = second.pairs.pairs_opposites q free.call also free.arrives free.meets in
-    absurd (first.pairs.pairs_where_possible q free.call is (ap call_in same ∙ free.arrives) partner)
-one_partner a e f (Some p) None first second same is also =
-    let free = first.pairs.names_free_partner p is in
-    let partner = first.pairs.pairs_opposites p free.call is free.arrives free.meets in
-    absurd (second.pairs.pairs_where_possible p free.call also (ap call_in (sym same) ∙ free.arrives) partner)
-one_partner a e f (Some p) (Some q) first second same is also =
-    let free = first.pairs.names_free_partner p is in
-    let calls : call_in f.act ≡ Some free.call = ap call_in (sym same) ∙ free.arrives in
-    let one = first.pairs.pairs_opposites p free.call is free.arrives free.meets in
-    let two = second.pairs.pairs_opposites q free.call also calls free.meets in
-    elim (cases_order p q) [
-      | inl equal ↦ ap Some equal
-      | inr differ ↦ elim differ [
-        | inl less ↦ absurd (partner_first a f p q free.call second also calls free.meets one less)
-        | inr more ↦ absurd (partner_first a e q p free.call first is free.arrives free.meets two more)
-      ]
-    ]
-
-entry_of : ℕ → Act → Option ℕ → Entry
-entry_of moment does partner = record { moment = moment; act = does; partner = partner }
+entry_of : ℕ → Act → List ℕ → Entry
+entry_of moment does partners = record { moment = moment; act = does; partners = partners }
 
 one_added : (a b c : Account) (moment : ℕ) (does : Act) → Adds a moment does b → Adds a moment does c → b ≡ c
 unfolding entry_of
@@ -111,8 +77,8 @@ one_added a b c moment does first second =
     let also = follows_itself a f (subst Legal second.follows second.legal) in
     let acts : e.act ≡ f.act = first.act_is ∙ sym second.act_is in
     let moments : e.moment ≡ f.moment = first.moment_is ∙ sym second.moment_is in
-    let partners : e.partner ≡ f.partner = one_partner a e f e.partner f.partner follows also acts refl refl in
-    let same : entry_of e.moment e.act e.partner ≡ entry_of f.moment f.act f.partner = cc in
+    let partners : e.partners ≡ f.partners = same_partners a e f follows also acts in
+    let same : entry_of e.moment e.act e.partners ≡ entry_of f.moment f.act f.partners = cc in
     first.follows ∙ ap (with_entry a) same ∙ sym second.follows
 
 -- ---- the step

@@ -3,7 +3,7 @@ use Rattle.std.proofs.Common.{◌≡◌, ℕ, Some, IsSome, refl, sym, subst, �
 use Rattle.std.proofs.lemmas.Option.{none-some, same_Some}
 use Rattle.rv_text.specs.declared.call.Side.{Side}
 use Rattle.rv_text.specs.declared.call.Side.TheVariants.{Exchanges, Gives, Looks, Takes}
-use Rattle.rv_book.specs.Calls.{opposite}
+use Rattle.rv_account.specs.Calls.{opposite}
 
 pub opposite_back : (side other : Side) → opposite side ≡ Some other → opposite other ≡ Some side
 opposite_back (Gives queue) other opposes = subst (λ s. opposite s ≡ Some (Gives queue)) (same_Some _ _ opposes) refl

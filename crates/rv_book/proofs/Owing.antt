@@ -6,20 +6,21 @@ use Rattle.rv_text.specs.declared.call.Wait.{Wait}
 use Rattle.rv_text.specs.declared.message.Key.{Key}
 use Rattle.rv_text.specs.Calls.{side_of, wait_of}
 use Rattle.rv_session.specs.Owed.{Owed}
-use Rattle.rv_book.specs.Account.{Account, act_at, call_in}
+use Rattle.rv_account.specs.Account.{Account, act_at, call_in, just}
 use Rattle.rv_book.specs.Arriving.{GoesOn, MeetsOldest}
-use Rattle.rv_book.specs.Calls.{IsPut, MayMeet, Stays}
+use Rattle.rv_account.specs.Calls.{IsPut, MayMeet, Stays}
 use Rattle.rv_book.specs.Counting.{NumberOf}
-use Rattle.rv_book.specs.declared.account.Act.TheVariants.{Arrive}
-use Rattle.rv_book.specs.declared.account.Entry.{Entry}
-use Rattle.rv_book.specs.Legal.{Legal, NamesFreePartner}
+use Rattle.rv_account.specs.declared.entry.Act.TheVariants.{Arrive}
+use Rattle.rv_account.specs.declared.entry.Entry.{Entry}
+use Rattle.rv_book.specs.Legal.{Legal, NamesFreePartners}
 use Rattle.rv_book.specs.Meeting.{OwnDuty, PartnersDuty, ends_waiting, starts_waiting}
 use Rattle.rv_book.specs.Parked.{owed_at, owed_by, owed_in}
 use Rattle.rv_book.specs.Waiting.{Open, StoppedAt, Waiting}
 use Rattle.rv_book.proofs.Counting.{number_drop, number_push, same_number}
 use Rattle.rv_book.proofs.Keys.{act_called}
+use Rattle.rv_book.proofs.Naming.{just_none, names_it, names_only}
 use Rattle.rv_book.proofs.Sides.{Waiting-back, Waiting-last, Waiting-on, arrival_stops_nobody, waiting_is_open}
-use Rattle.rv_book.proofs.Waiters.{Stops, met_last, open_inside}
+use Rattle.rv_book.proofs.Waiters.{met_last, open_inside}
 
 -- ---- one arrival
 
@@ -86,14 +87,14 @@ goes_not_on call partner duty d (Some own) is some goes = goes.no_put (goes.stay
 
 -- ---- how many wait with one entry more
 
-module _ (a : Account) (e : Entry) (key : Key) (call : Call) (legal : Legal a) (free : NamesFreePartner a.entries e) (arrives : e.act ≡ Arrive key call) where
+module _ (a : Account) (e : Entry) (key : Key) (call : Call) (legal : Legal a) (free : NamesFreePartners a.entries e) (arrives : e.act ≡ Arrive key call) where
   unstopped : (r : ℕ) → StoppedAt (a.entries ++ e ∷ []) r (length a.entries) → ⊥
   unstopped r stopped = arrival_stops_nobody a.entries e key call r arrives stopped
 
-  still : e.partner ≡ None → (r : ℕ) → Waiting a.entries r → Waiting (a.entries ++ e ∷ []) r
-  still none r waits = Waiting-on a.entries e r waits (λ named. none-some r (sym none ∙ named)) (unstopped r)
+  still : e.partners ≡ just None → (r : ℕ) → Waiting a.entries r → Waiting (a.entries ++ e ∷ []) r
+  still none r waits = Waiting-on a.entries e r waits (just_none e r none) (unstopped r)
 
-  number_waits : (n : ℕ) → NumberOf (Waiting a.entries) n → GoesOn call None → e.partner ≡ None → NumberOf (Waiting (a.entries ++ e ∷ [])) (n + 1)
+  number_waits : (n : ℕ) → NumberOf (Waiting a.entries) n → GoesOn call None → e.partners ≡ just None → NumberOf (Waiting (a.entries ++ e ∷ [])) (n + 1)
   number_waits n count goes none = number_push (Waiting a.entries) (Waiting (a.entries ++ e ∷ [])) n (length a.entries) count (waiting_inside a.entries) (λ r. (
     (λ waits. elim (Waiting-back a.entries e r free waits) [ inl was ↦ inl was.there | inr new ↦ inr new.0 ]),
     (λ either. elim either [
@@ -102,7 +103,7 @@ module _ (a : Account) (e : Entry) (key : Key) (call : Call) (legal : Legal a) (
     ]),
   ))
 
-  number_goes : (n : ℕ) → NumberOf (Waiting a.entries) n → (GoesOn call None → ⊥) → e.partner ≡ None → NumberOf (Waiting (a.entries ++ e ∷ [])) n
+  number_goes : (n : ℕ) → NumberOf (Waiting a.entries) n → (GoesOn call None → ⊥) → e.partners ≡ just None → NumberOf (Waiting (a.entries ++ e ∷ [])) n
   number_goes n count goes none = same_number (Waiting a.entries) (Waiting (a.entries ++ e ∷ [])) n (λ r. (
     (λ waits. still none r waits),
     (λ waits. elim (Waiting-back a.entries e r free waits) [
@@ -114,26 +115,26 @@ module _ (a : Account) (e : Entry) (key : Key) (call : Call) (legal : Legal a) (
   )) count
 
   -- the entry met the arrival at p
-  was_waiting : (p r : ℕ) → e.partner ≡ Some p → Waiting (a.entries ++ e ∷ []) r → Waiting a.entries r × (r ≡ p → ⊥)
+  was_waiting : (p r : ℕ) → e.partners ≡ just (Some p) → Waiting (a.entries ++ e ∷ []) r → Waiting a.entries r × (r ≡ p → ⊥)
   was_waiting p r named waits = elim (Waiting-back a.entries e r free waits) [
-    | inl was ↦ (was.there, λ same. was.unnamed (named ∙ ap Some (sym same)))
-    | inr new ↦ absurd (met_last a.entries e _ p free named (waiting_is_open (a.entries ++ e ∷ []) (length a.entries) (subst (Waiting (a.entries ++ e ∷ [])) new.0 waits)))
+    | inl was ↦ (was.there, λ same. was.unnamed (names_it e r (named ∙ ap (λ q. just (Some q)) (sym same))))
+    | inr new ↦ absurd (met_last a.entries e _ p free (names_it e p named) (waiting_is_open (a.entries ++ e ∷ []) (length a.entries) (subst (Waiting (a.entries ++ e ∷ [])) new.0 waits)))
   ]
 
-  number_met : (n p : ℕ) → NumberOf (Waiting a.entries) n → e.partner ≡ Some p → Waiting a.entries p → (k : ℕ) × (n ≡ k + 1) × NumberOf (Waiting (a.entries ++ e ∷ [])) k
+  number_met : (n p : ℕ) → NumberOf (Waiting a.entries) n → e.partners ≡ just (Some p) → Waiting a.entries p → (k : ℕ) × (n ≡ k + 1) × NumberOf (Waiting (a.entries ++ e ∷ [])) k
   number_met n p count named waits = number_drop (Waiting a.entries) (Waiting (a.entries ++ e ∷ [])) n p count waits (λ r. (
     (λ there. was_waiting p r named there),
-    (λ both. Waiting-on a.entries e r both.0 (λ also. both.1 (same_Some _ _ (sym also ∙ named))) (unstopped r)),
+    (λ both. Waiting-on a.entries e r both.0 (λ also. both.1 (sym (same_Some _ _ (names_only e (Some p) r named also)))) (unstopped r)),
   ))
 
-  number_met_put : (n p : ℕ) → NumberOf (Waiting a.entries) n → e.partner ≡ Some p → (Waiting a.entries p → ⊥) → NumberOf (Waiting (a.entries ++ e ∷ [])) n
+  number_met_put : (n p : ℕ) → NumberOf (Waiting a.entries) n → e.partners ≡ just (Some p) → (Waiting a.entries p → ⊥) → NumberOf (Waiting (a.entries ++ e ∷ [])) n
   number_met_put n p count named goes = same_number (Waiting a.entries) (Waiting (a.entries ++ e ∷ [])) n (λ r. (
-    (λ waits. Waiting-on a.entries e r waits (λ also. goes (subst (Waiting a.entries) (same_Some _ _ (sym also ∙ named)) waits)) (unstopped r)),
+    (λ waits. Waiting-on a.entries e r waits (λ also. goes (subst (Waiting a.entries) (sym (same_Some _ _ (names_only e (Some p) r named also))) waits)) (unstopped r)),
     (λ there. (was_waiting p r named there).0),
   )) count
 
   -- so many wait after it, as its own duty and its partner's tell
-  pub Waits-after : (n : ℕ) (partner : Option ℕ) (duty : Owed) (own other : Option Owed) → NumberOf (Waiting a.entries) n → e.partner ≡ partner → MeetsOldest a.entries (side_of call) partner
+  pub Waits-after : (n : ℕ) (partner : Option ℕ) (duty : Owed) (own other : Option Owed) → NumberOf (Waiting a.entries) n → e.partners ≡ just partner → MeetsOldest a.entries (side_of call) partner
       → OwnDuty (side_of call) (wait_of call) partner duty own → PartnersDuty a.entries partner other → (k : ℕ) × (n + starts_waiting own ≡ k + ends_waiting other) × NumberOf (Waiting (a.entries ++ e ∷ [])) k
   Waits-after n None duty None other count named meets own_is other_is =
       (n + 1, subst (λ o. n + starts_waiting None ≡ n + 1 + ends_waiting o) (sym other_is) (omega arith), number_waits n count (goes_on call None duty None own_is refl) named)
@@ -145,25 +146,3 @@ module _ (a : Account) (e : Entry) (key : Key) (call : Call) (legal : Legal a) (
   Waits-after n (Some p) duty (Some own) (Some other) count named meets own_is other_is =
       let less = number_met n p count named (owed_waits a.entries p other meets.2.there.is_open (sym other_is)) in
       (less.0, (let same : n ≡ less.0 + 1 = less.1 in omega arith), less.2)
-
-module _ (es : List Entry) (e : Entry) (P : ℕ → Type 0) (free : NamesFreePartner es e) (is : Stops es e P) where
-  pub was_there : (r : ℕ) → Waiting (es ++ e ∷ []) r → Waiting es r × (P r → ⊥)
-  was_there r waits = elim (Waiting-back es e r free waits) [
-    | inl was ↦ (was.there, λ own. was.unstopped (is.stops r own))
-    | inr new ↦ absurd (none-some new.1.call (sym is.no_call ∙ new.1.arrives))
-  ]
-
-  pub still_there : (r : ℕ) → Waiting es r → (P r → ⊥) → Waiting (es ++ e ∷ []) r
-  still_there r waits other = Waiting-on es e r waits (λ named. none-some r (sym is.none ∙ named)) (λ stopped. other (is.stopped r stopped))
-
-  -- it stops nobody who waits
-  pub number_same : (n : ℕ) → NumberOf (Waiting es) n → ((r : ℕ) → Waiting es r → P r → ⊥) → NumberOf (Waiting (es ++ e ∷ [])) n
-  number_same n count idle = same_number (Waiting es) (Waiting (es ++ e ∷ [])) n (λ r. ((λ waits. still_there r waits (idle r waits)), (λ there. (was_there r there).0))) count
-
-  -- it stops one request that waits
-  pub number_less : (n p : ℕ) → NumberOf (Waiting es) n → Waiting es p → P p → ((r : ℕ) → Waiting es r → P r → r ≡ p)
-      → (k : ℕ) × (n ≡ k + 1) × NumberOf (Waiting (es ++ e ∷ [])) k
-  number_less n p count waits own only = number_drop (Waiting es) (Waiting (es ++ e ∷ [])) n p count waits (λ r. (
-    (λ there. let was = was_there r there in (was.0, λ same. was.1 (subst P (sym same) own))),
-    (λ both. still_there r both.0 (λ here. both.1 (only r both.0 here))),
-  ))

@@ -10,10 +10,10 @@ use Rattle.rv_text.specs.declared.call.Side.TheVariants.{Gives}
 use Rattle.rv_text.specs.Calls.{item_of}
 use Rattle.rv_text.specs.Limits.{FitsItem, FitsReply}
 use Rattle.rv_text.proofs.Kept.{empty_fits, item_fits, peeked_fits}
-use Rattle.rv_book.specs.declared.account.Act.TheVariants.{Arrive}
-use Rattle.rv_book.specs.declared.account.Entry.{Entry}
+use Rattle.rv_account.specs.declared.entry.Act.TheVariants.{Arrive}
+use Rattle.rv_account.specs.declared.entry.Entry.{Entry}
 use Rattle.rv_session.specs.declared.kept.Kept as kept
-use Rattle.rv_book.specs.Account.{Account, act_at, call_at, call_in}
+use Rattle.rv_account.specs.Account.{Account, act_at, call_at, call_in, just}
 use Rattle.rv_book.specs.Arriving.{WillReply, entry}
 use Rattle.rv_book.specs.Legal.{before}
 use Rattle.rv_book.specs.Limits.{FitsAccount}
@@ -36,7 +36,7 @@ front_of es queue p oldest = gives_item oldest.there.of_side.call queue oldest.t
 
 pub peek_replies : (a : Account) (queue place : ℕ) (partner : Option ℕ) → IsOldest a.entries (Gives queue) place → WillReply a (Peek queue) partner (kept.TheVariants.Peeked place)
 peek_replies a queue place partner oldest moment key before after =
-    let e = entry moment (Arrive key (Peek queue)) partner in
+    let e = entry moment (Arrive key (Peek queue)) (just partner) in
     let es : List Entry = a.entries in
     let gives = front_of es queue place oldest in
     let front : IsFront es queue gives.0 = record { place = place; oldest = oldest; hands_over = gives.1 } in
@@ -50,7 +50,7 @@ peek_replies a queue place partner oldest moment key before after =
 
 pub peek_finds_none : (a : Account) (queue : ℕ) (partner : Option ℕ) → HasNoItem a.entries queue → WillReply a (Peek queue) partner kept.TheVariants.Empty
 peek_finds_none a queue partner none moment key before after =
-    let e = entry moment (Arrive key (Peek queue)) partner in
+    let e = entry moment (Arrive key (Peek queue)) (just partner) in
     record {
       reply = reply.TheVariants.Empty;
       is = refl;
@@ -105,8 +105,8 @@ exists_at queue es r = elim (find_oldest (take r es) (Gives queue)) [
 pub peeks : (queue : ℕ) → ReplyLaws (Peek queue)
 peeks queue = record {
   stays = λ es more epoch opened r told legal. stays queue es more r told;
-  one = λ b r x y legal. one queue b.entries r x y;
-  fits = fits queue;
+  one = λ b r x y legal arrived. one queue b.entries r x y;
+  fits = λ a r told legal within arrived. fits queue a r told within;
   exists = λ a r legal arrived. inl (exists_at queue a.entries r);
   waits_not = λ a r told legal arrived w replies. looks_waits_not a.entries r queue (Peek queue) arrived refl w;
   met = λ b earlier later other legal arrived also names opposes waits. absurd (let no : ⊥ = cc in no);

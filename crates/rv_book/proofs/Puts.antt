@@ -5,8 +5,8 @@ use Rattle.rv_text.specs.declared.answer.Reply as reply
 use Rattle.rv_text.specs.declared.call.Call.TheVariants.{Put}
 use Rattle.rv_text.specs.Limits.{FitsReply}
 use Rattle.rv_session.specs.declared.kept.Kept as kept
-use Rattle.rv_book.specs.Account.{Account, call_at}
-use Rattle.rv_book.specs.Calls.{IsPut}
+use Rattle.rv_account.specs.Account.{Account, call_at}
+use Rattle.rv_account.specs.Calls.{IsPut}
 use Rattle.rv_book.specs.Waiting.{Waiting}
 use Rattle.rv_text.proofs.Kept.{done_fits}
 use Rattle.rv_book.specs.Arriving.{WillReply}
@@ -24,8 +24,8 @@ waits_not queue item a r arrived w =
 pub puts : (queue : ℕ) (item : List ℕ) → ReplyLaws (Put queue item)
 puts queue item = record {
   stays = λ es more epoch opened r reply legal arrived is. is;
-  one = λ b r x y legal first second. second ∙ sym first;
-  fits = λ a r reply fits is. subst FitsReply (sym is) done_fits;
+  one = λ b r x y legal arrived first second. second ∙ sym first;
+  fits = λ a r reply legal fits arrived is. subst FitsReply (sym is) done_fits;
   exists = λ a r legal arrived. inl (reply.TheVariants.Done, refl);
   waits_not = λ a r reply legal arrived w is. waits_not queue item a r arrived w;
   met = λ b earlier later other legal arrived also names opposes waits. absurd (let no : ⊥ = cc in no);

@@ -1,23 +1,28 @@
 -- What a request that is recorded leaves: a sound state, and what the request is told.
-use Rattle.std.proofs.Common.{◌≡◌, inl, inr, ℕ, ◌+◌, ◌≤◌, ◌∷◌, [], ◌++◌, length, Option, Some, None, is_some, option_map, refl, sym, ap, subst, arith}
+use Rattle.std.proofs.Common.{◌≡◌, inl, inr, ℕ, suc, ◌+◌, ◌<◌, ◌≤◌, ◌∷◌, [], ◌++◌, List, length, Option, Some, None, IfSome, is_some, option_map, refl, sym, ap, subst, ◌∙◌, arith}
+use Rattle.std.specs.Global.{Vec}
+use Rattle.std.specs.Vec.{vec_capacity}
+use Rattle.std.proofs.Math.Nat.{le-min}
+use Rattle.std.specs.Prelude.{min}
 use Rattle.rv_text.specs.declared.call.Call.{Call}
 use Rattle.rv_text.specs.declared.message.Key.{Key}
 use Rattle.rv_text.specs.Calls.{side_of, wait_of}
 use Rattle.rv_session.specs.Owed.{Owed}
 use Rattle.rv_session.specs.Table.{OnlySets, Table, waiting_session}
 use Rattle.rv_session.specs.declared.kept.Kept.{Kept}
-use Rattle.rv_book.specs.Account.{Account, with_entry}
+use Rattle.rv_account.specs.Account.{Account, just, with_entry}
 use Rattle.rv_book.specs.Arriving.{GoesOn, IsKept, IsNext, IsRecorded, MeetsOldest, WillReply, entry}
-use Rattle.rv_book.specs.Calls.{MayMeet, need_of}
+use Rattle.rv_account.specs.Calls.{MayMeet, may_name, need_of, opposite}
 use Rattle.rv_book.specs.Elapsing.{AreDeadlines, without_duty}
 use Rattle.rv_book.specs.Counting.{NumberOf}
-use Rattle.rv_book.specs.declared.account.Act.TheVariants.{Arrive}
-use Rattle.rv_book.specs.declared.account.Entry.{Entry}
+use Rattle.rv_account.specs.declared.entry.Act.{Act}
+use Rattle.rv_account.specs.declared.entry.Act.TheVariants.{Arrive}
+use Rattle.rv_account.specs.declared.entry.Entry.{Entry}
 use Rattle.rv_book.specs.declared.arrived.Arrived.{Arrived}
 use Rattle.rv_book.specs.declared.state.State.{State}
 use Rattle.rv_book.specs.Legal.{Legal, MayFollow}
 use Rattle.rv_book.specs.Limits.{FitEntries}
-use Rattle.rv_book.specs.Meeting.{ArrivedOn, Meets, OwnDuty, PartnersDuty, ends_waiting, starts_waiting}
+use Rattle.rv_book.specs.Meeting.{ArrivedOn, Meets, OwnDuty, PartnersDuty, ends_waiting, opposed_by, starts_waiting}
 use Rattle.rv_book.specs.Parked.{AreStations}
 use Rattle.rv_book.specs.Tables.{AreSessions, IsSound, MayRecord, SettlesIf, account_of, partners_reply, with_due}
 use Rattle.rv_book.specs.Waiting.{Waiting}
@@ -33,7 +38,7 @@ use Rattle.rv_book.proofs.Replying.{recorded, recorded_waits}
 use Rattle.rv_book.proofs.Settling.{sessions_recorded}
 use Rattle.rv_book.proofs.Standing.{is_next}
 use Rattle.rv_book.proofs.Waiters.{meets_partner, stations_after, stations_as_before}
-use Rattle.rv_book.specs.Views.{Stations}
+use Rattle.rv_book.specs.Views.{Stations, waiting_on}
 
 -- ---- what an arrival may come to need
 
@@ -43,13 +48,18 @@ need_covers call partner duty (Some own) is = let one : 1 ≤ need_of call = nee
 
 -- ---- a request that is recorded
 
+-- the entry whose partners are this one, or none
+pub named_entry : (a b : Account) (moment : ℕ) (does : Act) (partners : List ℕ) (partner : Option ℕ) → b ≡ with_entry a (entry moment does partners) → partners ≡ just partner → b ≡ with_entry a (entry moment does (just partner))
+named_entry a b moment does partners partner pushed is = pushed ∙ ap (λ (places : List ℕ). with_entry a (entry moment does places)) is
+
 -- the duty of the request that is recorded
 abbrev pub duty_of_new : State → Key → Owed
 duty_of_new old key = record { place = length (account_of old).entries; client = key.client }
 
 -- a request comes to a state in which it may be recorded, and has arrived in its queue
 pub record Arrives (old : State) (moment : ℕ) (key : Key) (call : Call) (stations : Stations) (arrived : Arrived) : Type 0 where
-  pub may : MayRecord old moment key call
+  pub places : Vec ℕ
+  pub may : MayRecord old moment key call places
   pub on : ArrivedOn old.stations stations (side_of call) (wait_of call) (duty_of_new old key) arrived
 
 module _ (old : State) (moment : ℕ) (key : Key) (call : Call) (stations : Stations) (arrived : Arrived) (is : Arrives old moment key call stations arrived) where
@@ -57,7 +67,7 @@ module _ (old : State) (moment : ℕ) (key : Key) (call : Call) (stations : Stat
   before = account_of old
 
   abbrev pub own_entry : Entry
-  own_entry = entry moment (Arrive key call) arrived.partner
+  own_entry = entry moment (Arrive key call) (just arrived.partner)
 
   abbrev pub sound : IsSound (with_due old is.may.deadlines)
   sound = is.may.comes.sound
@@ -69,7 +79,7 @@ module _ (old : State) (moment : ℕ) (key : Key) (call : Call) (stations : Stat
   meets = meets_partner before.entries old.stations stations (side_of call) (wait_of call) (length before.entries) arrived.partner sound.stations_are is.on.meets
 
   pub follows : MayFollow before own_entry
-  follows = arrival_follows before moment key call arrived.partner is.may.comes.time is.may.comes.nothing_due next meets
+  follows = arrival_follows before moment key call arrived.partner is.may.comes.time is.may.comes.nothing_due next is.may.meets_one meets
 
   pub legal_after : Legal (with_entry before own_entry)
   legal_after = Legal-with_entry before own_entry sound.legal follows
@@ -81,18 +91,18 @@ module _ (old : State) (moment : ℕ) (key : Key) (call : Call) (stations : Stat
   other_is = is.on.other before.entries sound.stations_are.parked
 
   pub count_after : (k : ℕ) × (old.waiting + starts_waiting arrived.own ≡ k + ends_waiting arrived.other) × NumberOf (Waiting (before.entries ++ own_entry ∷ [])) k
-  count_after = Waits-after before own_entry key call sound.legal follows.pairs.names_free_partner refl old.waiting arrived.partner (duty_of_new old key) arrived.own arrived.other sound.waiting_is refl meets is.on.own other_is
+  count_after = Waits-after before own_entry key call sound.legal follows.pairs.names_free_partners refl old.waiting arrived.partner (duty_of_new old key) arrived.own arrived.other sound.waiting_is refl meets is.on.own other_is
 
   pub least : ends_waiting arrived.other ≤ old.waiting + starts_waiting arrived.own
   least = let h = count_after in let k = h.0 in let same : old.waiting + starts_waiting arrived.own ≡ k + ends_waiting arrived.other = h.1 in omega arith
 
   pub stations_are : AreStations (before.entries ++ own_entry ∷ []) stations
-  stations_are = stations_after before own_entry old.stations stations key call sound.legal sound.stations_are follows.pairs.names_free_partner refl (duty_of_new old key) arrived refl refl is.on
+  stations_are = stations_after before own_entry old.stations stations key call sound.legal sound.stations_are follows.pairs.names_free_partners refl (duty_of_new old key) arrived refl refl is.on
 
   due_are : AreDeadlines (before.entries ++ own_entry ∷ []) (without_duty (before.entries ++ own_entry ∷ []) arrived.own (without_duty (before.entries ++ own_entry ∷ []) arrived.other old.due))
   due_are =
       subst (λ due. AreDeadlines (before.entries ++ own_entry ∷ []) (without_duty (before.entries ++ own_entry ∷ []) arrived.own (without_duty (before.entries ++ own_entry ∷ []) arrived.other due))) (sym is.may.due)
-      (due_arrived before own_entry key call sound.legal follows.pairs.names_free_partner refl arrived.partner (duty_of_new old key) arrived.own arrived.other refl refl is.on.own other_is is.may.deadlines sound.due_are)
+      (due_arrived before own_entry key call sound.legal follows.pairs.names_free_partners refl arrived.partner (duty_of_new old key) arrived.own arrived.other refl refl is.on.own other_is is.may.deadlines sound.due_are)
 
   -- what a call that looks sees, once it has arrived
   pub sees : (MayMeet call → ⊥) → AreStations before.entries stations
@@ -102,6 +112,19 @@ module _ (old : State) (moment : ℕ) (key : Key) (call : Call) (stations : Stat
       by_partner (Some p) first = absurd (looks (ap is_some first.opposes))
       by_partner None (inl waits) = absurd (looks waits.0.0)
       by_partner None (inr goes) = stations_as_before before.entries old.stations stations goes.2 sound.stations_are
+
+  -- the partner that it met has its room
+  pub room_named : IfSome arrived.partner (λ p. 0 < vec_capacity is.places)
+  room_named = by_partner arrived.partner is.on.meets
+    where
+      by_partner : (partner : Option ℕ) → Meets old.stations stations (side_of call) (wait_of call) (length before.entries) partner → IfSome partner (λ p. 0 < vec_capacity is.places)
+      by_partner None nobody = tt
+      by_partner (Some p) first =
+          let there : opposed_by old.stations (opposite (side_of call)) ≡ suc (length (waiting_on stations first.other)) = ap (opposed_by old.stations) first.opposes ∙ ap length first.first in
+          let one : may_name call ≡ 1 = is.may.meets_one in
+          let least : 1 ≤ min (may_name call) (opposed_by old.stations (opposite (side_of call))) = le-min (omega arith) (omega arith) in
+          let room : min (may_name call) (opposed_by old.stations (opposite (side_of call))) ≤ vec_capacity is.places = is.may.names.room in
+          omega arith
 
   module _ (kept others : Kept) (will : (GoesOn call arrived.partner → ⊥) → WillReply before call arrived.partner kept) (begun : Table) (begins : OnlySets old.sessions begun key.client (waiting_session key.incarnation key.number (length before.entries)))
       (others_is : others ≡ partners_reply (side_of call) (length before.entries)) where

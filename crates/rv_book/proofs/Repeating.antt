@@ -2,7 +2,7 @@
 use Rattle.rv_text.specs.declared.message.Message.TheVariants.{Hello, Request, Cancel}
 use Rattle.rv_text.specs.declared.answer.Refusal.TheVariants.{OldIncarnation, OtherCall, ClientsFull}
 use Rattle.rv_text.specs.declared.answer.Answer.TheVariants.{Welcome, Replied, Refused, Waiting}
-use Rattle.rv_book.specs.declared.account.Act as act
+use Rattle.rv_account.specs.declared.entry.Act as act
 use Rattle.rv_book.specs.declared.verdict.Said as said
 use Rattle.rv_session.specs.declared.session.State as state
 use Rattle.rv_session.specs.Table.{Table, session_of, session_count}
@@ -10,7 +10,7 @@ use Rattle.rv_session.specs.Meanings.{HasNext, HasLast, RefusalMeans, IsOlder, I
 use Rattle.rv_session.specs.Meanings as means
 use Rattle.rv_book.proofs.Standing.{settled, cancelled_first, waits, refused_lines, last_lines, is_next, not_new, room_for_client, clients_full, none_lower, newer_lower}
 use Rattle.rv_book.proofs.Lines.{line_next, line_old_hello, line_again, line_newer}
-use Rattle.rv_book.specs.Account.{Account, act_at, call_in}
+use Rattle.rv_account.specs.Account.{Account, act_at, call_in}
 use Rattle.rv_text.specs.declared.answer.Answer.{Answer}
 use Rattle.rv_book.specs.Tables.{AreSessions, Becomes, IsRepeat}
 use Rattle.rv_text.specs.declared.call.Call.{Call}
@@ -29,7 +29,7 @@ use Rattle.std.proofs.Common.{None, Option, Some, ap, inl, inr, option_and_then,
 use Rattle.rv_text.specs.declared.answer.Refusal.{Refusal}
 use Rattle.rv_book.proofs.OnePartner.{arrives_once}
 use Rattle.rv_book.proofs.WaitingTable.{known}
-use Rattle.rv_book.specs.Calls.{need_of}
+use Rattle.rv_account.specs.Calls.{need_of}
 use Rattle.rv_book.proofs.Staying.{one_call, one_told}
 use Rattle.rv_session.specs.declared.session.State.{State as StateOf}
 use Rattle.std.proofs.lemmas.Option.{same_Some}

@@ -3,14 +3,14 @@ use Rattle.std.proofs.Common.{◌≡◌, ◌⊎◌, ℕ, List, ◌++◌, Some, I
 use Rattle.rv_text.specs.declared.call.Call.{Call}
 use Rattle.rv_text.specs.declared.answer.Reply.{Reply}
 use Rattle.rv_text.specs.Limits.{FitsReply}
-use Rattle.rv_book.specs.declared.account.Entry.{Entry}
-use Rattle.rv_book.specs.Account.{Account, call_at}
+use Rattle.rv_account.specs.declared.entry.Entry.{Entry}
+use Rattle.rv_account.specs.Account.{Account, call_at}
 use Rattle.rv_book.specs.Legal.{Legal}
 use Rattle.rv_book.specs.Limits.{FitsAccount}
 use Rattle.rv_book.specs.Replies.{RepliesAt}
 use Rattle.rv_book.specs.Waiting.{NamesPartner, Waiting}
 use Rattle.rv_book.specs.Arriving.{IsKept}
-use Rattle.rv_book.specs.Calls.{opposite}
+use Rattle.rv_account.specs.Calls.{opposite}
 use Rattle.rv_book.specs.Tables.{partners_reply}
 use Rattle.rv_text.specs.Calls.{side_of, wait_of}
 
@@ -19,9 +19,9 @@ pub record ReplyLaws (call : Call) : Type 0 where
   pub stays : (es more : List Entry) (epoch opened r : ℕ) (reply : Reply) → Legal (record { epoch = epoch; opened = opened; entries = es ++ more }) → call_at es r ≡ Some call
       → RepliesAt es r call reply → RepliesAt (es ++ more) r call reply
   -- it is the only one
-  pub one : (b : Account) (r : ℕ) (x y : Reply) → Legal b → RepliesAt b.entries r call x → RepliesAt b.entries r call y → y ≡ x
+  pub one : (b : Account) (r : ℕ) (x y : Reply) → Legal b → call_at b.entries r ≡ Some call → RepliesAt b.entries r call x → RepliesAt b.entries r call y → y ≡ x
   -- it is within the limits
-  pub fits : (a : Account) (r : ℕ) (reply : Reply) → FitsAccount a → RepliesAt a.entries r call reply → FitsReply reply
+  pub fits : (a : Account) (r : ℕ) (reply : Reply) → Legal a → FitsAccount a → call_at a.entries r ≡ Some call → RepliesAt a.entries r call reply → FitsReply reply
   -- each arrival in a legal account has one, or waits
   pub exists : (a : Account) (r : ℕ) → Legal a → call_at a.entries r ≡ Some call → ((reply : Reply) × RepliesAt a.entries r call reply) ⊎ Waiting a.entries r
   -- and not both

@@ -1,19 +1,20 @@
 -- What is kept for an arrival is its reply, once its entry stands, or it waits.
-use Rattle.std.proofs.Common.{◌≡◌, inl, inr, ℕ, length, Option, Some, None, option_map, refl, sym, ap, subst, ◌∙◌}
+use Rattle.std.proofs.Common.{◌≡◌, inl, inr, ℕ, List, length, Option, Some, None, option_map, refl, sym, ap, subst, ◌∙◌}
 use Rattle.rv_text.specs.declared.call.Call as call
 use Rattle.rv_text.specs.declared.call.Call.{Call}
 use Rattle.rv_text.specs.declared.message.Key.{Key}
-use Rattle.rv_book.specs.declared.account.Act.TheVariants.{Arrive}
-use Rattle.rv_book.specs.declared.account.Entry.{Entry}
+use Rattle.rv_account.specs.declared.entry.Act.TheVariants.{Arrive}
+use Rattle.rv_account.specs.declared.entry.Entry.{Entry}
 use Rattle.rv_session.specs.declared.kept.Kept.{Kept}
-use Rattle.rv_book.specs.Account.{Account, act_at, with_entry}
-use Rattle.rv_book.specs.Arriving.{GoesOn, IsRecorded, WillReply, entry}
+use Rattle.rv_account.specs.Account.{Account, act_at, just, with_entry}
+use Rattle.rv_book.specs.Arriving.{GoesOn, IsKept, IsRecorded, WillReply, entry}
 use Rattle.rv_book.specs.Legal.{Legal}
 use Rattle.rv_book.specs.Replies.{HasReply}
 use Rattle.rv_book.proofs.Growing.{act_read}
 use Rattle.rv_book.proofs.Places.{get-append_end}
 use Rattle.rv_book.proofs.Counts.{counts}
 use Rattle.rv_book.proofs.Peeks.{peeks}
+use Rattle.rv_book.proofs.Drains.{drains}
 use Rattle.rv_book.proofs.Puts.{puts}
 use Rattle.rv_book.proofs.Swaps.{swaps}
 use Rattle.rv_book.proofs.Transfers.{transfers}
@@ -33,28 +34,34 @@ reply_laws (call.TheVariants.Take queue wait) = takes queue wait
 reply_laws (call.TheVariants.Swap exchanger item wait) = swaps exchanger item wait
 reply_laws (call.TheVariants.Count queue) = counts queue
 reply_laws (call.TheVariants.Peek queue) = peeks queue
+reply_laws (call.TheVariants.Drain queue max) = drains queue max
 
 -- what is kept is told as the reply of the key
-pub recorded : (a b : Account) (moment : ℕ) (key : Key) (call : Call) (partner : Option ℕ) (said : Kept) → WillReply a call partner said → Legal a → Legal b
-    → b ≡ with_entry a (entry moment (Arrive key call) partner) → IsRecorded a b moment key call (Some said)
-recorded a b moment key call partner said will before after follows =
-    let e = entry moment (Arrive key call) partner in
-    let there = will moment key before (subst Legal follows after) in
+pub recorded_kept : (a : Account) (moment : ℕ) (key : Key) (call : Call) (partners : List ℕ) (said : Kept) → Legal (with_entry a (entry moment (Arrive key call) partners))
+    → IsKept (with_entry a (entry moment (Arrive key call) partners)).entries (length a.entries) call said → IsRecorded a (with_entry a (entry moment (Arrive key call) partners)) moment key call (Some said)
+recorded_kept a moment key call partners said legal there =
+    let e = entry moment (Arrive key call) partners in
     let has : HasReply (with_entry a e).entries key there.reply = inl (record { place = length a.entries; call = call; arrived = arrived_last a e key call refl; replies = there.replies }) in
-    let P : Account → Type 0 = λ c. IsRecorded a c moment key call (Some said) in
-    subst P (sym follows) (record {
+    record {
       answer = answer.TheVariants.Replied key there.reply;
       is = ap (option_map (answer.TheVariants.Replied key)) there.is;
-      adds = record { entry = e; moment_is = refl; act_is = refl; follows = refl; legal = subst Legal follows after };
+      adds = record { entry = e; moment_is = refl; act_is = refl; follows = refl; legal = legal };
       answers = inl (record { reply = there.reply; has = has; is = refl });
-    })
+    }
+
+pub recorded : (a b : Account) (moment : ℕ) (key : Key) (call : Call) (partner : Option ℕ) (said : Kept) → WillReply a call partner said → Legal a → Legal b
+    → b ≡ with_entry a (entry moment (Arrive key call) (just partner)) → IsRecorded a b moment key call (Some said)
+recorded a b moment key call partner said will before after follows =
+    let legal = subst Legal follows after in
+    let P : Account → Type 0 = λ c. IsRecorded a c moment key call (Some said) in
+    subst P (sym follows) (recorded_kept a moment key call (just partner) said legal (will moment key before legal))
 
 -- a request that goes on is told that it waits
 pub recorded_waits : (a b : Account) (moment : ℕ) (key : Key) (call : Call) (partner : Option ℕ) → GoesOn call partner → Legal a → Legal b
-    → b ≡ with_entry a (entry moment (Arrive key call) partner) → IsRecorded a b moment key call None
+    → b ≡ with_entry a (entry moment (Arrive key call) (just partner)) → IsRecorded a b moment key call None
 recorded_waits a b moment key call partner goes before after follows =
-    let e = entry moment (Arrive key call) partner in
-    let waits = Waiting-last a e before goes.unmet (record { call = call; arrives = refl; stays = goes.stays; no_put = goes.no_put }) in
+    let e = entry moment (Arrive key call) (just partner) in
+    let waits = Waiting-last a e before (ap just goes.unmet) (record { call = call; arrives = refl; stays = goes.stays; no_put = goes.no_put }) in
     let P : Account → Type 0 = λ c. IsRecorded a c moment key call None in
     subst P (sym follows) (record {
       answer = answer.TheVariants.Waiting key;

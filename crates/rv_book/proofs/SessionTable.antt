@@ -5,13 +5,13 @@ use Rattle.rv_session.specs.declared.session.State.{State as StateOf}
 use Rattle.rv_session.specs.declared.session.Session.{Session}
 use Rattle.rv_session.specs.declared.kept.Kept.{Kept}
 use Rattle.rv_session.specs.Table.{Table, OnlySets, OnlySettles, fresh, session_of}
-use Rattle.rv_book.specs.Account.{Account, act_at, call_at, call_in, key_at, key_in, with_entry}
+use Rattle.rv_account.specs.Account.{Account, act_at, call_at, call_in, key_at, key_in, with_entry}
 use Rattle.rv_book.specs.Tables.{AreSessions, IsSession, IsSessionOf, IsSettledAt, Stands, last_key}
 use Rattle.rv_book.specs.Replies.{CancelledFirst}
-use Rattle.rv_book.specs.declared.account.Act.{Act}
-use Rattle.rv_book.specs.declared.account.Act.TheVariants.{Arrive, Hello}
+use Rattle.rv_account.specs.declared.entry.Act.{Act}
+use Rattle.rv_account.specs.declared.entry.Act.TheVariants.{Arrive, Hello}
 use Rattle.rv_text.specs.declared.call.Call.{Call}
-use Rattle.rv_book.specs.declared.account.Entry.{Entry}
+use Rattle.rv_account.specs.declared.entry.Entry.{Entry}
 use Rattle.rv_book.specs.Sessions.{HasIncarnation, LastHello, LastNumber, SaidHello}
 use Rattle.rv_book.specs.Arriving.{IsKept}
 use Rattle.rv_book.specs.Waiting.{Waiting}
@@ -23,6 +23,7 @@ use Rattle.rv_book.proofs.Growing.{act_read, reads_back, reads_on, reads_within}
 use Rattle.rv_book.proofs.Places.{get-append_end}
 use Rattle.rv_book.proofs.Staying.{kept_stays}
 use Rattle.std.proofs.lemmas.Option.{none-some, same_Some}
+use Rattle.rv_book.proofs.Naming.{just_none}
 use Rattle.rv_book.proofs.Numbers.{same_or_not}
 use Rattle.rv_book.proofs.Keys.{LastHello-on, NamesKey-back, NamesKey-on, client_of, hello_is_own, key_is_own, key_read}
 use Rattle.rv_book.proofs.Replying.{reply_laws}
@@ -185,9 +186,9 @@ session_on a e client (Some s) legal apart still is =
     record { incarnation = at.incarnation; number = at.number; stands = Stands-on a e client s s.state legal apart still is.stands }
 
 -- after a hello nothing waits but what waited before, of another client
-after_hello : (a : Account) (e : Entry) (client incarnation other : ℕ) → e.act ≡ Hello client incarnation → e.partner ≡ None → (other ≡ client → ⊥) → StillWaits a e other
+after_hello : (a : Account) (e : Entry) (client incarnation other : ℕ) → e.act ≡ Hello client incarnation → e.partners ≡ [] → (other ≡ client → ⊥) → StillWaits a e other
 after_hello a e client incarnation other says none apart = λ r key call of_client arrived w.
-    Waiting-on a.entries e r w (λ named. none-some r (sym none ∙ named)) (λ stopped.
+    Waiting-on a.entries e r w (just_none e r none) (λ stopped.
     let request = stopped_by_hello a.entries e client incarnation r says stopped in
     let same : Arrive request.key request.call ≡ Arrive key call = same_Some _ _ (sym request.arrived ∙ arrived) in
     apart (sym of_client ∙ sym (ap client_of same) ∙ sym request.of_client))
@@ -207,7 +208,7 @@ sessions_changed a e old new client s are legal of_client still changes own =
     }
 
 -- after a hello its session is fresh
-pub sessions_greeted : (a : Account) (e : Entry) (old new : Table) (client incarnation : ℕ) → AreSessions a old → Legal a → Legal (with_entry a e) → e.act ≡ Hello client incarnation → e.partner ≡ None
+pub sessions_greeted : (a : Account) (e : Entry) (old new : Table) (client incarnation : ℕ) → AreSessions a old → Legal a → Legal (with_entry a e) → e.act ≡ Hello client incarnation → e.partners ≡ []
     → Changes old new client (fresh incarnation) → AreSessions (with_entry a e) new
 sessions_greeted a e old new client incarnation are before legal is none changes =
     let at = greeted_at a.entries e client incarnation is in

@@ -10,18 +10,19 @@ use Rattle.rv_session.specs.Owed.{Owed}
 use Rattle.rv_session.specs.declared.kept.Kept.{Kept}
 use Rattle.rv_session.specs.declared.session.Session.{Session}
 use Rattle.rv_session.specs.Table.{Table, OnlySets, session_of, settled_session, waiting_of, waiting_place, waiting_session}
-use Rattle.rv_book.specs.declared.account.Entry.{Entry}
-use Rattle.rv_book.specs.declared.account.Act.TheVariants.{Arrive}
-use Rattle.rv_book.specs.Account.{Account, act_at, call_at, call_in, key_in, with_entry}
+use Rattle.rv_account.specs.declared.entry.Entry.{Entry}
+use Rattle.rv_account.specs.declared.entry.Act.TheVariants.{Arrive}
+use Rattle.rv_account.specs.Account.{Account, act_at, call_at, call_in, just, key_in, with_entry}
 use Rattle.rv_book.specs.Arriving.{IsKept, IsNext, MeetsOldest}
-use Rattle.rv_book.specs.Calls.{opposite}
+use Rattle.rv_account.specs.Calls.{opposite}
 use Rattle.rv_book.specs.Legal.{Legal}
 use Rattle.rv_book.specs.Meeting.{OwnDuty, PartnersDuty}
 use Rattle.rv_book.specs.Parked.{owed_at, owed_by, owed_in}
 use Rattle.rv_book.specs.Tables.{AreSessions, IsOwedIn, IsSession, IsSessionOf, SettlesIf, partners_reply}
 use Rattle.rv_book.specs.Waiting.{NamesPartner, Waiting}
-use Rattle.rv_book.proofs.Growing.{act_read, call_read, partner_read, reads_on}
+use Rattle.rv_book.proofs.Growing.{NamesAt-last, act_read, call_read, reads_on}
 use Rattle.rv_book.proofs.Keys.{act_called, client_of}
+use Rattle.rv_book.proofs.Naming.{names_it, names_only}
 use Rattle.rv_book.proofs.Numbers.{same_or_not}
 use Rattle.rv_book.proofs.Places.{get-append_end}
 use Rattle.rv_book.proofs.Replying.{reply_laws}
@@ -122,7 +123,7 @@ own_due a old begun mid key call partner place other (Some d) others next meets 
 -- ---- what the account says after the arrival
 
 module _ (a : Account) (e : Entry) (key : Key) (call : Call) (partner : Option ℕ) (before : Legal a) (after : Legal (with_entry a e)) (next : IsNext a key) (says : e.act ≡ Arrive key call)
-    (names : e.partner ≡ partner) (meets : MeetsOldest a.entries (side_of call) partner) where
+    (names : e.partners ≡ just partner) (meets : MeetsOldest a.entries (side_of call) partner) where
   abbrev b : Account
   b = with_entry a e
 
@@ -140,7 +141,7 @@ module _ (a : Account) (e : Entry) (key : Key) (call : Call) (partner : Option �
         call = call;
         arrived = ap (option_and_then call_in) arrived_here;
         meets = ap is_some met.opposes;
-        named = ap partner_read (get-append_end a.entries e) ∙ names ∙ met.named;
+        named = NamesAt-last a.entries e d.place (names_it e d.place (names ∙ ap just met.named));
       } in
       let earlier : call_at b.entries d.place ≡ Some met.met = reads_on call_read refl a.entries (e ∷ []) d.place met.met (ap (option_and_then call_in) met.arrived) in
       (reply_laws met.met).met b d.place place call after earlier (ap (option_and_then call_in) arrived_here) names_it met.opposes met.may_wait
@@ -171,7 +172,7 @@ module _ (a : Account) (e : Entry) (key : Key) (call : Call) (partner : Option �
   -- who waits and is not the partner waits on
   still : (client : ℕ) → ((r : ℕ) (other : Key) (at : Call) → other.client ≡ client → act_at a.entries r ≡ Some (Arrive other at) → Waiting a.entries r → partner ≡ Some r → ⊥) → StillWaits a e client
   still client unnamed = λ r other at of_client arrived w.
-      Waiting-on a.entries e r w (λ named. unnamed r other at of_client arrived w (sym names ∙ named)) (arrival_stops_nobody a.entries e key call r says)
+      Waiting-on a.entries e r w (λ named. unnamed r other at of_client arrived w (names_only e partner r names named)) (arrival_stops_nobody a.entries e key call r says)
 
   -- where nobody is settled
   nobody_met : PartnersDuty a.entries partner None → (client : ℕ) → StillWaits a e client
@@ -205,7 +206,7 @@ module _ (a : Account) (e : Entry) (key : Key) (call : Call) (partner : Option �
     stands = record {
       call = call;
       arrived = own_key;
-      waits = Waiting-last a e before (names ∙ own.0) (record { call = call; arrives = ap call_in says; stays = own.1; no_put = λ put. no_wait (wait_of call) own.2 put.1 });
+      waits = Waiting-last a e before (names ∙ ap just own.0) (record { call = call; arrives = ap call_in says; stays = own.1; no_put = λ put. no_wait (wait_of call) own.2 put.1 });
     };
   }
 

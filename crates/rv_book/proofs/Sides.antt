@@ -1,18 +1,19 @@
 -- What stands on a side, with one entry more: who was open there before, and whether the entry is.
 use Rattle.std.proofs.Common.{◌≡◌, ◌⊎◌, inl, inr, ℕ, ◌<◌, ◌≤◌, List, [], ◌∷◌, ◌++◌, length, take, Option, Some, None, option_and_then, refl, sym, ap, subst, ◌∙◌, arith, length-take}
-use Rattle.rv_book.specs.Account.{Account, act_at, call_at, call_in}
+use Rattle.rv_account.specs.Account.{Account, Names, act_at, call_at, call_in, just}
 use Rattle.rv_text.specs.declared.call.Call.{Call}
-use Rattle.rv_book.specs.declared.account.Entry.{Entry}
+use Rattle.rv_account.specs.declared.entry.Entry.{Entry}
 use Rattle.rv_text.specs.declared.call.Side.{Side}
-use Rattle.std.proofs.lemmas.Option.{none-some, same_Some}
+use Rattle.std.proofs.lemmas.Option.{same_Some}
 use Rattle.rv_text.specs.Calls.{side_of}
-use Rattle.rv_book.specs.Legal.{IsDueAt, Legal, NamesFreePartner}
+use Rattle.rv_book.specs.Legal.{IsDueAt, Legal, NamesFreePartners}
 use Rattle.rv_book.specs.Waiting.{EndsWait, HasElapsed, Met, NamesPartner, Open, OpenAt, SideAt, Stopped, StoppedAt, Waiting, limit_at}
-use Rattle.rv_book.proofs.Growing.{NamesPartner-back, Open-back, Open-on, act_read, call_read, limit_on, partner_read, read_there, reads_back, reads_on, reads_within}
-use Rattle.rv_book.specs.Calls.{IsPut, Stays}
-use Rattle.rv_book.specs.declared.account.Act.TheVariants.{Arrive, Cancel, Hello, Tick}
+use Rattle.rv_book.proofs.Growing.{NamesAt-last, NamesPartner-back, Open-back, Open-on, act_read, call_read, limit_on, reads_back, reads_on, reads_within}
+use Rattle.rv_account.specs.Calls.{IsPut, Stays}
+use Rattle.rv_account.specs.declared.entry.Act.TheVariants.{Arrive, Cancel, Hello, Tick}
 use Rattle.rv_text.specs.declared.message.Key.{Key}
 use Rattle.rv_book.proofs.Keys.{act_called}
+use Rattle.rv_book.proofs.Naming.{just_none}
 use Rattle.rv_book.proofs.Places.{get-append_cases, get-append_end}
 
 pub SideAt-on : (es more : List Entry) (side : Side) (r : ℕ) → SideAt es side r → SideAt (es ++ more) side r
@@ -183,16 +184,16 @@ until_due es moment r opened request =
 -- ---- who stays open, and who was
 
 -- an open arrival that the entry neither names nor stops stays open
-pub OpenAt-on : (es : List Entry) (e : Entry) (side : Side) (r : ℕ) → OpenAt es side r → (e.partner ≡ Some r → ⊥) → (StoppedAt (es ++ e ∷ []) r (length es) → ⊥) → OpenAt (es ++ e ∷ []) side r
+pub OpenAt-on : (es : List Entry) (e : Entry) (side : Side) (r : ℕ) → OpenAt es side r → (Names e r → ⊥) → (StoppedAt (es ++ e ∷ []) r (length es) → ⊥) → OpenAt (es ++ e ∷ []) side r
 OpenAt-on es e side r h unnamed unstopped = record {
   of_side = SideAt-on es (e ∷ []) side r h.of_side;
   is_open = Open-on es e r h.is_open unnamed unstopped;
 }
 
--- the partner of the last entry is met
-pub names_last : (es : List Entry) (e : Entry) (p : ℕ) → NamesFreePartner es e → e.partner ≡ Some p → Met (es ++ e ∷ []) p
+-- each partner of the last entry is met
+pub names_last : (es : List Entry) (e : Entry) (p : ℕ) → NamesFreePartners es e → Names e p → Met (es ++ e ∷ []) p
 names_last es e p free named =
-    let partner = free p named in
+    let partner = free.free p named in
     record {
       later = length es;
       earlier = p;
@@ -200,7 +201,7 @@ names_last es e p free named =
         call = partner.call;
         arrived = ap call_read (get-append_end es e) ∙ partner.arrives;
         meets = partner.meets;
-        named = ap partner_read (get-append_end es e) ∙ named;
+        named = NamesAt-last es e p named;
       };
       part = inr refl;
     }
@@ -208,11 +209,11 @@ names_last es e p free named =
 -- the open arrival was so before, and the entry neither names nor stops it
 pub record WasOpen (es : List Entry) (e : Entry) (side : Side) (r : ℕ) : Type 0 where
   pub there : OpenAt es side r
-  pub unnamed : e.partner ≡ Some r → ⊥
+  pub unnamed : Names e r → ⊥
   pub unstopped : StoppedAt (es ++ e ∷ []) r (length es) → ⊥
 
 -- who is open on a side with one entry more was so before, or is that entry
-pub OpenAt-back : (es : List Entry) (e : Entry) (side : Side) (r : ℕ) → NamesFreePartner es e → OpenAt (es ++ e ∷ []) side r → WasOpen es e side r ⊎ ((r ≡ length es) × IsNewOn e side)
+pub OpenAt-back : (es : List Entry) (e : Entry) (side : Side) (r : ℕ) → NamesFreePartners es e → OpenAt (es ++ e ∷ []) side r → WasOpen es e side r ⊎ ((r ≡ length es) × IsNewOn e side)
 OpenAt-back es e side r free h =
     let opened = h.is_open in
     let at = h.of_side in
@@ -233,20 +234,20 @@ OpenAt-back es e side r free h =
 
 pub partner_before : (a : Account) (p q : ℕ) → Legal a → NamesPartner a.entries p q → q < p
 partner_before a p q legal names =
-    let there = read_there partner_read refl _ q names.named in
-    let free = (legal p there.0 there.1).pairs.names_free_partner q there.2 in
+    let at = names.named in
+    let free = (legal p at.entry at.there).pairs.names_free_partners.free q at.names in
     let earlier : q < length (take p a.entries) = free.earlier in
     omega (arith, length-take p a.entries)
 
 -- a last entry without a partner is not met
-pub last_unmet : (a : Account) (e : Entry) → Legal a → e.partner ≡ None → Met (a.entries ++ e ∷ []) (length a.entries) → ⊥
+pub last_unmet : (a : Account) (e : Entry) → Legal a → e.partners ≡ just None → Met (a.entries ++ e ∷ []) (length a.entries) → ⊥
 last_unmet a e legal none met =
     elim (NamesPartner-back a.entries e met.later met.earlier met.names) [
       | inl names ↦
           let inside : met.later < length a.entries = reads_within call_read refl a.entries met.later names.call names.arrived in
           let below : met.earlier < met.later = partner_before a met.later met.earlier legal names in
           elim met.part [ inl is ↦ omega arith | inr is ↦ omega arith ]
-      | inr new ↦ none-some met.earlier (sym none ∙ new.1)
+      | inr new ↦ just_none e met.earlier none new.1
     ]
 
 last_unstopped : (es : List Entry) (e : Entry) → Stopped (es ++ e ∷ []) (length es) → ⊥
@@ -255,7 +256,7 @@ last_unstopped es e stopped =
     elim (get-append_cases es e stopped.1.stopper stopped.0 stopped.1.there) [ inl inside ↦ omega arith | inr last ↦ omega arith ]
 
 -- an entry that arrives, stays and names nobody is open
-pub OpenAt-last : (a : Account) (e : Entry) (side : Side) → Legal a → e.partner ≡ None → IsNewOn e side → OpenAt (a.entries ++ e ∷ []) side (length a.entries)
+pub OpenAt-last : (a : Account) (e : Entry) (side : Side) → Legal a → e.partners ≡ just None → IsNewOn e side → OpenAt (a.entries ++ e ∷ []) side (length a.entries)
 OpenAt-last a e side legal none new =
     let es : List Entry = a.entries in
     let arrived : call_at (es ++ e ∷ []) (length es) ≡ Some new.call = ap call_read (get-append_end es e) ∙ new.arrives in
@@ -274,18 +275,18 @@ pub record IsNewRequest (e : Entry) : Type 0 where
   pub no_put : IsPut call → ⊥
 
 -- a waiting request that the entry neither names nor stops still waits
-pub Waiting-on : (es : List Entry) (e : Entry) (r : ℕ) → Waiting es r → (e.partner ≡ Some r → ⊥) → (StoppedAt (es ++ e ∷ []) r (length es) → ⊥) → Waiting (es ++ e ∷ []) r
+pub Waiting-on : (es : List Entry) (e : Entry) (r : ℕ) → Waiting es r → (Names e r → ⊥) → (StoppedAt (es ++ e ∷ []) r (length es) → ⊥) → Waiting (es ++ e ∷ []) r
 unfolding Open-on
 Waiting-on es e r h unnamed unstopped = record { is_open = Open-on es e r h.is_open unnamed unstopped; no_put = h.no_put }
 
 -- the request waited before, and the entry neither names nor stops it
 pub record WasWaiting (es : List Entry) (e : Entry) (r : ℕ) : Type 0 where
   pub there : Waiting es r
-  pub unnamed : e.partner ≡ Some r → ⊥
+  pub unnamed : Names e r → ⊥
   pub unstopped : StoppedAt (es ++ e ∷ []) r (length es) → ⊥
 
 -- who waits with one entry more waited before, or is that entry
-pub Waiting-back : (es : List Entry) (e : Entry) (r : ℕ) → NamesFreePartner es e → Waiting (es ++ e ∷ []) r → WasWaiting es e r ⊎ ((r ≡ length es) × IsNewRequest e)
+pub Waiting-back : (es : List Entry) (e : Entry) (r : ℕ) → NamesFreePartners es e → Waiting (es ++ e ∷ []) r → WasWaiting es e r ⊎ ((r ≡ length es) × IsNewRequest e)
 unfolding Open-back
 Waiting-back es e r free h =
     let opened = h.is_open in
@@ -299,7 +300,7 @@ Waiting-back es e r free h =
     ]
 
 -- a request that arrives, stays and names nobody waits
-pub Waiting-last : (a : Account) (e : Entry) → Legal a → e.partner ≡ None → IsNewRequest e → Waiting (a.entries ++ e ∷ []) (length a.entries)
+pub Waiting-last : (a : Account) (e : Entry) → Legal a → e.partners ≡ just None → IsNewRequest e → Waiting (a.entries ++ e ∷ []) (length a.entries)
 Waiting-last a e legal none new =
     let es : List Entry = a.entries in
     let arrived : call_at (es ++ e ∷ []) (length es) ≡ Some new.call = ap call_read (get-append_end es e) ∙ new.arrives in

@@ -6,10 +6,10 @@ use Rattle.rv_text.specs.declared.answer.Answer.{Answer}
 use Rattle.rv_text.specs.declared.answer.Answer as answer
 use Rattle.rv_text.specs.declared.answer.Refusal.TheVariants as refusal
 use Rattle.rv_text.specs.Limits.{FitsAnswer, FitsMessage}
-use Rattle.rv_book.specs.declared.account.Entry.{Entry}
+use Rattle.rv_account.specs.declared.entry.Entry.{Entry}
 use Rattle.rv_book.specs.declared.state.State.{State}
 use Rattle.rv_book.specs.declared.verdict.Said.{Said}
-use Rattle.rv_book.specs.Account.{Account, Extends, Stored}
+use Rattle.rv_account.specs.Account.{Account, Extends, Stored}
 use Rattle.rv_book.specs.Legal.{Legal, before}
 use Rattle.rv_book.specs.Laws.{VerdictsStay}
 use Rattle.rv_book.specs.Limits.{FitsAccount}
@@ -69,8 +69,8 @@ pub record GivesStamp (a : Account) (now : ℕ) (m : Message) (b : Account) (v :
   pub of_step : IsOfStep v
   pub given : WasGiven b v
 
-step_gives : (a b : Account) (now : ℕ) (m : Message) (kept : Said) → Legal a → FitsAccount b → FitsMessage m → BecomesAfterTicks a now m b kept → GivesStamp a now m b (stamp_of m a b kept)
-step_gives a b now m kept legal fits message became =
+step_gives : (a b : Account) (now : ℕ) (m : Message) (kept : Said) → Legal a → Legal b → FitsAccount b → FitsMessage m → BecomesAfterTicks a now m b kept → GivesStamp a now m b (stamp_of m a b kept)
+step_gives a b now m kept legal after fits message became =
     let x : Answer = became.becomes.answer in
     let said : said_in b kept ≡ x = ap (λ (o : Option Answer). unwrap_or o (answer.TheVariants.Refused refusal.NoMemory)) became.becomes.is in
     let next : Next a now m b x = record { ticked = became.ticked; ticks = became.ticks; steps = became.becomes.step } in
@@ -79,7 +79,7 @@ step_gives a b now m kept legal fits message became =
     let step = same_step refl refl said next in
     record {
       step = step;
-      fits = subst FitsAnswer (sym said) (step_fits became.ticked b (step_moment a now) m x became.fits fits message became.becomes.step);
+      fits = subst FitsAnswer (sym said) (step_fits became.ticked b (step_moment a now) m x after became.fits fits message became.becomes.step);
       of_step = record { account = a; legal = legal; account_has = refl; moment = now; after = b; after_has = refl; step = step };
       given = record {
         moment = now;
@@ -95,7 +95,7 @@ pub gives_stamp : {s t : State} {first last : Stored} {now : ℕ} {m asked : Mes
     → IsSound s → IsSound t → FitsMessage m → BecomesAfterTicks (account_of s) now m (account_of t) kept
     → GivesStamp (account_of s) now m (account_of t) (stamp_of asked first.account last.account kept)
 gives_stamp {s} {t} {first} {last} {now} {m} {asked} {kept} asked_is first_is last_is before_sound after_sound fits became =
-    let gives = step_gives (account_of s) (account_of t) now m kept before_sound.legal after_sound.fits fits became in
+    let gives = step_gives (account_of s) (account_of t) now m kept before_sound.legal after_sound.legal after_sound.fits fits became in
     let same : stamp_of asked first.account last.account kept ≡ stamp_of m (account_of s) (account_of t) kept =
     ap (λ (n : Message). stamp_of n first.account last.account kept) asked_is
     ∙ ap (λ (a : Stored). stamp_of m a.account last.account kept) first_is

@@ -1,7 +1,7 @@
 -- From what the table of sessions says of a key or of a client to the line of the step that decides.
 use Rattle.rv_book.specs.Counting.{NumberOf}
 use Rattle.rv_text.specs.declared.answer.Refusal as refusal
-use Rattle.rv_book.specs.declared.account.Act as act
+use Rattle.rv_account.specs.declared.entry.Act as act
 use Rattle.rv_session.specs.declared.session.Session.{Session}
 use Rattle.rv_session.specs.declared.session.State as state
 use Rattle.rv_session.specs.declared.session.State.{State as StateOf}
@@ -14,7 +14,7 @@ use Rattle.rv_session.specs.Table.{Table, session_of, session_count}
 use Rattle.rv_book.proofs.Lines.{line_other_epoch, line_no_session, line_old_incarnation, line_old_number, line_last, line_gap, line_busy}
 use Rattle.rv_session.specs.Meanings.{HasNext, HasLast, RefusalMeans}
 use Rattle.rv_session.proofs.Clients.{clients_of, clients_rise, clients_are, length-clients}
-use Rattle.rv_book.specs.Account.{Account, act_at}
+use Rattle.rv_account.specs.Account.{Account, act_at}
 use Rattle.rv_book.specs.Tables.{AreSessions, IsSessionOf, Stands, last_key}
 use Rattle.rv_text.specs.declared.call.Call.{Call}
 use Rattle.rv_book.specs.Steps.{ClientsFullDue, KeyLines}

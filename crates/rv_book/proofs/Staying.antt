@@ -1,17 +1,18 @@
 -- Replies, and what is kept of answers, stay where an account is extended, and a key is told one thing.
 use Rattle.rv_text.specs.declared.answer.Reply as reply
 use Rattle.rv_text.specs.declared.answer.Answer as answer
-use Rattle.rv_book.specs.declared.account.Act as act
+use Rattle.rv_account.specs.declared.entry.Act as act
 use Rattle.rv_session.specs.declared.kept.Kept as kept
 use Rattle.rv_book.specs.declared.verdict.Said as said
 use Rattle.rv_text.specs.declared.message.Message.TheVariants.{Cancel, Hello, Request}
-use Rattle.rv_book.specs.Account.{Account, Extends, act_at, call_in, key_in}
-use Rattle.rv_book.specs.declared.account.Act.{Act}
+use Rattle.rv_account.specs.Account.{Account, Extends, act_at, call_in, key_in, partners_items}
+use Rattle.rv_book.proofs.Drains.{drains_on}
+use Rattle.rv_account.specs.declared.entry.Act.{Act}
 use Rattle.rv_book.specs.Steps.{Adds, Answers, EntersOrNoMemory, NextAt, Refuses, Replies, Ticks}
 use Rattle.rv_book.specs.Waiting.{Waiting}
 use Rattle.rv_text.specs.declared.answer.Answer.{Answer}
 use Rattle.rv_text.specs.declared.call.Call.{Call}
-use Rattle.rv_book.specs.declared.account.Entry.{Entry}
+use Rattle.rv_account.specs.declared.entry.Entry.{Entry}
 use Rattle.rv_book.specs.Replies.{CancelledFirst, HasReply, RepliesAt, RepliesToArrival}
 use Rattle.rv_session.specs.declared.kept.Kept.{Kept}
 use Rattle.rv_text.specs.declared.message.Key.{Key}
@@ -119,6 +120,10 @@ kept_stays a b (kept.TheVariants.Swapped place) r extends is =
     let item = mapped reply.TheVariants.Swapped (item_at a.entries place) r is in
     let there : item_at b.entries place ≡ Some item.0 = reading_on (λ o. option_and_then item_of (call_read o)) refl a b place item.0 extends item.1 in
     ap (option_map reply.TheVariants.Swapped) (there ∙ sym item.1) ∙ is
+kept_stays a b (kept.TheVariants.Drained place) r extends is =
+    let items = mapped reply.TheVariants.Drained (partners_items a.entries place) r is in
+    let there : partners_items b.entries place ≡ Some items.0 = subst (λ es. partners_items es place ≡ Some items.0) (sym extends.entries) (drains_on a.entries extends.more place items.0 items.1) in
+    ap (option_map reply.TheVariants.Drained) (there ∙ sym items.1) ∙ is
 kept_stays a b k r extends is = is
 
 pub said_stays : (a b : Account) (s : Said) (x : Answer) → Extends a b → answer_of a.entries s ≡ Some x → answer_of b.entries s ≡ Some x
@@ -139,7 +144,7 @@ one_reply b key x y legal (inl first) (inl second) =
     let place : second.place ≡ first.place = arrives_once b second.place first.place key second.call first.call legal second.arrived first.arrived in
     let call : second.call ≡ first.call = one_call key second.call first.call (sym second.arrived ∙ ap (act_at b.entries) place ∙ first.arrived) in
     let moved = subst (λ r. RepliesAt b.entries r first.call y) place (subst (λ c. RepliesAt b.entries second.place c y) call second.replies) in
-    (reply_laws first.call).one b first.place x y legal first.replies moved
+    (reply_laws first.call).one b first.place x y legal (ap (option_and_then call_in) first.arrived) first.replies moved
 one_reply b key x y legal (inl first) (inr second) = absurd (second.0.not_arrived first.place first.call first.arrived)
 one_reply b key x y legal (inr first) (inl second) = absurd (first.0.not_arrived second.place second.call second.arrived)
 one_reply b key x y legal (inr first) (inr second) = second.1 ∙ sym first.1

@@ -2,8 +2,8 @@
 use Rattle.rv_book.specs.declared.verdict.Said as said
 use Rattle.rv_text.specs.declared.answer.Answer.TheVariants.{Refused}
 use Rattle.std.specs.Prelude.{Result, Ok, Err, IsOk}
-use Rattle.rv_book.specs.Account.{Account}
-use Rattle.rv_book.specs.declared.account.Act.{Act}
+use Rattle.rv_account.specs.Account.{Account}
+use Rattle.rv_account.specs.declared.entry.Act.{Act}
 use Rattle.rv_book.specs.Steps.{Adds, EntersOrNoMemory, EpochFullDue, NextAt, RefuseOr, Refuses}
 use Rattle.rv_text.specs.declared.answer.Answer.{Answer}
 use Rattle.rv_book.specs.Counting.{NumberOf}

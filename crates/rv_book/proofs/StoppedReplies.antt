@@ -1,18 +1,19 @@
 -- What stops a waiting request first tells it its reply.
 use Rattle.std.proofs.Common.{◌≡◌, inl, inr, ℕ, ◌<◌, List, [], ◌∷◌, ◌++◌, length, Some, None, refl, sym, ap, subst, ◌∙◌, arith}
-use Rattle.std.proofs.lemmas.Option.{none-some, same_Some}
+use Rattle.std.proofs.lemmas.Option.{same_Some}
 use Rattle.rv_text.specs.declared.call.Call as call
 use Rattle.rv_text.specs.declared.call.Call.{Call}
 use Rattle.rv_text.specs.declared.answer.Reply as reply
 use Rattle.rv_text.specs.declared.answer.Reply.{Reply}
-use Rattle.rv_book.specs.declared.account.Entry.{Entry}
-use Rattle.rv_book.specs.declared.account.Act.TheVariants.{Tick}
-use Rattle.rv_book.specs.Account.{call_at}
-use Rattle.rv_book.specs.Calls.{IsPut, Stays}
+use Rattle.rv_account.specs.declared.entry.Entry.{Entry}
+use Rattle.rv_account.specs.declared.entry.Act.TheVariants.{Tick}
+use Rattle.rv_account.specs.Account.{Names, call_at, just}
+use Rattle.rv_account.specs.Calls.{IsPut, Stays}
 use Rattle.rv_book.specs.Replies.{RepliesAt, ToldStopped, told_by}
 use Rattle.rv_book.specs.Waiting.{Met, StoppedAt, Waiting}
 use Rattle.rv_book.proofs.FirstStops.{told_by_last}
 use Rattle.rv_book.proofs.Growing.{Met-back, call_read, reads_within}
+use Rattle.rv_book.proofs.Naming.{just_none}
 use Rattle.rv_book.proofs.Sides.{IsRequestUntil, tick_stops}
 use Rattle.rv_book.proofs.Unmet.{lasting_told}
 
@@ -22,10 +23,11 @@ stopped_replies (call.TheVariants.Put queue item) es r told stays no_put unmet s
 stopped_replies (call.TheVariants.Transfer queue item wait) es r told stays no_put unmet stopped = inr (unmet, lasting_told wait es r reply.TheVariants.Nobody told stays.1 stopped)
 stopped_replies (call.TheVariants.Take queue wait) es r told stays no_put unmet stopped = inr (unmet, lasting_told wait es r reply.TheVariants.Empty told stays.1 stopped)
 stopped_replies (call.TheVariants.Swap exchanger item wait) es r told stays no_put unmet stopped = inr (unmet, lasting_told wait es r reply.TheVariants.TimedOut told stays.1 stopped)
+stopped_replies (call.TheVariants.Drain queue max) es r told stays no_put unmet stopped = absurd stays.1
 stopped_replies _ es r told stays no_put unmet stopped = absurd (let no : ⊥ = let is = stays.0 in cc in no)
 
 -- a waiting request that the last entry stops is told by it
-pub told_stopped : (es : List Entry) (e : Entry) (r : ℕ) (call : Call) → Waiting es r → call_at es r ≡ Some call → (e.partner ≡ Some r → ⊥) → StoppedAt (es ++ e ∷ []) r (length es) → RepliesAt (es ++ e ∷ []) r call (told_by e.act)
+pub told_stopped : (es : List Entry) (e : Entry) (r : ℕ) (call : Call) → Waiting es r → call_at es r ≡ Some call → (Names e r → ⊥) → StoppedAt (es ++ e ∷ []) r (length es) → RepliesAt (es ++ e ∷ []) r call (told_by e.act)
 told_stopped es e r call w arrived unnamed stopped =
     let opened = w.is_open in
     let same : opened.call ≡ call = same_Some _ _ (sym opened.arrived ∙ arrived) in
@@ -38,7 +40,7 @@ told_stopped es e r call w arrived unnamed stopped =
     (told_by_last es e r opened.unstopped stopped)
 
 -- by a tick: that it timed out
-pub timed_out_reply : (es : List Entry) (e : Entry) (r : ℕ) (call : Call) → Waiting es r → call_at es r ≡ Some call → e.act ≡ Tick → e.partner ≡ None → IsRequestUntil es e.moment r
+pub timed_out_reply : (es : List Entry) (e : Entry) (r : ℕ) (call : Call) → Waiting es r → call_at es r ≡ Some call → e.act ≡ Tick → e.partners ≡ just None → IsRequestUntil es e.moment r
     → RepliesAt (es ++ e ∷ []) r call reply.TheVariants.TimedOut
 timed_out_reply es e r call w arrived says none request =
-    subst (RepliesAt (es ++ e ∷ []) r call) (ap told_by says) (told_stopped es e r call w arrived (λ named. none-some r (sym none ∙ named)) (tick_stops es e r says request))
+    subst (RepliesAt (es ++ e ∷ []) r call) (ap told_by says) (told_stopped es e r call w arrived (λ named. just_none e r none named) (tick_stops es e r says request))

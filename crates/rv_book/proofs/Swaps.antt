@@ -7,7 +7,7 @@ use Rattle.rv_text.specs.declared.call.Side.TheVariants.{Exchanges}
 use Rattle.rv_text.specs.declared.call.Wait.{Wait}
 use Rattle.rv_text.proofs.Kept.{swapped_fits, timed_out_fits}
 use Rattle.rv_session.specs.declared.kept.Kept as kept
-use Rattle.rv_book.specs.Account.{Account}
+use Rattle.rv_account.specs.Account.{Account}
 use Rattle.rv_book.specs.Arriving.{GoesOn, WillReply}
 use Rattle.rv_book.specs.Tables.{kept_at_once}
 use Rattle.rv_book.proofs.ByMeeting.{unmet_by}
@@ -23,6 +23,7 @@ module _ (exchanger : ℕ) (item : List ℕ) (wait : Wait) where
   swap_handed = record {
     waits = refl;
     opposes = refl;
+    single = refl;
     alone_fits = timed_out_fits;
     item_fits = swapped_fits;
     hands = λ giver is. exchanges_item giver exchanger is;

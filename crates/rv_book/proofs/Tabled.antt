@@ -8,12 +8,13 @@ use Rattle.rv_text.specs.declared.call.Side.TheVariants.{Exchanges, Gives, Looks
 use Rattle.rv_text.specs.declared.call.Wait.{Wait}
 use Rattle.rv_session.specs.Owed.{Owed}
 use Rattle.rv_dual.specs.Offers.{duty_of, place_of, places_of}
+use Rattle.rv_dual.specs.Meanings.{TakenFront}
 use Rattle.rv_dual.specs.Queue.{IsAbove, Queue, SameLists}
 use Rattle.rv_dual.specs.declared.giver.Offer.{Offer}
-use Rattle.rv_book.specs.declared.account.Entry.{Entry}
+use Rattle.rv_account.specs.declared.entry.Entry.{Entry}
 use Rattle.rv_book.specs.declared.arrived.Arrived.{Arrived}
-use Rattle.rv_book.specs.Calls.{Lasts}
-use Rattle.rv_book.specs.Meeting.{ArrivedOn, FindsNobody, Gave, GaveNobody, GaveTo, LaysDown, StaysBy, OwnDuty, StandsBy, Took, TookFrom, TookNothing, offer_by, own_by}
+use Rattle.rv_account.specs.Calls.{Lasts}
+use Rattle.rv_book.specs.Meeting.{ArrivedOn, FindsNobody, Gave, GaveNobody, GaveTo, LaysDown, LeavesFirst, LeftFront, StaysBy, OwnDuty, StandsBy, Took, TookFrom, TookNothing, offer_by, own_by}
 use Rattle.rv_book.specs.Parked.{AreParked, IsParked, owed_at}
 use Rattle.rv_book.specs.Views.{AllEmpty, AreBelow, OnlyQueue, SameStations, Stations, exchanger_at, place_of_duty, queue_at, takers_places, waiting_on}
 use Rattle.rv_book.proofs.Numbers.{same_or_not}
@@ -142,6 +143,33 @@ place_of_offer_by (Some wait) duty = refl
 first_of : {X : Type 0} (xs ys : List X) (x : X) → xs ≡ x ∷ ys → slice_get xs 0 ≡ Some x
 first_of xs ys x is = ap (λ l. slice_get l 0) is
 
+-- ---- the first item leaves
+
+module _ (old new : Stations) (queue : ℕ) (changed : ChangedAt old new queue) where
+  first_leaves : (offer : Offer) → (queue_at old.queues queue).givers ≡ offer ∷ (queue_at new.queues queue).givers → (queue_at new.queues queue).takers ≡ (queue_at old.queues queue).takers
+      → LeavesFirst old new (Gives queue) (duty_of offer) (place_of offer)
+  first_leaves offer oldest takers = record {
+    first = ap places_of oldest;
+    others = givers_change old new queue changed takers;
+    duty_is = λ es parked. sym ((parked.queues queue).givers 0 offer (first_of (queue_at old.queues queue).givers (queue_at new.queues queue).givers offer oldest));
+    parked = λ es parked. parked_changed old new queue changed es parked (λ was. record {
+      givers = λ i other at. was.givers (suc i) other (ap (λ l. slice_get l (suc i)) oldest ∙ at);
+      takers = λ i other at. was.takers i other (sym (ap (λ l. slice_get l i) takers) ∙ at);
+    });
+  }
+
+  -- if there is one
+  pub front_left : (o : Option (Option Owed × ℕ)) → TakenFront (queue_at old.queues queue) (queue_at new.queues queue) o → LeftFront old new (Gives queue) o
+  front_left None none = (
+    ap places_of none.nobody,
+    nothing_changed old new queue changed (record { givers = ap (λ (q : Queue). q.givers) none.same; takers = ap (λ (q : Queue). q.takers) none.same }),
+  )
+  front_left (Some (duty, place)) out =
+      subst (λ d. LeavesFirst old new (Gives queue) d place) (sym out.duty_is)
+      (subst (LeavesFirst old new (Gives queue) (duty_of out.front)) (sym out.place_is) (first_leaves out.front out.leaves.oldest out.leaves.takers))
+
+-- ---- an arrival
+
 module _ (old new : Stations) (queue : ℕ) (changed : ChangedAt old new queue) (duty : Owed) where
   abbrev pub before : Queue
   before = queue_at old.queues queue
@@ -211,20 +239,14 @@ module _ (old new : Stations) (queue : ℕ) (changed : ChangedAt old new queue) 
   -- ---- an arrival that takes
 
   took_from : (wait : Option Wait) (result : Arrived) → TookFrom before after duty result → ArrivedOn old new (Takes queue) wait duty result
-  took_from wait result took = subst (ArrivedOn old new (Takes queue) wait duty) (sym took.is) (record {
-    meets = record {
-      other = Gives queue;
-      opposes = refl;
-      first = ap places_of took.oldest;
-      others = givers_change old new queue changed took.takers;
-    };
-    own = (refl, λ is. absurd (some_is_none (place_of took.offer) is));
-    other = λ es parked. sym ((parked.queues queue).givers 0 took.offer (first_of before.givers after.givers took.offer took.oldest));
-    parked = λ es parked owed. parked_changed old new queue changed es parked (λ was. record {
-      givers = λ i offer at. was.givers (suc i) offer (ap (λ l. slice_get l (suc i)) took.oldest ∙ at);
-      takers = λ i other at. was.takers i other (sym (ap (λ l. slice_get l i) took.takers) ∙ at);
-    });
-  })
+  took_from wait result took =
+      let leaves = first_leaves old new queue changed took.offer took.oldest took.takers in
+      subst (ArrivedOn old new (Takes queue) wait duty) (sym took.is) (record {
+        meets = record { other = Gives queue; opposes = refl; first = leaves.first; others = leaves.others };
+        own = (refl, λ is. absurd (some_is_none (place_of took.offer) is));
+        other = leaves.duty_is;
+        parked = λ es parked owed. leaves.parked es parked;
+      })
 
   pushed_takers : (es : List Entry) → owed_at es duty.place ≡ Some duty → after.takers ≡ before.takers ++ duty ∷ [] → after.givers ≡ before.givers → IsParked es before → IsParked es after
   pushed_takers es owed takers givers was = record {

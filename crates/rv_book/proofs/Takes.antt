@@ -7,7 +7,7 @@ use Rattle.rv_text.specs.declared.call.Side.TheVariants.{Gives}
 use Rattle.rv_text.specs.declared.call.Wait.{Wait}
 use Rattle.rv_text.proofs.Kept.{empty_fits}
 use Rattle.rv_session.specs.declared.kept.Kept as kept
-use Rattle.rv_book.specs.Account.{Account}
+use Rattle.rv_account.specs.Account.{Account}
 use Rattle.rv_book.specs.Arriving.{GoesOn, WillReply}
 use Rattle.rv_book.specs.Tables.{kept_at_once}
 use Rattle.rv_book.proofs.ByMeeting.{unmet_by}
@@ -23,6 +23,7 @@ module _ (queue : ℕ) (wait : Wait) where
   take_handed = record {
     waits = refl;
     opposes = refl;
+    single = refl;
     alone_fits = empty_fits;
     item_fits = λ item fits. fits;
     hands = λ giver is. gives_item giver queue is;

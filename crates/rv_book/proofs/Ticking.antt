@@ -2,11 +2,11 @@
 use Rattle.std.proofs.Common.{◌≡◌, ◌⊎◌, inl, inr, ℕ, ◌≤◌, List, [], ◌∷◌, ◌++◌, length, Option, Some, None, refl, sym, ap, subst, ◌∙◌, arith}
 use Rattle.std.proofs.lemmas.Bool.{cases_lt}
 use Rattle.std.proofs.lemmas.Option.{none-some, same_Some}
-use Rattle.rv_book.specs.declared.account.Act.TheVariants.{Arrive, Tick}
-use Rattle.rv_book.specs.declared.account.Entry.{Entry}
-use Rattle.rv_book.specs.Account.{Account, act_at, call_in, with_entry}
+use Rattle.rv_account.specs.declared.entry.Act.TheVariants.{Arrive, Tick}
+use Rattle.rv_account.specs.declared.entry.Entry.{Entry}
+use Rattle.rv_account.specs.Account.{Account, act_at, call_in, with_entry}
 use Rattle.rv_book.specs.Arriving.{entry}
-use Rattle.rv_book.specs.Legal.{IsDueAt, KeepsTime, Legal, NamesFreePartner, NothingDue, SomethingDue}
+use Rattle.rv_book.specs.Legal.{IsDueAt, KeepsTime, Legal, NamesFreePartners, NothingDue, SomethingDue}
 use Rattle.rv_book.specs.Steps.{Ticks}
 use Rattle.rv_book.specs.Waiting.{limit_at}
 use Rattle.rv_book.proofs.Deciding.{waits_or_not}
@@ -40,7 +40,7 @@ something_or_nothing es moment = elim (first_below (IsDueAt es moment) (due_or_n
 
 -- ---- what was due is no longer, behind a tick
 
-pub tick_ends : (es : List Entry) (e : Entry) → NamesFreePartner es e → e.act ≡ Tick → NothingDue (es ++ e ∷ []) e.moment
+pub tick_ends : (es : List Entry) (e : Entry) → NamesFreePartners es e → e.act ≡ Tick → NothingDue (es ++ e ∷ []) e.moment
 tick_ends es e free says r due = elim (Waiting-back es e r free due.waits) [
   | inl was ↦
       let opened = was.there.is_open in
@@ -69,7 +69,7 @@ with_tick a e time says legal = record {
       | inr last ↦ let same : e.moment ≡ earlier = same_Some _ _ last.1 in omega arith
     ];
   };
-  nothing_due = tick_ends a.entries e (follows_itself a e legal).pairs.names_free_partner says;
+  nothing_due = tick_ends a.entries e (follows_itself a e legal).pairs.names_free_partners says;
 }
 
 pub ticked : (before a : Account) (moment : ℕ) → Legal before → KeepsTime before moment → Ticks before moment a → IsTicked a moment
@@ -86,7 +86,7 @@ pub can_tick : (a : Account) (moment : ℕ) → Legal a → KeepsTime a moment �
 can_tick a moment legal time = elim (something_or_nothing a.entries moment) [
   | inr nothing ↦ (a, inr ((λ something. nothing something.0 something.1), refl), legal)
   | inl something ↦
-      let e = entry moment Tick None in
+      let e = entry moment Tick [] in
       let after = Legal-with_entry a e legal (tick_follows a moment time something) in
       (with_entry a e, inl (something, record { entry = e; moment_is = refl; act_is = refl; follows = refl; legal = after }), after)
 ]

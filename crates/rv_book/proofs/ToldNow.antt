@@ -5,7 +5,7 @@ use Rattle.std.proofs.lemmas.Option.{none-some, same_Some}
 use Rattle.rv_text.specs.declared.call.Side.{Side}
 use Rattle.rv_text.specs.declared.call.Side.TheVariants.{Gives}
 use Rattle.rv_book.specs.Counting.{NumberOf}
-use Rattle.rv_book.specs.declared.account.Entry.{Entry}
+use Rattle.rv_account.specs.declared.entry.Entry.{Entry}
 use Rattle.rv_book.specs.Parked.{AreStations, IsLine}
 use Rattle.rv_book.specs.Replies.{HasNoItem}
 use Rattle.rv_book.specs.Views.{Stations, waiting_on}

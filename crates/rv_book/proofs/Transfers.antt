@@ -10,14 +10,15 @@ use Rattle.rv_text.specs.Calls.{side_of}
 use Rattle.rv_text.specs.Limits.{FitsReply}
 use Rattle.rv_text.proofs.Kept.{nobody_fits, received_fits}
 use Rattle.rv_session.specs.declared.kept.Kept as kept
-use Rattle.rv_book.specs.declared.account.Act.TheVariants.{Arrive}
-use Rattle.rv_book.specs.declared.account.Entry.{Entry}
-use Rattle.rv_book.specs.Account.{Account, with_entry}
+use Rattle.rv_account.specs.declared.entry.Act.TheVariants.{Arrive}
+use Rattle.rv_account.specs.declared.entry.Entry.{Entry}
+use Rattle.rv_account.specs.Account.{Account, just, with_entry}
 use Rattle.rv_book.specs.Arriving.{GoesOn, IsKept, WillReply, entry}
 use Rattle.rv_book.specs.Tables.{kept_at_once, partners_reply}
 use Rattle.rv_book.specs.Waiting.{Met, NamesPartner}
 use Rattle.rv_book.proofs.ByMeeting.{RepliesByMeeting, laws_by, unmet_by}
-use Rattle.rv_book.proofs.Growing.{Met-on, call_read, partner_read}
+use Rattle.rv_book.proofs.Growing.{Met-on, NamesAt-last, call_read}
+use Rattle.rv_book.proofs.Naming.{just_names}
 use Rattle.rv_book.proofs.Opposites.{one_opposed}
 use Rattle.rv_book.proofs.Places.{get-append_end}
 use Rattle.rv_book.proofs.ReplyLaws.{ReplyLaws}
@@ -40,7 +41,7 @@ module _ (queue : ℕ) (item : List ℕ) (wait : Wait) where
     was_met = λ es r told tells. tells.0;
     exists = λ a r legal arrived met. (reply.TheVariants.Received, (met, refl));
     stays = λ es more r told tells. (Met-on es more r tells.0, tells.1);
-    one = λ b r x y legal first second. second.1 ∙ sym first.1;
+    one = λ b r x y legal arrived first second. second.1 ∙ sym first.1;
     fits = λ a r told within tells. subst FitsReply (sym tells.1) received_fits;
   }
 
@@ -54,12 +55,12 @@ module _ (queue : ℕ) (item : List ℕ) (wait : Wait) where
 
   pub received_replies : (a : Account) (place : ℕ) → WillReply a own (Some place) kept.TheVariants.Received
   received_replies a place moment key before after =
-      let e = entry moment (Arrive key own) (Some place) in
+      let e = entry moment (Arrive key own) (just (Some place)) in
       let names : NamesPartner (with_entry a e).entries (length a.entries) place = record {
         call = own;
         arrived = ap call_read (get-append_end a.entries e);
         meets = refl;
-        named = ap partner_read (get-append_end a.entries e);
+        named = NamesAt-last a.entries e place (just_names place);
       } in
       received (with_entry a e).entries (length a.entries) (record { later = length a.entries; earlier = place; names = names; part = inl refl })
 

@@ -11,19 +11,19 @@ use Rattle.rv_text.specs.declared.call.Wait.TheVariants.{Now, Millis, Forever}
 use Rattle.rv_text.specs.Calls.{wait_of}
 use Rattle.rv_text.specs.Limits.{FitsReply}
 use Rattle.rv_text.proofs.Kept.{cancelled_fits, timed_out_fits}
-use Rattle.rv_book.specs.declared.account.Act.{Act}
-use Rattle.rv_book.specs.declared.account.Act.TheVariants.{Hello, Arrive, Cancel, Tick}
-use Rattle.rv_book.specs.declared.account.Entry.{Entry}
-use Rattle.rv_book.specs.Account.{Account, call_at}
+use Rattle.rv_account.specs.declared.entry.Act.{Act}
+use Rattle.rv_account.specs.declared.entry.Act.TheVariants.{Hello, Arrive, Cancel, Tick}
+use Rattle.rv_account.specs.declared.entry.Entry.{Entry}
+use Rattle.rv_account.specs.Account.{Account, call_at}
 use Rattle.rv_session.specs.declared.kept.Kept.{Kept}
 use Rattle.rv_book.specs.Arriving.{GoesOn}
 use Rattle.rv_book.specs.Tables.{kept_at_once}
 use Rattle.rv_book.specs.Verdicts.{reply_of}
-use Rattle.rv_book.specs.Calls.{Lasts, MayMeet}
+use Rattle.rv_account.specs.Calls.{Lasts, MayMeet}
 use Rattle.rv_book.specs.Legal.{Legal}
 use Rattle.rv_book.specs.Replies.{RepliesUnmet, ToldStopped, told_by}
 use Rattle.rv_book.specs.Waiting.{EndsWait, Met, NamesPartner, Open, Stopped, StoppedAt, Waiting, limit_at, limit_in}
-use Rattle.rv_book.proofs.Growing.{StoppedAt-on, act_read, call_read, partner_read, reads_on, reads_within}
+use Rattle.rv_book.proofs.Growing.{StoppedAt-on, act_read, call_read, reads_on, reads_within}
 use Rattle.rv_book.proofs.Deciding.{lasts_or_not}
 use Rattle.rv_book.proofs.FirstStops.{one_told_stopped, told_on, told_or_not}
 use Rattle.rv_book.proofs.Fronts.{read_front}
@@ -89,7 +89,7 @@ names_before es more p q inside names =
       call = names.call;
       arrived = sym (ap call_read same) ∙ names.arrived;
       meets = names.meets;
-      named = sym (ap partner_read same) ∙ names.named;
+      named = record { entry = names.named.entry; there = sym same ∙ names.named.there; names = names.named.names };
     }
 
 -- an unmet arrival that nobody names later stays unmet

@@ -12,19 +12,20 @@ use Rattle.rv_text.specs.declared.message.Key.{Key}
 use Rattle.rv_text.specs.Calls.{side_of, wait_of}
 use Rattle.rv_session.specs.Owed.{Owed}
 use Rattle.rv_dual.specs.Offers.{place_of, places_of}
-use Rattle.rv_book.specs.Account.{Account, act_at, call_at, call_in}
+use Rattle.rv_account.specs.Account.{Account, Names, act_at, call_at, call_in, just}
 use Rattle.rv_book.specs.Arriving.{MeetsOldest}
-use Rattle.rv_book.specs.Calls.{Stays}
-use Rattle.rv_book.specs.declared.account.Act.TheVariants.{Arrive}
-use Rattle.rv_book.specs.declared.account.Entry.{Entry}
+use Rattle.rv_account.specs.Calls.{Stays}
+use Rattle.rv_account.specs.declared.entry.Act.TheVariants.{Arrive}
+use Rattle.rv_account.specs.declared.entry.Entry.{Entry}
 use Rattle.rv_book.specs.declared.arrived.Arrived.{Arrived}
-use Rattle.rv_book.specs.Legal.{Legal, NamesFreePartner}
-use Rattle.rv_book.specs.Meeting.{ArrivedOn, FindsNobody, Leaves, StaysBy, Meets, MeetsFirst}
+use Rattle.rv_book.specs.Legal.{Legal, NamesFreePartners}
+use Rattle.rv_book.specs.Meeting.{ArrivedOn, FindsNobody, StaysBy, Meets, MeetsFirst}
 use Rattle.rv_book.specs.Parked.{AreParked, AreStations, IsLine, IsLineOf, owed_at, owed_by, owed_in}
 use Rattle.rv_book.specs.Views.{AreBelow, NobodyWaits, SameStations, Stations, place_of_duty, takers_places, waiting_on}
 use Rattle.rv_book.specs.Waiting.{OpenAt, StoppedAt, IsOldest}
 use Rattle.rv_book.proofs.Deciding.{same_side}
-use Rattle.rv_book.proofs.Growing.{act_read, call_read, partner_read, reads_within}
+use Rattle.rv_book.proofs.Growing.{NamesAt-last, act_read, call_read, reads_within}
+use Rattle.rv_book.proofs.Naming.{just_none, names_it, names_only}
 use Rattle.rv_book.proofs.Places.{get-append_cases, get-append, get-append_end, get-append_within}
 use Rattle.rv_book.proofs.Sides.{IsNewOn, OpenAt-back, OpenAt-last, OpenAt-on, arrival_stops_nobody, one_side}
 use Rattle.rv_book.proofs.Tabled.{same_parked, same_waiting}
@@ -34,10 +35,10 @@ use Rattle.rv_book.proofs.Withdrawn.{differs, filter_get, get_filter}
 
 -- the entry neither names nor stops an arrival that is open on the side
 pub record Untouched (es : List Entry) (e : Entry) (side : Side) : Type 0 where
-  pub unnamed : (r : ℕ) → OpenAt es side r → e.partner ≡ Some r → ⊥
+  pub unnamed : (r : ℕ) → OpenAt es side r → Names e r → ⊥
   pub unstopped : (r : ℕ) → OpenAt es side r → StoppedAt (es ++ e ∷ []) r (length es) → ⊥
 
-pub line_same : (es : List Entry) (e : Entry) (side : Side) (places : List ℕ) → IsLine es side places → NamesFreePartner es e → Untouched es e side
+pub line_same : (es : List Entry) (e : Entry) (side : Side) (places : List ℕ) → IsLine es side places → NamesFreePartners es e → Untouched es e side
     → (OpenAt (es ++ e ∷ []) side (length es) → ⊥) → IsLine (es ++ e ∷ []) side places
 line_same es e side places line free untouched other = record {
   are = λ i r at. let opened = line.are i r at in OpenAt-on es e side r opened (untouched.unnamed r opened) (untouched.unstopped r opened);
@@ -48,7 +49,7 @@ line_same es e side places line free untouched other = record {
   rising = line.rising;
 }
 
-pub line_push : (a : Account) (e : Entry) (side : Side) (places : List ℕ) → IsLine a.entries side places → Legal a → NamesFreePartner a.entries e → Untouched a.entries e side → e.partner ≡ None
+pub line_push : (a : Account) (e : Entry) (side : Side) (places : List ℕ) → IsLine a.entries side places → Legal a → NamesFreePartners a.entries e → Untouched a.entries e side → e.partners ≡ just None
     → IsNewOn e side → IsLine (a.entries ++ e ∷ []) side (places ++ length a.entries ∷ [])
 line_push a e side places line legal free untouched none new =
     let es : List Entry = a.entries in
@@ -76,13 +77,13 @@ line_push a e side places line legal free untouched none new =
       ];
     }
 
-pub line_drop : (es : List Entry) (e : Entry) (side : Side) (p : ℕ) (places : List ℕ) → IsLine es side (p ∷ places) → NamesFreePartner es e
-    → e.partner ≡ Some p → ((r : ℕ) → OpenAt es side r → StoppedAt (es ++ e ∷ []) r (length es) → ⊥) → (OpenAt (es ++ e ∷ []) side (length es) → ⊥) → IsLine (es ++ e ∷ []) side places
+pub line_drop : (es : List Entry) (e : Entry) (side : Side) (p : ℕ) (places : List ℕ) → IsLine es side (p ∷ places) → NamesFreePartners es e
+    → e.partners ≡ just (Some p) → ((r : ℕ) → OpenAt es side r → StoppedAt (es ++ e ∷ []) r (length es) → ⊥) → (OpenAt (es ++ e ∷ []) side (length es) → ⊥) → IsLine (es ++ e ∷ []) side places
 line_drop es e side p places line free named unstopped other = record {
   are = λ i r at.
       let opened = line.are (suc i) r at in
       OpenAt-on es e side r opened
-      (λ also. let above : p < r = line.rising 0 (suc i) p r (omega arith) refl at in let one : r ≡ p = same_Some _ _ (sym also ∙ named) in omega arith)
+      (λ also. let above : p < r = line.rising 0 (suc i) p r (omega arith) refl at in let one : p ≡ r = same_Some _ _ (names_only e (Some p) r named also) in omega arith)
       (unstopped r opened);
   each = λ r opened. elim (OpenAt-back es e side r free opened) [
     | inl was ↦ behind r was.unnamed (line.each r was.there)
@@ -91,8 +92,8 @@ line_drop es e side p places line free named unstopped other = record {
   rising = λ i j q r less at_i at_j. line.rising (suc i) (suc j) q r (omega arith) at_i at_j;
 }
   where
-    behind : (r : ℕ) → (e.partner ≡ Some r → ⊥) → (i : ℕ) × (slice_get (p ∷ places) i ≡ Some r) → (i : ℕ) × (slice_get places i ≡ Some r)
-    behind r unnamed (zero, at) = absurd (unnamed (named ∙ at))
+    behind : (r : ℕ) → (Names e r → ⊥) → (i : ℕ) × (slice_get (p ∷ places) i ≡ Some r) → (i : ℕ) × (slice_get places i ≡ Some r)
+    behind r unnamed (zero, at) = absurd (unnamed (subst (Names e) (same_Some _ _ at) (names_it e p named)))
     behind r unnamed (suc i, at) = (i, at)
 
 -- places rise
@@ -138,30 +139,24 @@ line_but P places p line = record {
   rising = rises_on p places line.rising;
 }
 
--- the entry stops the one that stands at p, and no other of the side
-pub line_without : (es : List Entry) (e : Entry) (side : Side) (places : List ℕ) (p : ℕ) → IsLine es side places → NamesFreePartner es e → e.partner ≡ None
-    → StoppedAt (es ++ e ∷ []) p (length es) → ((r : ℕ) → OpenAt es side r → StoppedAt (es ++ e ∷ []) r (length es) → r ≡ p) → (OpenAt (es ++ e ∷ []) side (length es) → ⊥)
-    → IsLine (es ++ e ∷ []) side (filter (λ r. not (r == p)) places)
-line_without es e side places p line free none stops only other = record {
-  are = λ i r at.
-      let old = filter_get (λ n. not (n == p)) places i r at in
-      let opened = line.are old.0 r old.1 in
-      OpenAt-on es e side r opened (λ named. none-some r (sym none ∙ named)) (λ stopped. passes_not r p old.2 (only r opened stopped));
-  each = λ r opened. elim (OpenAt-back es e side r free opened) [
-    | inl was ↦
-        let old = line.each r was.there in
-        get_filter (λ n. not (n == p)) places old.0 r old.1 (differs r p (λ same. was.unstopped (subst (λ n. StoppedAt (es ++ e ∷ []) n (length es)) (sym same) stops)))
-    | inr new ↦ absurd (other (subst (OpenAt (es ++ e ∷ []) side) new.0 opened))
-  ];
-  rising = rises_on p places line.rising;
+-- the first of a line left it
+pub line_front : (P : ℕ → Type 0) (p : ℕ) (places : List ℕ) → IsLineOf P (p ∷ places) → IsLineOf (λ r. P r × (r ≡ p → ⊥)) places
+line_front P p places line = record {
+  are = λ i r at. (line.are (suc i) r at, λ same. let above : p < r = line.rising 0 (suc i) p r (omega arith) refl at in omega arith);
+  each = λ r has. behind r has.1 (line.each r has.0);
+  rising = λ i j q r less at_i at_j. line.rising (suc i) (suc j) q r (omega arith) at_i at_j;
 }
+  where
+    behind : (r : ℕ) → (r ≡ p → ⊥) → (i : ℕ) × (slice_get (p ∷ places) i ≡ Some r) → (i : ℕ) × (slice_get places i ≡ Some r)
+    behind r apart (zero, at) = absurd (apart (sym (same_Some _ _ at)))
+    behind r apart (suc i, at) = (i, at)
 
 -- ---- all sides
 
 -- the last entry is met, where it names a partner
-pub met_last : (es : List Entry) (e : Entry) (side : Side) (p : ℕ) → NamesFreePartner es e → e.partner ≡ Some p → OpenAt (es ++ e ∷ []) side (length es) → ⊥
+pub met_last : (es : List Entry) (e : Entry) (side : Side) (p : ℕ) → NamesFreePartners es e → Names e p → OpenAt (es ++ e ∷ []) side (length es) → ⊥
 met_last es e side p free named opened =
-    let partner = free p named in
+    let partner = free.free p named in
     opened.is_open.unmet (record {
       later = length es;
       earlier = p;
@@ -169,7 +164,7 @@ met_last es e side p free named opened =
         call = partner.call;
         arrived = ap call_read (get-append_end es e) ∙ partner.arrives;
         meets = partner.meets;
-        named = ap partner_read (get-append_end es e) ∙ named;
+        named = NamesAt-last es e p named;
       };
       part = inl refl;
     })
@@ -228,7 +223,7 @@ meets_partner es old new side wait place (Some p) are meets =
 
 -- ---- after an arrival
 
-module _ (a : Account) (e : Entry) (old new : Stations) (key : Key) (call : Call) (legal : Legal a) (are : AreStations a.entries old) (free : NamesFreePartner a.entries e)
+module _ (a : Account) (e : Entry) (old new : Stations) (key : Key) (call : Call) (legal : Legal a) (are : AreStations a.entries old) (free : NamesFreePartners a.entries e)
     (arrives : e.act ≡ Arrive key call) where
   unstopped : (r : ℕ) → StoppedAt (a.entries ++ e ∷ []) r (length a.entries) → ⊥
   unstopped r stopped = arrival_stops_nobody a.entries e key call r arrives stopped
@@ -241,29 +236,29 @@ module _ (a : Account) (e : Entry) (old new : Stations) (key : Key) (call : Call
       let again : opened.is_open.call ≡ call = same_Some _ _ (sym opened.is_open.arrived ∙ there) in
       record { call = call; arrives = ap call_in arrives; is = ap side_of (sym called) ∙ opened.of_side.is; stays = subst Stays again opened.is_open.stays }
 
-  met_lines : (p : ℕ) → e.partner ≡ Some p → MeetsFirst old new (side_of call) p → (side : Side) → IsLine (a.entries ++ e ∷ []) side (waiting_on new side)
+  met_lines : (p : ℕ) → e.partners ≡ just (Some p) → MeetsFirst old new (side_of call) p → (side : Side) → IsLine (a.entries ++ e ∷ []) side (waiting_on new side)
   met_lines p named meets side = elim (same_side side meets.other) [
     | inl same ↦
         subst (λ s. IsLine (a.entries ++ e ∷ []) s (waiting_on new s)) (sym same)
         (line_drop a.entries e meets.other p (waiting_on new meets.other) (subst (IsLine a.entries meets.other) meets.first (are.lines meets.other)) free named
-        (λ r opened. unstopped r) (met_last a.entries e meets.other p free named))
+        (λ r opened. unstopped r) (met_last a.entries e meets.other p free (names_it e p named)))
     | inr apart ↦
         let first = (are.lines meets.other).are 0 p (ap (λ l. slice_get l 0) meets.first) in
         subst (IsLine (a.entries ++ e ∷ []) side) (sym (meets.others side apart))
         (line_same a.entries e side (waiting_on old side) (are.lines side) free
         (record {
           unnamed = λ r opened also.
-              let same : r ≡ p = same_Some _ _ (sym also ∙ named) in
+              let same : r ≡ p = sym (same_Some _ _ (names_only e (Some p) r named also)) in
               apart (one_side a.entries side meets.other p (subst (OpenAt a.entries side) same opened).of_side first.of_side);
           unstopped = λ r opened. unstopped r;
         })
-        (met_last a.entries e side p free named))
+        (met_last a.entries e side p free (names_it e p named)))
   ]
 
-  untouched : e.partner ≡ None → (side : Side) → Untouched a.entries e side
-  untouched none side = record { unnamed = λ r opened named. none-some r (sym none ∙ named); unstopped = λ r opened. unstopped r }
+  untouched : e.partners ≡ just None → (side : Side) → Untouched a.entries e side
+  untouched none side = record { unnamed = λ r opened. just_none e r none; unstopped = λ r opened. unstopped r }
 
-  unmet_lines : (wait : Option Wait) → wait_of call ≡ wait → e.partner ≡ None → Meets old new (side_of call) wait (length a.entries) None → (side : Side) → IsLine (a.entries ++ e ∷ []) side (waiting_on new side)
+  unmet_lines : (wait : Option Wait) → wait_of call ≡ wait → e.partners ≡ just None → Meets old new (side_of call) wait (length a.entries) None → (side : Side) → IsLine (a.entries ++ e ∷ []) side (waiting_on new side)
   unmet_lines wait is none (inl (may, waits)) side = elim (same_side side (side_of call)) [
     | inl same ↦
         subst (λ s. IsLine (a.entries ++ e ∷ []) s (waiting_on new s)) (sym same)
@@ -284,7 +279,7 @@ module _ (a : Account) (e : Entry) (old new : Stations) (key : Key) (call : Call
       let called : own.call ≡ call = same_Some _ _ (sym own.arrives ∙ ap call_in arrives) in
       goes.0 (subst (StaysBy (side_of call)) is (subst Stays called own.stays))))
 
-  by_partner : (partner : Option ℕ) → e.partner ≡ partner → Meets old new (side_of call) (wait_of call) (length a.entries) partner → (side : Side) → IsLine (a.entries ++ e ∷ []) side (waiting_on new side)
+  by_partner : (partner : Option ℕ) → e.partners ≡ just partner → Meets old new (side_of call) (wait_of call) (length a.entries) partner → (side : Side) → IsLine (a.entries ++ e ∷ []) side (waiting_on new side)
   by_partner None named meets = unmet_lines (wait_of call) refl named meets
   by_partner (Some p) named meets = met_lines p named meets
 
@@ -299,7 +294,7 @@ module _ (a : Account) (e : Entry) (old new : Stations) (key : Key) (call : Call
       by_wait (Some wait) = refl
 
   -- after an arrival the table has each side's open arrivals
-  pub stations_after : (duty : Owed) (result : Arrived) → duty ≡ record { place = length a.entries; client = key.client } → e.partner ≡ result.partner
+  pub stations_after : (duty : Owed) (result : Arrived) → duty ≡ record { place = length a.entries; client = key.client } → e.partners ≡ just result.partner
       → ArrivedOn old new (side_of call) (wait_of call) duty result → AreStations (a.entries ++ e ∷ []) new
   stations_after duty result is named arrived = record {
     lines = by_partner result.partner named (subst (λ (d : Owed). Meets old new (side_of call) (wait_of call) d.place result.partner) is arrived.meets);
@@ -311,45 +306,9 @@ module _ (a : Account) (e : Entry) (old new : Stations) (key : Key) (call : Call
 -- the entry names nobody, and these are the arrivals that it stops
 pub record Stops (es : List Entry) (e : Entry) (P : ℕ → Type 0) : Type 0 where
   pub no_call : call_in e.act ≡ None
-  pub none : e.partner ≡ None
+  pub none : e.partners ≡ just None
   pub stops : (r : ℕ) → P r → StoppedAt (es ++ e ∷ []) r (length es)
   pub stopped : (r : ℕ) → StoppedAt (es ++ e ∷ []) r (length es) → P r
-
-module _ (es : List Entry) (e : Entry) (P : ℕ → Type 0) (free : NamesFreePartner es e) (is : Stops es e P) where
-  pub no_arrival : (side : Side) → OpenAt (es ++ e ∷ []) side (length es) → ⊥
-  no_arrival side opened =
-      none-some opened.of_side.call (sym (ap call_read (get-append_end es e) ∙ is.no_call) ∙ opened.of_side.arrived)
-
-  -- it stops nobody who is open
-  pub stations_unmoved : (stations : Stations) → AreStations es stations → ((side : Side) (r : ℕ) → OpenAt es side r → P r → ⊥) → AreStations (es ++ e ∷ []) stations
-  stations_unmoved stations are idle = record {
-    lines = λ side. line_same es e side (waiting_on stations side) (are.lines side) free (record {
-      unnamed = λ r opened named. none-some r (sym is.none ∙ named);
-      unstopped = λ r opened stopped. idle side r opened (is.stopped r stopped);
-    }) (no_arrival side);
-    parked = parked_on es e stations are;
-  }
-
-  -- the one whom it stops was taken out
-  pub stations_left : (old new : Stations) (side : Side) (duty : Owed) (result : Option Owed) → AreStations es old → Leaves old new side duty result → OpenAt es side duty.place → P duty.place
-      → ((other : Side) (r : ℕ) → OpenAt es other r → P r → r ≡ duty.place) → AreStations (es ++ e ∷ []) new
-  stations_left old new side duty result are leaves opened own only = record {
-    lines = λ other. elim (same_side other side) [
-      | inl same ↦
-          subst (λ s. IsLine (es ++ e ∷ []) s (waiting_on new s)) (sym same)
-          (subst (IsLine (es ++ e ∷ []) side) (sym leaves.places)
-          (line_without es e side (waiting_on old side) duty.place (are.lines side) free is.none (is.stops duty.place own) (λ r there stopped. only side r there (is.stopped r stopped)) (no_arrival side)))
-      | inr apart ↦
-          subst (IsLine (es ++ e ∷ []) other) (sym (leaves.others other apart))
-          (line_same es e other (waiting_on old other) (are.lines other) free (record {
-            unnamed = λ r there named. none-some r (sym is.none ∙ named);
-            unstopped = λ r there stopped.
-                let same : r ≡ duty.place = only other r there (is.stopped r stopped) in
-                apart (one_side es other side duty.place (subst (OpenAt es other) same there).of_side opened.of_side);
-          }) (no_arrival other))
-    ];
-    parked = leaves.parked (es ++ e ∷ []) (parked_on es e old are);
-  }
 
 -- ---- an empty account
 

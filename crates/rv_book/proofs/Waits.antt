@@ -5,9 +5,9 @@ use Rattle.std.proofs.lemmas.Bool.{cases_order}
 use Rattle.std.proofs.lemmas.Option.{same_Some}
 use Rattle.rv_text.specs.declared.message.Key.{Key}
 use Rattle.rv_text.specs.declared.call.Call.{Call}
-use Rattle.rv_book.specs.declared.account.Act.TheVariants.{Hello, Arrive, Cancel}
-use Rattle.rv_book.specs.Account.{Account, act_at, key_in, call_in}
-use Rattle.rv_book.specs.Calls.{IsPut}
+use Rattle.rv_account.specs.declared.entry.Act.TheVariants.{Hello, Arrive, Cancel}
+use Rattle.rv_account.specs.Account.{Account, act_at, key_in, call_in}
+use Rattle.rv_account.specs.Calls.{IsPut}
 use Rattle.rv_book.specs.Sessions.{HasIncarnation, LastHello, LastNumber, NamesKey}
 use Rattle.rv_book.specs.Legal.{IsNextNumber, Legal, WaitsUnder, before}
 use Rattle.rv_book.specs.Waiting.{EndsWait, Waiting, limit_at}

@@ -14,10 +14,10 @@ use Rattle.rv_dual.specs.Queue.{Queue}
 use Rattle.rv_dual.specs.Withdrawing.{WaitsAt, Withdraws, without_giver, without_taker}
 use Rattle.rv_dual.specs.declared.giver.Offer.{Offer}
 use Rattle.rv_dual.specs.declared.giver.Offer.TheVariants.{Put, Waits}
-use Rattle.rv_book.specs.declared.account.Act.{Act}
-use Rattle.rv_book.specs.declared.account.Act.TheVariants.{Arrive, Cancel, Hello, Tick}
-use Rattle.rv_book.specs.declared.account.Entry.{Entry}
-use Rattle.rv_book.specs.Account.{act_at}
+use Rattle.rv_account.specs.declared.entry.Act.{Act}
+use Rattle.rv_account.specs.declared.entry.Act.TheVariants.{Arrive, Cancel, Hello, Tick}
+use Rattle.rv_account.specs.declared.entry.Entry.{Entry}
+use Rattle.rv_account.specs.Account.{act_at}
 use Rattle.rv_book.specs.Meeting.{Leaves, StandsOn}
 use Rattle.rv_book.specs.Parked.{AreParked, IsParked, owed_at, owed_by, owed_in}
 use Rattle.rv_book.specs.Views.{Stations, queue_at, takers_places}

@@ -9,21 +9,18 @@ use Rattle.rv_text.specs.declared.answer.Answer.{Answer}
 use Rattle.rv_text.specs.declared.answer.Answer as answer
 use Rattle.rv_book.specs.declared.verdict.Said.{Said}
 use Rattle.rv_book.specs.declared.verdict.Said as said
-use Rattle.rv_book.specs.declared.account.Entry.{Entry}
-use Rattle.rv_book.specs.declared.account.Act.{Act}
-use Rattle.rv_book.specs.declared.account.Act.TheVariants.{Arrive, Cancel}
+use Rattle.rv_account.specs.declared.entry.Entry.{Entry}
+use Rattle.rv_account.specs.declared.entry.Act.TheVariants.{Arrive, Cancel}
 use Rattle.rv_session.specs.declared.kept.Kept.{Kept}
-use Rattle.rv_book.specs.Account.{Account, with_entry}
-use Rattle.rv_book.specs.Calls.{opposite, IsPut, Stays}
+use Rattle.rv_account.specs.Account.{Account, just, with_entry}
+pub use Rattle.rv_account.specs.Account.{entry}
+use Rattle.rv_account.specs.Calls.{opposite, IsPut, Stays}
 use Rattle.rv_book.specs.Waiting.{IsOldest, OpenAt}
 use Rattle.rv_book.specs.Sessions.{HasIncarnation, LastNumber}
 use Rattle.rv_book.specs.Legal.{HasWaiting, Legal}
 use Rattle.rv_book.specs.Replies.{RepliesAt}
 use Rattle.rv_book.specs.Steps.{Adds, Answers, Replies}
 use Rattle.rv_book.specs.Verdicts.{answer_of, reply_of}
-
-abbrev pub entry : ℕ → Act → Option ℕ → Entry
-entry moment does partner = record { moment = moment; act = does; partner = partner }
 
 -- the key is of its client's session in this epoch, with the next number
 pub record IsNext (a : Account) (key : Key) : Type 0 where
@@ -54,7 +51,7 @@ pub record GoesOn (call : Call) (partner : Option ℕ) : Type 0 where
 -- what is kept will be the reply, where the call arrives behind the account with this partner
 abbrev pub WillReply : Account → Call → Option ℕ → Kept → Type 0
 WillReply a call partner kept = (moment : ℕ) (key : Key) → Legal a
-    → let b = with_entry a (entry moment (Arrive key call) partner) in
+    → let b = with_entry a (entry moment (Arrive key call) (just partner)) in
     Legal b → IsKept b.entries (length a.entries) call kept
 
 -- what is said to a request: the reply that is kept for it, or that it waits

@@ -7,7 +7,7 @@ use Rattle.rv_text.specs.declared.call.Call.{Call}
 use Rattle.rv_text.specs.Calls.{wait_of}
 use Rattle.rv_due.specs.Deadlines.{Deadlines}
 use Rattle.rv_session.specs.Owed.{Owed}
-use Rattle.rv_book.specs.declared.account.Entry.{Entry}
+use Rattle.rv_account.specs.declared.entry.Entry.{Entry}
 use Rattle.rv_book.specs.Waiting.{limit_at, Waiting}
 
 -- the deadlines are those of the requests with a property, each with its limit

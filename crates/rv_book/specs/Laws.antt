@@ -8,8 +8,8 @@ use Rattle.rv_text.specs.declared.answer.Answer.{Answer}
 use Rattle.rv_text.specs.declared.answer.Answer.TheVariants.{Refused, Replied}
 use Rattle.rv_text.specs.declared.answer.Reply.TheVariants.{Cancelled}
 use Rattle.rv_text.specs.declared.answer.Refusal.TheVariants.{NoMemory}
-use Rattle.rv_book.specs.declared.account.Act.TheVariants.{Hello, Arrive, Cancel}
-use Rattle.rv_book.specs.Account.{Account, Extends}
+use Rattle.rv_account.specs.declared.entry.Act.TheVariants.{Hello, Arrive, Cancel}
+use Rattle.rv_account.specs.Account.{Account, Extends}
 use Rattle.rv_book.specs.Legal.{Legal}
 use Rattle.rv_book.specs.Replies.{HasReply}
 use Rattle.rv_book.specs.Steps.{CancelLines, HelloLines, RequestLines, Adds, Answers, Replies, Next, Ticks}

@@ -1,14 +1,15 @@
 -- Which entry may stand behind which entries, and so which accounts are legal.
-use Rattle.std.specs.Prelude.{◌≡◌, ◌⊎◌, ◌<◌, ◌≤◌, ◌+◌, ℕ, List, length, take, Some, None, slice_get}
+use Rattle.std.specs.Prelude.{◌≡◌, ◌⊎◌, ◌<◌, ◌≤◌, ◌+◌, ℕ, List, length, take, Some, slice_get}
+use Rattle.std.specs.List.Sorted.{IsStrictlyIncreasing}
 use Rattle.rv_text.specs.declared.message.Key.{Key}
 use Rattle.rv_text.specs.declared.call.Call.{Call}
 use Rattle.rv_text.specs.declared.call.Side.{Side}
 use Rattle.rv_text.specs.Calls.{side_of}
-use Rattle.rv_book.specs.declared.account.Entry.{Entry}
-use Rattle.rv_book.specs.declared.account.Act.{Act}
-use Rattle.rv_book.specs.declared.account.Act.TheVariants.{Hello, Arrive, Cancel, Tick}
-use Rattle.rv_book.specs.Account.{Account, act_at, moment_at, call_in, key_in}
-use Rattle.rv_book.specs.Calls.{MayMeet, opposite}
+use Rattle.rv_account.specs.declared.entry.Entry.{Entry}
+use Rattle.rv_account.specs.declared.entry.Act.{Act}
+use Rattle.rv_account.specs.declared.entry.Act.TheVariants.{Hello, Arrive, Cancel, Tick}
+use Rattle.rv_account.specs.Account.{Account, Names, act_at, moment_at, call_in, key_in}
+use Rattle.rv_account.specs.Calls.{MayMeet, may_name, opposite}
 use Rattle.rv_book.specs.Sessions.{HasIncarnation, HasOnlyLower, LastNumber, NamesKey}
 use Rattle.rv_book.specs.Waiting.{limit_at, Met, SideAt, OpenAt, Waiting}
 
@@ -110,8 +111,11 @@ pub record IsFreePartner (entries : List Entry) (e : Entry) (p : ℕ) : Type 0 w
   pub earlier : p < length entries
   pub unmet : ¬ Met entries p
 
-abbrev pub NamesFreePartner : List Entry → Entry → Type 0
-NamesFreePartner entries e = (p : ℕ) → e.partner ≡ Some p → IsFreePartner entries e p
+-- the partners that an entry names rise, and are no more than its call may name; each is free
+pub record NamesFreePartners (entries : List Entry) (e : Entry) : Type 0 where
+  pub rising : IsStrictlyIncreasing e.partners
+  pub few : (call : Call) → call_in e.act ≡ Some call → length e.partners ≤ may_name call
+  pub free : (p : ℕ) → Names e p → IsFreePartner entries e p
 
 -- at p stands an open arrival of the other side of the call's queue, or one at its exchanger
 pub record IsOpenOpposite (entries : List Entry) (call : Call) (p : ℕ) : Type 0 where
@@ -119,24 +123,25 @@ pub record IsOpenOpposite (entries : List Entry) (call : Call) (p : ℕ) : Type 
   pub opposes : opposite (side_of call) ≡ Some side
   pub there : OpenAt entries side p
 
--- a call's partner is open, and stands on the other side of its queue, or at its exchanger
+-- each partner of a call is open, and stands on the other side of its queue, or at its exchanger
 abbrev pub PairsOpposites : List Entry → Entry → Type 0
-PairsOpposites entries e = (p : ℕ) (call : Call) → e.partner ≡ Some p → call_in e.act ≡ Some call
+PairsOpposites entries e = (p : ℕ) (call : Call) → Names e p → call_in e.act ≡ Some call
     → MayMeet call → IsOpenOpposite entries call p
 
--- no open arrival of the partner's side stands before the partner
+-- an open arrival of a partner's side that stands before that partner is a partner too
 abbrev pub PairsOldest : List Entry → Entry → Type 0
-PairsOldest entries e = (p r : ℕ) (side : Side) → e.partner ≡ Some p → SideAt entries side p → r < p
-    → ¬ OpenAt entries side r
+PairsOldest entries e = (p r : ℕ) (side : Side) → Names e p → SideAt entries side p → r < p
+    → OpenAt entries side r → Names e r
 
--- an arrival without a partner finds no open arrival of the other side of its queue, nor one at its exchanger
+-- an arrival with fewer partners than it may name names all open arrivals of the other side of its queue, or
+-- at its exchanger
 abbrev pub PairsWherePossible : List Entry → Entry → Type 0
-PairsWherePossible entries e = (r : ℕ) (call : Call) → e.partner ≡ None → call_in e.act ≡ Some call
-    → ¬ IsOpenOpposite entries call r
+PairsWherePossible entries e = (r : ℕ) (call : Call) → call_in e.act ≡ Some call
+    → length e.partners < may_name call → IsOpenOpposite entries call r → Names e r
 
 -- what an entry keeps of the pairs and swaps
 pub record KeepsPairs (entries : List Entry) (e : Entry) : Type 0 where
-  pub names_free_partner : NamesFreePartner entries e
+  pub names_free_partners : NamesFreePartners entries e
   pub pairs_opposites : PairsOpposites entries e
   pub pairs_oldest : PairsOldest entries e
   pub pairs_where_possible : PairsWherePossible entries e

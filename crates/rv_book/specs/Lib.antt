@@ -1,6 +1,4 @@
 -- What a reader must agree with: all that the public contracts and the laws cite.
-pub mod Account
-pub mod Calls
 pub mod Counting
 pub mod Waiting
 pub mod Sessions
@@ -19,4 +17,6 @@ pub mod Arriving
 pub mod Tables
 -- What only private clauses and proofs cite.
 pub mod Meeting
+pub mod TakingOut
 pub mod Ending
+pub mod Draining

@@ -1,7 +1,10 @@
 -- What an arrival does to those who wait, by its side and its wait.
-use Rattle.std.specs.Prelude.{◌≡◌, ◌≢◌, ◌⊎◌, ◌<◌, ◌==◌, ℕ, List, [], ◌∷◌, ◌++◌, not, Option, Some, None}
-use Rattle.std.specs.Prelude.{IsSome, option_and_then, slice_get}
+use Rattle.std.specs.Prelude.{◌≡◌, ◌≢◌, ◌⊎◌, ◌<◌, ◌≤◌, ◌==◌, ℕ, List, [], ◌∷◌, ◌++◌, length, min}
+use Rattle.std.specs.Prelude.{not, Option, Some, None, IsSome, option_and_then, slice_get}
+use Rattle.std.specs.Global.{Vec}
+use Rattle.std.specs.Vec.{vec_capacity}
 use Rattle.std.specs.List.{filter}
+use Rattle.rv_text.specs.declared.call.Call.{Call}
 use Rattle.rv_text.specs.declared.call.Wait.{Wait}
 use Rattle.rv_text.specs.declared.call.Side.{Side}
 use Rattle.rv_text.specs.declared.call.Side.TheVariants.{Gives, Takes, Looks, Exchanges}
@@ -11,10 +14,11 @@ use Rattle.rv_dual.specs.Queue.{Queue, SameLists}
 use Rattle.rv_dual.specs.declared.giver.Offer.{Offer}
 use Rattle.rv_dual.specs.declared.giver.Offer.TheVariants.{Put, Waits}
 use Rattle.rv_swap.specs.Exchange.{NotWaiting, Withdraws}
-use Rattle.rv_book.specs.declared.account.Entry.{Entry}
+use Rattle.rv_account.specs.declared.entry.Entry.{Entry}
 use Rattle.rv_book.specs.declared.arrived.Arrived.{Arrived}
 use Rattle.rv_book.specs.Parked.{AreParked, owed_at}
-use Rattle.rv_book.specs.Calls.{Lasts, opposite}
+use Rattle.rv_text.specs.Calls.{side_of}
+use Rattle.rv_account.specs.Calls.{Lasts, may_name, opposite}
 use Rattle.rv_book.specs.Views.{SameStations, Stations, queue_at, waiting_on}
 
 -- ---- one queue
@@ -185,6 +189,19 @@ pub record Leaves (old new : Stations) (side : Side) (duty : Owed) (result : Opt
   pub others : (third : Side) → third ≢ side → waiting_on new third ≡ waiting_on old third
   pub parked : (entries : List Entry) → AreParked entries old → AreParked entries new
 
+-- the first that waits on the side left it, and its duty came out, if it is a request; the duties of those
+-- who stay are parked as they were
+pub record LeavesFirst (old new : Stations) (side : Side) (duty : Option Owed) (place : ℕ) : Type 0 where
+  pub first : waiting_on old side ≡ place ∷ waiting_on new side
+  pub others : (third : Side) → third ≢ side → waiting_on new third ≡ waiting_on old third
+  pub duty_is : (entries : List Entry) → AreParked entries old → duty ≡ owed_at entries place
+  pub parked : (entries : List Entry) → AreParked entries old → AreParked entries new
+
+-- the first that waits on the side, if one does, left it; where none does all that wait stay
+abbrev pub LeftFront : Stations → Stations → Side → Option (Option Owed × ℕ) → Type 0
+LeftFront old new side (Some (duty, place)) = LeavesFirst old new side duty place
+LeftFront old new side None = (waiting_on old side ≡ []) × SameStations old new
+
 -- the place waits on the side, and on no other
 pub record StandsOn (stations : Stations) (side : Side) (place : ℕ) : Type 0 where
   pub i : ℕ
@@ -207,3 +224,13 @@ room_of stations (Exchanges exchanger) = 1
 -- an arrival of the side that stays has room
 abbrev pub HasRoomOn : Stations → Side → Type 0
 HasRoomOn stations side = 0 < room_of stations side
+
+-- how many wait on this side, which an arrival meets, if it meets any
+abbrev pub opposed_by : Stations → Option Side → ℕ
+opposed_by stations None = 0
+opposed_by stations (Some other) = length (waiting_on stations other)
+
+-- nothing is listed, and there is room for all partners that the call can meet
+pub record HasRoomToName (stations : Stations) (call : Call) (places : Vec ℕ) : Type 0 where
+  pub none : places.items ≡ []
+  pub room : min (may_name call) (opposed_by stations (opposite (side_of call))) ≤ vec_capacity places

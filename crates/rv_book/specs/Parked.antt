@@ -8,10 +8,10 @@ use Rattle.rv_session.specs.Owed.{Owed}
 use Rattle.rv_dual.specs.Offers.{duty_of, place_of}
 use Rattle.rv_dual.specs.Queue.{Queue}
 use Rattle.rv_dual.specs.declared.giver.Offer.{Offer}
-use Rattle.rv_book.specs.declared.account.Act.{Act}
-use Rattle.rv_book.specs.declared.account.Act.TheVariants.{Hello, Arrive, Cancel, Tick}
-use Rattle.rv_book.specs.declared.account.Entry.{Entry}
-use Rattle.rv_book.specs.Account.{act_at}
+use Rattle.rv_account.specs.declared.entry.Act.{Act}
+use Rattle.rv_account.specs.declared.entry.Act.TheVariants.{Hello, Arrive, Cancel, Tick}
+use Rattle.rv_account.specs.declared.entry.Entry.{Entry}
+use Rattle.rv_account.specs.Account.{act_at}
 use Rattle.rv_book.specs.Views.{Stations, exchanger_at, queue_at, waiting_on}
 use Rattle.rv_book.specs.Waiting.{OpenAt}
 

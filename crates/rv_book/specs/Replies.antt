@@ -1,6 +1,6 @@
 -- The reply of a request, as an account tells it: the first case that applies (Java SE 21, `TransferQueue`:
--- `put`, `transfer`, `tryTransfer`, `take` and `poll`; `Exchanger`: `exchange`). Counts and peeks are of the
--- account before them.
+-- `put`, `transfer`, `tryTransfer`, `take` and `poll`; `BlockingQueue`: `drainTo`; `Exchanger`: `exchange`).
+-- Counts and peeks are of the account before them.
 use Rattle.std.specs.Prelude.{◌≡◌, ◌⊎◌, ◌<◌, ℕ, zero, suc, List, Some, take}
 use Rattle.rv_text.specs.declared.message.Key.{Key}
 use Rattle.rv_text.specs.declared.call.Wait.{Wait}
@@ -10,10 +10,10 @@ use Rattle.rv_text.specs.declared.call.Call.{Call}
 use Rattle.rv_text.specs.declared.call.Call.TheVariants as call
 use Rattle.rv_text.specs.declared.answer.Reply.{Reply}
 use Rattle.rv_text.specs.declared.answer.Reply.TheVariants as reply
-use Rattle.rv_book.specs.declared.account.Entry.{Entry}
-use Rattle.rv_book.specs.declared.account.Act.{Act}
-use Rattle.rv_book.specs.declared.account.Act.TheVariants.{Hello, Arrive, Cancel, Tick}
-use Rattle.rv_book.specs.Account.{act_at, call_at}
+use Rattle.rv_account.specs.declared.entry.Entry.{Entry}
+use Rattle.rv_account.specs.declared.entry.Act.{Act}
+use Rattle.rv_account.specs.declared.entry.Act.TheVariants.{Hello, Arrive, Cancel, Tick}
+use Rattle.rv_account.specs.Account.{act_at, call_at, partners_items}
 use Rattle.rv_text.specs.Calls.{item_of}
 use Rattle.rv_book.specs.Counting.{NumberOf}
 use Rattle.rv_book.specs.Waiting.{NamesPartner, Met, StoppedAt, OpenAt, IsOldest}
@@ -72,6 +72,10 @@ pub record IsFront (entries : List Entry) (queue : ℕ) (item : List ℕ) : Type
 abbrev pub HasNoItem : List Entry → ℕ → Type 0
 HasNoItem entries queue = (r : ℕ) → ¬ OpenAt entries (Gives queue) r
 
+-- the drain at r takes these items: what its partners hand over, in the order of their places
+abbrev pub Drains : List Entry → ℕ → List (List ℕ) → Type 0
+Drains entries r items = partners_items entries r ≡ Some items
+
 -- the reply of the request with this call that arrived at r
 abbrev pub RepliesAt : List Entry → ℕ → Call → Reply → Type 0
 RepliesAt entries r (call.Put queue item) told = told ≡ reply.Done
@@ -89,6 +93,8 @@ RepliesAt entries r (call.Count queue) told = (items consumers : ℕ)
 RepliesAt entries r (call.Peek queue) told =
     ((item : List ℕ) × IsFront (take r entries) queue item × (told ≡ reply.Peeked item))
     ⊎ (HasNoItem (take r entries) queue × (told ≡ reply.Empty))
+RepliesAt entries r (call.Drain queue max) told =
+    (items : List (List ℕ)) × Drains entries r items × (told ≡ reply.Drained items)
 
 -- the request with this key arrived, and it has this reply
 pub record RepliesToArrival (entries : List Entry) (key : Key) (reply : Reply) : Type 0 where

@@ -1,9 +1,9 @@
 -- What a list of entries says of a client's session: its incarnation and its last number.
 use Rattle.std.specs.Prelude.{◌≡◌, ◌⊎◌, ◌<◌, ◌≤◌, ℕ, List, Some}
 use Rattle.rv_text.specs.declared.message.Key.{Key}
-use Rattle.rv_book.specs.declared.account.Entry.{Entry}
-use Rattle.rv_book.specs.declared.account.Act.TheVariants.{Hello}
-use Rattle.rv_book.specs.Account.{act_at, key_at}
+use Rattle.rv_account.specs.declared.entry.Entry.{Entry}
+use Rattle.rv_account.specs.declared.entry.Act.TheVariants.{Hello}
+use Rattle.rv_account.specs.Account.{act_at, key_at}
 
 -- the client's last hello stands at h and has this incarnation
 pub record LastHello (entries : List Entry) (client incarnation h : ℕ) : Type 0 where

@@ -1,6 +1,6 @@
 -- One step of the book: the answer to a message, and which accounts may stand after it.
-use Rattle.std.specs.Prelude.{◌≡◌, ◌≢◌, ◌⊎◌, ◌<◌, ◌≤◌, ◌+◌, ◌-◌, ◌^◌, ℕ, length, Some}
-use Rattle.std.specs.Prelude.{min, max, unwrap_or}
+use Rattle.std.specs.Prelude.{◌≡◌, ◌≢◌, ◌⊎◌, ◌<◌, ◌≤◌, ◌+◌, ℕ, length, Some}
+use Rattle.std.specs.Prelude.{min, max}
 use Rattle.rv_text.specs.declared.message.Key.{Key}
 use Rattle.rv_text.specs.declared.call.Call.{Call}
 use Rattle.rv_text.specs.declared.message.Message.{Message}
@@ -15,11 +15,13 @@ use Rattle.rv_text.specs.declared.answer.Answer.{Answer}
 use Rattle.rv_text.specs.declared.answer.Answer.TheVariants.{Welcome, Replied, Refused}
 use Rattle.rv_text.specs.declared.answer.Answer as answer
 pub use Rattle.rv_session.specs.Standings.{max_clients}
-use Rattle.rv_book.specs.declared.account.Entry.{Entry}
-use Rattle.rv_book.specs.declared.account.Act.{Act}
-use Rattle.rv_book.specs.declared.account.Act as act
-use Rattle.rv_book.specs.Account.{Account, act_at, moment_at, with_entry}
-use Rattle.rv_book.specs.Calls.{need_of}
+use Rattle.rv_account.specs.declared.entry.Entry.{Entry}
+use Rattle.rv_account.specs.declared.entry.Act.{Act}
+use Rattle.rv_account.specs.declared.entry.Act as act
+use Rattle.rv_account.specs.Account.{Account, act_at, with_entry}
+use Rattle.rv_account.specs.Calls.{need_of}
+pub use Rattle.rv_account.specs.Account.{own_moment}
+pub use Rattle.rv_account.specs.Limits.{max_moment}
 use Rattle.rv_book.specs.Counting.{NumberOf}
 use Rattle.rv_book.specs.Sessions.{HasIncarnation, HasOnlyLower, LastNumber, SaidHello}
 use Rattle.rv_book.specs.Waiting.{Waiting}
@@ -28,17 +30,9 @@ use Rattle.rv_book.specs.Replies.{HasReply}
 
 -- ---- the step's moment
 
--- the greatest moment
-abbrev pub max_moment : ℕ
-max_moment = 2 ^ 62
-
 -- a greater moment counts as that
 abbrev pub capped : ℕ → ℕ
 capped now = min now max_moment
-
--- the last entry's moment; where there are no entries, the opening moment
-abbrev pub own_moment : Account → ℕ
-own_moment a = unwrap_or (moment_at a.entries (length a.entries - 1)) a.opened
 
 -- a lower moment counts as the book's own
 abbrev pub step_moment : Account → ℕ → ℕ

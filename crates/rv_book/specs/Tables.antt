@@ -1,5 +1,6 @@
 -- What the book's private tables say of its account.
 use Rattle.std.specs.Prelude.{◌≡◌, ◌⊎◌, ◌≤◌, ◌+◌, ℕ, length, Option, Some, None}
+use Rattle.std.specs.Global.{Vec}
 use Rattle.rv_text.specs.declared.message.Key.{Key}
 use Rattle.rv_text.specs.declared.message.Message.{Message}
 use Rattle.rv_text.specs.declared.call.Side.{Side}
@@ -20,20 +21,20 @@ use Rattle.rv_session.specs.Standings.{standing_of}
 use Rattle.rv_session.specs.Table.{OnlySettles, Table, session_of, waiting_of}
 use Rattle.rv_session.specs.declared.standing.Standing.TheVariants as standing
 use Rattle.rv_session.specs.declared.kept.Kept.TheVariants as kept
-use Rattle.rv_book.specs.declared.account.Act.{Act}
-use Rattle.rv_book.specs.declared.account.Act.TheVariants.{Arrive}
+use Rattle.rv_account.specs.declared.entry.Act.{Act}
+use Rattle.rv_account.specs.declared.entry.Act.TheVariants.{Arrive}
 use Rattle.rv_book.specs.Replies.{CancelledFirst}
 use Rattle.rv_book.specs.declared.state.State.{State}
 use Rattle.rv_book.specs.declared.verdict.Said.{Said}
 use Rattle.rv_book.specs.declared.verdict.Said.TheVariants.{Refused}
-use Rattle.rv_book.specs.declared.account.Entry.{Entry}
-use Rattle.rv_book.specs.Account.{Account, act_at, call_at, with_entry}
+use Rattle.rv_account.specs.declared.entry.Entry.{Entry}
+use Rattle.rv_account.specs.Account.{Account, act_at, call_at, with_entry}
 use Rattle.rv_book.specs.Arriving.{IsKept}
 use Rattle.rv_book.specs.Legal.{Legal, KeepsTime, NothingDue}
 use Rattle.rv_book.specs.Limits.{FitEntries, FitsAccount, FitsAct}
-use Rattle.rv_book.specs.Calls.{MayMeet, need_of}
+use Rattle.rv_account.specs.Calls.{MayMeet, may_name, need_of}
 use Rattle.rv_book.specs.Counting.{NumberOf}
-use Rattle.rv_book.specs.Meeting.{HasRoomOn, Leaves, StandsOn}
+use Rattle.rv_book.specs.Meeting.{HasRoomOn, HasRoomToName, Leaves, StandsOn}
 use Rattle.rv_book.specs.Parked.{AreParked, AreStations, owed_at}
 use Rattle.rv_book.specs.Elapsing.{AreDeadlines, deadline_of, with_deadline, without_deadline}
 use Rattle.rv_book.specs.Sessions.{HasIncarnation, LastNumber, SaidHello}
@@ -170,15 +171,19 @@ pub record IsPrepared (old new : State) (moment : ℕ) (call : Call) : Type 0 wh
 
 -- a request that has its session's next number comes to a state that is sound but for the deadline of the
 -- request itself, and all that it adds has room
-pub record MayRecord (state : State) (moment : ℕ) (key : Key) (call : Call) : Type 0 where
-  pub deadlines : Deadlines
-  pub comes : Comes (with_due state deadlines) moment (Arrive key call)
-  pub due : state.due ≡ with_deadline (deadline_of moment call) (length (account_of state).entries) deadlines
-  pub stands : standing_of state.sessions key ≡ standing.Next
-  pub next : HasNext state.sessions key
-  pub room : state.waiting + need_of call ≤ state.account.room
-  pub side_room : HasRoomOn state.stations (side_of call)
-  pub space : HasSpace state (need_of call)
+pub record MayRecord (state : State) (moment : ℕ) (key : Key) (call : Call) (places : Vec ℕ) : Type 0
+  where
+    pub deadlines : Deadlines
+    pub comes : Comes (with_due state deadlines) moment (Arrive key call)
+    pub due : state.due
+        ≡ with_deadline (deadline_of moment call) (length (account_of state).entries) deadlines
+    pub stands : standing_of state.sessions key ≡ standing.Next
+    pub next : HasNext state.sessions key
+    pub room : state.waiting + need_of call ≤ state.account.room
+    pub side_room : HasRoomOn state.stations (side_of call)
+    pub space : HasSpace state (need_of call)
+    pub meets_one : may_name call ≡ 1
+    pub names : HasRoomToName state.stations call places
 
 -- what a call that looks at its queue sees there is what the account says
 abbrev pub Sees : State → Call → Type 0

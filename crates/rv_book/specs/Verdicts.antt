@@ -1,5 +1,5 @@
 -- What a verdict shows, the answer that it stands for, and when it was given.
-use Rattle.std.specs.Prelude.{◌≡◌, ◌≤◌, ℕ, List, Option, Some, length, option_map, option_and_then, unwrap_or}
+use Rattle.std.specs.Prelude.{◌≡◌, ◌≤◌, ℕ, List, Option, Some, length, option_map, unwrap_or}
 use Rattle.rv_text.specs.declared.answer.Reply.{Reply}
 use Rattle.rv_text.specs.declared.answer.Reply as reply
 use Rattle.rv_text.specs.declared.answer.Answer.{Answer}
@@ -9,16 +9,12 @@ use Rattle.rv_session.specs.declared.kept.Kept.{Kept}
 use Rattle.rv_session.specs.declared.kept.Kept as kept
 use Rattle.rv_book.specs.declared.verdict.Said.{Said}
 use Rattle.rv_book.specs.declared.verdict.Said.TheVariants.{Welcome, Replied, Waiting, Refused}
-use Rattle.rv_book.specs.declared.account.Entry.{Entry}
+use Rattle.rv_account.specs.declared.entry.Entry.{Entry}
 use Rattle.rv_text.specs.declared.message.Message.{Message}
-use Rattle.rv_book.specs.Account.{Account, call_at}
+use Rattle.rv_account.specs.Account.{Account, partners_items}
+pub use Rattle.rv_account.specs.Account.{item_at}
 use Rattle.rv_book.specs.Legal.{Legal, before}
 use Rattle.rv_book.specs.Steps.{Next}
-use Rattle.rv_text.specs.Calls.{item_of}
-
--- the item that the arrival at a place hands over
-abbrev pub item_at : List Entry → ℕ → Option (List ℕ)
-item_at entries place = option_and_then item_of (call_at entries place)
 
 -- the reply that is kept; none where no item arrived at its place
 abbrev pub reply_of : List Entry → Kept → Option Reply
@@ -34,6 +30,8 @@ reply_of entries kept.TheVariants.TimedOut = Some reply.TheVariants.TimedOut
 reply_of entries (kept.TheVariants.Counted items consumers) =
     Some (reply.TheVariants.Counted items consumers)
 reply_of entries (kept.TheVariants.Peeked place) = option_map reply.TheVariants.Peeked (item_at entries place)
+reply_of entries (kept.TheVariants.Drained place) =
+    option_map reply.TheVariants.Drained (partners_items entries place)
 
 -- the answer that stands for what is kept; none where its reply has none
 abbrev pub answer_of : List Entry → Said → Option Answer
@@ -47,11 +45,12 @@ answer_of entries (Refused refusal) = Some (answer.TheVariants.Refused refusal)
 abbrev pub said_in : Account → Said → Answer
 said_in a kept = unwrap_or (answer_of a.entries kept) (answer.TheVariants.Refused refusal.NoMemory)
 
--- the reply carries an item's text
+-- the reply carries items' texts, or a list for them
 abbrev pub ReplyHasText : Reply → Type 0
 ReplyHasText (reply.TheVariants.Item text) = Unit {0}
 ReplyHasText (reply.TheVariants.Swapped text) = Unit {0}
 ReplyHasText (reply.TheVariants.Peeked text) = Unit {0}
+ReplyHasText (reply.TheVariants.Drained texts) = Unit {0}
 ReplyHasText _ = ⊥
 
 -- the answer is such a reply

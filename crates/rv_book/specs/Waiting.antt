@@ -1,22 +1,23 @@
 -- Which arrivals of a list of entries were met, were stopped, and are still open: the nodes of a dual queue
 -- (Scherer, Lea and Scott, PPoPP 2006) that are matched, cancelled, or neither.
-use Rattle.std.specs.Prelude.{◌≡◌, ◌⊎◌, ◌<◌, ◌≤◌, ℕ, List, Option, Some, None, option_and_then, slice_get}
+use Rattle.std.specs.Prelude.{◌≡◌, ◌⊎◌, ◌<◌, ◌≤◌, ℕ, List, Option, Some, None, slice_get}
 use Rattle.rv_text.specs.declared.message.Key.{Key}
 use Rattle.rv_text.specs.declared.call.Call.{Call}
 use Rattle.rv_text.specs.declared.call.Side.{Side}
 use Rattle.rv_text.specs.Calls.{side_of}
-use Rattle.rv_book.specs.declared.account.Entry.{Entry}
-use Rattle.rv_book.specs.declared.account.Act.{Act}
-use Rattle.rv_book.specs.declared.account.Act.TheVariants.{Hello, Arrive, Cancel, Tick}
-use Rattle.rv_book.specs.Account.{act_at, partner_at, call_in, call_at}
-use Rattle.rv_book.specs.Calls.{MayMeet, IsPut, Stays, limit_of}
+use Rattle.rv_account.specs.declared.entry.Entry.{Entry}
+use Rattle.rv_account.specs.declared.entry.Act.{Act}
+use Rattle.rv_account.specs.declared.entry.Act.TheVariants.{Hello, Arrive, Cancel, Tick}
+use Rattle.rv_account.specs.Account.{NamesAt, act_at, call_at}
+pub use Rattle.rv_account.specs.Account.{limit_at, limit_in}
+use Rattle.rv_account.specs.Calls.{MayMeet, IsPut, Stays}
 
 -- the arrival at p names the earlier arrival at q: a pair or a swap, whose place is p
 pub record NamesPartner (entries : List Entry) (p q : ℕ) : Type 0 where
   pub call : Call
   pub arrived : call_at entries p ≡ Some call
   pub meets : MayMeet call
-  pub named : partner_at entries p ≡ Some q
+  pub named : NamesAt entries p q
 
 -- the arrival at r is in a pair or a swap
 pub record Met (entries : List Entry) (r : ℕ) : Type 0 where
@@ -24,13 +25,6 @@ pub record Met (entries : List Entry) (r : ℕ) : Type 0 where
   pub earlier : ℕ
   pub names : NamesPartner entries later earlier
   pub part : (r ≡ later) ⊎ (r ≡ earlier)
-
--- the limit of the request that arrived at r
-abbrev pub limit_in : Entry → Option ℕ
-limit_in e = option_and_then (limit_of e.moment) (call_in e.act)
-
-abbrev pub limit_at : List Entry → ℕ → Option ℕ
-limit_at entries r = option_and_then limit_in (slice_get entries r)
 
 -- the limit, if there is one, has come at the moment
 abbrev pub HasElapsed : Option ℕ → ℕ → Type 0

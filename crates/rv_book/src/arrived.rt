@@ -1,6 +1,6 @@
 //! What becomes of an arrival: whom it met, and whose duties are to be settled.
 ghost use Rattle.std.specs.Prelude.{◌≡◌, ◌↔◌, None, Some, IsTrue};
-ghost use Rattle.rv_book.specs.Calls.{Lasts};
+ghost use Rattle.rv_account.specs.Calls.{Lasts};
 
 use rv_session::{Duty, Kept, Place};
 use rv_text::Wait;

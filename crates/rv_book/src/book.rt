@@ -5,9 +5,9 @@ ghost use Rattle.rv_book.specs.Legal.{Legal};
 ghost use Rattle.rv_book.specs.Steps.{Next};
 ghost use Rattle.rv_book.specs.Verdicts.{HasText, ReplyHasText, Stamp, WasGiven, reply_of as kept_reply};
 
-use crate::account::Account;
 use crate::state::{MAX_MOMENT, State};
 use crate::verdict::{Said, Verdict};
+use rv_account::Account;
 use rv_session::Kept;
 use rv_text::{Answer, Message, NoMemory, Reply};
 use std::alloc::Global;
@@ -24,7 +24,7 @@ pub struct Book {
 }
 
 impl Model for Book {
-    ghost use Rattle.rv_book.specs.Account.{Account};
+    ghost use Rattle.rv_account.specs.Account.{Account};
 
     ghost Value = { Account };
 
@@ -89,7 +89,7 @@ impl Book {
     }
 
     /// The answer that a verdict of this book stands for, in the state that gave it and in every later
-    /// one. It fails only where the answer is a reply with an item's text, for which memory was refused.
+    /// one. It fails only where the answer is a reply with items' texts, for which memory was refused.
     pub fn answer(&self, alloc: Global, verdict: &Verdict) -> Result<Answer, NoMemory>
         requires { WasGiven self.now verdict.now }
         ensures ok { IfOk result (λ answer. answer ≡ verdict.now.said) }
@@ -131,5 +131,6 @@ fn reply_of(alloc: Global, account: &Account, kept: Kept) -> Result<Reply, NoMem
         }),
         Kept::Peeked(place) => Ok(Reply::Peeked(account.item(place).copy(alloc)?)),
         Kept::TimedOut => Ok(Reply::TimedOut),
+        Kept::Drained(place) => Ok(Reply::Drained(account.partners_items(place)?)),
     }
 }

@@ -1,9 +1,9 @@
 //! The exchangers: who waits at each.
-ghost use Rattle.std.specs.Prelude.{IfOk};
+ghost use Rattle.std.specs.Prelude.{◌≡◌, IfOk, length};
 ghost use Rattle.rv_text.specs.Limits.{FitsSide};
 ghost use Rattle.rv_text.specs.declared.call.Side.TheVariants.{Exchanges};
 ghost use Rattle.rv_book.specs.Meeting.{Exchanged, LeftExchanger};
-ghost use Rattle.rv_book.specs.Views.{AllFree, OnlyExchanger, exchanger_at};
+ghost use Rattle.rv_book.specs.Views.{AllFree, OnlyExchanger, exchanger_at, place_of_duty};
 
 use crate::arrived::{Arrived, lasts};
 use rv_session::{Duty, Place};
@@ -59,6 +59,14 @@ impl Exchangers {
             exchangers.push(Swap::new())?;
         }
         Ok(Exchangers { exchangers })
+    }
+
+    /// How many wait at an exchanger.
+    pub(crate) fn count(&self, exchanger: u64) -> usize
+        requires { FitsSide (Exchanges exchanger) }
+        ensures { result ≡ length (place_of_duty (exchanger_at self.now exchanger)) }
+    {
+        usize::from(self.exchangers[exchanger as usize].waiting().is_some())
     }
 
     /// A request arrives at an exchanger: it meets the one that waits there, which leaves; or, where none

@@ -1,7 +1,6 @@
 //! The book: sessions and all that waits in one epoch, and the account of what happened to them.
 #![tactic(auto)]
 
-mod account;
 mod arrived;
 mod book;
 mod exchangers;
@@ -11,8 +10,7 @@ mod state;
 mod stations;
 mod verdict;
 
-pub use account::{Account, Act, Entry};
 pub use book::Book;
-pub use rv_session::Place;
+pub use rv_account::{Account, Act, Entry, Partners, Place};
 pub use state::MAX_MOMENT;
 pub use verdict::Verdict;

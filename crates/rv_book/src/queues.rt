@@ -2,6 +2,7 @@
 ghost use Rattle.std.specs.Prelude.{◌≡◌, ◌<◌, None, Some, OnOk, IfOk, length, slice_get};
 ghost use Rattle.rv_text.specs.Limits.{FitsQueue};
 ghost use Rattle.rv_dual.specs.Offers.{duty_of, place_of, places_of};
+ghost use Rattle.rv_dual.specs.Meanings.{TakenFront};
 ghost use Rattle.rv_dual.specs.Queue.{IsAbove};
 ghost use Rattle.rv_dual.specs.Withdrawing.{Withdraws};
 ghost use Rattle.rv_book.specs.Meeting.{Gave, Took};
@@ -178,6 +179,16 @@ impl Queues {
         ensures others { OnlyQueue queue self.old self.new }
     {
         receive(&mut self.queues[queue as usize], wait, duty)
+    }
+
+    /// The oldest item of a queue leaves it, and comes out as its duty, which is None for a put's, and its
+    /// place. It is None where no item waits, and then all that wait stay.
+    pub(crate) fn take_front(&mut self, queue: u64) -> Option<(Option<Duty>, Place)>
+        requires { FitsQueue queue }
+        ensures front { TakenFront (queue_at self.old queue) (queue_at self.new queue) result }
+        ensures others { OnlyQueue queue self.old self.new }
+    {
+        self.queues[queue as usize].take_front()
     }
 
     /// The request that waits at a place in a queue leaves it, and gives its duty back.

@@ -4,15 +4,20 @@ ghost use Rattle.std.specs.Prelude.{true, false};
 ghost use Rattle.rv_text.specs.Limits.{FitsCall, FitsIdentifier, FitsMessage, FitsSide, FitsWait};
 ghost use Rattle.rv_book.specs.Arriving.{GoesOn, IsCancelled, IsRecorded, WillReply, entry, said_of};
 ghost use Rattle.rv_due.specs.Deadlines.{AllAbove};
-ghost use Rattle.rv_book.specs.Calls.{need_of};
+ghost use Rattle.rv_account.specs.Calls.{need_of};
 ghost use Rattle.rv_book.specs.Elapsing.{deadline_after, without_deadline, without_duty};
 ghost use Rattle.rv_book.specs.Steps.{Adds, NextAt, Ticks, max_moment, step_moment};
 ghost use Rattle.rv_book.specs.Tables.{kept_at_once, partners_reply};
+ghost use Rattle.rv_account.specs.Account.{just};
+ghost use Rattle.rv_book.specs.Draining.{IsTaker};
+ghost use Rattle.rv_text.specs.declared.call.Side.TheVariants.{Takes};
+ghost use Rattle.rv_text.specs.Calls.{side_of};
+ghost use Rattle.std.specs.Vec.{vec_capacity};
 
-use crate::account::{Account, Act};
 use crate::arrived::{Arrived, lasts};
 use crate::stations::Stations;
 use crate::verdict::Said;
+use rv_account::{Account, Act, Partners, may_name};
 use rv_due::Due;
 use rv_session::{Duty, Greeting, Kept, Place, Sessions, Standing};
 use rv_text::{Call, Key, Message, NoMemory, Refusal, Side, Wait};
@@ -78,12 +83,41 @@ fn reply_to_partner(side: Side, place: Place) -> Kept
     }
 }
 
+// The partner of an arrival, if it met one, in a list that has its room.
+fn named(partner: Option<Place>, mut places: Vec<Place>) -> Partners
+    requires none { places.items ≡ [] }
+    requires room { IfSome partner (λ p. 0 < vec_capacity places) }
+    ensures { result ≡ just partner }
+{
+    if let Some(place) = partner {
+        places.push(place).unwrap();
+    }
+    Partners::from_vec(places)
+}
+
+// The queue of a side that takes.
+fn taken_from(side: Side) -> u64
+    requires { IsTaker side }
+    ensures { side ≡ Takes result }
+{
+    match side {
+        Side::Takes(queue) => queue,
+        Side::Gives(_) => unreachable!(),
+        Side::Looks(_) => unreachable!(),
+        Side::Exchanges(_) => unreachable!(),
+    }
+}
+
 impl State {
     ghost use Rattle.rv_text.specs.declared.message.Message.TheVariants as message;
     ghost use Rattle.rv_text.specs.declared.answer.Answer.TheVariants.{Welcome};
-    ghost use Rattle.rv_book.specs.declared.account.Act.TheVariants.{Hello, Arrive, Cancel};
+    ghost use Rattle.rv_account.specs.declared.entry.Act.TheVariants.{Hello, Arrive, Cancel};
+    ghost use Rattle.std.specs.Prelude.{length, min, take, vec_capacity, vec_len};
+    ghost use Rattle.rv_text.specs.Limits.{FitsQueue};
+    ghost use Rattle.rv_book.specs.Draining.{IsDraining, MayDrain, SameIdle, TookItem, items_in};
     ghost use Rattle.rv_book.specs.Ending.{EndedOne, IsEnding};
     ghost use Rattle.rv_book.specs.Legal.{KeepsTime, NothingDue};
+    ghost use Rattle.rv_book.specs.Meeting.{HasRoomToName};
     ghost use Rattle.rv_book.specs.Limits.{FitEntries};
     ghost use Rattle.rv_book.specs.Waiting.{Waiting, limit_at};
     ghost use Rattle.rv_book.specs.Tables.{Becomes, BecomesAfterTicks, Comes, EndsAt, EndsIf, HasSpace};
@@ -149,6 +183,7 @@ impl State {
                 Some(place) => Kept::Peeked(place),
                 None => Kept::Empty,
             },
+            Call::Drain { .. } => Kept::Drained(self.account.len()),
         }
     }
 
@@ -201,25 +236,37 @@ impl State {
         }
     }
 
-    // Makes all growths of a request: of its entries, its side and any deadline. What follows can't fail.
-    fn prepare(&mut self, moment: u64, call: &Call) -> Result<(), Refusal>
+    // An empty list, with room for all partners that a call can meet now.
+    fn room_to_name(&self, call: &Call) -> Result<Vec<Place>, NoMemory>
+        requires { FitsSide (side_of call.now) }
+        ensures { IfOk result (HasRoomToName self.now.stations call.now) }
+    {
+        let most = self.stations.opposed(call.side()).min(may_name(call));
+        Vec::with_capacity(self.account.allocator(), most)
+    }
+
+    // Makes all growths of a request: of its entries, its side, its partners and any deadline. What follows
+    // can't fail.
+    fn prepare(&mut self, moment: u64, call: &Call) -> Result<Vec<Place>, Refusal>
         requires sound { IsSound self.old }
         requires moment { moment ≤ max_moment }
         requires fits { FitsCall call.now }
         ensures ok { OnOk result (IsPrepared self.old self.new moment call.now) }
+        ensures names { IfOk result (HasRoomToName self.new.stations call.now) }
         ensures same { OnErr result (IsSame self.old self.new) }
         ensures err { IfErr result (NoEntryDue (account_of self.old) (need_of call.now)) }
     {
         self.make_room(needed(call), Some(call.side()))?;
+        let places = self.room_to_name(call)?;
         if let Some(limit) = deadline_after(moment, call.wait()) {
             self.due.add(limit, self.account.len())?;
         }
-        Ok(())
+        Ok(places)
     }
 
     // Records a session's next request, for which there is room, and gives its reply; none where it waits.
-    fn record(&mut self, moment: u64, key: Key, call: Call) -> Option<Kept>
-        requires { MayRecord self.old moment key call }
+    fn record(&mut self, moment: u64, key: Key, call: Call, places: Vec<Place>) -> Option<Kept>
+        requires { MayRecord self.old moment key call places }
         ensures sound { IsSound self.new }
         ensures recorded { IsRecorded (account_of self.old) (account_of self.new) moment key call result }
     {
@@ -235,8 +282,9 @@ impl State {
             own,
             other,
         } = arrived;
+        let partners = named(partner, places);
         self.account
-            .push(moment, Act::Arrive { key, call }, partner);
+            .push(moment, Act::Arrive { key, call }, partners);
         self.settle(other, others);
         self.settle(own, kept);
         told
@@ -253,16 +301,22 @@ impl State {
         ensures same { OnErr result (SameAccount self.old self.new) }
         ensures err { IfErr result (NoEntryDue (account_of self.old) (need_of call)) }
     {
-        self.prepare(moment, &call)?;
-        Ok(self.record(moment, key, call))
+        let places = self.prepare(moment, &call)?;
+        let Some(max) = call.drains() else {
+            return Ok(self.record(moment, key, call, places));
+        };
+        let queue = taken_from(call.side());
+        let kept = Kept::Drained(self.account.len());
+        self.drain(moment, key, call, queue, max as usize, places, kept);
+        Ok(Some(kept))
     }
 
     // Records an entry that names no partner, for which there is room.
     fn push(&mut self, moment: u64, act: Act)
         requires { 0 < self.old.account.room }
-        ensures { IsPushed self.old self.new (entry moment act None) }
+        ensures { IsPushed self.old self.new (entry moment act []) }
     {
-        self.account.push(moment, act, None);
+        self.account.push_alone(moment, act);
     }
 
     // What a request at a place is told, if it came with this call: the reply that is kept, or waiting.
@@ -321,6 +375,72 @@ impl State {
         if let Some(place) = waiting {
             self.end(place, kept);
         }
+    }
+
+    // Takes the oldest item out of a queue, if one waits there, and lists its place, for which there is room.
+    // Its giver, where it waits, is told that it was received. Tells whether there was one.
+    fn take_item(&mut self, queue: u64, listed: &mut Vec<Place>) -> bool
+        requires fits { FitsQueue queue }
+        requires draining { IsDraining self.old listed.old.items }
+        requires room { 0 < length (items_in self.old queue) → vec_len listed.old < vec_capacity listed.old }
+        ensures draining { IsDraining self.new listed.new.items }
+        ensures account { self.new.account ≡ self.old.account }
+        ensures idle { SameIdle self.old.sessions self.new.sessions }
+        ensures capacity { vec_capacity listed.old ≤ vec_capacity listed.new }
+        ensures one { result ≡ true → TookItem self.old self.new queue listed.old.items listed.new.items }
+        ensures none { result ≡ false → (listed.new ≡ listed.old) × (items_in self.old queue ≡ []) }
+    {
+        match self.stations.take_front(queue) {
+            Some((duty, place)) => {
+                self.waiting -= usize::from(duty.is_some());
+                self.settle(duty, Kept::Received);
+                listed.push(place).unwrap();
+                true
+            }
+            None => false,
+        }
+    }
+
+    // Takes up to so many of the oldest items out of a queue, one a turn, and lists their places.
+    fn take_items(&mut self, queue: u64, max: usize, places: &mut Vec<Place>)
+        requires fits { FitsQueue queue }
+        requires sound { IsSound self.old }
+        requires empty { places.old.items ≡ [] }
+        requires room { min max (length (items_in self.old queue)) ≤ vec_capacity places.old }
+        ensures draining { IsDraining self.new places.new.items }
+        ensures account { self.new.account ≡ self.old.account }
+        ensures idle { SameIdle self.old.sessions self.new.sessions }
+        ensures taken { places.new.items ≡ take max (items_in self.old queue) }
+    {
+        while places.len() < max && self.take_item(queue, places) {}
+    }
+
+    // Records a session's next request that takes up to so many items out of a queue at once, for which there
+    // is room. It never waits, and this is kept as its reply.
+    fn drain(
+        &mut self,
+        moment: u64,
+        key: Key,
+        call: Call,
+        queue: u64,
+        max: usize,
+        mut places: Vec<Place>,
+        kept: Kept,
+    )
+        requires may { MayDrain self.old moment key call queue max places kept }
+        requires fits { FitsQueue queue }
+        ensures sound { IsSound self.new }
+        ensures recorded { IsRecorded (account_of self.old) (account_of self.new) moment key call
+            (Some kept) }
+    {
+        self.take_items(queue, max, &mut places);
+        let duty = self.sessions.begin(&key, self.account.len());
+        self.account.push(
+            moment,
+            Act::Arrive { key, call },
+            Partners::from_vec(places),
+        );
+        self.settle(Some(duty), kept);
     }
 
     // Cancels a request before it comes: its session's next number is settled as cancelled.

@@ -3,7 +3,8 @@ ghost use Rattle.std.specs.Prelude.{◌≡◌, OnOk, IfOk, length, slice_get};
 ghost use Rattle.rv_text.specs.Calls.{side_of, wait_of};
 ghost use Rattle.rv_text.specs.Limits.{FitsQueue, FitsSide};
 ghost use Rattle.rv_text.specs.declared.call.Side.TheVariants.{Gives, Takes};
-ghost use Rattle.rv_book.specs.Meeting.{ArrivedOn, HasRoomOn, Withdrew};
+ghost use Rattle.rv_account.specs.Calls.{opposite};
+ghost use Rattle.rv_book.specs.Meeting.{ArrivedOn, HasRoomOn, LeftFront, Withdrew, opposed_by};
 ghost use Rattle.rv_book.specs.Views.{AreBelow, NobodyWaits, SameStations, waiting_on};
 
 use crate::arrived::Arrived;
@@ -56,6 +57,19 @@ impl Stations {
         self.queues.count(queue)
     }
 
+    /// How many wait whom an arrival of this side meets.
+    pub(crate) fn opposed(&self, side: Side) -> usize
+        requires { FitsSide side }
+        ensures { result ≡ opposed_by self.now (opposite side) }
+    {
+        match side {
+            Side::Gives(queue) => self.count(queue).1,
+            Side::Takes(queue) => self.count(queue).0,
+            Side::Looks(_) => 0,
+            Side::Exchanges(exchanger) => self.exchangers.count(exchanger),
+        }
+    }
+
     /// Makes room for an arrival of this side; an exchanger needs none. A refused growth changes nothing.
     pub(crate) fn reserve(&mut self, side: Side) -> Result<(), NoMemory>
         requires { FitsSide side }
@@ -86,6 +100,15 @@ impl Stations {
                     .exchange(exchanger, call.wait().unwrap(), duty)
             }
         }
+    }
+
+    /// The oldest item of a queue leaves it, and comes out as its duty, which is None for a put's, and its
+    /// place. It is None where no item waits, and then all that wait stay.
+    pub(crate) fn take_front(&mut self, queue: u64) -> Option<(Option<Duty>, Place)>
+        requires { FitsQueue queue }
+        ensures { LeftFront self.old self.new (Gives queue) result }
+    {
+        self.queues.take_front(queue)
     }
 
     /// The request that waits at a place on this side leaves it, and gives its duty back.

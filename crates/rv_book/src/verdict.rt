@@ -1,5 +1,5 @@
 //! What the book said to a message, in a form that takes no memory.
-use crate::account::Account;
+use rv_account::Account;
 use rv_session::Kept;
 use rv_text::{Key, Message, Refusal};
 use std::marker::Model;

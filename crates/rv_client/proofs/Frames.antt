@@ -1,6 +1,7 @@
 -- Bytes that are fewer than a frame's are no whole frame.
-use Rattle.std.proofs.Common.{◌<◌, ◌++◌, ℕ, List, Option, Err, ap, arith, length, length-append, subst}
+use Rattle.std.proofs.Common.{◌≡◌, ◌<◌, ◌++◌, ℕ, List, Option, Result, Ok, Err, IfErr, OnOk, ap, arith, false, length, length-append, subst, sym}
 use Rattle.std.proofs.KnownBytes.{Consumes-trans}
+use Rattle.rv_frame.specs.Source.{source_failed}
 use Rattle.rv_frame.specs.Cut.{FitsLength, IsUnfinished, length_bytes}
 use Rattle.rv_frame.specs.declared.source.Source.{Source}
 use Rattle.rv_frame.proofs.Cuts.{length_once}
@@ -31,18 +32,24 @@ module _ {R : Type 0} (remaining : R → Option (List ℕ)) where
   stops_on old mid new BadBody unfailed stops = stops
   stops_on old mid new NoMemory unfailed stops = stops
 
-  told : (old new : Source R) (buffer : List ℕ) (fault : LinkFault) → BreaksOff remaining old new fault → ReadsFrame remaining old new buffer (Err fault)
-  told old new buffer ReadFault breaks = breaks
-  told old new buffer Closed breaks = breaks
-  told old new buffer (WriteFault sent) breaks = absurd breaks.stops
-  told old new buffer BadFrame breaks = absurd breaks.stops
-  told old new buffer BadBody breaks = absurd breaks.stops
-  told old new buffer NoMemory breaks = absurd breaks.stops
+  told : (T : Type 0) (old new : Source R) (buffer : List ℕ) (fault : LinkFault) → BreaksOff remaining old new fault → ReadsFrame remaining {T = T} old new buffer (Err fault)
+  told T old new buffer ReadFault breaks = breaks
+  told T old new buffer Closed breaks = breaks
+  told T old new buffer (WriteFault sent) breaks = absurd breaks.stops
+  told T old new buffer BadFrame breaks = absurd breaks.stops
+  told T old new buffer BadBody breaks = absurd breaks.stops
+  told T old new buffer NoMemory breaks = absurd breaks.stops
 
-  -- a good length came, and not the whole body
-  pub breaks_in_body : (old mid new : Source R) (buffer : List ℕ) (n : ℕ) (fault : LinkFault) → FitsLength n → Gives remaining old mid (length_bytes n)
-      → Unfailed old mid → FallsShort remaining mid new n fault → ReadsFrame remaining old new buffer (Err fault)
-  breaks_in_body old mid new buffer n fault fits given unfailed short = told old new buffer fault (record {
+  -- a good length came, and then the whole body, or less of it
+  pub reads_on : {T : Type 0} (old mid new : Source R) (body : List ℕ) (n : ℕ) (result : Result T LinkFault) → FitsLength n → Gives remaining old mid (length_bytes n)
+      → Unfailed old mid → OnOk result (Gives remaining mid new body) → OnOk result (length body ≡ n)
+      → OnOk result ((source_failed mid ≡ false) × (source_failed new ≡ false)) → IfErr result (FallsShort remaining mid new n) → ReadsFrame remaining old new body result
+  reads_on {T} old mid new body n (Ok done) fits given unfailed came long works short = record {
+    is_body = subst FitsLength (sym long) fits;
+    given = Consumes-trans _ _ _ _ _ (subst (λ m. Gives remaining old mid (length_bytes m)) (sym long) given) came;
+    unfailed = record { before = unfailed.before; after = works.1 };
+  }
+  reads_on {T} old mid new body n (Err fault) fits given unfailed came long works short = told T old new body fault (record {
     bytes = length_bytes n ++ short.bytes;
     unfinished = short_of_frame n short.bytes fits short.fewer;
     given = Consumes-trans _ _ _ _ _ given short.given;

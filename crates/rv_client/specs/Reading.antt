@@ -1,5 +1,5 @@
 -- What stands of a source after one frame was read of it, or a part of one; for the proofs.
-use Rattle.std.specs.Prelude.{ℕ, ◌≡◌, ◌<◌, ◌≤◌, List, Option, Result, Ok, Err, true, false, length, take}
+use Rattle.std.specs.Prelude.{ℕ, ◌≡◌, ◌<◌, List, Option, Result, Ok, Err, true, false, length}
 use Rattle.rv_frame.specs.Cut.{FitsLength, IsBody, IsUnfinished, frame_bytes, length_bytes}
 use Rattle.rv_frame.specs.Source.{source_failed}
 use Rattle.rv_frame.specs.declared.source.Source.{Source}
@@ -50,18 +50,17 @@ module _ {R : Type 0} (remaining : R → Option (List ℕ)) where
     pub given : Gives remaining old new (length_bytes n)
     pub unfailed : Unfailed old new
 
-  -- the source gave the frame of the body of this length at the front of the buffer
-  pub record GivesFrame (old new : Source R) (buffer : List ℕ) (size : ℕ) : Type 0 where
-    pub within : size ≤ length buffer
-    pub is_body : IsBody (take size buffer)
-    pub given : Gives remaining old new (frame_bytes (take size buffer))
+  -- the source gave the frame of this body
+  pub record GivesFrame (old new : Source R) (body : List ℕ) : Type 0 where
+    pub is_body : IsBody body
+    pub given : Gives remaining old new (frame_bytes body)
     pub unfailed : Unfailed old new
 
-  abbrev pub ReadsFrame : Source R → Source R → List ℕ → Result ℕ LinkFault → Type 0
-  ReadsFrame old new buffer (Ok size) = GivesFrame old new buffer size
-  ReadsFrame old new buffer (Err ReadFault) = BreaksOff old new ReadFault
-  ReadsFrame old new buffer (Err Closed) = BreaksOff old new Closed
-  ReadsFrame old new buffer (Err BadFrame) = GivesBadLength old new
-  ReadsFrame old new buffer (Err (WriteFault sent)) = ⊥
-  ReadsFrame old new buffer (Err BadBody) = ⊥
-  ReadsFrame old new buffer (Err NoMemory) = ⊥
+  abbrev pub ReadsFrame : {T : Type 0} → Source R → Source R → List ℕ → Result T LinkFault → Type 0
+  ReadsFrame old new body (Ok done) = GivesFrame old new body
+  ReadsFrame old new body (Err ReadFault) = BreaksOff old new ReadFault
+  ReadsFrame old new body (Err Closed) = BreaksOff old new Closed
+  ReadsFrame old new body (Err BadFrame) = GivesBadLength old new
+  ReadsFrame old new body (Err (WriteFault sent)) = ⊥
+  ReadsFrame old new body (Err BadBody) = ⊥
+  ReadsFrame old new body (Err NoMemory) = ⊥

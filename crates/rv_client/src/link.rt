@@ -1,5 +1,6 @@
 //! One request and one answer over a source and a sink.
-ghost use Rattle.std.specs.Prelude.{◌≡◌, ◌<◌, false, length, IfErr, OnOk};
+ghost use Rattle.std.specs.Prelude.{◌≡◌, ◌<◌, ◌≤◌, [], false, length, IfErr, OnOk};
+ghost use Rattle.std.specs.Vec.{vec_capacity};
 ghost use Rattle.rv_text.specs.Limits.{FitsMessage};
 ghost use Rattle.rv_frame.specs.Cut.{length_bytes};
 ghost use Rattle.rv_frame.specs.Source.{source_failed};
@@ -8,9 +9,12 @@ ghost use Rattle.rv_client.specs.Reading.{BreaksOff, FallsShort, ReadsFrame};
 
 use crate::fault::LinkFault;
 use rv_frame::{Sink, Source, write_frame};
-use rv_text::{Answer, MAX_BODY_BYTES, Message, decode_answer, encode_message};
+use rv_text::{Answer, Message, decode_answer, encode_message};
 use std::alloc::Global;
 use std::io::{Read, Write};
+
+// The most bytes of a frame's body: two bytes say its length.
+const MAX_BODY_BYTES: usize = 65_535;
 
 // Fills the buffer with the source's next bytes.
 fn fill<R: Read>(source: &mut Source<R>, buffer: &mut [u8]) -> Result<(), LinkFault>
@@ -31,32 +35,47 @@ fn fill<R: Read>(source: &mut Source<R>, buffer: &mut [u8]) -> Result<(), LinkFa
 }
 
 // The length that these two bytes say.
-fn length_of(head: &[u8; 2]) -> usize
+fn length_of(head: &[u8; 2]) -> u16
     ensures { length_bytes result ≡ head.now }
 {
-    let length = 256 * head[0] as u16 + head[1] as u16;
-    usize::from(length)
+    256 * head[0] as u16 + head[1] as u16
 }
 
-// Reads one frame, and gives the length of its body, which then stands at the front of the buffer.
-fn read_frame<R: Read>(
+// Fills a body that is empty yet, and has the room, with so many of the source's next bytes.
+fn fill_body<R: Read>(
     source: &mut Source<R>,
-    buffer: &mut [u8; MAX_BODY_BYTES],
-) -> Result<usize, LinkFault>
-    ensures { ReadsFrame R.remaining source.old source.new buffer.new result }
+    body: &mut Vec<u8>,
+    size: usize,
+) -> Result<(), LinkFault>
+    requires some { 0 < size }
+    requires empty { body.old.items ≡ [] }
+    requires room { size ≤ vec_capacity body.old }
+    ensures bytes { OnOk result (Gives R.remaining source.old source.new body.new.items) }
+    ensures long { OnOk result (length body.new.items ≡ size) }
+    ensures ok { OnOk result ((source_failed source.old ≡ false) × (source_failed source.new ≡ false)) }
+    ensures fault { IfErr result (FallsShort R.remaining source.old source.new size) }
+{
+    body.resize(size, 0).unwrap();
+    fill(source, body.as_mut_slice())
+}
+
+// Reads one frame, and puts its body into the buffer, which is empty and has room for the longest.
+fn read_frame<R: Read>(source: &mut Source<R>, body: &mut Vec<u8>) -> Result<(), LinkFault>
+    requires empty { body.old.items ≡ [] }
+    requires room { 65535 ≤ vec_capacity body.old }
+    ensures { ReadsFrame R.remaining source.old source.new body.new.items result }
 {
     let mut head = [0u8; 2];
     fill(source, &mut head)?;
-    let length = length_of(&head);
-    if !(1..=MAX_BODY_BYTES).contains(&length) {
+    let length = usize::from(length_of(&head));
+    if length == 0 {
         return Err(LinkFault::BadFrame);
     }
-    fill(source, &mut buffer[..length])?;
-    Ok(length)
+    fill_body(source, body, length)
 }
 
 /// Sends the frame of a message that keeps its limits, and reads the frame of its answer: exactly the
-/// bytes of one frame, in at most 4,098 reads.
+/// bytes of one frame, in at most 65,537 reads. Room for the longest answer is made before a byte goes out.
 ///
 /// Each [`LinkFault`] says what went out and what was read. A read or write fault comes only where the
 /// source or the sink has failed. What the source gives after a read fault, a closed link or a bad
@@ -72,8 +91,8 @@ pub fn ask<R: Read, W: Write>(
         (link source.old sink.old) (link source.new sink.new) result }
 {
     let request = encode_message(alloc, message)?;
+    let mut body = Vec::with_capacity(alloc, MAX_BODY_BYTES)?;
     write_frame(sink, request.as_bytes())?;
-    let mut buffer = [0u8; MAX_BODY_BYTES];
-    let length = read_frame(source, &mut buffer)?;
-    Ok(decode_answer(alloc, &buffer[..length])?)
+    read_frame(source, &mut body)?;
+    Ok(decode_answer(alloc, body.as_slice())?)
 }

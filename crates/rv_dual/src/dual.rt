@@ -63,7 +63,7 @@ fn withdraw_taker(takers: &mut Line<Parked>, place: Place) -> Option<Duty>
 impl Dual {
     ghost use Rattle.rv_dual.specs.Offers.{offer_of, places_of};
     ghost use Rattle.rv_dual.specs.Queue.{IsQueue, IsAbove, KeepsRoom, SameLists};
-    ghost use Rattle.rv_dual.specs.Meanings.{GivenMeans, TakenMeans, TriedGive, TriedTake};
+    ghost use Rattle.rv_dual.specs.Meanings.{GivenMeans, TakenFront, TakenMeans, TriedGive, TriedTake};
     ghost use Rattle.rv_dual.specs.Withdrawing.{Withdraws};
 
     /// A queue where nobody waits. It takes no memory yet.
@@ -142,6 +142,15 @@ impl Dual {
             Some(offer) => Tried::Met(Pair::new(offer.wake(), taker)),
             None => Tried::Alone(taker),
         }
+    }
+
+    /// The oldest item leaves the queue, and comes out as its duty, which is None for a put's, and its place.
+    /// It is None where no item waits, and then nothing changes. Consumers stay, and so does the room.
+    #[tactic(auto, using(crate::proofs::Sides::dual_after_giver))]
+    pub fn take_front(&mut self) -> Option<(Option<Duty>, Place)>
+        ensures { TakenFront self.old self.new result }
+    {
+        Some(self.givers.pop()?.wake().part())
     }
 
     /// The request that waits at a place leaves the queue, wherever it stands in it, and its duty comes

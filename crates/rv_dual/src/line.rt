@@ -166,6 +166,7 @@ impl<T: Stands> Line<T> {
     pub(crate) fn pop(&mut self) -> Option<T>
         ensures oldest { self.old.waiting ≡ option_to_list result ++ self.new.waiting }
         ensures nobody { IfNone result (self.old.waiting ≡ []) }
+        ensures same { IfNone result (self.new ≡ self.old) }
         ensures rest { self.new.waiting ≡ drop 1 self.old.waiting }
         ensures room { self.old.room ≤ self.new.room }
     {

@@ -2,9 +2,9 @@
 use Rattle.std.specs.Prelude.{ℕ, ◌≡◌, ◌≤◌, ◌/◌, ◌%◌, List, [], ◌∷◌, ◌++◌, length}
 use Rattle.std.specs.List.{All}
 
--- the length of a frame's body: 1 to 4,096 bytes
+-- the length of a frame's body: 1 to 65,535 bytes, the most that two bytes can say
 abbrev pub FitsLength : ℕ → Type 0
-FitsLength n = (1 ≤ n) × (n ≤ 4096)
+FitsLength n = (1 ≤ n) × (n ≤ 65535)
 
 abbrev pub IsBody : List ℕ → Type 0
 IsBody body = FitsLength (length body)

@@ -15,7 +15,7 @@ pub type NoMemory = AllocError;
 /// Why a piece is not taken.
 #[derive(Clone, Copy, Debug, PartialEq, Eq, Error)]
 pub enum FrameFault {
-    /// Fault 1: two length bytes say 0 or more than 4,096.
+    /// Fault 1: two length bytes say 0. All other lengths are good.
     #[error("a frame has the bad length {0}")]
     BadLength(u16),
     /// Fault 2: a growth of memory was refused.
@@ -35,7 +35,7 @@ impl From<AllocError> for FrameFault {
 }
 
 /// Frames out of bytes that are fed in pieces. A frame is a length, in two bytes with the greater part first,
-/// and so many bytes of body: 1 to 4,096.
+/// and so many bytes of body: 1 to 65,535.
 ///
 /// Contracts see the bodies of the whole frames that can still be taken, oldest first, and what follows
 /// them: the bytes of a frame that is not whole, or the bad length that was met. The frames that were

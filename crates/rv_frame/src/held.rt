@@ -9,9 +9,6 @@ use crate::frames::{FrameFault, NoMemory};
 use bytes::BytesMut;
 use std::alloc::Global;
 
-// The most bytes of a frame's body.
-const MAX_BODY_BYTES: u16 = 4096;
-
 // How bytes begin.
 pub(crate) enum Head {
     // With a whole frame of so many bytes.
@@ -141,10 +138,11 @@ fn cut(bytes: &[u8]) -> (usize, Option<u16>)
     }
 }
 
+// Whether a frame's body has this length. Of those that two bytes can say it is each but 0.
 fn fits_length(length: u16) -> bool
     ensures { IsTrue result ↔ FitsLength length }
 {
-    (1..=MAX_BODY_BYTES).contains(&length)
+    length > 0
 }
 
 // How the bytes begin.

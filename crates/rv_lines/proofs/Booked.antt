@@ -1,20 +1,54 @@
 -- A book's account is within the limits of lines.
-use Rattle.std.proofs.Common.{◌≡◌, ◌≤◌, ◌<◌, ℕ, Option, Some, None, IfSome, refl, length, arith, length-take}
-use Rattle.std.specs.Prelude.{slice_get}
-use Rattle.rv_book.specs.declared.account.Entry.{Entry}
-use Rattle.rv_book.specs.Account.{Account}
-use Rattle.rv_book.specs.Legal.{Legal}
+use Rattle.std.proofs.Common.{◌≡◌, ◌≤◌, ◌<◌, ℕ, List, [], ◌∷◌, Option, Some, None, refl, ap, subst, length, take, arith, length-take}
+use Rattle.std.specs.Prelude.{slice_get, unwrap_or}
+use Rattle.std.proofs.lemmas.Option.{none-some, same_Some}
+use Rattle.rv_text.specs.declared.call.Call.{Call}
+use Rattle.rv_text.specs.Calls.{drains_of}
+use Rattle.rv_text.specs.Limits.{FitsCall}
+use Rattle.rv_text.proofs.Kept.{max_fits}
+use Rattle.rv_account.specs.declared.entry.Act.{Act}
+use Rattle.rv_account.specs.declared.entry.Act.TheVariants as act
+use Rattle.rv_account.specs.declared.entry.Entry.{Entry}
+use Rattle.rv_account.specs.Account.{Account, call_in}
+use Rattle.rv_account.specs.Calls.{may_name}
+use Rattle.rv_book.specs.Legal.{Legal, NamesFreePartners}
+use Rattle.rv_book.specs.Limits.{FitsAct}
 use Rattle.rv_book.specs.Steps.{max_entries}
 use Rattle.rv_book.proofs.Deciding.{find_waiting}
 use Rattle.rv_book.proofs.Places.{within}
 use Rattle.rv_lines.specs.Laws.{BookFitsLines}
-use Rattle.rv_lines.specs.Written.{max_partner}
+use Rattle.rv_lines.specs.Written.{FitPartners, max_partners}
+
+-- a call within its limits may name few partners
+few_by : (call : Call) (drains : Option ℕ) → FitsCall call → drains_of call ≡ drains → unwrap_or drains 1 ≤ max_partners
+few_by call None fits is = omega arith
+few_by call (Some max) fits is = (max_fits call max fits is).1
+
+few_named : (call : Call) → FitsCall call → may_name call ≤ max_partners
+few_named call fits = few_by call (drains_of call) fits refl
+
+fits_call : (does : Act) (call : Call) → call_in does ≡ Some call → FitsAct does → FitsCall call
+fits_call (act.Arrive key own) call is fits = subst FitsCall (same_Some own call is) fits.1
+fits_call (act.Hello client incarnation) call is fits = absurd (none-some call is)
+fits_call (act.Cancel key) call is fits = absurd (none-some call is)
+fits_call act.Tick call is fits = absurd (none-some call is)
+
+-- only an arrival names partners
+few_partners : (before : List Entry) (e : Entry) (partners : List ℕ) → e.partners ≡ partners → NamesFreePartners before e → FitsAct e.act → length partners ≤ max_partners
+few_partners before e [] is names fits = omega arith
+few_partners before e (p ∷ partners) is names fits =
+    let free = names.free p (0, ap (λ (l : List ℕ). slice_get l 0) is) in
+    let few = names.few free.call free.arrives in
+    omega (arith, few, ap length is, few_named free.call (fits_call e.act free.call free.arrives fits))
 
 -- a partner stands before its place
-partner_small : (a : Account) (r : ℕ) (e : Entry) (partner : Option ℕ) → Legal a → slice_get a.entries r ≡ Some e → r < 100000 → e.partner ≡ partner → IfSome partner (λ p. p ≤ max_partner)
-partner_small a r e None legal there small is = tt
-partner_small a r e (Some p) legal there small is =
-    omega (arith, ((legal r e there).pairs.names_free_partner p is).earlier, length-take r a.entries)
+partners_fit : (a : Account) (r : ℕ) (e : Entry) → Legal a → slice_get a.entries r ≡ Some e → r < 100000 → FitsAct e.act → FitPartners e
+partners_fit a r e legal there small fits =
+    let names = (legal r e there).pairs.names_free_partners in
+    record {
+      places = λ p named. omega (arith, (names.free p named).earlier, length-take r a.entries);
+      few = few_partners (take r a.entries) e e.partners refl names fits;
+    }
 
 pub book_fits_lines : BookFitsLines
 book_fits_lines a legal fits =
@@ -24,6 +58,6 @@ book_fits_lines a legal fits =
       epoch = fits.epoch;
       opened = fits.opened;
       entries = fits.entries;
-      partners = λ r e there. partner_small a r e e.partner legal there (omega (arith, within a.entries r e there, few)) refl;
+      partners = λ r e there. partners_fit a r e legal there (omega (arith, within a.entries r e there, few)) (fits.entries r e there).1;
       few = few;
     }

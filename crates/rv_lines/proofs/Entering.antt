@@ -10,9 +10,9 @@ use Rattle.rv_text.specs.declared.message.Message.TheVariants as message
 use Rattle.rv_text.specs.Reading.{messages}
 use Rattle.rv_text.proofs.Readers.{message_reader}
 use Rattle.rv_text.proofs.Decoding.{at_most_one}
-use Rattle.rv_book.specs.declared.account.Act.{Act}
-use Rattle.rv_book.specs.declared.account.Act.TheVariants as act
-use Rattle.rv_book.specs.declared.account.Entry.{Entry}
+use Rattle.rv_account.specs.declared.entry.Act.{Act}
+use Rattle.rv_account.specs.declared.entry.Act.TheVariants as act
+use Rattle.rv_account.specs.declared.entry.Entry.{Entry}
 use Rattle.rv_lines.specs.Faults.{line_fault}
 use Rattle.rv_lines.specs.declared.fault.LineFault.TheVariants as line
 use Rattle.rv_lines.specs.Reading.{ReadsEntry, SaysAct, SaysMessage}
@@ -56,7 +56,7 @@ pub entry_one : (line : List ℕ) (a b : Entry) → ReadsEntry line a → ReadsE
 entry_one line a b reads reads' =
     let same = fields_one reads.fields reads'.fields in
     let act = act_one reads'.act_field a.act b.act (subst (λ f. SaysAct f a.act) same.2 reads.says_act) reads'.says_act in
-    λ i. record { moment = same.0 i; act = act i; partner = same.1 i }
+    λ i. record { moment = same.0 i; act = act i; partners = same.1 i }
 
 -- a field that is not `tick` and no message's body says no act
 pub says_none : (field : List ℕ) (said : Option Message) → ¬ (field ≡ codes "tick") → ((m : Message) → ¬ IsMessageBody field m) → ¬ SaysMessage field said

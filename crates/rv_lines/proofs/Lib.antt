@@ -2,6 +2,7 @@
 pub mod Numbers
 pub mod Cutting
 pub mod Plain
+pub mod Commas
 pub mod Fields
 pub mod Heads
 pub mod Entering

@@ -1,5 +1,5 @@
 -- Bodies, and what is written for an account, have no LF within a line.
-use Rattle.std.proofs.Common.{◌≡◌, ◌≢◌, ◌≤◌, ◌<◌, ◌^◌, ◌+◌, ◌/◌, ◌%◌, ◌++◌, ◌||◌, ◌==◌, ℕ, Bool, true, false, cond, List, [], ◌∷◌, Option, Some, None, IfSome, inl, inr, map, refl, sym, subst, arith, codes}
+use Rattle.std.proofs.Common.{◌≡◌, ◌≢◌, ◌≤◌, ◌<◌, ◌^◌, ◌+◌, ◌/◌, ◌%◌, ◌++◌, ◌||◌, ◌==◌, ℕ, Bool, suc, true, false, cond, List, [], ◌∷◌, Option, Some, None, IfSome, inl, inr, map, refl, sym, subst, arith, codes}
 use Rattle.std.specs.Prelude.{nat_lt}
 use Rattle.std.specs.List.{list_all}
 use Rattle.std.specs.Char.{digit_char}
@@ -10,7 +10,8 @@ use Rattle.std.proofs.lemmas.Bool.Decides.{eqb_tells}
 use Rattle.std.proofs.lemmas.List.Elements.{All-append, All-cons, All-nil}
 use Rattle.json.specs.Print.{escape, escape_byte, escape_letter, quoted}
 use Rattle.serde_json.specs.Data.{unsigned, negative, float, Data, null, boolean, number, string, array, object, Members, no_members, member}
-use Rattle.serde_json.specs.Written.{comma_if, compact_text, members_text}
+use Rattle.serde_json.specs.View.{items_of}
+use Rattle.serde_json.specs.Written.{comma_if, compact_text, items_text, members_text}
 use Rattle.rv_text.specs.declared.answer.Answer.{Answer}
 use Rattle.rv_text.specs.declared.message.Message.{Message}
 use Rattle.rv_text.specs.Bodies.{answer_text, message_text}
@@ -21,11 +22,12 @@ use Rattle.rv_text.proofs.ByKind.{row_is_flat}
 use Rattle.rv_text.proofs.Objects.{AllMembers, AllMembers-with_fields}
 use Rattle.rv_text.proofs.Sizes.{IsFlat, IsFlatMember}
 use Rattle.rv_text.proofs.Sound.{answer_sound, answer_within, message_sound, message_within}
-use Rattle.rv_book.specs.declared.account.Act.{Act}
-use Rattle.rv_book.specs.declared.account.Act.TheVariants as act
-use Rattle.rv_book.specs.declared.account.Entry.{Entry}
+use Rattle.rv_account.specs.declared.entry.Act.{Act}
+use Rattle.rv_account.specs.declared.entry.Act.TheVariants as act
+use Rattle.rv_account.specs.declared.entry.Entry.{Entry}
 use Rattle.rv_book.specs.Limits.{FitsAct, FitsEntry}
-use Rattle.rv_lines.specs.Written.{entry_text, head_text, max_partner, message_in, partner_text, said_text}
+use Rattle.rv_account.specs.Account.{Among}
+use Rattle.rv_lines.specs.Written.{FitPartners, entry_text, head_text, max_partner, message_in, partners_text, places_text, said_text}
 use Rattle.rv_lines.proofs.Cutting.{Lacks}
 use Rattle.rv_lines.proofs.Numbers.{all_in_range}
 
@@ -105,6 +107,13 @@ quoted_in_line s = line_cons 34 (escape s ++ 34 ∷ []) (λ same. omega arith) (
 pub decimal_in_line : (n : ℕ) → n < 2 ^ 64 → Lacks 10 (decimal n)
 decimal_in_line n small k d inside same = omega (arith, all_in_range (decimal n) (decimal_is_IsNumeral n small).0.1 k d inside)
 
+texts_in_line : (later : Bool) (texts : List (List ℕ)) → Lacks 10 (items_text later (items_of (map string texts)))
+texts_in_line later [] = line_one 93 (λ same. omega arith)
+texts_in_line later (s ∷ texts) =
+    let rest = items_text true (items_of (map string texts)) in
+    line_append (comma_if later) (quoted s ++ rest) (cond_line later (44 ∷ []) [] (line_one 44 (λ same. omega arith)) line_nil)
+    (line_append (quoted s) rest (quoted_in_line s) (texts_in_line true texts))
+
 value_in_line : (d : Data) → IsFlat d → Lacks 10 (compact_text d)
 value_in_line (number (unsigned n)) h = decimal_in_line n h
 value_in_line (string s) h = quoted_in_line s
@@ -112,7 +121,9 @@ value_in_line (number (negative z)) h = absurd h
 value_in_line (number (float x)) h = absurd h
 value_in_line null h = absurd h
 value_in_line (boolean b) h = absurd h
-value_in_line (array ds) h = absurd h
+value_in_line (array ds) h =
+    let texts = line_cons 91 (items_text false (items_of (map string h.0))) (λ same. omega arith) (texts_in_line false h.0) in
+    subst (λ es. Lacks 10 (compact_text (array es))) (sym h.1) texts
 value_in_line (object ms) h = absurd h
 
 members_in_line : (later : Bool) (ms : Members) → AllMembers IsFlatMember ms → Lacks 10 (members_text later ms)
@@ -137,9 +148,28 @@ answer_in_one_line a fits =
 
 -- ---- lines of an account
 
-partner_in_line : (partner : Option ℕ) → IfSome partner (λ p. p ≤ max_partner) → Lacks 10 (partner_text partner)
-partner_in_line None small = line_one 45 (λ same. omega arith)
-partner_in_line (Some place) small = decimal_in_line place (omega (arith, small))
+-- each of the places is at most this
+abbrev pub AllUpTo : ℕ → List ℕ → Type 0
+AllUpTo most places = (p : ℕ) → Among places p → p ≤ most
+
+pub up_to_behind : (most place : ℕ) (more : List ℕ) → AllUpTo most (place ∷ more) → AllUpTo most more
+up_to_behind most place more small p among = small p (suc among.0, among.1)
+
+-- digits, commas and a minus are above these bytes
+module _ (byte : ℕ) (low : byte < 44) where
+  decimal_lacks : (n : ℕ) → n < 2 ^ 64 → Lacks byte (decimal n)
+  decimal_lacks n small k d inside same = omega (arith, all_in_range (decimal n) (decimal_is_IsNumeral n small).0.1 k d inside)
+
+  places_lack : (place : ℕ) (more : List ℕ) → AllUpTo max_partner (place ∷ more) → Lacks byte (places_text place more)
+  places_lack place [] small = decimal_lacks place (omega (arith, small place (0, refl)))
+  places_lack place (next ∷ more) small =
+      let later = places_lack next more (up_to_behind max_partner place (next ∷ more) small) in
+      All-append (λ b. b ≢ byte) (decimal place) (44 ∷ places_text next more) (decimal_lacks place (omega (arith, small place (0, refl))))
+      (All-cons (λ b. b ≢ byte) 44 (places_text next more) (λ same. omega (arith, same)) later)
+
+  pub partners_lack : (partners : List ℕ) → AllUpTo max_partner partners → Lacks byte (partners_text partners)
+  partners_lack [] small = All-cons (λ b. b ≢ byte) 45 [] (λ same. omega (arith, same)) (All-nil (λ b. b ≢ byte))
+  partners_lack (place ∷ more) small = places_lack place more small
 
 said_in_line : (said : Option Message) → IfSome said FitsMessage → Lacks 10 (said_text said)
 said_in_line None fits = word_in_line (codes "tick") refl
@@ -151,11 +181,11 @@ message_fits (act.Arrive key call) fits = fits
 message_fits (act.Cancel key) fits = fits
 message_fits act.Tick fits = tt
 
-pub entry_in_one_line : (e : Entry) → FitsEntry e → IfSome e.partner (λ p. p ≤ max_partner) → Lacks 10 (entry_text e)
+pub entry_in_one_line : (e : Entry) → FitsEntry e → FitPartners e → Lacks 10 (entry_text e)
 entry_in_one_line e fits small =
-    line_append (decimal e.moment ++ 32 ∷ partner_text e.partner) (32 ∷ said_text (message_in e.act))
-    (line_append (decimal e.moment) (32 ∷ partner_text e.partner) (decimal_in_line e.moment (omega (arith, fits.0)))
-    (line_cons 32 (partner_text e.partner) (λ same. omega arith) (partner_in_line e.partner small)))
+    line_append (decimal e.moment ++ 32 ∷ partners_text e.partners) (32 ∷ said_text (message_in e.act))
+    (line_append (decimal e.moment) (32 ∷ partners_text e.partners) (decimal_in_line e.moment (omega (arith, fits.0)))
+    (line_cons 32 (partners_text e.partners) (λ same. omega arith) (partners_lack 10 (omega arith) e.partners small.places)))
     (line_cons 32 (said_text (message_in e.act)) (λ same. omega arith) (said_in_line (message_in e.act) (message_fits e.act fits.1)))
 
 pub head_in_one_line : (epoch opened : ℕ) → epoch < 2 ^ 64 → opened < 2 ^ 64 → Lacks 10 (head_text epoch opened)

@@ -2,8 +2,8 @@
 use Rattle.std.proofs.Common.{◌≡◌, ◌≤◌, ◌<◌, ◌-◌, ℕ, zero, suc, List, [], ◌∷◌, refl, sym, ap, subst, inl, inr, ◌∙◌, take, arith, length-take}
 use Rattle.std.specs.List.{AllZip}
 use Rattle.std.proofs.lemmas.Bool.{cases_order}
-use Rattle.rv_book.specs.declared.account.Entry.{Entry}
-use Rattle.rv_book.specs.Account.{Account}
+use Rattle.rv_account.specs.declared.entry.Entry.{Entry}
+use Rattle.rv_account.specs.Account.{Account}
 use Rattle.rv_lines.specs.Reading.{FirstBadLine, ReadsAccount, ReadsEntry, ReadsHead}
 use Rattle.rv_lines.proofs.Entering.{entry_one}
 use Rattle.rv_lines.proofs.Heads.{head_one}

@@ -8,16 +8,16 @@ use Rattle.rv_text.specs.declared.message.Message.{Message}
 use Rattle.rv_text.specs.Bodies.{HasUtf8}
 use Rattle.rv_text.specs.Limits.{FitsMessage}
 use Rattle.rv_text.proofs.Written.{written_body}
-use Rattle.rv_book.specs.declared.account.Entry.{Entry}
+use Rattle.rv_account.specs.declared.entry.Entry.{Entry}
 use Rattle.rv_book.specs.Limits.{FitsEntry}
 use Rattle.rv_book.specs.Steps.{max_moment}
 use Rattle.rv_lines.specs.Laws.{WrittenAccount}
 use Rattle.rv_lines.specs.Lines.{lines, printed}
 use Rattle.rv_lines.specs.Number.{WritesUpTo}
-use Rattle.rv_lines.specs.Reading.{ReadsEntry, SaysMessage, SaysPartner}
-use Rattle.rv_lines.specs.Written.{account_lines, entry_text, head_text, max_partner, message_in, partner_text, said_text}
+use Rattle.rv_lines.specs.Reading.{ReadsEntry, SaysMessage, SaysPartners, SaysPlaces}
+use Rattle.rv_lines.specs.Written.{FitPartners, account_lines, entry_text, head_text, max_partner, message_in, partners_text, places_text, said_text}
 use Rattle.rv_lines.proofs.Cutting.{Lacks, lines_cut}
-use Rattle.rv_lines.proofs.OneLine.{entry_in_one_line, head_in_one_line, message_fits}
+use Rattle.rv_lines.proofs.OneLine.{AllUpTo, entry_in_one_line, head_in_one_line, message_fits, partners_lack, up_to_behind}
 use Rattle.rv_lines.proofs.Plain.{decimal_is_plain}
 
 -- ---- one line
@@ -25,23 +25,31 @@ use Rattle.rv_lines.proofs.Plain.{decimal_is_plain}
 written_up_to : (most n : ℕ) → n ≤ most → most < 10 ^ 19 → WritesUpTo most (decimal n) n
 written_up_to most n within small = (decimal_is_plain n (omega arith), within)
 
-written_partner : (partner : Option ℕ) → IfSome partner (λ p. p ≤ max_partner) → SaysPartner (partner_text partner) partner
-written_partner None small = refl
-written_partner (Some place) small = written_up_to max_partner place small (omega arith)
+written_places : (place : ℕ) (more : List ℕ) → AllUpTo max_partner (place ∷ more) → SaysPlaces (places_text place more) place more
+written_places place [] small = written_up_to max_partner place (small place (0, refl)) (omega arith)
+written_places place (next ∷ more) small =
+    (decimal place, places_text next more, refl, written_up_to max_partner place (small place (0, refl)) (omega arith), written_places next more (up_to_behind max_partner place (next ∷ more) small))
+
+written_partners : (partners : List ℕ) → AllUpTo max_partner partners → SaysPartners (partners_text partners) partners
+written_partners [] small = refl
+written_partners (place ∷ more) small = written_places place more small
 
 written_message : (said : Option Message) → IfSome said FitsMessage → IfSome said HasUtf8 → SaysMessage (said_text said) said
 written_message None fits text = refl
 written_message (Some m) fits text = written_body m fits text
 
-pub written_entry : (e : Entry) → FitsEntry e → IfSome e.partner (λ p. p ≤ max_partner) → IfSome (message_in e.act) HasUtf8 → ReadsEntry (entry_text e) e
+pub written_entry : (e : Entry) → FitsEntry e → FitPartners e → IfSome (message_in e.act) HasUtf8 → ReadsEntry (entry_text e) e
 written_entry e fits small text = record {
   act_field = said_text (message_in e.act);
   fields = record {
-    moment_field = decimal e.moment;
-    partner_field = partner_text e.partner;
-    parts = refl;
-    says_moment = written_up_to max_moment e.moment fits.0 (omega arith);
-    says_partner = written_partner e.partner small;
+    partners_field = partners_text e.partners;
+    cut = record {
+      moment_field = decimal e.moment;
+      parts = refl;
+      says_moment = written_up_to max_moment e.moment fits.0 (omega arith);
+      no_space = partners_lack 32 (omega arith) e.partners small.places;
+    };
+    says_partners = written_partners e.partners small.places;
   };
   says_act = written_message (message_in e.act) (message_fits e.act fits.1) text;
 }
@@ -51,7 +59,7 @@ written_entry e fits small text = record {
 -- what is needed of an entry
 record CanBeRead (e : Entry) : Type 0 where
   pub fits : FitsEntry e
-  pub small : IfSome e.partner (λ p. p ≤ max_partner)
+  pub small : FitPartners e
   pub text : IfSome (message_in e.act) HasUtf8
 
 abbrev Each : List Entry → Type 0

@@ -1,6 +1,6 @@
 -- How far the lines behind the first are read: for private clauses and proofs.
 use Rattle.std.specs.Prelude.{◌≤◌, ◌+◌, ◌∷◌, ◌++◌, ◌≡◌, ◌⊎◌, ℕ, List, length}
-use Rattle.rv_book.specs.declared.account.Entry.{Entry}
+use Rattle.rv_account.specs.declared.entry.Entry.{Entry}
 use Rattle.rv_book.specs.Steps.{max_entries}
 use Rattle.rv_lines.specs.Reading.{ReadsEntries, ReadsEntry}
 

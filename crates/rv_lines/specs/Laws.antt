@@ -1,8 +1,8 @@
 -- What holds of the lines of accounts as such.
 use Rattle.std.specs.Prelude.{◌≡◌, ℕ, List, IfSome, Some, slice_get}
 use Rattle.rv_text.specs.Bodies.{HasUtf8}
-use Rattle.rv_book.specs.declared.account.Entry.{Entry}
-use Rattle.rv_book.specs.Account.{Account}
+use Rattle.rv_account.specs.declared.entry.Entry.{Entry}
+use Rattle.rv_account.specs.Account.{Account}
 use Rattle.rv_book.specs.Legal.{Legal}
 use Rattle.rv_book.specs.Limits.{FitsAccount}
 use Rattle.rv_lines.specs.Lines.{lines, printed}

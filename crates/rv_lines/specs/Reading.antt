@@ -1,12 +1,13 @@
 -- Which lines are read as which account, and which line is the first bad one.
-use Rattle.std.specs.Prelude.{◌≤◌, ◌-◌, ◌∷◌, ◌++◌, ◌≡◌, ◌⊎◌, ℕ, List, Option, None, Some, codes, length, take}
-use Rattle.std.specs.List.{AllZip}
+use Rattle.std.specs.Prelude.{◌≤◌, ◌-◌, ◌∷◌, ◌++◌, ◌≡◌, ◌≢◌, ◌⊎◌}
+use Rattle.std.specs.Prelude.{ℕ, List, [], Option, None, Some, codes, length, take}
+use Rattle.std.specs.List.{All, AllZip}
 use Rattle.rv_text.specs.declared.message.Message.{Message}
 use Rattle.rv_text.specs.Bodies.{IsMessageBody}
 use Rattle.rv_text.specs.Limits.{FitsIdentifier}
-use Rattle.rv_book.specs.declared.account.Act.{Act}
-use Rattle.rv_book.specs.declared.account.Entry.{Entry}
-use Rattle.rv_book.specs.Account.{Account}
+use Rattle.rv_account.specs.declared.entry.Act.{Act}
+use Rattle.rv_account.specs.declared.entry.Entry.{Entry}
+use Rattle.rv_account.specs.Account.{Account}
 use Rattle.rv_book.specs.Steps.{max_entries, max_moment}
 use Rattle.rv_lines.specs.Number.{WritesPlainly, WritesUpTo}
 use Rattle.rv_lines.specs.Written.{max_partner, message_in}
@@ -22,10 +23,21 @@ pub record ReadsHead (line : List ℕ) (epoch opened : ℕ) : Type 0 where
   pub epoch_fits : FitsIdentifier epoch
   pub says_opened : WritesUpTo max_moment opened_field opened
 
--- the partner's place, or `-`
-abbrev pub SaysPartner : List ℕ → Option ℕ → Type 0
-SaysPartner field None = field ≡ codes "-"
-SaysPartner field (Some place) = WritesUpTo max_partner field place
+-- a place and those behind it, with a comma (44) between each two
+abbrev pub SaysPlaces : List ℕ → ℕ → List ℕ → Type 0
+SaysPlaces field place [] = WritesUpTo max_partner field place
+SaysPlaces field place (next ∷ more) = (first : List ℕ) × (rest : List ℕ) × (field ≡ first ++ 44 ∷ rest)
+    × WritesUpTo max_partner first place × SaysPlaces rest next more
+
+-- places, one at least
+abbrev pub SaysSomePlaces : List ℕ → List ℕ → Type 0
+SaysSomePlaces field [] = ⊥
+SaysSomePlaces field (place ∷ more) = SaysPlaces field place more
+
+-- the partners' places, or `-`
+abbrev pub SaysPartners : List ℕ → List ℕ → Type 0
+SaysPartners field [] = field ≡ codes "-"
+SaysPartners field (place ∷ more) = SaysPlaces field place more
 
 -- any body of the message, or `tick`
 abbrev pub SaysMessage : List ℕ → Option Message → Type 0
@@ -35,18 +47,23 @@ SaysMessage field (Some m) = IsMessageBody field m
 abbrev pub SaysAct : List ℕ → Act → Type 0
 SaysAct field act = SaysMessage field (message_in act)
 
--- the line is a moment, one space (32), a partner, one space and this field, whatever it is
-pub record HasFields (line : List ℕ) (moment : ℕ) (partner : Option ℕ) (field : List ℕ) : Type 0 where
+-- the line is a moment, one space (32), a field with no space, one space and this last field, whatever it is
+pub record CutsFields (line : List ℕ) (moment : ℕ) (partners_field last_field : List ℕ) : Type 0 where
   pub moment_field : List ℕ
-  pub partner_field : List ℕ
-  pub parts : line ≡ moment_field ++ 32 ∷ partner_field ++ 32 ∷ field
+  pub parts : line ≡ moment_field ++ 32 ∷ partners_field ++ 32 ∷ last_field
   pub says_moment : WritesUpTo max_moment moment_field moment
-  pub says_partner : SaysPartner partner_field partner
+  pub no_space : All (λ byte. byte ≢ 32) partners_field
+
+-- the line is a moment, one space, partners, one space and this last field
+pub record HasFields (line : List ℕ) (moment : ℕ) (partners : List ℕ) (last_field : List ℕ) : Type 0 where
+  pub partners_field : List ℕ
+  pub cut : CutsFields line moment partners_field last_field
+  pub says_partners : SaysPartners partners_field partners
 
 -- the line is read as the entry
 pub record ReadsEntry (line : List ℕ) (e : Entry) : Type 0 where
   pub act_field : List ℕ
-  pub fields : HasFields line e.moment e.partner act_field
+  pub fields : HasFields line e.moment e.partners act_field
   pub says_act : SaysAct act_field e.act
 
 -- ---- all lines

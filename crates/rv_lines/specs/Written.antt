@@ -1,15 +1,15 @@
 -- The lines that are written for an account.
-use Rattle.std.specs.Prelude.{◌≤◌, ◌∷◌, ◌++◌, ◌≡◌, ℕ, List, Option, None, Some, IfSome}
+use Rattle.std.specs.Prelude.{◌≤◌, [], ◌∷◌, ◌++◌, ◌≡◌, ℕ, List, Option, None, Some}
 use Rattle.std.specs.Prelude.{codes, length, map, slice_get}
 use Rattle.std.specs.Fmt.{decimal}
 use Rattle.rv_text.specs.declared.message.Message.{Message}
 use Rattle.rv_text.specs.declared.message.Message.TheVariants as message
 use Rattle.rv_text.specs.Bodies.{message_text}
 use Rattle.rv_text.specs.Limits.{FitsIdentifier}
-use Rattle.rv_book.specs.declared.account.Act.{Act}
-use Rattle.rv_book.specs.declared.account.Act.TheVariants as act
-use Rattle.rv_book.specs.declared.account.Entry.{Entry}
-use Rattle.rv_book.specs.Account.{Account}
+use Rattle.rv_account.specs.declared.entry.Act.{Act}
+use Rattle.rv_account.specs.declared.entry.Act.TheVariants as act
+use Rattle.rv_account.specs.declared.entry.Entry.{Entry}
+use Rattle.rv_account.specs.Account.{Account, Names}
 use Rattle.rv_book.specs.Limits.{FitEntries}
 use Rattle.rv_book.specs.Steps.{max_entries, max_moment}
 
@@ -26,10 +26,15 @@ message_in act.Tick = None
 abbrev pub head_text : ℕ → ℕ → List ℕ
 head_text epoch opened = codes "epoch " ++ decimal epoch ++ codes " opened " ++ decimal opened
 
--- the partner's place, or `-`
-abbrev pub partner_text : Option ℕ → List ℕ
-partner_text None = codes "-"
-partner_text (Some place) = decimal place
+-- a place and those behind it, with a comma (44) between each two
+abbrev pub places_text : ℕ → List ℕ → List ℕ
+places_text place [] = decimal place
+places_text place (next ∷ more) = decimal place ++ 44 ∷ places_text next more
+
+-- the partners' places, or `-`
+abbrev pub partners_text : List ℕ → List ℕ
+partners_text [] = codes "-"
+partners_text (place ∷ more) = places_text place more
 
 -- the body that is written for the message, or `tick`
 abbrev pub said_text : Option Message → List ℕ
@@ -38,7 +43,7 @@ said_text (Some m) = message_text m
 
 -- three fields, with one space (32) between each two
 abbrev pub entry_text : Entry → List ℕ
-entry_text e = decimal e.moment ++ 32 ∷ partner_text e.partner ++ 32 ∷ said_text (message_in e.act)
+entry_text e = decimal e.moment ++ 32 ∷ partners_text e.partners ++ 32 ∷ said_text (message_in e.act)
 
 -- the line of the epoch and the opening moment, and a line for each entry
 abbrev pub account_lines : Account → List (List ℕ)
@@ -46,9 +51,17 @@ account_lines a = head_text a.epoch a.opened ∷ map entry_text a.entries
 
 -- ---- what can be written, and read again
 
--- the greatest place of a partner
+-- the greatest place of a partner, and the most partners of an entry
 abbrev pub max_partner : ℕ
 max_partner = 99999
+
+abbrev pub max_partners : ℕ
+max_partners = 16
+
+-- the entry's partners are within both
+pub record FitPartners (e : Entry) : Type 0 where
+  pub places : (p : ℕ) → Names e p → p ≤ max_partner
+  pub few : length e.partners ≤ max_partners
 
 -- the account's numbers, moments, items and partners are within their limits, and its entries number at most
 -- 100,000; it needn't be legal
@@ -56,6 +69,5 @@ pub record FitsLines (a : Account) : Type 0 where
   pub epoch : FitsIdentifier a.epoch
   pub opened : a.opened ≤ max_moment
   pub entries : FitEntries a.entries
-  pub partners : (r : ℕ) (e : Entry) → slice_get a.entries r ≡ Some e
-      → IfSome e.partner (λ p. p ≤ max_partner)
+  pub partners : (r : ℕ) (e : Entry) → slice_get a.entries r ≡ Some e → FitPartners e
   pub few : length a.entries ≤ max_entries

@@ -1,59 +1,93 @@
 //! Reads the line of an entry.
-ghost use Rattle.std.specs.Prelude.{◌≡◌, ◌↔◌, ℕ, List, Option, None, Some, Err, IfOk, IfSome, IsTrue};
-ghost use Rattle.rv_book.specs.declared.account.Act as account;
-ghost use Rattle.rv_book.specs.declared.account.Entry as entries;
+ghost use Rattle.std.specs.Prelude.{◌≡◌, ◌↔◌, ◌++◌, ◌∷◌, [], ℕ, List, None, Some, Err};
+ghost use Rattle.std.specs.Prelude.{IfOk, IfSome, IsTrue, OnOk};
+ghost use Rattle.rv_account.specs.declared.entry.Act as account;
+ghost use Rattle.rv_account.specs.declared.entry.Entry as entries;
 ghost use Rattle.rv_lines.specs.Number.{WritesUpTo};
-ghost use Rattle.rv_lines.specs.Reading.{HasFields, ReadsEntry, SaysAct, SaysPartner};
+ghost use Rattle.rv_lines.specs.Reading.{CutsFields, ReadsEntry, SaysAct, SaysPartners, SaysSomePlaces};
 ghost use Rattle.rv_lines.specs.Written.{max_partner, message_in};
 
 use crate::fault::LineFault;
 use crate::line::cut_at;
 use crate::number::read_plain;
-use rv_book::{Act, Entry, MAX_MOMENT, Place};
-use rv_text::{Message, decode_message};
+use rv_book::{Act, Entry, MAX_MOMENT, Partners, Place};
+use rv_text::{Message, NoMemory, decode_message};
 use std::alloc::Global;
 
 // The greatest place of a partner.
 const MAX_PARTNER: u64 = 99_999;
 
-/// The entry that a line says by its three fields, which one space parts: the moment, the partner's place or
-/// `-`, and a body of the message or the word `tick`.
+/// The entry that a line says by its three fields, which one space parts: the moment, the places of the
+/// partners with commas between, or `-`, and a body of the message or the word `tick`.
 pub(crate) fn read_entry(alloc: Global, line: &[u8]) -> Result<Entry, LineFault>
     ensures reads { IfOk result (ReadsEntry line.now) }
     ensures bad { result ≡ Err LineFault.Bad → (e : entries.Entry) → ¬ ReadsEntry line.now e }
 {
-    let (moment, partner, field) = read_fields(line).ok_or(LineFault::Bad)?;
+    let (moment, places, field) = cut_fields(line).ok_or(LineFault::Bad)?;
+    let partners = read_partners(alloc, places)?;
     let act = read_act(alloc, field)?;
     Ok(Entry {
         moment,
         act,
-        partner,
+        partners,
     })
 }
 
-// The moment and the partner of a line, and the bytes behind the space after them, whatever they are.
-fn read_fields(line: &[u8]) -> Option<(u64, Option<Place>, &[u8])>
-    ensures some { IfSome result (λ f. HasFields line.now f.0 f.1 f.2.now) }
-    ensures none { result ≡ None → (moment : ℕ) (partner : Option ℕ) (field : List ℕ)
-        → ¬ HasFields line.now moment partner field }
+// The moment of a line, its partners' field, and the bytes behind the space after that, whatever they are.
+fn cut_fields(line: &[u8]) -> Option<(u64, &[u8], &[u8])>
+    ensures some { IfSome result (λ f. CutsFields line.now f.0 f.1.now f.2.now) }
+    ensures none { result ≡ None → (moment : ℕ) (partners field : List ℕ)
+        → ¬ CutsFields line.now moment partners field }
 {
     let (moment, fields) = cut_at(b' ', line)?;
-    let (partner, field) = cut_at(b' ', fields)?;
+    let (partners, field) = cut_at(b' ', fields)?;
     let moment = read_plain(moment, MAX_MOMENT)?;
-    let partner = read_partner(partner)?;
-    Some((moment, partner, field))
+    Some((moment, partners, field))
 }
 
-// The partner that a field says: a place, or `-` for none.
-fn read_partner(field: &[u8]) -> Option<Option<Place>>
-    ensures some { IfSome result (SaysPartner field.now) }
-    ensures none { result ≡ None → (partner : Option ℕ) → ¬ SaysPartner field.now partner }
+// The partners that a field says: places with commas between, or `-` for none.
+fn read_partners(alloc: Global, field: &[u8]) -> Result<Partners, LineFault>
+    ensures reads { IfOk result (SaysPartners field.now) }
+    ensures bad { result ≡ Err LineFault.Bad → (partners : List ℕ) → ¬ SaysPartners field.now partners }
 {
     if is_text(field, b"-") {
-        return Some(None);
+        return Ok(Partners::none(alloc));
     }
-    let place = read_plain(field, MAX_PARTNER)?;
-    Some(Some(place as usize))
+    let places = read_places(alloc, field)?;
+    Ok(Partners::from_vec(places))
+}
+
+// The places that a field says: one at least, with commas between.
+fn read_places(alloc: Global, field: &[u8]) -> Result<Vec<Place>, LineFault>
+    ensures reads { IfOk result (λ places. SaysSomePlaces field.now places.items) }
+    ensures bad { result ≡ Err LineFault.Bad → (places : List ℕ) → ¬ SaysSomePlaces field.now places }
+{
+    let mut places = Vec::new(alloc);
+    let mut rest = field;
+    while let Some((piece, after)) = cut_at(b',', rest) {
+        let place = read_place(piece).ok_or(LineFault::Bad)?;
+        keep(&mut places, place)?;
+        rest = after;
+    }
+    let place = read_place(rest).ok_or(LineFault::Bad)?;
+    keep(&mut places, place)?;
+    Ok(places)
+}
+
+// The place that a piece of a field says.
+fn read_place(piece: &[u8]) -> Option<Place>
+    ensures some { IfSome result (WritesUpTo max_partner piece.now) }
+    ensures none { result ≡ None → (place : ℕ) → ¬ WritesUpTo max_partner piece.now place }
+{
+    let place = read_plain(piece, MAX_PARTNER)?;
+    Some(place as usize)
+}
+
+// Adds a place to those that were read.
+fn keep(places: &mut Vec<Place>, place: Place) -> Result<(), NoMemory>
+    ensures { OnOk result (places.new.items ≡ places.old.items ++ place ∷ []) }
+{
+    Ok(places.push(place)?)
 }
 
 // The act that a field says: that of a message's body, or `tick`.

@@ -14,6 +14,16 @@ pub enum LineFault {
     NoMemory,
 }
 
+impl From<AllocError> for LineFault {
+    ghost use Rattle.rv_lines.specs.declared.fault.LineFault.TheVariants as line;
+
+    ghost from_gives = { λ _ fault. fault ≡ line.NoMemory };
+
+    fn from(_error: AllocError) -> LineFault {
+        LineFault::NoMemory
+    }
+}
+
 impl From<TextFault> for LineFault {
     ghost use Rattle.rv_lines.specs.Faults.{line_fault};
 

@@ -1,50 +1,71 @@
 //! Writes the lines of an account.
-ghost use Rattle.std.specs.Prelude.{◌≡◌, ◌<◌, ◌≤◌, IfOk, length, string_bytes};
+ghost use Rattle.std.specs.Prelude.{◌≡◌, ◌<◌, ◌≤◌, ◌++◌, ◌∷◌, IfOk, OnOk, length, string_bytes};
+ghost use Rattle.std.specs.Fmt.{decimal};
 ghost use Rattle.rv_book.specs.Limits.{FitsAct};
-ghost use Rattle.rv_lines.specs.Written.{entry_text, head_text, message_in, partner_text, said_text};
+ghost use Rattle.rv_lines.specs.Written.{FitPartners, entry_text, head_text, message_in, partners_text};
+ghost use Rattle.rv_lines.specs.Written.{places_text, said_text};
 
-use rv_book::{Act, Entry, Place};
+use rv_book::{Act, Entry, Partners, Place};
 use rv_text::{Message, NoMemory, encode_message};
 use std::alloc::Global;
 
 /// The first line of an account, with no LF: `epoch E opened T`. It fails only where memory was refused.
 pub fn head_line(alloc: Global, epoch: u64, opened: u64) -> Result<String, NoMemory>
     ensures text { IfOk result (λ s. string_bytes s ≡ head_text epoch opened) }
-    ensures short { IfOk result (λ s. length (string_bytes s) < 4160) }
+    ensures short { IfOk result (λ s. length (string_bytes s) < 65727) }
 {
     format!(in alloc; "epoch {epoch} opened {opened}")
 }
 
-/// The line of an entry, with no LF: three fields, which one space parts. They are the moment, the partner's
-/// place or `-`, and the written body of the message or the word `tick`. It fails only where memory was
-/// refused.
+/// The line of an entry, with no LF: three fields, which one space parts. They are the moment, the places of
+/// the partners with commas between, or `-`, and the written body of the message or the word `tick`. It fails
+/// only where memory was refused.
 pub fn entry_line(alloc: Global, entry: &Entry) -> Result<String, NoMemory>
-    requires { FitsAct entry.now.act }
+    requires act { FitsAct entry.now.act }
+    requires partners { FitPartners entry.now }
     ensures text { IfOk result (λ s. string_bytes s ≡ entry_text entry.now) }
-    ensures short { IfOk result (λ s. length (string_bytes s) < 4160) }
+    ensures short { IfOk result (λ s. length (string_bytes s) < 65727) }
 {
     let moment = entry.moment;
-    let partner = partner_field(alloc, entry.partner)?;
+    let partners = partners_field(alloc, &entry.partners)?;
     let act = act_field(alloc, &entry.act)?;
-    format!(in alloc; "{moment} {partner} {act}")
+    format!(in alloc; "{moment} {partners} {act}")
 }
 
-// The partner's place, or `-`.
-fn partner_field(alloc: Global, partner: Option<Place>) -> Result<String, NoMemory>
-    ensures text { IfOk result (λ s. string_bytes s ≡ partner_text partner) }
-    ensures short { IfOk result (λ s. length (string_bytes s) ≤ 20) }
+// The places of the partners with commas between, or `-`.
+fn partners_field(alloc: Global, partners: &Partners) -> Result<String, NoMemory>
+    ensures { IfOk result (λ s. string_bytes s ≡ partners_text partners.now) }
 {
-    match partner {
-        Some(place) => format!(in alloc; "{place}"),
+    match partners.as_slice().split_first() {
+        Some((first, more)) => places_field(alloc, *first, more),
         None => String::from_str(alloc, "-"),
     }
+}
+
+// A place and those behind it, with commas between.
+fn places_field(alloc: Global, first: Place, more: &[Place]) -> Result<String, NoMemory>
+    ensures { IfOk result (λ s. string_bytes s ≡ places_text first more.now) }
+{
+    let mut field = format!(in alloc; "{first}")?;
+    for place in more {
+        add_place(&mut field, alloc, *place)?;
+    }
+    Ok(field)
+}
+
+// Adds a comma and a place.
+fn add_place(field: &mut String, alloc: Global, place: Place) -> Result<(), NoMemory>
+    ensures { OnOk result (string_bytes field.new ≡ string_bytes field.old ++ 44 ∷ decimal place) }
+{
+    let more = format!(in alloc; ",{place}")?;
+    field.push_str(more.as_str())
 }
 
 // The body of the act's message, or `tick`.
 fn act_field(alloc: Global, act: &Act) -> Result<String, NoMemory>
     requires { FitsAct act.now }
     ensures text { IfOk result (λ s. string_bytes s ≡ said_text (message_in act.now)) }
-    ensures short { IfOk result (λ s. length (string_bytes s) ≤ 4096) }
+    ensures short { IfOk result (λ s. length (string_bytes s) ≤ 65535) }
 {
     match message_of(alloc, act)? {
         Some(message) => encode_message(alloc, &message),

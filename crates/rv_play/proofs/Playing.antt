@@ -32,7 +32,7 @@ pub record SoFar (contents : Option (List ℕ)) (input : List ℕ) (now : Option
   pub plays : Plays (first_world 1) turns world
   pub took : Appends contents (append_known now waiting) (printed (texts_of turns))
   pub count : sent + length waiting ≡ length (printed (texts_of turns))
-  pub small : sent + length waiting + 4160 * length rest ≤ 4160 * length input
+  pub small : sent + length waiting + 65727 * length rest ≤ 65727 * length input
 
 pub none_so_far : (contents : Option (List ℕ)) (input : List ℕ) (world : World) (waiting : List ℕ) (sent : ℕ) → world ≡ first_world 1 → waiting ≡ [] → sent + length waiting ≡ 0
     → SoFar contents input contents world input waiting sent

@@ -20,7 +20,7 @@ taken_in output = sent_before output + length (gathered output)
 
 -- the text fits a printed line: a body, and the words before it
 abbrev pub IsShort : List ℕ → Type 0
-IsShort text = length text < 4160
+IsShort text = length text < 65727
 
 abbrev pub IsShortText : String Global → Type 0
 IsShortText text = IsShort (string_bytes text)

@@ -19,18 +19,18 @@ pub struct OutputFault {
 }
 
 // How many bytes are gathered at most.
-const ROOM: usize = 65_536;
+const ROOM: usize = 131_072;
 
-// The most bytes of a printed line with its LF: a body, and the words before it.
-const LONGEST_LINE: usize = MAX_BODY_BYTES + 64;
+// The most bytes of a printed line with its LF: a body, and the words or places before it.
+const LONGEST_LINE: usize = MAX_BODY_BYTES + 192;
 
-/// Lines on their way to a sink, gathered into pieces of at most 65,536 bytes. Its room is made once, so that
-/// a line needs no memory.
+/// Lines on their way to a sink, gathered into pieces of at most 131,072 bytes. Its room is made once, so
+/// that a line needs no memory.
 #[derive(Drop)]
 pub struct Output {
     gathered: Vec<u8>,
     sent: u64,
-    ghost has_room: { 65536 ≤ vec_capacity gathered },
+    ghost has_room: { 131072 ≤ vec_capacity gathered },
 }
 
 impl Output {
@@ -94,7 +94,7 @@ impl Output {
 
     // Takes bytes in that there is room for.
     fn gather(&mut self, bytes: &[u8])
-        requires { length (gathered self.old) + length bytes.now ≤ 65536 }
+        requires { length (gathered self.old) + length bytes.now ≤ 131072 }
         ensures bytes { gathered self.new ≡ gathered self.old ++ bytes.now }
         ensures sent { self.new.sent ≡ self.old.sent }
     {

@@ -1,5 +1,6 @@
 -- One frame is answered: from what was got and told of it to its turn.
-use Rattle.std.proofs.Common.{◌≡◌, ◌<◌, ◌++◌, ◌∷◌, [], ℕ, List, Err, IsErrAnd, IfErr, IfOk, Ok, OnErr, OnOk, Option, Result, length, refl, subst, sym, take, true}
+use Rattle.std.proofs.Common.{◌≡◌, ◌<◌, ◌++◌, ◌∷◌, [], ℕ, List, Err, IsErrAnd, IfErr, IfOk, Ok, OnErr, OnOk, Option, Result, arith, length, refl, subst, sym, take, true}
+use Rattle.rv_text.specs.Bodies.{HasBodyLength}
 use Rattle.rv_frame.specs.Cut.{IsBody, frame_bytes}
 use Rattle.rv_frame.specs.Sink.{SinkTakes, sink_failed}
 use Rattle.rv_frame.specs.declared.sink.Sink.{Sink}
@@ -18,14 +19,18 @@ use Rattle.rv_server.proofs.Getting.{nothing_got}
 use Rattle.rv_server.specs.declared.served.Item.{Item}
 use Rattle.rv_server.specs.declared.served.Item.TheVariants as item
 
+-- a body of a text is short enough for a frame
+fits_frame : (body : List ℕ) → HasBodyLength body → IsBody body
+fits_frame body long = (long.0, omega (arith, long.1))
+
 module _ {W : Type 0} (contents : W → Option (List ℕ)) where
-  pub whole_written : (old new : Sink W) (t : Told) (i : Item) (body : List ℕ) (r : Result Item SinkFault) → IsAnswer t i body → IsBody body
+  pub whole_written : (old new : Sink W) (t : Told) (i : Item) (body : List ℕ) (r : Result Item SinkFault) → IsAnswer t i body → HasBodyLength body
       → IfOk r (λ written. written ≡ i) → OnOk r (SinkTakes contents old new (frame_bytes body)) → IfOk r (Writes contents old new t)
   whole_written old new t i body (Ok written) is fits same takes =
-      subst (λ (own : Item). Writes contents old new t own) (sym same) (record { answer = body; is = is; fits = fits; written = takes })
+      subst (λ (own : Item). Writes contents old new t own) (sym same) (record { answer = body; is = is; fits = fits_frame body fits; written = takes })
   whole_written old new t i body (Err fault) is fits same takes = tt
 
-  pub part_written : (old new : Sink W) (t : Told) (i : Item) (body : List ℕ) (r : Result Item SinkFault) → IsAnswer t i body → IsBody body
+  pub part_written : (old new : Sink W) (t : Told) (i : Item) (body : List ℕ) (r : Result Item SinkFault) → IsAnswer t i body → HasBodyLength body
       → IfErr r (λ fault. SinkTakes contents old new (take fault.sent (frame_bytes body))) → IfErr r (λ fault. fault.sent < length (frame_bytes body))
       → OnErr r (sink_failed new ≡ true) → IfErr r (λ fault. WritesPart contents old new t fault.sent)
   part_written old new t i body (Ok written) is fits takes part failed = tt
@@ -33,7 +38,7 @@ module _ {W : Type 0} (contents : W → Option (List ℕ)) where
     item = i;
     answer = body;
     is = is;
-    fits = fits;
+    fits = fits_frame body fits;
     part = part;
     written = takes;
     failed = failed;

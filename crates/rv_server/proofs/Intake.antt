@@ -15,7 +15,7 @@ use Rattle.rv_server.proofs.Rests.{feeds_at}
 
 -- how many more bytes the next frame can want, and one more
 abbrev pub wanted_behind : List (List ℕ) → End → ℕ
-wanted_behind [] (Open rest) = suc (4098 - length rest)
+wanted_behind [] (Open rest) = suc (65537 - length rest)
 wanted_behind [] (Bad n) = 0
 wanted_behind (body ∷ bodies) end = 0
 

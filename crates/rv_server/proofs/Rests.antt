@@ -63,7 +63,7 @@ too_few_behind high low rest small fits fewer =
 fits_or_not : (n : ℕ) → FitsLength n ⊎ (FitsLength n → ⊥)
 fits_or_not n = elim (cases_lt 0 n) [
   | inr none ↦ inr (λ fits. omega (arith, fits.0))
-  | inl some ↦ elim (cases_lt 4096 n) [ inl more ↦ inr (λ fits. omega (arith, fits.1)) | inr most ↦ inl (omega arith, most) ]
+  | inl some ↦ elim (cases_lt 65535 n) [ inl more ↦ inr (λ fits. omega (arith, fits.1)) | inr most ↦ inl (omega arith, most) ]
 ]
 
 begins : (high low : ℕ) (rest : List ℕ) → Begins high low rest
@@ -84,7 +84,7 @@ parts_of bytes size frame = sym (take-append-drop size bytes) ∙ ap (λ l. l ++
 -- ---- short
 
 -- bytes that begin no frame are fewer than the longest frame's
-unfinished_short : (rest : List ℕ) → IsUnfinished rest → All IsByte rest → length rest < 4098
+unfinished_short : (rest : List ℕ) → IsUnfinished rest → All IsByte rest → length rest < 65537
 unfinished_short [] unfinished are = omega arith
 unfinished_short (high ∷ []) unfinished are = omega arith
 unfinished_short (high ∷ low ∷ rest) unfinished are =
@@ -97,7 +97,7 @@ unfinished_short (high ∷ low ∷ rest) unfinished are =
           absurd (unfinished.no_frame frame.body (drop (256 * high + low + 2) (high ∷ low ∷ rest)) frame.fits (parts_of (high ∷ low ∷ rest) (256 * high + low + 2) frame))
     ]
 
-short_behind : (bytes : List ℕ) (bodies : List (List ℕ)) (end : End) → Cut bytes bodies end → FollowBytes end → rest_length end < 4098
+short_behind : (bytes : List ℕ) (bodies : List (List ℕ)) (end : End) → Cut bytes bodies end → FollowBytes end → rest_length end < 65537
 short_behind bytes bodies (Open rest) cut are = unfinished_short rest cut.ends.1 are
 short_behind bytes bodies (Bad n) cut are = omega arith
 
@@ -117,11 +117,11 @@ bytes_at (Bad n) old new piece is feeds are small =
     let end : Bad n ≡ new.end = sym is ∙ ap (λ (s : Stream). s.end) (sym feeds) in
     subst FollowBytes end tt
 
-pub short_at : (at : End) (old new : Stream) (piece : List ℕ) → old.end ≡ at → FeedsAt at old piece new → FollowBytes new.end → rest_length new.end < 4098
+pub short_at : (at : End) (old new : Stream) (piece : List ℕ) → old.end ≡ at → FeedsAt at old piece new → FollowBytes new.end → rest_length new.end < 65537
 short_at (Open rest) old new piece is feeds are = short_behind (rest ++ piece) feeds.more new.end feeds.cut are
 short_at (Bad n) old new piece is feeds are =
     let end : Bad n ≡ new.end = sym is ∙ ap (λ (s : Stream). s.end) (sym feeds) in
-    subst (λ (e : End). rest_length e < 4098) end (omega arith)
+    subst (λ (e : End). rest_length e < 65537) end (omega arith)
 
 -- ---- all bytes have a cut
 

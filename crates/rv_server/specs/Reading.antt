@@ -55,7 +55,7 @@ module _ {R : Type 0} (remaining : R → Option (List ℕ)) where
   -- was refused for the piece that was read; for the proofs
   abbrev pub ReadsPiece : Source R → Source R → Stream → Stream → Result Bool WorkFault → Type 0
   ReadsPiece before after old new (Ok true) = (piece : List ℕ) × Gives remaining before after piece
-      × (0 < length piece) × Feeds old piece new × (rest_length new.end < 4098)
+      × (0 < length piece) × Feeds old piece new × (rest_length new.end < 65537)
   ReadsPiece before after old new (Ok false) =
       Gives remaining before after [] × HasEnded remaining after × (new ≡ old)
   ReadsPiece before after old new (Err ReadFault) =

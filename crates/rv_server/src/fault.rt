@@ -20,7 +20,7 @@ pub enum WorkFault {
     /// 3: the input ended in the middle of a frame.
     #[error("the connection ended in the middle of a frame")]
     CutFrame,
-    /// 4: two length bytes say 0 or more than 4,096.
+    /// 4: two length bytes say 0.
     #[error("a frame has the bad length {0}")]
     BadLength(u16),
     /// 5: a growth of memory was refused.

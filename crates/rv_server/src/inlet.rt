@@ -48,7 +48,7 @@ impl Inlet {
     }
 
     /// The body of the next whole frame; `None` where the source ended behind the last one. It reads only
-    /// where no whole frame was read yet, and each read gives a byte or ends: at most 4,098 reads.
+    /// where no whole frame was read yet, and each read gives a byte or ends: at most 65,537 reads.
     pub(crate) fn next_frame<R: Read>(
         &mut self,
         source: &mut Source<R>,
@@ -96,7 +96,7 @@ impl Inlet {
     fn feed(&mut self, buffer: &[u8; PIECE_BYTES], count: usize) -> Result<(), WorkFault>
         requires { count ≤ 4096 }
         ensures fed { OnOk result (Feeds self.old (take count buffer.now) self.new) }
-        ensures short { OnOk result (rest_length self.new.end < 4098) }
+        ensures short { OnOk result (rest_length self.new.end < 65537) }
         ensures refused { OnErr result (self.new ≡ self.old) }
         ensures fault { IfErr result (λ fault. fault ≡ NoMemory) }
     {

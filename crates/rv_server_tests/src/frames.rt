@@ -79,15 +79,15 @@ fn pieces_of_any_length_are_answered_alike(rt: HostRuntime) -> Result<(), Fail> 
 // A body of the longest length: these bytes, and spaces behind them.
 fn long_frame(alloc: Global, body: &[u8]) -> Result<Vec<u8>, AllocError> {
     let mut frame = Vec::new(alloc);
-    frame.extend_from_slice(b"\x10\x00")?;
+    frame.extend_from_slice(b"\xff\xff")?;
     frame.extend_from_slice(body)?;
-    for _ in body.len()..4_096 {
+    for _ in body.len()..65_535 {
         frame.push(b' ')?;
     }
     Ok(frame)
 }
 
-// The last of the three lacks one byte: it takes 4,098 reads, with that of the end.
+// The last of the three lacks one byte: it takes 65,537 reads, with that of the end.
 #[test]
 fn the_longest_frames_are_read_to_their_ends(rt: HostRuntime) -> Result<(), Fail> {
     let alloc = rt.alloc();
@@ -110,7 +110,7 @@ fn the_longest_frames_are_read_to_their_ends(rt: HostRuntime) -> Result<(), Fail
     };
     one_worker(&rt, &Still(7), &refused, 0, [].as_slice())?;
     let cut = Row {
-        sent: hello.get(..4_097).unwrap_or(b""),
+        sent: hello.get(..65_536).unwrap_or(b""),
         answers: b"",
         items: &[],
         stamps: 0,

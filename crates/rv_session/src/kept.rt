@@ -4,7 +4,7 @@
 pub type Place = usize;
 
 /// The reply that is kept for a session's last request. It takes no memory: a text is named by the place
-/// of the arrival that brought it.
+/// of the arrival that brought it, and the texts of a drain by the drain's own place.
 #[derive(Clone, Copy, Debug, PartialEq, Eq)]
 pub enum Kept {
     /// A put was accepted.
@@ -27,4 +27,6 @@ pub enum Kept {
     Counted { items: usize, consumers: usize },
     /// A peek saw the item that arrived at this place.
     Peeked(Place),
+    /// A drain took items in one step. The place is its own: whose items they are, its entry there says.
+    Drained(Place),
 }

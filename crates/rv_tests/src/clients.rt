@@ -162,8 +162,8 @@ fn a_call_tells_what_was_wrong_with_its_answer(rt: HostRuntime) -> Result<(), Fa
         (b"\x00\x02{", LinkFault::Closed, 0),
         (b"\x00\x00", LinkFault::BadFrame, 0),
         (b"\x00\x00\x00\x02{}", LinkFault::BadFrame, 4),
-        (b"\x10\x01{}", LinkFault::BadFrame, 2),
-        (b"\xff\xff{}", LinkFault::BadFrame, 2),
+        (b"\x10\x01{}", LinkFault::Closed, 0),
+        (b"\xff\xff{}", LinkFault::Closed, 0),
         (b"\x00\x02{}", LinkFault::BadBody, 0),
         (b"\x00\x01{}", LinkFault::BadBody, 1),
         (hello.as_slice(), LinkFault::BadBody, 0),
@@ -198,13 +198,13 @@ fn asks(
     (answer, reader.reads(), device)
 }
 
-// The longest body, and one byte behind its frame: a frame takes 4,098 reads where each gives one byte, and
+// The longest body, and one byte behind its frame: a frame takes 65,537 reads where each gives one byte, and
 // so does one without its last byte, with the read of the end.
 #[test]
 fn an_answer_is_read_to_its_last_byte_and_no_further(rt: HostRuntime) -> Result<(), Fail> {
     let alloc = rt.alloc();
     let mut body = WAITING.to_vec(alloc)?;
-    for _ in 0..4_096 - WAITING.len() {
+    for _ in 0..65_535 - WAITING.len() {
         body.push(b' ')?;
     }
     let mut bytes = frames(alloc, [body.as_slice()].as_slice())?;
@@ -212,11 +212,11 @@ fn an_answer_is_read_to_its_last_byte_and_no_further(rt: HostRuntime) -> Result<
     let hello = New::start(1, 1).message();
     let request = frames(alloc, [HELLO].as_slice())?;
     let waiting = Ok(Answer::Waiting { key: key(2, 1, 1) });
-    for (count, want) in [(4_099, waiting), (4_097, Err(LinkFault::Closed))] {
+    for (count, want) in [(65_538, waiting), (65_536, Err(LinkFault::Closed))] {
         let given = bytes.get(..count).unwrap_or(b"");
         let (answer, reads, device) = asks(alloc, given, &hello);
         assert!(rt; answer == want, "{count}");
-        assert_eq!(rt; reads, 4_098);
+        assert_eq!(rt; reads, 65_537);
         assert_eq!(rt; device.taken(), request.as_slice());
         assert_eq!(rt; device.writes(), 1);
     }

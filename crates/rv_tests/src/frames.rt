@@ -82,19 +82,24 @@ fn a_bad_length_ends_the_frames(rt: HostRuntime) {
         gives_none(&rt, &mut frames);
         assert_eq!(rt; frames.rest(), 0);
     }
+}
+
+#[test]
+fn a_length_of_4097_is_good(rt: HostRuntime) {
     let mut frames = Frames::new(rt.alloc());
-    assert_eq!(rt; frames.feed(b"\x10\x01"), Err(FrameFault::BadLength(4097)));
+    assert_eq!(rt; frames.feed(b"\x10\x01"), Ok(()));
+    assert_eq!(rt; frames.rest(), 2);
 }
 
 // The length bytes of the longest frame, and then in one piece its body, two frames, and a byte.
 #[test]
 fn a_piece_is_longer_than_a_frame(rt: HostRuntime) -> Result<(), Fail> {
-    let body = [b'x'; 4_096];
+    let body = [b'x'; 65_535];
     let mut piece = body.to_vec(rt.alloc())?;
     piece.extend_from_slice(TWO_FRAMES)?;
     piece.push(0)?;
     let mut frames = Frames::new(rt.alloc());
-    assert_eq!(rt; frames.feed(b"\x10\x00"), Ok(()));
+    assert_eq!(rt; frames.feed(b"\xff\xff"), Ok(()));
     assert_eq!(rt; frames.rest(), 2);
     assert_eq!(rt; frames.feed(&piece), Ok(()));
     assert_eq!(rt; frames.rest(), 1);
@@ -163,19 +168,21 @@ fn a_frame_is_written(rt: HostRuntime) {
     }
 }
 
-// A device that takes all that it is given is asked once for this frame.
-fn leaves_at_once(rt: &impl Abort, alloc: Global, body: &[u8])
+// A device that takes all that it is given is asked so many times for this frame.
+fn leaves_in(rt: &impl Abort, alloc: Global, body: &[u8], writes: u64)
     requires { IsBody body.now }
 {
-    let mut device = TestWriter::new(alloc, 10_000);
+    let mut device = TestWriter::new(alloc, 100_000);
     let mut sink = Sink::new(&mut device);
     assert_eq!(rt; write_frame(&mut sink, body), Ok(()));
-    assert_eq!(rt; device.writes(), 1);
+    assert_eq!(rt; device.writes(), writes);
     assert_eq!(rt; device.taken().len(), body.len() + 2);
 }
 
 #[test]
 fn a_frame_is_one_write(rt: HostRuntime) {
-    leaves_at_once(&rt, rt.alloc(), b"A");
-    leaves_at_once(&rt, rt.alloc(), &[b'x'; 4_096]);
+    leaves_in(&rt, rt.alloc(), b"A", 1);
+    leaves_in(&rt, rt.alloc(), &[b'x'; 4_096], 1);
+    leaves_in(&rt, rt.alloc(), &[b'x'; 4_097], 2);
+    leaves_in(&rt, rt.alloc(), &[b'x'; 65_535], 2);
 }

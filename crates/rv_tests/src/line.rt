@@ -1,5 +1,5 @@
 //! A short way to write messages and entries by hand.
-use rv_book::{Act, Book, Entry, Place};
+use rv_book::{Act, Book, Entry, Partners, Place};
 use rv_text::{Answer, Call, Item, Key, Message, NoMemory, Wait};
 use std::alloc::{AllocGlobal, Global};
 use std::process::Abort;
@@ -17,7 +17,7 @@ enum Does {
 }
 
 /// A message to a book, or an entry of an account. It is of epoch 1, incarnation 1 and queue 3, at
-/// moment 0, without a wait and without a partner, unless changed.
+/// moment 0, without a wait and without partners, unless changed.
 #[derive(Clone, Copy)]
 pub(crate) struct Line {
     moment: u64,
@@ -25,7 +25,7 @@ pub(crate) struct Line {
     queue: u64,
     does: Does,
     wait: Wait,
-    partner: Option<Place>,
+    partners: &'static [Place],
 }
 
 pub(crate) fn hello(client: u64, incarnation: u64) -> Line {
@@ -79,7 +79,7 @@ impl Line {
             queue: 3,
             does,
             wait: Wait::Now,
-            partner: None,
+            partners: &[],
         }
     }
 
@@ -89,9 +89,9 @@ impl Line {
         self
     }
 
-    /// The same line, which names this place as its partner.
-    pub(crate) fn meeting(mut self, place: Place) -> Line {
-        self.partner = Some(place);
+    /// The same line, which names these places as its partners.
+    pub(crate) fn meeting(mut self, places: &'static [Place]) -> Line {
+        self.partners = places;
         self
     }
 
@@ -177,7 +177,7 @@ impl Line {
         Ok(Entry {
             moment: self.moment,
             act: self.act(alloc)?,
-            partner: self.partner,
+            partners: Partners::from_vec(self.partners.to_vec(alloc)?),
         })
     }
 

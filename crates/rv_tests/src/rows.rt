@@ -58,13 +58,13 @@ fn a_poll_names_the_put_that_it_takes(rt: HostRuntime) -> Result<(), Fail> {
         hello(1, 1),
         hello(2, 1),
         put(1, 1, "a"),
-        take(2, 1).meeting(2),
+        take(2, 1).meeting(&[2]),
         hello(2, 2),
         put(1, 2, "b"),
         put(1, 3, "c"),
         put(1, 4, "d").on(4),
-        take(2, 1).by(2).meeting(5),
-        take(2, 2).by(2).meeting(6),
+        take(2, 1).by(2).meeting(&[5]),
+        take(2, 2).by(2).meeting(&[6]),
         take(2, 3).by(2),
         put(1, 5, "e"),
     ];
@@ -77,7 +77,7 @@ fn who_waits_is_named_by_who_comes(rt: HostRuntime) -> Result<(), Fail> {
     let [one, two, three] = [hello(1, 1), hello(2, 1), hello(3, 1)];
     let [a, got] = [transfer(1, 1, "a").waits(), take(2, 1).waits().at(5)];
     let sent = [one, two, a, got, a.at(6), got.at(7)];
-    records(&rt, 0, &sent, &[one, two, a, got.meeting(2)])?;
+    records(&rt, 0, &sent, &[one, two, a, got.meeting(&[2])])?;
     let row = [
         one,
         two,
@@ -86,13 +86,13 @@ fn who_waits_is_named_by_who_comes(rt: HostRuntime) -> Result<(), Fail> {
         take(2, 1).waits(),
         count(3, 1),
         peek(3, 2),
-        put(3, 3, "x").meeting(3),
-        transfer(3, 4, "y").meeting(4),
+        put(3, 3, "x").meeting(&[3]),
+        transfer(3, 4, "y").meeting(&[4]),
         transfer(3, 5, "z"),
         put(3, 6, "u"),
         transfer(1, 2, "v").waits(),
-        take(2, 2).meeting(10),
-        take(2, 3).waits().meeting(11),
+        take(2, 2).meeting(&[10]),
+        take(2, 3).waits().meeting(&[11]),
         take(2, 4).waits(),
     ];
     records(&rt, 0, &row, &row)?;
@@ -121,7 +121,7 @@ fn a_new_session_ends_what_waits_and_leaves_a_put(rt: HostRuntime) -> Result<(),
         again,
         got,
     ];
-    let entries = [one, two, three, a, anew, empty, b, again, got.meeting(6)];
+    let entries = [one, two, three, a, anew, empty, b, again, got.meeting(&[6])];
     records(&rt, 0, &sent, &entries)?;
     Ok(())
 }
@@ -179,8 +179,8 @@ fn a_tick_ends_all_that_is_due(rt: HostRuntime) -> Result<(), Fail> {
     let far = 4_611_686_018_427_387_904;
     let d = take(2, 1).waits_for(1);
     let sent = [one, two, d.at(u64::MAX), d.at(u64::MAX), a.at(0)];
-    records(&rt, 0, &sent, &[one, two, d.at(far), a.at(far).meeting(2)])?;
-    Ok(())
+    let entries = [one, two, d.at(far), a.at(far).meeting(&[2])];
+    Ok(records(&rt, 0, &sent, &entries)?)
 }
 
 #[test]
@@ -213,7 +213,7 @@ fn moments_never_fall(rt: HostRuntime) -> Result<(), Fail> {
     let [got, empty] = [take(2, 1).at(9), take(2, 2)];
     let sent = [one.at(3), two.at(8), a.at(2), got, empty.at(u64::MAX)];
     let last = empty.at(4_611_686_018_427_387_904);
-    let entries = [one.at(4), two.at(8), a.at(8), got.meeting(2), last];
+    let entries = [one.at(4), two.at(8), a.at(8), got.meeting(&[2]), last];
     records(&rt, 4, &sent, &entries)?;
     Ok(())
 }

@@ -33,6 +33,8 @@ const MESSAGES: &[&str] = &[
     "call: Count { queue: 3 } }",
     r#"{"call":"peek","client":1,"epoch":1,"incarnation":1,"kind":"request","number":1,"queue":3}"#,
     "call: Peek { queue: 3 } }",
+    r#"{"call":"drain","client":2,"epoch":1,"incarnation":1,"kind":"request","max":2,"number":1,"queue":3}"#,
+    "call: Drain { queue: 3, max: 2 } }",
 ];
 
 #[test]
@@ -67,6 +69,8 @@ const CALLS: &[&str] = &[
     "Count { queue: 3 }",
     r#"{"call":"peek","queue":3}"#,
     "Peek { queue: 3 }",
+    r#"{"max":16,"call":"drain","queue":3}"#,
+    "Drain { queue: 3, max: 16 }",
 ];
 
 #[test]
@@ -112,6 +116,8 @@ const ANSWERS: &[&str] = &[
     "reply: Counted { items: 3, consumers: 0 } }",
     r#"{"client":1,"epoch":1,"incarnation":1,"item":"","kind":"reply","number":1,"reply":"peeked"}"#,
     r#"reply: Peeked(Item { text: "" }) }"#,
+    r#"{"client":2,"epoch":1,"incarnation":1,"kind":"reply","number":1,"reply":"drained","texts":["a","b"]}"#,
+    r#"reply: Drained(Items { items: [Item { text: "a" }, Item { text: "b" }] }) }"#,
     BAD_TEXT_BODY,
     "Refused(BadText)",
     r#"{"code":1,"kind":"refused"}"#,
@@ -159,8 +165,8 @@ fn answers_are_read_and_written(rt: HostRuntime) -> Result<(), Fail> {
 // Bytes that are no body of an answer, and why.
 const NO_ANSWERS: &[(&[u8], TextFault)] = &[
     (b"", TextFault::NotMessage),
-    (&[b'?'; 4096], TextFault::NotJson),
-    (&[b'?'; 4097], TextFault::NotMessage),
+    (&[b'?'; 65_535], TextFault::NotJson),
+    (&[b'?'; 65_536], TextFault::NotMessage),
     (b"{\"code\":1,\"kind\":\"refused\xff\"}", TextFault::NotJson),
     (br#"{"code":1,"kind":"refused"}{}"#, TextFault::NotJson),
     (br#"{"code":12,"kind":"refused"}"#, TextFault::NotMessage),

@@ -10,11 +10,11 @@ use Rattle.rv_text.specs.declared.answer.Answer.{Answer}
 use Rattle.rv_text.specs.declared.answer.Answer.TheVariants as answer
 use Rattle.rv_text.specs.Members.{whole, code_numbers}
 use Rattle.rv_text.specs.Rows.{reply_row, code_of, detail_row, answer_row}
-use Rattle.rv_text.specs.Reading.{◌>>=◌, whole_among, item_among}
+use Rattle.rv_text.specs.Reading.{◌>>=◌, whole_among, item_among, texts_among}
 use Rattle.rv_text.specs.Reading.{key_among}
 use Rattle.rv_text.specs.Reading.{counted_among, reply_lines, reply_among, telling, refusal_lines, refusal_among, welcome_among, replied_among, waiting_among, refused_among, answer_lines, answer_among, answers}
 use Rattle.rv_text.proofs.Sound.{answer_sound}
-use Rattle.rv_text.proofs.Steps.{step_found, last_found, Has, HasRow, whole_found, text_found, among_found, numbered_found, IsReader}
+use Rattle.rv_text.proofs.Steps.{step_found, last_found, Has, HasRow, whole_found, text_found, find_texts, texts_found, among_found, numbered_found, IsReader}
 use Rattle.rv_text.proofs.Readers.{key_found, find_key}
 
 module _ (ms : Members) where
@@ -53,7 +53,13 @@ module _ (ms : Members) where
                   (λ word. last_found HasReply reply.Cancelled (word, tt)),
                   (
                     counted_found,
-                    ((λ word. item_reply (λ item. reply.Peeked item) (λ item i. (word, (i, tt)))), tt),
+                    (
+                      (λ word. item_reply (λ item. reply.Peeked item) (λ item i. (word, (i, tt)))),
+                      (
+                        (λ word. step_found HasReply (texts_among ms) _ (λ texts t. last_found HasReply (reply.Drained texts) (word, (texts_found ms texts t, tt)))),
+                        tt,
+                      ),
+                    ),
                   ),
                 ),
               ),
@@ -68,6 +74,7 @@ module _ (ms : Members) where
   find_reply (reply.Item item) has = rw (has.0, has.1.0) refl
   find_reply (reply.Swapped item) has = rw (has.0, has.1.0) refl
   find_reply (reply.Peeked item) has = rw (has.0, has.1.0) refl
+  find_reply (reply.Drained texts) has = rw (has.0, has.1.0, find_texts texts) refl
   find_reply (reply.Counted items consumers) has = rw (has.0, has.1.0, has.1.1.0) refl
   find_reply _ has = rw has.0 refl
 

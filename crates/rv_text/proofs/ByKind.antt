@@ -1,13 +1,17 @@
 -- What holds of a member by its kind, said once for each: no float, its limit, how long its text is, that it is text.
 use Rattle.std.proofs.Common.{◌≡◌, ℕ, ◌+◌, ◌*◌, ◌^◌, ◌<◌, ◌≤◌, Bool, true, false, ◌&&◌, List, [], ◌∷◌, ◌++◌, length, map, IsUtf8, refl, arith}
 use Rattle.std.proofs.lemmas.Bool.{and_parts, leb-true, ltb-true}
+use Rattle.std.proofs.lemmas.List.Elements.{recursion_from_All}
+use Rattle.std.specs.List.{All, AllByRecursion}
 use Rattle.std.specs.Prelude.{nat_le, nat_lt}
 use Rattle.json.proofs.Printed.Utf8.{are_ascii, IsUtf8-are_ascii}
-use Rattle.serde_json.specs.Written.{has_float}
+use Rattle.serde_json.specs.Data.{string}
+use Rattle.serde_json.specs.View.{items_of}
+use Rattle.serde_json.specs.Written.{has_float, items_have_float}
 use Rattle.rv_text.specs.declared.call.Wait.TheVariants as wait
-use Rattle.rv_text.specs.Members.{Limit, up_to, from_one_to, Keeps, Member, word, whole, item_text, wait_time, field_of, IsWithin, limited, WithinFrom, WithinEach, AllWithin}
+use Rattle.rv_text.specs.Members.{Limit, up_to, from_one_to, Keeps, FitsItem, Member, word, whole, item_text, item_texts, wait_time, field_of, IsWithin, limited, WithinFrom, WithinEach, AllWithin}
 use Rattle.rv_text.proofs.Objects.{AllFields}
-use Rattle.rv_text.proofs.Sizes.{field_size, fields_size, IsFlat, IsFlatMember}
+use Rattle.rv_text.proofs.Sizes.{items_size, field_size, fields_size, IsFlat, IsFlatMember}
 use Rattle.rv_text.proofs.Texts.{IsTextMember}
 
 -- ---- what holds of each member
@@ -33,14 +37,20 @@ each_within [] h = tt
 each_within (word name bytes ∷ row) h = (tt, each_within row h)
 each_within (whole name limit n ∷ row) h = let p = within_parts (whole name limit n) (limited row) h in (p.0, each_within row p.1)
 each_within (item_text name bytes ∷ row) h = let p = within_parts (item_text name bytes) (limited row) h in (p.0, each_within row p.1)
+each_within (item_texts name texts ∷ row) h = let p = within_parts (item_texts name texts) (limited row) h in (p.0, each_within row p.1)
 each_within (wait_time name waits ∷ row) h = let p = within_parts (wait_time name waits) (limited row) h in (p.0, each_within row p.1)
 
 -- ---- no float
+
+texts_have_no_float : (texts : List (List ℕ)) → items_have_float (items_of (map string texts)) ≡ false
+texts_have_no_float [] = refl
+texts_have_no_float (s ∷ texts) = texts_have_no_float texts
 
 no_float : (m : Member) → has_float (field_of m).1 ≡ false
 no_float (word name bytes) = refl
 no_float (whole name limit n) = refl
 no_float (item_text name bytes) = refl
+no_float (item_texts name texts) = texts_have_no_float texts
 no_float (wait_time name wait.Now) = refl
 no_float (wait_time name (wait.Millis millis)) = refl
 no_float (wait_time name wait.Forever) = refl
@@ -66,6 +76,7 @@ abbrev pub is_plain : Member → Bool
 is_plain (word name bytes) = are_ascii name && is_plain_word bytes
 is_plain (whole name limit n) = are_ascii name && nat_lt (greatest limit) (2 ^ 64)
 is_plain (item_text name bytes) = are_ascii name
+is_plain (item_texts name texts) = are_ascii name
 is_plain (wait_time name waits) = are_ascii name
 
 abbrev pub are_plain : List Member → Bool
@@ -78,6 +89,7 @@ is_flat (whole name limit n) plain h =
     let small : greatest limit < 2 ^ 64 = ltb-true (greatest limit) (2 ^ 64) (and_parts (are_ascii name) _ plain).1 in
     omega (arith, small, below_greatest limit n h)
 is_flat (item_text name bytes) plain h = tt
+is_flat (item_texts name texts) plain h = (texts, refl)
 is_flat (wait_time name wait.Now) plain h = tt
 is_flat (wait_time name (wait.Millis millis)) plain h = omega (arith, h)
 is_flat (wait_time name wait.Forever) plain h = tt
@@ -92,17 +104,24 @@ abbrev pub room : Member → ℕ
 room (word name bytes) = 6 * length name + 102
 room (whole name limit n) = 6 * length name + 24
 room (item_text name bytes) = 6 * length name + 3078
+room (item_texts name texts) = 6 * length name + 49206
 room (wait_time name waits) = 6 * length name + 102
 
 abbrev pub rooms : List Member → ℕ
 rooms [] = 0
 rooms (m ∷ row) = room m + rooms row
 
+-- 512 bytes, escaped sixfold, with two quotes and a comma
+texts_size : (texts : List (List ℕ)) → AllByRecursion FitsItem texts → items_size (items_of (map string texts)) ≤ 3075 * length texts
+texts_size [] h = omega arith
+texts_size (s ∷ texts) h = omega (arith, h.0, texts_size texts h.1)
+
 size_within : (m : Member) → is_plain m ≡ true → IsWithin m → field_size (field_of m) ≤ room m
 size_within (word name bytes) plain h =
     omega (arith, leb-true (length bytes) 16 (and_parts _ _ (and_parts (are_ascii name) _ plain).1).1)
 size_within (whole name limit n) plain h = omega arith
 size_within (item_text name bytes) plain h = omega arith
+size_within (item_texts name texts) plain h = omega (arith, h.0, texts_size texts (recursion_from_All FitsItem texts h.1))
 size_within (wait_time name wait.Now) plain h = omega arith
 size_within (wait_time name (wait.Millis millis)) plain h = omega arith
 size_within (wait_time name wait.Forever) plain h = omega arith
@@ -115,11 +134,12 @@ row_size (m ∷ row) plain h =
 
 -- ---- UTF-8
 
--- the item is text
+-- each item is text
 abbrev pub IsText : Member → Type 0
 IsText (word name bytes) = Unit {0}
 IsText (whole name limit n) = Unit {0}
 IsText (item_text name bytes) = IsUtf8 bytes
+IsText (item_texts name texts) = All IsUtf8 texts
 IsText (wait_time name waits) = Unit {0}
 
 is_text : (m : Member) → is_plain m ≡ true → IsWithin m → IsText m → IsTextMember (field_of m).0 (field_of m).1
@@ -128,6 +148,7 @@ is_text (word name bytes) plain h utf8 =
     (IsUtf8-are_ascii name parts.0, IsUtf8-are_ascii bytes (and_parts _ _ parts.1).0)
 is_text (whole name limit n) plain h utf8 = (IsUtf8-are_ascii name (and_parts _ _ plain).0, is_flat (whole name limit n) plain h)
 is_text (item_text name bytes) plain h utf8 = (IsUtf8-are_ascii name plain, utf8)
+is_text (item_texts name texts) plain h utf8 = (IsUtf8-are_ascii name plain, (texts, refl, utf8))
 is_text (wait_time name wait.Now) plain h utf8 = (IsUtf8-are_ascii name plain, IsUtf8-are_ascii _ refl)
 is_text (wait_time name (wait.Millis millis)) plain h utf8 = (IsUtf8-are_ascii name plain, omega (arith, h))
 is_text (wait_time name wait.Forever) plain h utf8 = (IsUtf8-are_ascii name plain, IsUtf8-are_ascii _ refl)

@@ -11,10 +11,10 @@ use Rattle.rv_text.specs.declared.call.Side.TheVariants as side
 use Rattle.rv_text.specs.declared.call.Call.{Call}
 use Rattle.rv_text.specs.declared.call.Call.TheVariants as call
 use Rattle.rv_text.specs.declared.answer.Reply.TheVariants as reply
-use Rattle.rv_text.specs.Calls.{nature_of, side_of, wait_of, item_of, MayWait}
+use Rattle.rv_text.specs.Calls.{nature_of, side_of, wait_of, drains_of, item_of, MayWait}
 use Rattle.rv_text.specs.Members.{IsWithin}
-use Rattle.rv_text.specs.Rows.{side_row, wait_row, item_row, call_row}
-use Rattle.rv_text.specs.Limits.{FitsSide, FitsItem, FitsCall, FitsReply}
+use Rattle.rv_text.specs.Rows.{side_row, max_or_wait_row, item_row, call_row}
+use Rattle.rv_text.specs.Limits.{FitsSide, FitsMax, FitsItem, FitsItems, FitsCall, FitsReply}
 use Rattle.rv_text.proofs.ByKind.{Each, Each-parts, each_within}
 
 item_alone : (gives : Option (List ℕ)) (item : List ℕ) → gives ≡ Some item → Each IsWithin (item_row gives) → FitsItem item
@@ -25,8 +25,9 @@ item_alone (Some other) item is h = subst FitsItem (same_Some _ _ is) h.0
 pub item_fits : (call : Call) (item : List ℕ) → FitsCall call → item_of call ≡ Some item → FitsItem item
 item_fits call item fits is =
     let n = nature_of call in
-    let rest = (Each-parts IsWithin (side_row n.side) (wait_row n.wait ++ item_row n.item) (each_within (call_row call) fits.0).1).1 in
-    item_alone n.item item is (Each-parts IsWithin (wait_row n.wait) (item_row n.item) rest).1
+    let max_or_wait = max_or_wait_row n.drains n.wait in
+    let rest = (Each-parts IsWithin (side_row n.side) (max_or_wait ++ item_row n.item) (each_within (call_row call) fits.0).1).1 in
+    item_alone n.item item is (Each-parts IsWithin max_or_wait (item_row n.item) rest).1
 
 side_alone : (at : Side) → Each IsWithin (side_row at) → FitsSide at
 side_alone (side.Exchanges exchanger) h = h.0
@@ -36,7 +37,19 @@ side_alone _ h = h.0
 pub side_fits : (call : Call) → FitsCall call → FitsSide (side_of call)
 side_fits call fits =
     let n = nature_of call in
-    side_alone n.side (Each-parts IsWithin (side_row n.side) (wait_row n.wait ++ item_row n.item) (each_within (call_row call) fits.0).1).0
+    side_alone n.side (Each-parts IsWithin (side_row n.side) (max_or_wait_row n.drains n.wait ++ item_row n.item) (each_within (call_row call) fits.0).1).0
+
+max_alone : (drains : Option ℕ) (waits : Option Wait) (max : ℕ) → drains ≡ Some max → Each IsWithin (max_or_wait_row drains waits) → FitsMax max
+max_alone None waits max is h = absurd (none-some max is)
+max_alone (Some other) waits max is h = subst FitsMax (same_Some _ _ is) h.0
+
+-- a drain that fits takes 1 to 16 items at most
+pub max_fits : (call : Call) (max : ℕ) → FitsCall call → drains_of call ≡ Some max → FitsMax max
+max_fits call max fits is =
+    let n = nature_of call in
+    let max_or_wait = max_or_wait_row n.drains n.wait in
+    let rest = (Each-parts IsWithin (side_row n.side) (max_or_wait ++ item_row n.item) (each_within (call_row call) fits.0).1).1 in
+    max_alone n.drains n.wait max is (Each-parts IsWithin max_or_wait (item_row n.item) rest).0
 
 -- a call that fits has a wait of its side
 pub may_wait : (call : Call) → FitsCall call → MayWait (side_of call) (wait_of call)
@@ -72,6 +85,10 @@ cancelled_fits = tt
 -- a peek's item that fits fits
 pub peeked_fits : (item : List ℕ) → FitsItem item → FitsReply (reply.Peeked item)
 peeked_fits item fits = fits
+
+-- a drain's items, at most 16 that fit, fit
+pub drained_fits : (items : List (List ℕ)) → FitsItems items → FitsReply (reply.Drained items)
+drained_fits items fits = fits
 
 -- ---- whether two calls are the same
 
@@ -120,6 +137,9 @@ swap_parts m n i j v w e = let exchanger : m ≡ n = cc in let item : i ≡ j = 
 take_parts : (q r : ℕ) (v w : Wait) → call.Take q v ≡ call.Take r w → (q ≡ r) × (v ≡ w)
 take_parts q r v w e = (cc, cc)
 
+drain_parts : (q r m n : ℕ) → call.Drain q m ≡ call.Drain r n → (q ≡ r) × (m ≡ n)
+drain_parts q r m n e = (cc, cc)
+
 same_put : (q r : ℕ) (i j : List ℕ) → (call.Put q i ≡ call.Put r j) ⊎ (call.Put q i ≡ call.Put r j → ⊥)
 same_put q r i j = both (same_number q r) (same_text i j) (λ queue item. cc) (put_parts q r i j)
 
@@ -130,4 +150,5 @@ same_call (call.Take q v) (call.Take r w) = both (same_number q r) (same_wait v 
 same_call (call.Swap m i v) (call.Swap n j w) = both (same_put m n i j) (same_wait v w) (λ put wait. let parts = put_parts m n i j put in cc) (swap_parts m n i j v w)
 same_call (call.Count q) (call.Count r) = alone (same_number q r) (λ queue. cc) (λ e. cc)
 same_call (call.Peek q) (call.Peek r) = alone (same_number q r) (λ queue. cc) (λ e. cc)
+same_call (call.Drain q m) (call.Drain r n) = both (same_number q r) (same_number m n) (λ queue max. cc) (drain_parts q r m n)
 same_call _ _ = inr (λ e. absurd (let no : ⊥ = cc in no))

@@ -84,7 +84,14 @@ module _ (ms : Members) where
               last_found HasCall (call.Swap exchanger item w) (word, (whole_found ms (codes "exchanger") exchanger e, (is, (i, tt)))))))),
           (
             (λ word. queue_step _ (λ queue q. last_found HasCall (call.Count queue) (word, (q, tt)))),
-            ((λ word. queue_step _ (λ queue q. last_found HasCall (call.Peek queue) (word, (q, tt)))), tt),
+            (
+              (λ word. queue_step _ (λ queue q. last_found HasCall (call.Peek queue) (word, (q, tt)))),
+              (
+                (λ word. queue_step _ (λ queue q. step_found HasCall (whole_among (codes "max") ms) _ (λ max m.
+                    last_found HasCall (call.Drain queue max) (word, (q, (whole_found ms (codes "max") max m, tt)))))),
+                tt,
+              ),
+            ),
           ),
         ),
       ),
@@ -98,6 +105,7 @@ module _ (ms : Members) where
   find_call (call.Take queue w) has = rw (has.0, has.1.0, find_wait w has.1.1.0) refl
   find_call (call.Swap exchanger item w) has =
       rw (has.0, has.1.0, find_wait w has.1.1.0, has.1.1.1.0) refl
+  find_call (call.Drain queue max) has = rw (has.0, has.1.0, has.1.1.0) refl
   find_call _ has = rw (has.0, has.1.0) refl
 
   -- ---- messages

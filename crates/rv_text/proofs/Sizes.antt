@@ -1,13 +1,14 @@
--- How long the text of an object is, whose members are whole numbers and texts.
-use Rattle.std.proofs.Common.{ℕ, ◌+◌, ◌*◌, ◌/◌, ◌%◌, ◌^◌, ◌<◌, ◌≤◌, Bool, true, false, cond, List, [], ◌∷◌, ◌++◌, length, Ordering, Less, Equal, Greater, nat_cmp, arith, length-append}
+-- How long the text of an object is, whose members are whole numbers, texts and lists of texts.
+use Rattle.std.proofs.Common.{◌≡◌, ℕ, ◌+◌, ◌*◌, ◌/◌, ◌%◌, ◌^◌, ◌<◌, ◌≤◌, Bool, true, false, cond, List, [], ◌∷◌, ◌++◌, length, map, Ordering, Less, Equal, Greater, nat_cmp, sym, subst, arith, length-append}
 use Rattle.std.proofs.lemmas.Fmt.{length-decimal-le}
 use Rattle.std.specs.Char.{digit_char}
 use Rattle.std.specs.Prelude.{nat_lt}
 use Rattle.std.specs.Cmp.Lexicographic.{slice_cmp}
 use Rattle.std.specs.Ordering.{match_ordering}
 use Rattle.json.specs.Print.{escape_letter, escape_byte, escape, quoted}
-use Rattle.serde_json.specs.Data.{unsigned, negative, float, Data, null, boolean, number, string, array, object, Members, no_members, member, put}
-use Rattle.serde_json.specs.Written.{comma_if, compact_text, members_text}
+use Rattle.serde_json.specs.Data.{unsigned, negative, float, Data, null, boolean, number, string, array, object, Items, no_items, item, Members, no_members, member, put}
+use Rattle.serde_json.specs.View.{items_of}
+use Rattle.serde_json.specs.Written.{comma_if, compact_text, items_text, members_text}
 use Rattle.rv_text.specs.Members.{Field, with_fields}
 use Rattle.rv_text.proofs.Objects.{AllFields, AllMembers, AllMembers-with_fields}
 
@@ -31,13 +32,18 @@ length-quoted s = omega (arith, length-append (escape s) (34 ∷ []), length-esc
 
 -- ---- what a member takes at most
 
-abbrev pub value_size : Data → ℕ
-value_size (number n) = 20
-value_size (string s) = 6 * length s + 2
-value_size null = 0
-value_size (boolean b) = 0
-value_size (array ds) = 0
-value_size (object ms) = 0
+abbrev mutual
+  pub value_size : Data → ℕ
+  value_size (number n) = 20
+  value_size (string s) = 6 * length s + 2
+  value_size null = 0
+  value_size (boolean b) = 0
+  value_size (array ds) = items_size ds + 2
+  value_size (object ms) = 0
+
+  pub items_size : Items → ℕ
+  items_size no_items = 0
+  items_size (item d ds) = value_size d + 1 + items_size ds
 
 abbrev pub field_size : Field → ℕ
 field_size f = 6 * length f.0 + 4 + value_size f.1
@@ -46,7 +52,11 @@ abbrev pub fields_size : List Field → ℕ
 fields_size [] = 0
 fields_size (f ∷ fs) = field_size f + fields_size fs
 
--- a whole number of 64 bits, or a text
+-- a list of texts
+abbrev pub AreTexts : Items → Type 0
+AreTexts ds = (texts : List (List ℕ)) × (ds ≡ items_of (map string texts))
+
+-- a whole number of 64 bits, a text, or a list of texts
 abbrev pub IsFlat : Data → Type 0
 IsFlat (number (unsigned n)) = n < 2 ^ 64
 IsFlat (string s) = Unit {0}
@@ -54,7 +64,7 @@ IsFlat (number (negative z)) = ⊥
 IsFlat (number (float x)) = ⊥
 IsFlat null = ⊥
 IsFlat (boolean b) = ⊥
-IsFlat (array ds) = ⊥
+IsFlat (array ds) = AreTexts ds
 IsFlat (object ms) = ⊥
 
 -- the same of each member
@@ -65,6 +75,22 @@ abbrev members_size : Members → ℕ
 members_size no_members = 0
 members_size (member k d ms) = field_size (k, d) + members_size ms
 
+length-comma_if : (later : Bool) → length (comma_if later) ≤ 1
+length-comma_if later = cond_length later (44 ∷ []) [] 1 (omega arith) (omega arith)
+
+length-texts : (later : Bool) (texts : List (List ℕ)) → length (items_text later (items_of (map string texts))) ≤ items_size (items_of (map string texts)) + 1
+length-texts later [] = omega arith
+length-texts later (s ∷ texts) =
+    let rest = items_text true (items_of (map string texts)) in
+    omega (
+      arith,
+      length-append (comma_if later) (quoted s ++ rest),
+      length-append (quoted s) rest,
+      length-comma_if later,
+      length-quoted s,
+      length-texts true texts,
+    )
+
 length-value : (d : Data) → IsFlat d → length (compact_text d) ≤ value_size d
 length-value (number (unsigned n)) h = length-decimal-le 20 n (omega arith) (omega arith) h
 length-value (string s) h = length-quoted s
@@ -72,11 +98,8 @@ length-value (number (negative z)) h = absurd h
 length-value (number (float x)) h = absurd h
 length-value null h = absurd h
 length-value (boolean b) h = absurd h
-length-value (array ds) h = absurd h
+length-value (array ds) h = subst (λ es. length (compact_text (array es)) ≤ value_size (array es)) (sym h.1) (omega (arith, length-texts false h.0))
 length-value (object ms) h = absurd h
-
-length-comma_if : (later : Bool) → length (comma_if later) ≤ 1
-length-comma_if later = cond_length later (44 ∷ []) [] 1 (omega arith) (omega arith)
 
 length-members_text : (later : Bool) (ms : Members) → AllMembers IsFlatMember ms → length (members_text later ms) ≤ members_size ms + 1
 length-members_text later no_members h = omega arith

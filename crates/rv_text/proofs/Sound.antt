@@ -16,7 +16,7 @@ use Rattle.rv_text.specs.declared.answer.Answer.{Answer}
 use Rattle.rv_text.specs.declared.answer.Answer.TheVariants as answer
 use Rattle.rv_text.specs.Calls.{Nature, nature_of, item_of}
 use Rattle.rv_text.specs.Members.{Member, word, field_of, members_of, Keeps, code_numbers, IsWithin}
-use Rattle.rv_text.specs.Rows.{key_row, side_row, wait_row, item_row, nature_row, call_row, message_row, reply_row, code_of, detail_row, answer_row}
+use Rattle.rv_text.specs.Rows.{key_row, side_row, wait_row, max_or_wait_row, item_row, nature_row, call_row, message_row, reply_row, code_of, detail_row, answer_row}
 use Rattle.rv_text.specs.Limits.{FitsKey, FitsMessage, FitsAnswer}
 use Rattle.rv_text.specs.Bodies.{HasUtf8, ReplyHasUtf8, AnswerHasUtf8}
 use Rattle.rv_text.proofs.Objects.{are_distinct}
@@ -30,7 +30,7 @@ pub record IsSound (row : List Member) : Type 0 where
   -- names and words are short and plain, and limits are below 2 ^ 64
   pub plain : are_plain row ≡ true
   -- a body of the row has a body's length
-  pub room : rooms row ≤ 4000
+  pub room : rooms row ≤ 65000
   -- members are in order: put in one after another they come to the same place
   pub in_order : put_all (members_of row) no_members ≡ members_of row
 
@@ -43,38 +43,46 @@ call_word _ = refl
 abbrev request_row : Key → Nature → List Member
 request_row key nature = word (codes "kind") (codes "request") ∷ (key_row key ++ nature_row nature)
 
-request_sound : (key : Key) (name : List ℕ) (at : Side) (waits : Option Wait) (gives : Option (List ℕ)) → is_plain_word name ≡ true
-    → IsSound (request_row key (record { word = name; side = at; wait = waits; item = gives }))
-request_sound key name (side.Exchanges exchanger) None None plain = record { distinct = refl; plain = rw plain refl; room = omega arith; in_order = refl }
-request_sound key name _ None None plain = record { distinct = refl; plain = rw plain refl; room = omega arith; in_order = refl }
-request_sound key name (side.Exchanges exchanger) None (Some item) plain = record { distinct = refl; plain = rw plain refl; room = omega arith; in_order = refl }
-request_sound key name _ None (Some item) plain = record { distinct = refl; plain = rw plain refl; room = omega arith; in_order = refl }
-request_sound key name (side.Exchanges exchanger) (Some waits) None plain = record { distinct = refl; plain = rw plain refl; room = omega arith; in_order = refl }
-request_sound key name _ (Some waits) None plain = record { distinct = refl; plain = rw plain refl; room = omega arith; in_order = refl }
-request_sound key name (side.Exchanges exchanger) (Some waits) (Some item) plain = record { distinct = refl; plain = rw plain refl; room = omega arith; in_order = refl }
-request_sound key name _ (Some waits) (Some item) plain = record { distinct = refl; plain = rw plain refl; room = omega arith; in_order = refl }
+request_sound : (key : Key) (name : List ℕ) (at : Side) (waits : Option Wait) (drains : Option ℕ) (gives : Option (List ℕ)) → is_plain_word name ≡ true
+    → IsSound (request_row key (record { word = name; side = at; wait = waits; drains = drains; item = gives }))
+request_sound key name (side.Exchanges exchanger) None None None plain = record { distinct = refl; plain = rw plain refl; room = omega arith; in_order = refl }
+request_sound key name _ None None None plain = record { distinct = refl; plain = rw plain refl; room = omega arith; in_order = refl }
+request_sound key name (side.Exchanges exchanger) None None (Some item) plain = record { distinct = refl; plain = rw plain refl; room = omega arith; in_order = refl }
+request_sound key name _ None None (Some item) plain = record { distinct = refl; plain = rw plain refl; room = omega arith; in_order = refl }
+request_sound key name (side.Exchanges exchanger) (Some waits) None None plain = record { distinct = refl; plain = rw plain refl; room = omega arith; in_order = refl }
+request_sound key name _ (Some waits) None None plain = record { distinct = refl; plain = rw plain refl; room = omega arith; in_order = refl }
+request_sound key name (side.Exchanges exchanger) (Some waits) None (Some item) plain = record { distinct = refl; plain = rw plain refl; room = omega arith; in_order = refl }
+request_sound key name _ (Some waits) None (Some item) plain = record { distinct = refl; plain = rw plain refl; room = omega arith; in_order = refl }
+request_sound key name (side.Exchanges exchanger) waits (Some max) None plain = record { distinct = refl; plain = rw plain refl; room = omega arith; in_order = refl }
+request_sound key name _ waits (Some max) None plain = record { distinct = refl; plain = rw plain refl; room = omega arith; in_order = refl }
+request_sound key name (side.Exchanges exchanger) waits (Some max) (Some item) plain = record { distinct = refl; plain = rw plain refl; room = omega arith; in_order = refl }
+request_sound key name _ waits (Some max) (Some item) plain = record { distinct = refl; plain = rw plain refl; room = omega arith; in_order = refl }
 
-call_parts_sound : (name : List ℕ) (at : Side) (waits : Option Wait) (gives : Option (List ℕ)) → is_plain_word name ≡ true
-    → IsSound (nature_row (record { word = name; side = at; wait = waits; item = gives }))
-call_parts_sound name (side.Exchanges exchanger) None None plain = record { distinct = refl; plain = rw plain refl; room = omega arith; in_order = refl }
-call_parts_sound name _ None None plain = record { distinct = refl; plain = rw plain refl; room = omega arith; in_order = refl }
-call_parts_sound name (side.Exchanges exchanger) None (Some item) plain = record { distinct = refl; plain = rw plain refl; room = omega arith; in_order = refl }
-call_parts_sound name _ None (Some item) plain = record { distinct = refl; plain = rw plain refl; room = omega arith; in_order = refl }
-call_parts_sound name (side.Exchanges exchanger) (Some waits) None plain = record { distinct = refl; plain = rw plain refl; room = omega arith; in_order = refl }
-call_parts_sound name _ (Some waits) None plain = record { distinct = refl; plain = rw plain refl; room = omega arith; in_order = refl }
-call_parts_sound name (side.Exchanges exchanger) (Some waits) (Some item) plain = record { distinct = refl; plain = rw plain refl; room = omega arith; in_order = refl }
-call_parts_sound name _ (Some waits) (Some item) plain = record { distinct = refl; plain = rw plain refl; room = omega arith; in_order = refl }
+call_parts_sound : (name : List ℕ) (at : Side) (waits : Option Wait) (drains : Option ℕ) (gives : Option (List ℕ)) → is_plain_word name ≡ true
+    → IsSound (nature_row (record { word = name; side = at; wait = waits; drains = drains; item = gives }))
+call_parts_sound name (side.Exchanges exchanger) None None None plain = record { distinct = refl; plain = rw plain refl; room = omega arith; in_order = refl }
+call_parts_sound name _ None None None plain = record { distinct = refl; plain = rw plain refl; room = omega arith; in_order = refl }
+call_parts_sound name (side.Exchanges exchanger) None None (Some item) plain = record { distinct = refl; plain = rw plain refl; room = omega arith; in_order = refl }
+call_parts_sound name _ None None (Some item) plain = record { distinct = refl; plain = rw plain refl; room = omega arith; in_order = refl }
+call_parts_sound name (side.Exchanges exchanger) (Some waits) None None plain = record { distinct = refl; plain = rw plain refl; room = omega arith; in_order = refl }
+call_parts_sound name _ (Some waits) None None plain = record { distinct = refl; plain = rw plain refl; room = omega arith; in_order = refl }
+call_parts_sound name (side.Exchanges exchanger) (Some waits) None (Some item) plain = record { distinct = refl; plain = rw plain refl; room = omega arith; in_order = refl }
+call_parts_sound name _ (Some waits) None (Some item) plain = record { distinct = refl; plain = rw plain refl; room = omega arith; in_order = refl }
+call_parts_sound name (side.Exchanges exchanger) waits (Some max) None plain = record { distinct = refl; plain = rw plain refl; room = omega arith; in_order = refl }
+call_parts_sound name _ waits (Some max) None plain = record { distinct = refl; plain = rw plain refl; room = omega arith; in_order = refl }
+call_parts_sound name (side.Exchanges exchanger) waits (Some max) (Some item) plain = record { distinct = refl; plain = rw plain refl; room = omega arith; in_order = refl }
+call_parts_sound name _ waits (Some max) (Some item) plain = record { distinct = refl; plain = rw plain refl; room = omega arith; in_order = refl }
 
 pub call_sound : (call : Call) → IsSound (call_row call)
 call_sound call =
     let nature = nature_of call in
-    call_parts_sound nature.word nature.side nature.wait nature.item (call_word call)
+    call_parts_sound nature.word nature.side nature.wait nature.drains nature.item (call_word call)
 
 pub message_sound : (message : Message) → IsSound (message_row message)
 message_sound (message.Hello client incarnation) = record { distinct = refl; plain = refl; room = omega arith; in_order = refl }
 message_sound (message.Request key call) =
     let nature = nature_of call in
-    request_sound key nature.word nature.side nature.wait nature.item (call_word call)
+    request_sound key nature.word nature.side nature.wait nature.drains nature.item (call_word call)
 message_sound (message.Cancel key) = record { distinct = refl; plain = refl; room = omega arith; in_order = refl }
 
 key_within : (key : Key) (row : List Member) → FitsKey key → Each IsWithin row → Each IsWithin (key_row key ++ row)
@@ -93,6 +101,10 @@ wait_text : (waits : Option Wait) → Each IsText (wait_row waits)
 wait_text None = tt
 wait_text (Some waits) = (tt, tt)
 
+max_or_wait_text : (drains : Option ℕ) (waits : Option Wait) → Each IsText (max_or_wait_row drains waits)
+max_or_wait_text None waits = wait_text waits
+max_or_wait_text (Some max) waits = (tt, tt)
+
 item_is_text : (gives : Option (List ℕ)) → IfSome gives IsUtf8 → Each IsText (item_row gives)
 item_is_text None utf8 = tt
 item_is_text (Some bytes) utf8 = (utf8, tt)
@@ -100,8 +112,9 @@ item_is_text (Some bytes) utf8 = (utf8, tt)
 call_text : (call : Call) → IfSome (item_of call) IsUtf8 → Each IsText (call_row call)
 call_text call utf8 =
     let n = nature_of call in
-    let rest = Each-append IsText (wait_row n.wait) (item_row n.item) (wait_text n.wait) (item_is_text n.item utf8) in
-    (tt, Each-append IsText (side_row n.side) (wait_row n.wait ++ item_row n.item) (side_text n.side) rest)
+    let max_or_wait = max_or_wait_row n.drains n.wait in
+    let rest = Each-append IsText max_or_wait (item_row n.item) (max_or_wait_text n.drains n.wait) (item_is_text n.item utf8) in
+    (tt, Each-append IsText (side_row n.side) (max_or_wait ++ item_row n.item) (side_text n.side) rest)
 
 pub message_has_text : (message : Message) → HasUtf8 message → Each IsText (message_row message)
 message_has_text (message.Hello client incarnation) utf8 = (tt, (tt, (tt, tt)))
@@ -138,6 +151,7 @@ reply_text : (reply : Reply) → ReplyHasUtf8 reply → Each IsText (reply_row r
 reply_text (reply.Item item) utf8 = (tt, (utf8, tt))
 reply_text (reply.Swapped item) utf8 = (tt, (utf8, tt))
 reply_text (reply.Peeked item) utf8 = (tt, (utf8, tt))
+reply_text (reply.Drained items) utf8 = (tt, (utf8, tt))
 reply_text (reply.Counted items consumers) utf8 = (tt, (tt, (tt, tt)))
 reply_text _ utf8 = (tt, tt)
 

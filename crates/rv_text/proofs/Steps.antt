@@ -1,18 +1,18 @@
 -- The steps of a reader: each finds just what stands in the object.
-use Rattle.std.proofs.Common.{String, Global, ◌≡◌, ℕ, List, [], ◌∷◌, length, map}
-use Rattle.std.proofs.Common.{Bool, true, false, cond, Option, Some, None, option_and_then, bytes_eq, nat_eq, refl, ap, subst, inl, inr}
+use Rattle.std.proofs.Common.{String, Global, ◌≡◌, ℕ, List, [], ◌∷◌, length, map, codes}
+use Rattle.std.proofs.Common.{Bool, true, false, cond, Option, Some, None, option_and_then, bytes_eq, nat_eq, refl, ap, ap₂, subst, inl, inr}
 use Rattle.std.proofs.lemmas.Bool.Decides.{Decides-eqb}
 use Rattle.std.proofs.lemmas.Option.{same_Some}
 use Rattle.std.proofs.lemmas.Slice.Eq.{bytes_eq-Decides}
 use Rattle.std.specs.Prelude.{◌⊎◌}
-use Rattle.serde_json.specs.Data.{unsigned, negative, float, Data, null, boolean, number, string, array, object, Members}
-use Rattle.serde_json.specs.View.{members_view}
+use Rattle.serde_json.specs.Data.{unsigned, negative, float, Data, null, boolean, number, string, array, object, Items, no_items, item, Members}
+use Rattle.serde_json.specs.View.{items_of, members_view}
 use Rattle.serde_json.specs.declared.value.Value.{Value}
 use Rattle.serde_json.proofs.Views.{members_len-members_view}
 use Rattle.serde_json.specs.Events.{members_len}
-use Rattle.serde_json.specs.Find.{get_member, as_number, as_u64, as_str}
-use Rattle.rv_text.specs.Members.{Member, Field, field_of}
-use Rattle.rv_text.specs.Reading.{◌>>=◌, Line, under, among, numbered_among, whole_among, text_among}
+use Rattle.serde_json.specs.Find.{get_member, as_number, as_u64, as_str, as_array}
+use Rattle.rv_text.specs.Members.{Member, Field, field_of, texts_value}
+use Rattle.rv_text.specs.Reading.{◌>>=◌, Line, under, among, numbered_among, whole_among, text_among, texts_of, texts_among}
 use Rattle.rv_text.specs.Reading.{Shape}
 use Rattle.rv_text.proofs.Objects.{HasFields}
 use Rattle.rv_text.proofs.Sound.{IsSound}
@@ -54,6 +54,14 @@ as_str_is (boolean b) s e = absurd (cc)
 as_str_is (array ds) s e = absurd (cc)
 as_str_is (object ms) s e = absurd (cc)
 
+as_array_is : (d : Data) (ds : Items) → as_array d ≡ Some ds → d ≡ array ds
+as_array_is (array es) ds e = ap array (cc)
+as_array_is null ds e = absurd (cc)
+as_array_is (boolean b) ds e = absurd (cc)
+as_array_is (number n) ds e = absurd (cc)
+as_array_is (string s) ds e = absurd (cc)
+as_array_is (object ms) ds e = absurd (cc)
+
 number_found : (o : Option Data) (n : ℕ) → option_and_then as_u64 (option_and_then as_number o) ≡ Some n → o ≡ Some (number (unsigned n))
 number_found None n e = absurd (cc)
 number_found (Some d) n e = ap Some (as_u64_is d n e)
@@ -61,6 +69,36 @@ number_found (Some d) n e = ap Some (as_u64_is d n e)
 string_found : (o : Option Data) (s : List ℕ) → option_and_then as_str o ≡ Some s → o ≡ Some (string s)
 string_found None s e = absurd (cc)
 string_found (Some d) s e = ap Some (as_str_is d s e)
+
+array_found : (o : Option Data) (ds : Items) → option_and_then as_array o ≡ Some ds → o ≡ Some (array ds)
+array_found None ds e = absurd (cc)
+array_found (Some d) ds e = ap Some (as_array_is d ds e)
+
+-- ---- lists of texts
+
+-- of the values of texts the texts are found
+pub find_texts : (texts : List (List ℕ)) → texts_of (items_of (map string texts)) ≡ Some texts
+find_texts [] = refl
+find_texts (s ∷ texts) = rw (find_texts texts) refl
+
+each_found : (d : Data) (ds : Items) (head : Option (List ℕ)) (tail : Option (List (List ℕ))) → as_str d ≡ head → texts_of ds ≡ tail
+    → ((texts : List (List ℕ)) → tail ≡ Some texts → ds ≡ items_of (map string texts))
+    → (texts : List (List ℕ)) → (head >>= λ s. tail >>= λ rest. Some (s ∷ rest)) ≡ Some texts → item d ds ≡ items_of (map string texts)
+each_found d ds None tail is are later texts e = absurd (cc)
+each_found d ds (Some s) None is are later texts e = absurd (cc)
+each_found d ds (Some s) (Some rest) is are later texts e =
+    let first : d ≡ string s = as_str_is d s is in
+    let others : ds ≡ items_of (map string rest) = later rest refl in
+    subst (λ all. item d ds ≡ items_of (map string all)) (same_Some _ _ e) (ap₂ item first others)
+
+-- and where texts are found, the values are theirs
+texts_are : (ds : Items) (texts : List (List ℕ)) → texts_of ds ≡ Some texts → ds ≡ items_of (map string texts)
+texts_are no_items texts e = subst (λ all. no_items ≡ items_of (map string all)) (same_Some _ _ e) refl
+texts_are (item d ds) texts e = each_found d ds (as_str d) (texts_of ds) refl refl (texts_are ds) texts e
+
+list_found : (o : Option Items) (texts : List (List ℕ)) → (o >>= texts_of) ≡ Some texts → o ≡ Some (items_of (map string texts))
+list_found None texts e = absurd (cc)
+list_found (Some ds) texts e = ap Some (texts_are ds texts e)
 
 -- ---- rows of members
 
@@ -77,6 +115,9 @@ module _ (ms : Members) where
 
   pub text_found : (name s : List ℕ) → text_among name ms ≡ Some s → Has (name, string s)
   text_found name s e = string_found (get_member name ms) s e
+
+  pub texts_found : (texts : List (List ℕ)) → texts_among ms ≡ Some texts → Has (codes "texts", texts_value texts)
+  texts_found texts e = array_found (get_member (codes "texts") ms) (items_of (map string texts)) (list_found (option_and_then as_array (get_member (codes "texts") ms)) texts e)
 
   -- each line finds what has P, where its word or number is found
   abbrev pub AreLines : {K A : Type 0} → (A → Type 0) → (K → Type 0) → List (Line K A) → Type 0

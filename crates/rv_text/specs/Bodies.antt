@@ -1,6 +1,7 @@
 -- Which bytes are the body of which value, and the one text that is written for a value: RFC 8259, as
 -- `serde_json` reads and writes its `Value`.
 use Rattle.std.specs.Prelude.{◌≡◌, ◌⊎◌, ℕ, ◌≤◌, List, length, Some, IfSome, IfOk, IsUtf8, Result, Ok, Err}
+use Rattle.std.specs.List.{All}
 use Rattle.serde_json.specs.Data.{Data}
 use Rattle.serde_json.specs.Read.{read}
 use Rattle.serde_json.specs.Written.{compact_text}
@@ -19,9 +20,9 @@ use Rattle.rv_text.specs.Members.{Member, object_of}
 use Rattle.rv_text.specs.Rows.{message_row, answer_row, call_row}
 use Rattle.rv_text.specs.Limits.{FitsMessage, FitsAnswer, FitsCall}
 
--- 1 to 4,096 bytes
+-- 1 to 65,535 bytes
 abbrev pub HasBodyLength : List ℕ → Type 0
-HasBodyLength bytes = (1 ≤ length bytes) × (length bytes ≤ 4096)
+HasBodyLength bytes = (1 ≤ length bytes) × (length bytes ≤ 65535)
 
 -- the bytes are a JSON text, and this is its value
 abbrev pub Reads : List ℕ → Data → Type 0
@@ -70,6 +71,7 @@ abbrev pub ReplyHasUtf8 : Reply → Type 0
 ReplyHasUtf8 (reply.Item item) = IsUtf8 item
 ReplyHasUtf8 (reply.Swapped item) = IsUtf8 item
 ReplyHasUtf8 (reply.Peeked item) = IsUtf8 item
+ReplyHasUtf8 (reply.Drained items) = All IsUtf8 items
 ReplyHasUtf8 _ = Unit {0}
 
 abbrev pub AnswerHasUtf8 : Answer → Type 0

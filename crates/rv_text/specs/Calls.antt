@@ -1,5 +1,5 @@
--- What a call is: its word, its side, its wait and its item. All else that is said of a call is said of
--- these.
+-- What a call is: its word, its side, its wait, how many items it drains, and its item. All else that is said
+-- of a call is said of these.
 use Rattle.std.specs.Prelude.{ℕ, List, codes, Option, Some, None}
 use Rattle.rv_text.specs.declared.call.Wait.{Wait}
 use Rattle.rv_text.specs.declared.call.Wait.TheVariants as wait
@@ -15,22 +15,68 @@ pub record Nature : Type 0 where
   pub side : Side
   -- how long it may wait; none where its kind never waits
   pub wait : Option Wait
+  -- how many items it takes at most in one step; none where it meets one partner at most
+  pub drains : Option ℕ
   -- what it hands over
   pub item : Option (List ℕ)
 
 abbrev pub nature_of : Call → Nature
 nature_of (call.Put queue item) =
-    record { word = codes "put"; side = side.Gives queue; wait = None; item = Some item }
+    record {
+      word = codes "put";
+      side = side.Gives queue;
+      wait = None;
+      drains = None;
+      item = Some item;
+    }
 nature_of (call.Transfer queue item wait) =
-    record { word = codes "transfer"; side = side.Gives queue; wait = Some wait; item = Some item }
+    record {
+      word = codes "transfer";
+      side = side.Gives queue;
+      wait = Some wait;
+      drains = None;
+      item = Some item;
+    }
 nature_of (call.Take queue wait) =
-    record { word = codes "take"; side = side.Takes queue; wait = Some wait; item = None }
+    record {
+      word = codes "take";
+      side = side.Takes queue;
+      wait = Some wait;
+      drains = None;
+      item = None;
+    }
 nature_of (call.Swap exchanger item wait) =
-    record { word = codes "swap"; side = side.Exchanges exchanger; wait = Some wait; item = Some item }
+    record {
+      word = codes "swap";
+      side = side.Exchanges exchanger;
+      wait = Some wait;
+      drains = None;
+      item = Some item;
+    }
 nature_of (call.Count queue) =
-    record { word = codes "count"; side = side.Looks queue; wait = None; item = None }
+    record {
+      word = codes "count";
+      side = side.Looks queue;
+      wait = None;
+      drains = None;
+      item = None;
+    }
 nature_of (call.Peek queue) =
-    record { word = codes "peek"; side = side.Looks queue; wait = None; item = None }
+    record {
+      word = codes "peek";
+      side = side.Looks queue;
+      wait = None;
+      drains = None;
+      item = None;
+    }
+nature_of (call.Drain queue max) =
+    record {
+      word = codes "drain";
+      side = side.Takes queue;
+      wait = Some wait.Now;
+      drains = Some max;
+      item = None;
+    }
 
 abbrev pub side_of : Call → Side
 side_of call = (nature_of call).side
@@ -42,6 +88,10 @@ wait_of call = (nature_of call).wait
 abbrev pub MayWait : Side → Option Wait → Type 0
 MayWait (side.Exchanges exchanger) (Some wait.Now) = ⊥
 MayWait _ _ = Unit {0}
+
+-- how many items a drain takes at most
+abbrev pub drains_of : Call → Option ℕ
+drains_of call = (nature_of call).drains
 
 abbrev pub item_of : Call → Option (List ℕ)
 item_of call = (nature_of call).item

@@ -10,7 +10,7 @@ use Rattle.rv_text.specs.declared.answer.Refusal.{Refusal}
 use Rattle.rv_text.specs.declared.answer.Answer.{Answer}
 use Rattle.rv_text.specs.declared.answer.Answer.TheVariants as answer
 use Rattle.rv_text.specs.Members as members
-pub use Rattle.rv_text.specs.Members.{FitsItem, FitsWait}
+pub use Rattle.rv_text.specs.Members.{FitsItem, FitsItems, FitsWait}
 use Rattle.rv_text.specs.Calls.{side_of, wait_of, MayWait}
 use Rattle.rv_text.specs.Rows.{side_row, call_row, reply_row, detail_row}
 
@@ -22,6 +22,10 @@ FitsLast last = members.Keeps members.last_numbers last
 
 abbrev pub FitsQueue : ℕ → Type 0
 FitsQueue queue = members.Keeps members.queue_numbers queue
+
+-- how many items a drain takes at most
+abbrev pub FitsMax : ℕ → Type 0
+FitsMax max = members.Keeps members.drain_numbers max
 
 abbrev pub FitsKey : Key → Type 0
 FitsKey key =

@@ -1,6 +1,8 @@
 -- The kinds of members that a body is made of: the JSON value and the limit of each kind.
 use Rattle.std.specs.Prelude.{ℕ, ◌≤◌, List, [], ◌∷◌, length, map, codes}
-use Rattle.serde_json.specs.Data.{Data, number, unsigned, string, object, Members, no_members, put}
+use Rattle.std.specs.List.{All}
+use Rattle.serde_json.specs.Data.{Data, number, unsigned, string, array, object, Members, no_members, put}
+use Rattle.serde_json.specs.View.{items_of}
 use Rattle.rv_text.specs.declared.call.Wait.{Wait}
 use Rattle.rv_text.specs.declared.call.Wait.TheVariants as wait
 
@@ -44,6 +46,10 @@ FitsWait wait.Now = Unit {0}
 FitsWait (wait.Millis millis) = Keeps wait_numbers millis
 FitsWait wait.Forever = Unit {0}
 
+-- how many items a drain takes at most
+abbrev pub drain_numbers : Limit
+drain_numbers = from_one_to 16
+
 -- how many items, or consumers, there are
 abbrev pub counted_numbers : Limit
 counted_numbers = up_to 100000
@@ -56,6 +62,10 @@ code_numbers = from_one_to 11
 abbrev pub FitsItem : List ℕ → Type 0
 FitsItem item = length item ≤ 512
 
+-- what a drain took: at most 16 items
+abbrev pub FitsItems : List (List ℕ) → Type 0
+FitsItems items = (length items ≤ 16) × All FitsItem items
+
 -- ---- kinds
 
 -- a member: its name, and its value by kind
@@ -66,6 +76,8 @@ pub data Member : Type 0 where
   whole : List ℕ → Limit → ℕ → Member
   -- an item's text
   item_text : List ℕ → List ℕ → Member
+  -- a list of items' texts
+  item_texts : List ℕ → List (List ℕ) → Member
   -- how long a request may wait: a word, or its milliseconds
   wait_time : List ℕ → Wait → Member
 
@@ -78,16 +90,21 @@ wait_value wait.Now = string (codes "now")
 wait_value (wait.Millis millis) = number (unsigned millis)
 wait_value wait.Forever = string (codes "forever")
 
+abbrev pub texts_value : List (List ℕ) → Data
+texts_value texts = array (items_of (map string texts))
+
 abbrev pub field_of : Member → Field
 field_of (word name bytes) = (name, string bytes)
 field_of (whole name limit n) = (name, number (unsigned n))
 field_of (item_text name bytes) = (name, string bytes)
+field_of (item_texts name texts) = (name, texts_value texts)
 field_of (wait_time name waits) = (name, wait_value waits)
 
 abbrev pub IsWithin : Member → Type 0
 IsWithin (word name bytes) = Unit {0}
 IsWithin (whole name limit n) = Keeps limit n
 IsWithin (item_text name bytes) = FitsItem bytes
+IsWithin (item_texts name texts) = FitsItems texts
 IsWithin (wait_time name waits) = FitsWait waits
 
 -- ---- rows of members
@@ -98,6 +115,7 @@ limited [] = []
 limited (word name bytes ∷ row) = limited row
 limited (whole name limit n ∷ row) = whole name limit n ∷ limited row
 limited (item_text name bytes ∷ row) = item_text name bytes ∷ limited row
+limited (item_texts name texts ∷ row) = item_texts name texts ∷ limited row
 limited (wait_time name waits ∷ row) = wait_time name waits ∷ limited row
 
 abbrev pub WithinFrom : Member → List Member → Type 0

@@ -6,12 +6,12 @@ use Rattle.std.specs.Prelude.{String, string_cmp}
 use Rattle.std.specs.declared.alloc.Global.{Global}
 use Rattle.std.specs.BTreeMap.{BTreeMap, IsOrdered}
 use Rattle.std.specs.Str.{bytes_eq}
-use Rattle.serde_json.specs.Data.{Data, Members}
+use Rattle.serde_json.specs.Data.{Data, Items, Members}
 use Rattle.serde_json.specs.Data as json
 use Rattle.serde_json.specs.Events.{members_len}
 use Rattle.serde_json.specs.View.{members_view}
 use Rattle.serde_json.specs.declared.value.Value.{Value}
-use Rattle.serde_json.specs.Find.{get_member, as_number, as_u64, as_str}
+use Rattle.serde_json.specs.Find.{get_member, as_number, as_u64, as_str, as_array}
 use Rattle.rv_text.specs.declared.fault.TextFault.{TextFault}
 use Rattle.rv_text.specs.declared.fault.TextFault.TheVariants as fault
 use Rattle.rv_text.specs.declared.message.Key.{Key}
@@ -106,6 +106,19 @@ queue_among = whole_among (codes "queue")
 abbrev pub item_among : Members → Option (List ℕ)
 item_among = text_among (codes "item")
 
+-- the texts of a list, where each of its values is one
+abbrev pub texts_of : Items → Option (List (List ℕ))
+texts_of json.no_items = Some []
+texts_of (json.item value values) = do
+  text ← as_str value
+  texts ← texts_of values
+  Some (text ∷ texts)
+
+abbrev pub texts_among : Members → Option (List (List ℕ))
+texts_among members = do
+  values ← option_and_then as_array (get_member (codes "texts") members)
+  texts_of values
+
 abbrev pub wait_lines : List (Line (List ℕ) Wait)
 wait_lines = (codes "now", λ ms. Some wait.Now) ∷ (codes "forever", λ ms. Some wait.Forever) ∷ []
 
@@ -143,6 +156,12 @@ swap_among members = do
   wait ← wait_among members
   Some (call.Swap exchanger item wait)
 
+abbrev pub drain_among : Members → Option Call
+drain_among members = do
+  queue ← queue_among members
+  max ← whole_among (codes "max") members
+  Some (call.Drain queue max)
+
 abbrev pub call_lines : List (Line (List ℕ) Call)
 call_lines =
     (codes "put", λ ms. queue_among ms >>= λ queue. item_among ms >>= λ item. Some (call.Put queue item)) ∷
@@ -151,6 +170,7 @@ call_lines =
     (codes "swap", swap_among) ∷
     (codes "count", λ ms. queue_among ms >>= λ queue. Some (call.Count queue)) ∷
     (codes "peek", λ ms. queue_among ms >>= λ queue. Some (call.Peek queue)) ∷
+    (codes "drain", drain_among) ∷
     []
 
 abbrev pub call_among : Members → Option Call
@@ -198,6 +218,7 @@ reply_lines =
     (codes "cancelled", λ ms. Some reply.Cancelled) ∷
     (codes "counted", counted_among) ∷
     (codes "peeked", λ ms. item_among ms >>= λ item. Some (reply.Peeked item)) ∷
+    (codes "drained", λ ms. texts_among ms >>= λ texts. Some (reply.Drained texts)) ∷
     []
 
 abbrev pub reply_among : Members → Option Reply

@@ -14,7 +14,7 @@ use Rattle.rv_text.specs.declared.answer.Refusal.TheVariants as refusal
 use Rattle.rv_text.specs.declared.answer.Answer.{Answer}
 use Rattle.rv_text.specs.declared.answer.Answer.TheVariants as answer
 use Rattle.rv_text.specs.Calls.{Nature, nature_of}
-use Rattle.rv_text.specs.Members.{Member, word, whole, item_text, wait_time}
+use Rattle.rv_text.specs.Members.{Member, word, whole, item_text, item_texts, wait_time}
 use Rattle.rv_text.specs.Members as members
 
 -- ---- members by name
@@ -54,6 +54,11 @@ abbrev pub wait_row : Option Wait → List Member
 wait_row None = []
 wait_row (Some waits) = wait_time (codes "wait") waits ∷ []
 
+-- a drain, which never waits, tells its greatest number in place of a wait
+abbrev pub max_or_wait_row : Option ℕ → Option Wait → List Member
+max_or_wait_row None waits = wait_row waits
+max_or_wait_row (Some max) waits = whole (codes "max") members.drain_numbers max ∷ []
+
 abbrev pub item_row : Option (List ℕ) → List Member
 item_row None = []
 item_row (Some bytes) = item bytes ∷ []
@@ -61,7 +66,8 @@ item_row (Some bytes) = item bytes ∷ []
 -- a call's members are those of its nature
 abbrev pub nature_row : Nature → List Member
 nature_row nature =
-    word (codes "call") nature.word ∷ (side_row nature.side ++ (wait_row nature.wait ++ item_row nature.item))
+    word (codes "call") nature.word ∷
+    (side_row nature.side ++ (max_or_wait_row nature.drains nature.wait ++ item_row nature.item))
 
 abbrev pub call_row : Call → List Member
 call_row call = nature_row (nature_of call)
@@ -78,6 +84,9 @@ message_row (message.Cancel key) = word (codes "kind") (codes "cancel") ∷ key_
 
 -- ---- answers
 
+abbrev pub texts_row : List (List ℕ) → List Member
+texts_row items = item_texts (codes "texts") items ∷ []
+
 abbrev pub reply_row : Reply → List Member
 reply_row reply.Done = word (codes "reply") (codes "done") ∷ []
 reply_row reply.Received = word (codes "reply") (codes "received") ∷ []
@@ -93,6 +102,7 @@ reply_row (reply.Counted items consumers) =
     counted (codes "consumers") consumers ∷
     []
 reply_row (reply.Peeked bytes) = word (codes "reply") (codes "peeked") ∷ item bytes ∷ []
+reply_row (reply.Drained items) = word (codes "reply") (codes "drained") ∷ texts_row items
 
 -- the refusals in the order in which a message is checked
 abbrev pub code_of : Refusal → ℕ

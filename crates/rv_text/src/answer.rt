@@ -3,6 +3,7 @@ ghost use Rattle.std.specs.Prelude.{◌≡◌, ◌↔◌, IsTrue, length};
 
 use crate::fault::NoMemory;
 use crate::item::Item;
+use crate::items::Items;
 use crate::message::{Key, MAX_IDENTIFIER, fits_identifier};
 use thiserror::Error;
 
@@ -33,6 +34,8 @@ pub enum Reply {
     Counted { items: u64, consumers: u64 },
     /// A peek saw this item, the queue's oldest.
     Peeked(Item),
+    /// A drain got these items, the queue's oldest in their order; it may be none.
+    Drained(Items),
 }
 
 /// Why a message was refused. Its number is [`Refusal::code`].
@@ -77,7 +80,7 @@ impl Reply {
     ghost use Rattle.rv_text.specs.Rows.{reply_row};
     ghost use Rattle.rv_text.specs.Limits.{FitsReply};
 
-    // How many members the reply has in a body: its word, and its item or its numbers.
+    // How many members the reply has in a body: its word, and its item, its items or its numbers.
     pub(crate) fn member_count(&self) -> usize
         ensures { result ≡ length (reply_row self.now) }
     {
@@ -86,11 +89,12 @@ impl Reply {
             Reply::Item(_) => 2,
             Reply::Swapped(_) => 2,
             Reply::Peeked(_) => 2,
+            Reply::Drained(_) => 2,
             _ => 1,
         }
     }
 
-    /// Whether its item, if it has one, has at most 512 bytes, and its numbers are at most 100,000.
+    /// Whether its items are at most 16 and have at most 512 bytes each, and its numbers are at most 100,000.
     pub fn fits(&self) -> bool
         ensures { IsTrue result ↔ FitsReply self.now }
     {
@@ -98,6 +102,7 @@ impl Reply {
             Reply::Item(item) => item.fits(),
             Reply::Swapped(item) => item.fits(),
             Reply::Peeked(item) => item.fits(),
+            Reply::Drained(items) => items.fits(),
             Reply::Counted { items, consumers } => {
                 *items <= MAX_COUNTED && *consumers <= MAX_COUNTED
             }
@@ -184,7 +189,7 @@ pub enum Answer {
 impl Answer {
     ghost use Rattle.rv_text.specs.Limits.{FitsAnswer};
 
-    /// Whether every number and the item are within their limits.
+    /// Whether every number and item, and how many items there are, are within their limits.
     pub fn fits(&self) -> bool
         ensures { IsTrue result ↔ FitsAnswer self.now }
     {

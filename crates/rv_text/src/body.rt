@@ -11,7 +11,7 @@ use serde_json::Value;
 use std::alloc::Global;
 
 /// The most bytes that a body has; the least is 1.
-pub const MAX_BODY_BYTES: usize = 4096;
+pub const MAX_BODY_BYTES: usize = 65_535;
 
 /// A kind of value that has a body. Its shape says how it is found among the members of an object, its
 /// own members and its limits.

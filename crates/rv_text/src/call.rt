@@ -1,5 +1,6 @@
 //! What a request asks for: its call, and what a call is.
 ghost use Rattle.std.specs.Prelude.{◌≡◌, ◌↔◌, IfOk, IsTrue, option_map};
+ghost use Rattle.rv_text.specs.Limits.{FitsMax};
 
 use crate::fault::NoMemory;
 use crate::item::Item;
@@ -10,6 +11,9 @@ pub const MAX_QUEUE: u64 = 63;
 
 /// The greatest number of an exchanger; the least is 0.
 pub const MAX_EXCHANGER: u64 = 63;
+
+/// The most items that a drain takes; the least is 1.
+pub const MAX_DRAIN: u64 = 16;
 
 /// The most milliseconds that a wait may have: a day.
 pub const MAX_WAIT: u64 = 86_400_000;
@@ -58,6 +62,11 @@ pub enum Call {
     /// Shows the oldest item and removes nothing.
     Peek {
         queue: u64,
+    },
+    /// Takes up to `max` of the oldest items in one step, 1 to 16, and never waits (Java's `drainTo`).
+    Drain {
+        queue: u64,
+        max: u64,
     },
 }
 
@@ -114,7 +123,7 @@ impl Side {
 }
 
 impl Call {
-    ghost use Rattle.rv_text.specs.Calls.{nature_of, side_of, wait_of, item_of};
+    ghost use Rattle.rv_text.specs.Calls.{nature_of, side_of, wait_of, drains_of, item_of};
     ghost use Rattle.rv_text.specs.Limits.{FitsCall};
 
     // The word that names the call in a body.
@@ -128,6 +137,7 @@ impl Call {
             Call::Swap { .. } => "swap",
             Call::Count { .. } => "count",
             Call::Peek { .. } => "peek",
+            Call::Drain { .. } => "drain",
         }
     }
 
@@ -142,6 +152,7 @@ impl Call {
             Call::Swap { exchanger, .. } => Side::Exchanges(*exchanger),
             Call::Count { queue } => Side::Looks(*queue),
             Call::Peek { queue } => Side::Looks(*queue),
+            Call::Drain { queue, .. } => Side::Takes(*queue),
         }
     }
 
@@ -153,6 +164,17 @@ impl Call {
             Call::Transfer { wait, .. } => Some(*wait),
             Call::Take { wait, .. } => Some(*wait),
             Call::Swap { wait, .. } => Some(*wait),
+            Call::Drain { .. } => Some(Wait::Now),
+            _ => None,
+        }
+    }
+
+    /// How many items the call takes at most in one step; none where it meets one partner at most.
+    pub fn drains(&self) -> Option<u64>
+        ensures { result ≡ drains_of self.now }
+    {
+        match self {
+            Call::Drain { max, .. } => Some(*max),
             _ => None,
         }
     }
@@ -205,17 +227,29 @@ impl Call {
             }),
             Call::Count { queue } => Ok(Call::Count { queue: *queue }),
             Call::Peek { queue } => Ok(Call::Peek { queue: *queue }),
+            Call::Drain { queue, max } => Ok(Call::Drain {
+                queue: *queue,
+                max: *max,
+            }),
         }
     }
 
     /// Whether the queue or exchanger is 0 to 63, the wait at most 86,400,000 milliseconds and, of a swap,
-    /// not `Now`, and the item has at most 512 bytes.
+    /// not `Now`, what a drain takes at most 1 to 16, and the item has at most 512 bytes.
     pub fn fits(&self) -> bool
         ensures { IsTrue result ↔ FitsCall self.now }
     {
         self.side().fits()
             && self.wait().is_none_or(Wait::fits)
+            && self.drains().is_none_or(fits_max)
             && self.item().is_none_or(Item::fits)
             && self.side().may_wait(self.wait())
     }
+}
+
+// Whether a drain may take so many items at most.
+fn fits_max(max: u64) -> bool
+    ensures { IsTrue result ↔ FitsMax max }
+{
+    (1..=MAX_DRAIN).contains(&max)
 }

@@ -119,7 +119,7 @@ impl Body for Call {
         read_call(alloc, members)
     }
 
-    // Its word and its place, its wait and its item.
+    // Its word and its place, its wait or in its stead a drain's greatest number, and its item.
     fn member_count(&self) -> usize {
         2 + usize::from(self.wait().is_some()) + usize::from(self.item().is_some())
     }

@@ -1,8 +1,11 @@
 //! The one text that is written for a message or an answer.
 ghost use Rattle.std.specs.Prelude.{◌≡◌, [], ◌∷◌, Some, OnOk, IfOk, string_bytes};
 ghost use Rattle.serde_json.specs.Data.{string, number, unsigned};
-ghost use Rattle.rv_text.specs.Rows.{key_row, side_row, wait_row, item_row, call_row, message_row};
-ghost use Rattle.rv_text.specs.Rows.{reply_row, detail_row, answer_row};
+ghost use Rattle.serde_json.specs.View.{view};
+ghost use Rattle.rv_text.specs.Members.{texts_value};
+ghost use Rattle.rv_text.specs.Rows.{key_row, side_row, wait_row, max_or_wait_row, item_row, call_row};
+ghost use Rattle.rv_text.specs.Rows.{message_row, texts_row, reply_row, detail_row, answer_row};
+ghost use Rattle.rv_text.specs.Calls.{drains_of, wait_of};
 ghost use Rattle.rv_text.specs.Reading.{Puts, PutsRow};
 ghost use Rattle.rv_text.specs.Bodies.{HasBodyLength, message_text, answer_text, refused_text};
 ghost use Rattle.rv_text.specs.Limits.{FitsMessage, FitsAnswer};
@@ -11,6 +14,7 @@ use crate::answer::{Answer, Refusal, Reply};
 use crate::call::{Call, Side, Wait};
 use crate::fault::NoMemory;
 use crate::item::Item;
+use crate::items::Items;
 use crate::laws::body_constants;
 use crate::members::Members;
 use crate::message::{Key, Message};
@@ -42,7 +46,7 @@ pub fn no_memory_body() -> &'static [u8]
 }
 
 /// The body that is written for an answer: JSON with no white space, its members in byte order of
-/// their names. An answer within its limits has a body of at most 4,096 bytes. It fails only where
+/// their names. An answer within its limits has a body of at most 65,535 bytes. It fails only where
 /// memory was refused.
 pub fn encode_answer(alloc: Global, answer: &Answer) -> Result<String, NoMemory>
     ensures text { IfOk result (λ s. string_bytes s ≡ answer_text answer.now) }
@@ -54,7 +58,7 @@ pub fn encode_answer(alloc: Global, answer: &Answer) -> Result<String, NoMemory>
 }
 
 /// The body that is written for a message: JSON with no white space, its members in byte order of
-/// their names. A message within its limits has a body of at most 4,096 bytes. It fails only where
+/// their names. A message within its limits has a body of at most 65,535 bytes. It fails only where
 /// memory was refused.
 pub fn encode_message(alloc: Global, message: &Message) -> Result<String, NoMemory>
     ensures text { IfOk result (λ s. string_bytes s ≡ message_text message.now) }
@@ -94,7 +98,7 @@ fn put_call(members: &mut Members, alloc: Global, call: &Call) -> Result<(), NoM
 {
     put_text(members, alloc, "call", call.word())?;
     put_side(members, alloc, call.side())?;
-    put_wait(members, alloc, call.wait())?;
+    put_max_or_wait(members, alloc, call)?;
     match call.item() {
         Some(item) => put_item(members, alloc, item),
         None => Ok(()),
@@ -109,6 +113,17 @@ fn put_side(members: &mut Members, alloc: Global, side: Side) -> Result<(), NoMe
             put_whole(members, alloc, "queue", queue)
         }
         Side::Exchanges(exchanger) => put_whole(members, alloc, "exchanger", exchanger),
+    }
+}
+
+// How many items it drains, or else its wait.
+fn put_max_or_wait(members: &mut Members, alloc: Global, call: &Call) -> Result<(), NoMemory>
+    ensures { OnOk result
+        (PutsRow (max_or_wait_row (drains_of call.now) (wait_of call.now)) members.old members.new) }
+{
+    match call.drains() {
+        Some(max) => put_whole(members, alloc, "max", max),
+        None => put_wait(members, alloc, call.wait()),
     }
 }
 
@@ -196,6 +211,10 @@ fn put_reply(members: &mut Members, alloc: Global, reply: &Reply) -> Result<(), 
             put_text(members, alloc, "reply", "peeked")?;
             put_item(members, alloc, item)
         }
+        Reply::Drained(items) => {
+            put_text(members, alloc, "reply", "drained")?;
+            put_texts(members, alloc, items)
+        }
     }
 }
 
@@ -217,6 +236,23 @@ fn put_text(members: &mut Members, alloc: Global, name: &str, value: &str) -> Re
     ensures { OnOk result (Puts ((name.now, string value.now) ∷ []) members.old members.new) }
 {
     serde_json::put(members, alloc, name, Value::try_from_str(alloc, value)?)
+}
+
+fn put_texts(members: &mut Members, alloc: Global, items: &Items) -> Result<(), NoMemory>
+    ensures { OnOk result (PutsRow (texts_row items.now) members.old members.new) }
+{
+    serde_json::put(members, alloc, "texts", texts_value(alloc, items)?)
+}
+
+// The list of the items' texts, as a value.
+fn texts_value(alloc: Global, items: &Items) -> Result<Value, NoMemory>
+    ensures { IfOk result (λ value. view value ≡ texts_value items.now) }
+{
+    let mut texts = Vec::new(alloc);
+    for item in items.as_slice() {
+        texts.push(Value::try_from_str(alloc, item.as_str())?)?;
+    }
+    Ok(Value::Array(texts))
 }
 
 fn put_whole(members: &mut Members, alloc: Global, name: &str, value: u64) -> Result<(), NoMemory>

@@ -11,7 +11,7 @@ pub enum TextFault {
     /// Fault 1: the bytes have the length of a body, and they are no JSON text (RFC 8259).
     #[error("the body is not JSON")]
     NotJson,
-    /// Fault 2: the length is outside 1 to 4,096 bytes, or the JSON has other members, kinds or
+    /// Fault 2: the length is outside 1 to 65,535 bytes, or the JSON has other members, kinds or
     /// values than a message has; where an answer or a call is wanted, than that has.
     #[error("the body is not a message")]
     NotMessage,

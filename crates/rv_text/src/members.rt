@@ -1,8 +1,9 @@
 //! What stands in a JSON object, member by member: what a member may be, and not yet its limits.
 ghost use Rattle.std.specs.Prelude.{◌≡◌, option_map};
-ghost use Rattle.serde_json.specs.Find.{get_member};
-ghost use Rattle.serde_json.specs.View.{view, members_view};
-ghost use Rattle.rv_text.specs.Reading.{FindsAmong, FindsSeenAmong, whole_among, text_among};
+ghost use Rattle.serde_json.specs.Find.{get_member, as_str};
+ghost use Rattle.serde_json.specs.View.{view, items_view, members_view};
+ghost use Rattle.rv_text.specs.Reading.{Finds, FindsAmong, FindsSeenAmong, whole_among, text_among};
+ghost use Rattle.rv_text.specs.Reading.{texts_of, texts_among};
 ghost use Rattle.rv_text.specs.Reading.{item_among, wait_among, wait_word_among, key_among, call_among};
 ghost use Rattle.rv_text.specs.Reading.{reply_among, refusal_among};
 
@@ -10,6 +11,7 @@ use crate::answer::{Refusal, Reply};
 use crate::call::{Call, Wait};
 use crate::fault::TextFault;
 use crate::item::Item;
+use crate::items::Items;
 use crate::message::Key;
 use serde_json::{Map, Value};
 use std::alloc::Global;
@@ -48,7 +50,35 @@ pub(crate) fn read_text<'v>(members: &'v Members, name: &str) -> Result<&'v str,
 fn read_item(alloc: Global, members: &Members) -> Result<Item, TextFault>
     ensures { FindsAmong members.now result item_among }
 {
-    let text = read_text(members, "item")?;
+    let value = member(members, "item").ok_or(TextFault::NotMessage)?;
+    item_of(alloc, value)
+}
+
+fn read_texts(alloc: Global, members: &Members) -> Result<Items, TextFault>
+    ensures { FindsAmong members.now result texts_among }
+{
+    let values = member(members, "texts")
+        .and_then(Value::as_array)
+        .ok_or(TextFault::NotMessage)?;
+    read_each_text(alloc, values)
+}
+
+// The items whose texts these values are, in their order.
+fn read_each_text(alloc: Global, values: &[Value]) -> Result<Items, TextFault>
+    ensures { Finds (λ items. items) result (texts_of (items_view values.now)) }
+{
+    let mut items = Items::new(alloc);
+    for value in values {
+        items.push(item_of(alloc, value)?)?;
+    }
+    Ok(items)
+}
+
+// The item whose text the value is.
+fn item_of(alloc: Global, value: &Value) -> Result<Item, TextFault>
+    ensures { Finds (λ item. item) result (as_str (view value.now)) }
+{
+    let text = value.as_str().ok_or(TextFault::NotMessage)?;
     Ok(Item::from_text(String::from_str(alloc, text)?))
 }
 
@@ -110,6 +140,10 @@ pub(crate) fn read_call(alloc: Global, members: &Members) -> Result<Call, TextFa
         "peek" => Ok(Call::Peek {
             queue: read_whole(members, "queue")?,
         }),
+        "drain" => Ok(Call::Drain {
+            queue: read_whole(members, "queue")?,
+            max: read_whole(members, "max")?,
+        }),
         _ => Err(TextFault::NotMessage),
     }
 }
@@ -131,6 +165,7 @@ pub(crate) fn read_reply(alloc: Global, members: &Members) -> Result<Reply, Text
             consumers: read_whole(members, "consumers")?,
         }),
         "peeked" => Ok(Reply::Peeked(read_item(alloc, members)?)),
+        "drained" => Ok(Reply::Drained(read_texts(alloc, members)?)),
         _ => Err(TextFault::NotMessage),
     }
 }

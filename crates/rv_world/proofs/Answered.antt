@@ -1,5 +1,5 @@
 -- What a step of the book leaves and tells: at most the message's own entry is new, and a reply is that of the message's own request.
-use Rattle.std.proofs.Common.{◌≡◌, ◌⊎◌, inl, inr, ℕ, Option, Some, None, refl, sym, ap, subst, ◌∙◌}
+use Rattle.std.proofs.Common.{◌≡◌, ◌⊎◌, inl, inr, ℕ, Some, None, refl, sym, ap, subst, ◌∙◌}
 use Rattle.std.proofs.lemmas.Option.{none-some, same_Some}
 use Rattle.rv_text.specs.declared.message.Key.{Key}
 use Rattle.rv_text.specs.declared.message.Message.{Message}
@@ -10,17 +10,18 @@ use Rattle.rv_text.specs.declared.answer.Reply.TheVariants as reply
 use Rattle.rv_text.specs.declared.answer.Refusal.{Refusal}
 use Rattle.rv_text.specs.declared.answer.Answer.{Answer}
 use Rattle.rv_text.specs.declared.answer.Answer.TheVariants.{Refused, Replied, Waiting, Welcome}
-use Rattle.rv_book.specs.declared.account.Act.{Act}
-use Rattle.rv_book.specs.declared.account.Act.TheVariants as act
-use Rattle.rv_book.specs.declared.account.Entry.{Entry}
-use Rattle.rv_book.specs.Account.{Account, act_at, call_in, with_entry}
-use Rattle.rv_book.specs.Calls.{need_of}
+use Rattle.rv_account.specs.declared.entry.Act.{Act}
+use Rattle.rv_account.specs.declared.entry.Act.TheVariants as act
+use Rattle.rv_account.specs.declared.entry.Entry.{Entry}
+use Rattle.rv_account.specs.Account.{Account, act_at, call_in, just, with_entry}
+use Rattle.rv_account.specs.Calls.{need_of}
 use Rattle.rv_book.specs.Legal.{Legal, WaitsUnder}
 use Rattle.rv_book.specs.Replies.{HasReply}
 use Rattle.rv_book.specs.Steps.{Adds, Answers, ClientsFullDue, EntersOrNoMemory, EpochFullDue, KeyLines, Next, NextAt, RefuseOr, Refuses, Replies, Ticks, step_moment}
 use Rattle.rv_book.proofs.Growing.{act_read, reads_back}
 use Rattle.rv_book.proofs.Legality.{follows_itself}
 use Rattle.rv_book.proofs.Lines.{RefuseOr-elim, WhereElse-elim}
+use Rattle.rv_book.proofs.Naming.{first_among}
 use Rattle.rv_book.proofs.Numbers.{same_or_not}
 use Rattle.rv_book.proofs.ToldCancelled.{waiting_replies}
 
@@ -151,18 +152,20 @@ module _ (a b : Account) (moment : ℕ) (m : Message) (x : Answer) where
   room_became T need room told (inr enters) = entered_became T (room enters.0) told enters.1
 
 -- a cancel has no partner
-cancel_alone : (a : Account) (e : Entry) (key : Key) → Legal (with_entry a e) → e.act ≡ act.Cancel key → (partner : Option ℕ) → e.partner ≡ partner → e.partner ≡ None
-cancel_alone a e key legal says None is = is
-cancel_alone a e key legal says (Some p) is =
-    let free = (follows_itself a e legal).pairs.names_free_partner p is in
-    absurd (none-some free.call (sym (ap call_in says) ∙ free.arrives))
+cancel_alone : (a : Account) (e : Entry) (key : Key) → Legal (with_entry a e) → e.act ≡ act.Cancel key → e.partners ≡ just None
+cancel_alone a e key legal says = elim (first_among e.partners) [
+  | inr none ↦ none
+  | inl named ↦
+      let free = (follows_itself a e legal).pairs.names_free_partners.free named.0 named.1 in
+      absurd (none-some free.call (sym (ap call_in says) ∙ free.arrives))
+]
 
 -- the cancel of a request that waits ends it
 ended_tells : (a b : Account) (moment : ℕ) (key : Key) → Adds a moment (act.Cancel key) b → WaitsUnder a.entries key → Replies b key (Replied key reply.Cancelled)
 ended_tells a b moment key added waits =
     let e = added.entry in
     let says : e.act ≡ act.Cancel key = added.act_is in
-    let alone = cancel_alone a e key (subst Legal added.follows added.legal) says e.partner refl in
+    let alone = cancel_alone a e key (subst Legal added.follows added.legal) says in
     subst (λ (c : Account). Replies c key (Replied key reply.Cancelled)) (sym added.follows) (waiting_replies a e key says alone waits)
 
 -- where there is room for the client of a hello

@@ -1,7 +1,7 @@
 -- The account of an epoch is the present one, or one of those before it.
 use Rattle.std.proofs.Common.{◌≢◌, ℕ, [], ◌∷◌, inl, inr, ap, ◌∙◌}
 use Rattle.std.proofs.lemmas.List.Elements.{Contains-append_left, Contains-push_cases}
-use Rattle.rv_book.specs.Account.{Account}
+use Rattle.rv_account.specs.Account.{Account}
 use Rattle.rv_world.specs.World.{World, IsAccountOf}
 use Rattle.rv_world.specs.Parts.{IsBookOf}
 use Rattle.rv_world.proofs.Listing.{place_of, stands_at}

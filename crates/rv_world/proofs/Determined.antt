@@ -13,7 +13,7 @@ use Rattle.rv_text.specs.declared.answer.Answer.{Answer}
 use Rattle.rv_text.specs.declared.answer.Answer.TheVariants as answers
 use Rattle.rv_text.specs.declared.answer.Refusal.TheVariants as refusals
 use Rattle.rv_text.specs.declared.answer.Reply.{Reply}
-use Rattle.rv_book.specs.Account.{Account}
+use Rattle.rv_account.specs.Account.{Account}
 use Rattle.rv_book.specs.Steps.{Next}
 use Rattle.rv_book.proofs.OneStep.{one_next}
 use Rattle.rv_client.specs.Process.{Process, Idle, Outstanding, Asking}

@@ -15,9 +15,9 @@ use Rattle.rv_text.specs.declared.answer.Refusal.{Refusal}
 use Rattle.rv_text.specs.declared.answer.Refusal.TheVariants as refusals
 use Rattle.rv_text.specs.declared.answer.Reply.{Reply}
 use Rattle.rv_text.specs.declared.answer.Reply.TheVariants as reply
-use Rattle.rv_book.specs.declared.account.Act.TheVariants as act
-use Rattle.rv_book.specs.Account.{Account}
-use Rattle.rv_book.specs.Calls.{need_of}
+use Rattle.rv_account.specs.declared.entry.Act.TheVariants as act
+use Rattle.rv_account.specs.Account.{Account}
+use Rattle.rv_account.specs.Calls.{need_of}
 use Rattle.rv_book.specs.Laws.{CanCancel, CanEnter}
 use Rattle.rv_book.specs.Legal.{Legal, WaitsUnder}
 use Rattle.rv_book.specs.Sessions.{HasIncarnation, LastNumber}

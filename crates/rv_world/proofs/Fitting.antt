@@ -10,6 +10,7 @@ use Rattle.rv_text.specs.declared.message.Message.{Message}
 use Rattle.rv_text.specs.declared.answer.Answer.{Answer}
 use Rattle.rv_text.specs.declared.answer.Answer.TheVariants as answers
 use Rattle.rv_text.specs.Limits.{FitsAnswer, FitsIdentifier, FitsKey, FitsMessage}
+use Rattle.rv_book.specs.Legal.{Legal}
 use Rattle.rv_book.specs.Limits.{FitsAccount}
 use Rattle.rv_book.specs.Waiting.{Waiting}
 use Rattle.rv_book.proofs.Counting.{number_below}
@@ -97,11 +98,11 @@ told_fits : (said told : Answer) → IsTold said told → FitsAnswer said → Fi
 told_fits said told (inl same) fits = subst FitsAnswer (sym same) fits
 told_fits said told (inr none) fits = subst FitsAnswer (sym none.1) tt
 
-reached_fits : (w : World) (packet moment : ℕ) (v : World) (shows : Seen) → AllFits w → ReachesServer w packet moment v shows → AllFits v
-reached_fits w packet moment v shows fits is =
+reached_fits : (w : World) (packet moment : ℕ) (v : World) (shows : Seen) → Legal w.present → AllFits w → ReachesServer w packet moment v shows → AllFits v
+reached_fits w packet moment v shows legal fits is =
     let answer : Packet = record { client = sender is.message; answer = is.told } in
     let message_fits = fits.messages is.message (stands_at w.to_server packet is.message is.there) in
-    let after = next_fits w.present v.present moment is.message is.said (fits.accounts_fit w.present (Contains-push w.earlier w.present)) message_fits is.next in
+    let after = next_fits w.present v.present moment is.message is.said legal (fits.accounts_fit w.present (Contains-push w.earlier w.present)) message_fits is.next in
     subst AllFits (sym is.rest) (record {
       accounts_fit = all_push FitsAccount w.earlier v.present (λ a there. fits.accounts_fit a (Contains-append_left w.earlier (w.present ∷ []) a there)) after.0;
       messages = fits.messages;
@@ -142,25 +143,25 @@ says_fit w v said fits said_fits sent same answered processes = record {
   processes = processes;
 }
 
-pub step_fits : (w : World) (e : Event) (v : World) (shows : Seen) → AllFits w → FitsEvent e → Steps w e v shows → AllFits v
-step_fits w (event.Start client incarnation) v shows fits event_fits is =
+pub step_fits : (w : World) (e : Event) (v : World) (shows : Seen) → Legal w.present → AllFits w → FitsEvent e → Steps w e v shows → AllFits v
+step_fits w (event.Start client incarnation) v shows legal fits event_fits is =
     let processes = turned_fit w v client _ fits.processes is.turns (λ p same. subst FitsProcess (same_Some _ _ same) event_fits) in
     subst (λ (u : World). ProcessesFit u → AllFits u) (sym is.rest) (says_fit w _ (hello_of (starting client incarnation)) fits event_fits refl refl refl) processes
-step_fits w (event.Begin client call) v shows fits event_fits is =
+step_fits w (event.Begin client call) v shows legal fits event_fits is =
     let asking : FitsMessage (request_of (record { key = is.key; call = call })) = (fits.processes client (Idle (Some is.key)) is.idle, event_fits.1) in
     let processes = turned_fit w v client _ fits.processes is.turns (λ p same. subst FitsProcess (same_Some _ _ same) asking) in
     subst (λ (u : World). ProcessesFit u → AllFits u) (sym is.rest) (says_fit w _ (request_of (record { key = is.key; call = call })) fits asking refl refl refl) processes
-step_fits w (event.Resend client) v shows fits event_fits is =
+step_fits w (event.Resend client) v shows legal fits event_fits is =
     let asking = fits.processes client (Outstanding is.asking) is.outstanding in
     subst AllFits (sym is.after) (says_fit w (sends w (request_of is.asking)) (request_of is.asking) fits asking refl refl refl fits.processes)
-step_fits w (event.CancelSent client) v shows fits event_fits is =
+step_fits w (event.CancelSent client) v shows legal fits event_fits is =
     let asking = fits.processes client (Outstanding is.asking) is.outstanding in
     subst AllFits (sym is.after) (says_fit w (sends w (cancel_of is.asking)) (cancel_of is.asking) fits asking.0 refl refl refl fits.processes)
-step_fits w (event.Crash client) v shows fits event_fits is = turns_fit w client None v fits is.ends (λ p none. absurd (none-some p none))
-step_fits w (event.ToServer packet moment) v shows fits event_fits is = reached_fits w packet moment v shows fits is
-step_fits w (event.ToClient packet) v shows fits event_fits is =
+step_fits w (event.Crash client) v shows legal fits event_fits is = turns_fit w client None v fits is.ends (λ p none. absurd (none-some p none))
+step_fits w (event.ToServer packet moment) v shows legal fits event_fits is = reached_fits w packet moment v shows legal fits is
+step_fits w (event.ToClient packet) v shows legal fits event_fits is =
     comes_fit w is.sent (process_of w is.sent.client) v shows fits (stands_at w.to_client packet is.sent is.there) refl is.comes
-step_fits w (event.NewEpoch epoch) v shows fits event_fits is =
+step_fits w (event.NewEpoch epoch) v shows legal fits event_fits is =
     subst AllFits (sym is.after) (record {
       accounts_fit = all_push FitsAccount (accounts w) (empty_account epoch) fits.accounts_fit (empty_fits epoch event_fits);
       messages = fits.messages;

@@ -3,7 +3,7 @@ use Rattle.std.proofs.Common.{◌≡◌, inl, inr, ℕ, List, [], ◌∷◌, ◌
 use Rattle.std.specs.List.{Contains}
 use Rattle.std.proofs.lemmas.List.{append_assoc}
 use Rattle.std.proofs.lemmas.List.Elements.{Contains-append_left, Contains-push, Contains-push_cases}
-use Rattle.rv_book.specs.Account.{Account, Extends}
+use Rattle.rv_account.specs.Account.{Account, Extends}
 use Rattle.rv_book.proofs.Staying.{steps_extend}
 use Rattle.rv_client.specs.Process.{Outcome, Welcomed, TurnedAway, Settled, EpochEnded, Replaced, Ignored, Process}
 use Rattle.rv_text.specs.declared.answer.Answer.{Answer}

@@ -1,5 +1,6 @@
 -- What comes of an event keeps a world sound and within its limits, and only adds to it.
 use Rattle.std.proofs.Common.{Result, Ok, Err, sym, subst}
+use Rattle.std.proofs.lemmas.List.Elements.{Contains-push}
 use Rattle.rv_world.specs.declared.event.Event.{Event}
 use Rattle.rv_world.specs.declared.seen.Seen.{Seen}
 use Rattle.rv_world.specs.declared.seen.WorldRefusal.{WorldRefusal}
@@ -16,9 +17,9 @@ pub comes_sound : (w : World) (e : Event) (v : World) (result : Result Seen Worl
 comes_sound w e v (Ok shows) sound comes = step_sound w e v shows sound comes
 comes_sound w e v (Err refusal) sound comes = subst IsSound (sym comes.1) sound
 
-pub comes_fits : (w : World) (e : Event) (v : World) (result : Result Seen WorldRefusal) → AllFits w → FitsEvent e → Comes w e v result → AllFits v
-comes_fits w e v (Ok shows) fits good comes = step_fits w e v shows fits good comes
-comes_fits w e v (Err refusal) fits good comes = subst AllFits (sym comes.1) fits
+pub comes_fits : (w : World) (e : Event) (v : World) (result : Result Seen WorldRefusal) → IsSound w → AllFits w → FitsEvent e → Comes w e v result → AllFits v
+comes_fits w e v (Ok shows) sound fits good comes = step_fits w e v shows (sound.legal_accounts.legal w.present (Contains-push w.earlier w.present)) fits good comes
+comes_fits w e v (Err refusal) sound fits good comes = subst AllFits (sym comes.1) fits
 
 pub comes_grows : (w : World) (e : Event) (v : World) (result : Result Seen WorldRefusal) → Comes w e v result → OnlyGrows w v
 comes_grows w e v (Ok shows) comes = step_grows w e v shows comes

@@ -14,6 +14,7 @@ pub mod ByEpoch
 pub mod Fitting
 pub mod Keeping
 pub mod EventLists
+pub mod Drained
 pub mod Partners
 pub mod TheHeadline
 pub mod Roomy

@@ -10,20 +10,21 @@ use Rattle.rv_text.specs.declared.call.Wait.{Wait}
 use Rattle.rv_text.specs.declared.call.Wait.TheVariants.{Now, Millis, Forever}
 use Rattle.rv_text.specs.declared.answer.Reply.{Reply}
 use Rattle.rv_text.specs.declared.answer.Reply.TheVariants as reply
-use Rattle.rv_text.specs.Calls.{side_of}
-use Rattle.rv_book.specs.declared.account.Act.{Act}
-use Rattle.rv_book.specs.declared.account.Act.TheVariants.{Arrive, Cancel, Hello, Tick}
-use Rattle.rv_book.specs.declared.account.Entry.{Entry}
-use Rattle.rv_book.specs.Account.{Account, call_at, call_in, key_in}
-use Rattle.rv_book.specs.Calls.{opposite}
+use Rattle.rv_text.specs.Calls.{item_of, side_of}
+use Rattle.rv_account.specs.declared.entry.Act.{Act}
+use Rattle.rv_account.specs.declared.entry.Act.TheVariants.{Arrive, Cancel, Hello, Tick}
+use Rattle.rv_account.specs.declared.entry.Entry.{Entry}
+use Rattle.rv_account.specs.Account.{Account, call_at, call_in, key_in}
+use Rattle.rv_account.specs.Calls.{may_name, opposite}
 use Rattle.rv_book.specs.Legal.{Legal}
-use Rattle.rv_book.specs.Replies.{Gets, HasReply, Meet, RepliesAt, RepliesUnmet, ToldStopped, told_by}
+use Rattle.rv_book.specs.Replies.{Drains, Gets, HasReply, Meet, RepliesAt, RepliesUnmet, ToldStopped, told_by}
 use Rattle.rv_book.specs.Waiting.{Met, NamesPartner}
 use Rattle.rv_book.proofs.Fronts.{read_whole}
 use Rattle.rv_book.proofs.Growing.{act_read, call_read, read_there}
 use Rattle.rv_book.proofs.Opposites.{opposite_back}
 use Rattle.rv_book.proofs.OnePartner.{arrives_once, meets_one, partner_open}
-use Rattle.rv_world.specs.Headline.{ArrivesAt, IsNo, IsPair}
+use Rattle.rv_world.specs.Headline.{ArrivesAt, IsNo, IsPair, IsToldItem}
+use Rattle.rv_world.proofs.Drained.{told_among}
 
 -- ---- partners
 
@@ -35,33 +36,34 @@ pub record Partner (entries : List Entry) (r : ℕ) (own : Call) : Type 0 where
   pub opposes : opposite (side_of own) ≡ Some (side_of other)
   pub meet : Meet entries r place
 
-partner_named : (a : Account) (r q : ℕ) (own : Call) → Legal a → call_at a.entries r ≡ Some own → NamesPartner a.entries r q → Partner a.entries r own
-partner_named a r q own legal arrived names =
+-- whom an arrival names, and so whom it meets, is of the opposite side
+named_opposes : (a : Account) (r q : ℕ) (own other : Call) → Legal a → call_at a.entries r ≡ Some own → call_at a.entries q ≡ Some other → NamesPartner a.entries r q → opposite (side_of own) ≡ Some (side_of other)
+named_opposes a r q own other legal arrived also names =
     let opened = partner_open a r q legal names in
     let at = opened.there.of_side in
     let whole = read_whole call_read refl a.entries r q at.call at.arrived in
     let same : names.call ≡ own = same_Some _ _ (sym names.arrived ∙ arrived) in
-    record {
-      place = q;
-      other = at.call;
-      arrived = whole.1;
-      opposes = subst (λ c. opposite (side_of c) ≡ Some (side_of at.call)) same (opened.opposes ∙ ap Some (sym at.is));
-      meet = inl names;
-    }
+    let there : at.call ≡ other = same_Some _ _ (sym whole.1 ∙ also) in
+    subst (λ c. opposite (side_of c) ≡ Some (side_of other)) same (opened.opposes ∙ ap Some (sym at.is) ∙ ap (λ c. Some (side_of c)) there)
+
+pub meet_opposes : (a : Account) (r s : ℕ) (own other : Call) → Legal a → call_at a.entries r ≡ Some own → call_at a.entries s ≡ Some other → Meet a.entries r s → opposite (side_of own) ≡ Some (side_of other)
+meet_opposes a r s own other legal arrived also (inl names) = named_opposes a r s own other legal arrived also names
+meet_opposes a r s own other legal arrived also (inr names) = opposite_back (side_of other) (side_of own) (named_opposes a s r other own legal also arrived names)
+
+partner_named : (a : Account) (r q : ℕ) (own : Call) → Legal a → call_at a.entries r ≡ Some own → NamesPartner a.entries r q → Partner a.entries r own
+partner_named a r q own legal arrived names =
+    let at = (partner_open a r q legal names).there.of_side in
+    let whole = read_whole call_read refl a.entries r q at.call at.arrived in
+    record { place = q; other = at.call; arrived = whole.1; opposes = named_opposes a r q own at.call legal arrived whole.1 names; meet = inl names }
 
 partner_naming : (a : Account) (r p : ℕ) (own : Call) → Legal a → call_at a.entries r ≡ Some own → NamesPartner a.entries p r → Partner a.entries r own
-partner_naming a r p own legal arrived names =
-    let opened = partner_open a p r legal names in
-    let at = opened.there.of_side in
-    let whole = read_whole call_read refl a.entries p r at.call at.arrived in
-    let same : at.call ≡ own = same_Some _ _ (sym whole.1 ∙ arrived) in
-    record {
-      place = p;
-      other = names.call;
-      arrived = names.arrived;
-      opposes = opposite_back (side_of names.call) (side_of own) (opened.opposes ∙ ap Some (sym at.is) ∙ ap (λ c. Some (side_of c)) same);
-      meet = inr names;
-    }
+partner_naming a r p own legal arrived names = record {
+  place = p;
+  other = names.call;
+  arrived = names.arrived;
+  opposes = meet_opposes a r p own names.call legal arrived names.arrived (inr names);
+  meet = inr names;
+}
 
 pub partner_of : (a : Account) (r : ℕ) (own : Call) → Legal a → call_at a.entries r ≡ Some own → Met a.entries r → Partner a.entries r own
 partner_of a r own legal arrived met = elim met.part [
@@ -72,10 +74,6 @@ partner_of a r own legal arrived met = elim met.part [
 pub meet_back : (es : List Entry) (r s : ℕ) → Meet es r s → Meet es s r
 meet_back es r s (inl names) = inr names
 meet_back es r s (inr names) = inl names
-
-pub meet_met : (es : List Entry) (r s : ℕ) → Meet es r s → Met es r
-meet_met es r s (inl names) = record { later = r; earlier = s; names = names; part = inl refl }
-meet_met es r s (inr names) = record { later = s; earlier = r; names = names; part = inr refl }
 
 -- ---- pairs
 
@@ -89,22 +87,18 @@ pair_of es g t queue gives takes arrived side also other (inr names) =
 pub pair_meets : (es : List Entry) (g t : ℕ) → IsPair es g t → Meet es g t
 pair_meets es g t pair = elim pair.2.names [ inl names ↦ inl names.1 | inr names ↦ inr names.1 ]
 
--- whom an arrival met is one
-pub one_met : (a : Account) (r s t : ℕ) → Legal a → Meet a.entries r s → Meet a.entries r t → s ≡ t
-one_met a r s t legal first second = meets_one a r s t legal (meet_back a.entries r s first) (meet_back a.entries r t second)
+-- what gives may name one partner, and so may what exchanges
+pub single_giver : (call : Call) (queue : ℕ) → side_of call ≡ Gives queue → may_name call ≡ 1
+single_giver (call.Drain other max) queue is = absurd (let no : ⊥ = cc in no)
+single_giver _ queue is = refl
 
--- whoever hands its item over to an arrival is of the opposite side
-pub giver_opposes : (a : Account) (r : ℕ) (own : Call) (item : List ℕ) → Legal a → call_at a.entries r ≡ Some own → (gets : Gets a.entries r item) → opposite (side_of own) ≡ Some (side_of gets.call)
-giver_opposes a r own item legal arrived gets = by_partner (partner_of a r own legal arrived (meet_met a.entries r gets.giver meets))
-  where
-    meets : Meet a.entries r gets.giver
-    meets = meet_back a.entries gets.giver r gets.meet
+pub single_exchanger : (call : Call) (exchanger : ℕ) → side_of call ≡ Exchanges exchanger → may_name call ≡ 1
+single_exchanger (call.Drain queue max) exchanger is = absurd (let no : ⊥ = cc in no)
+single_exchanger _ exchanger is = refl
 
-    by_partner : Partner a.entries r own → opposite (side_of own) ≡ Some (side_of gets.call)
-    by_partner partner =
-        let place : partner.place ≡ gets.giver = one_met a r partner.place gets.giver legal partner.meet meets in
-        let same : partner.other ≡ gets.call = same_Some _ _ (sym partner.arrived ∙ ap (call_at a.entries) place ∙ gets.arrived) in
-        subst (λ c. opposite (side_of own) ≡ Some (side_of c)) same partner.opposes
+-- whom an arrival met that may name one is one
+pub one_met : (a : Account) (r s t : ℕ) (own : Call) → Legal a → call_at a.entries r ≡ Some own → may_name own ≡ 1 → Meet a.entries r s → Meet a.entries r t → s ≡ t
+one_met a r s t own legal arrived single first second = meets_one a r s t own legal arrived single (meet_back a.entries r s first) (meet_back a.entries r t second)
 
 -- ---- replies
 
@@ -147,6 +141,7 @@ no_unmet a r (call.Swap exchanger item wait) told legal arrived (inl got) says m
 no_unmet a r (call.Swap exchanger item wait) told legal arrived (inr unmet) says met = unmet.0 met
 no_unmet a r (call.Count queue) told legal arrived is says met = none-some _ (partner_of a r (call.Count queue) legal arrived met).opposes
 no_unmet a r (call.Peek queue) told legal arrived is says met = none-some _ (partner_of a r (call.Peek queue) legal arrived met).opposes
+no_unmet a r (call.Drain queue max) told legal arrived got says met = subst SaysNo got.2 says
 
 -- a request that is told a no was not met
 pub no_means_unmet : (a : Account) (key : Key) (told : Reply) → Legal a → HasReply a.entries key told → IsNo told → (r : ℕ) (own : Call) → ArrivesAt a.entries key r own → Met a.entries r → ⊥
@@ -167,19 +162,21 @@ received_met es r (call.Swap exchanger item wait) (inr unmet) = absurd (unmet_sa
 received_met es r (call.Count queue) got = absurd (let is = got.3 in let no : ⊥ = cc in no)
 received_met es r (call.Peek queue) (inl got) = absurd (let is = got.2 in let no : ⊥ = cc in no)
 received_met es r (call.Peek queue) (inr none) = absurd (let is = none.1 in let no : ⊥ = cc in no)
+received_met es r (call.Drain queue max) got = absurd (let is = got.2 in let no : ⊥ = cc in no)
 
--- who is told an item got it from whom it met
-pub item_got : (es : List Entry) (r : ℕ) (own : Call) (item : List ℕ) → RepliesAt es r own (reply.Item item) → Gets es r item × ((queue : ℕ) × (side_of own ≡ Takes queue))
+-- who is told an item got it from whom it met, and may name one
+pub item_got : (es : List Entry) (r : ℕ) (own : Call) (item : List ℕ) → RepliesAt es r own (reply.Item item) → Gets es r item × ((queue : ℕ) × (side_of own ≡ Takes queue)) × (may_name own ≡ 1)
 item_got es r (call.Put queue bytes) item is = absurd (let no : ⊥ = cc in no)
 item_got es r (call.Transfer queue bytes wait) item (inl got) = absurd (let is = got.1 in let no : ⊥ = cc in no)
 item_got es r (call.Transfer queue bytes wait) item (inr unmet) = absurd (unmet_says_no wait es r reply.Nobody (reply.Item item) tt unmet.1)
-item_got es r (call.Take queue wait) item (inl got) = let same : got.0 ≡ item = let is = got.2 in cc in (subst (Gets es r) same got.1, (queue, refl))
+item_got es r (call.Take queue wait) item (inl got) = let same : got.0 ≡ item = let is = got.2 in cc in (subst (Gets es r) same got.1, (queue, refl), refl)
 item_got es r (call.Take queue wait) item (inr unmet) = absurd (unmet_says_no wait es r reply.Empty (reply.Item item) tt unmet.1)
 item_got es r (call.Swap exchanger bytes wait) item (inl got) = absurd (let is = got.2 in let no : ⊥ = cc in no)
 item_got es r (call.Swap exchanger bytes wait) item (inr unmet) = absurd (unmet_says_no wait es r reply.TimedOut (reply.Item item) tt unmet.1)
 item_got es r (call.Count queue) item got = absurd (let is = got.3 in let no : ⊥ = cc in no)
 item_got es r (call.Peek queue) item (inl got) = absurd (let is = got.2 in let no : ⊥ = cc in no)
 item_got es r (call.Peek queue) item (inr none) = absurd (let is = none.1 in let no : ⊥ = cc in no)
+item_got es r (call.Drain queue max) item got = absurd (let is = got.2 in let no : ⊥ = cc in no)
 
 -- and who is told that it swapped
 pub swapped_got : (es : List Entry) (r : ℕ) (own : Call) (item : List ℕ) → RepliesAt es r own (reply.Swapped item) → Gets es r item × ((exchanger : ℕ) × (side_of own ≡ Exchanges exchanger))
@@ -193,15 +190,38 @@ swapped_got es r (call.Swap exchanger bytes wait) item (inr unmet) = absurd (unm
 swapped_got es r (call.Count queue) item got = absurd (let is = got.3 in let no : ⊥ = cc in no)
 swapped_got es r (call.Peek queue) item (inl got) = absurd (let is = got.2 in let no : ⊥ = cc in no)
 swapped_got es r (call.Peek queue) item (inr none) = absurd (let is = none.1 in let no : ⊥ = cc in no)
+swapped_got es r (call.Drain queue max) item got = absurd (let is = got.2 in let no : ⊥ = cc in no)
 
--- what who takes, or who exchanges, gets is its reply
-pub taker_told : (es : List Entry) (r : ℕ) (own : Call) (item : List ℕ) (queue : ℕ) → side_of own ≡ Takes queue → Gets es r item → RepliesAt es r own (reply.Item item)
-taker_told es r (call.Put other bytes) item queue is gets = absurd (let no : ⊥ = cc in no)
-taker_told es r (call.Transfer other bytes wait) item queue is gets = absurd (let no : ⊥ = cc in no)
-taker_told es r (call.Take other wait) item queue is gets = inl (item, gets, refl)
-taker_told es r (call.Swap other bytes wait) item queue is gets = absurd (let no : ⊥ = cc in no)
-taker_told es r (call.Count other) item queue is gets = absurd (let no : ⊥ = cc in no)
-taker_told es r (call.Peek other) item queue is gets = absurd (let no : ⊥ = cc in no)
+-- and who is told a list drains
+pub drained_got : (es : List Entry) (r : ℕ) (own : Call) (items : List (List ℕ)) → RepliesAt es r own (reply.Drained items) → (queue max : ℕ) × (own ≡ call.Drain queue max) × Drains es r items
+drained_got es r (call.Put queue bytes) items is = absurd (let no : ⊥ = cc in no)
+drained_got es r (call.Transfer queue bytes wait) items (inl got) = absurd (let is = got.1 in let no : ⊥ = cc in no)
+drained_got es r (call.Transfer queue bytes wait) items (inr unmet) = absurd (unmet_says_no wait es r reply.Nobody (reply.Drained items) tt unmet.1)
+drained_got es r (call.Take queue wait) items (inl got) = absurd (let is = got.2 in let no : ⊥ = cc in no)
+drained_got es r (call.Take queue wait) items (inr unmet) = absurd (unmet_says_no wait es r reply.Empty (reply.Drained items) tt unmet.1)
+drained_got es r (call.Swap exchanger bytes wait) items (inl got) = absurd (let is = got.2 in let no : ⊥ = cc in no)
+drained_got es r (call.Swap exchanger bytes wait) items (inr unmet) = absurd (unmet_says_no wait es r reply.TimedOut (reply.Drained items) tt unmet.1)
+drained_got es r (call.Count queue) items got = absurd (let is = got.3 in let no : ⊥ = cc in no)
+drained_got es r (call.Peek queue) items (inl got) = absurd (let is = got.2 in let no : ⊥ = cc in no)
+drained_got es r (call.Peek queue) items (inr none) = absurd (let is = none.1 in let no : ⊥ = cc in no)
+drained_got es r (call.Drain queue max) items got = let same : got.0 ≡ items = let is = got.2 in cc in (queue, max, refl, subst (Drains es r) same got.1)
+
+-- who takes is told the item of whom it meets, and who exchanges the other's
+pub taker_told : (a : Account) (g t : ℕ) (giver taker : Call) (item : List ℕ) (key : Key) (queue : ℕ) → Legal a → call_at a.entries g ≡ Some giver → item_of giver ≡ Some item → ArrivesAt a.entries key t taker
+    → side_of taker ≡ Takes queue → Meet a.entries g t → IsToldItem a.entries key g t item
+taker_told a g t giver (call.Put other bytes) item key queue legal given hands arrived is meet = absurd (let no : ⊥ = cc in no)
+taker_told a g t giver (call.Transfer other bytes wait) item key queue legal given hands arrived is meet = absurd (let no : ⊥ = cc in no)
+taker_told a g t giver (call.Take other wait) item key queue legal given hands arrived is meet = inl (inl (record {
+  place = t;
+  call = call.Take other wait;
+  arrived = arrived;
+  replies = inl (item, record { giver = g; call = giver; meet = meet; arrived = given; hands_over = hands }, refl);
+}))
+taker_told a g t giver (call.Swap other bytes wait) item key queue legal given hands arrived is meet = absurd (let no : ⊥ = cc in no)
+taker_told a g t giver (call.Count other) item key queue legal given hands arrived is meet = absurd (let no : ⊥ = cc in no)
+taker_told a g t giver (call.Peek other) item key queue legal given hands arrived is meet = absurd (let no : ⊥ = cc in no)
+taker_told a g t giver (call.Drain other max) item key queue legal given hands arrived is meet =
+    inr (told_among a t other max legal (ap (option_and_then call_in) arrived) g giver item key given hands arrived meet)
 
 pub exchanger_told : (es : List Entry) (r : ℕ) (own : Call) (item : List ℕ) (exchanger : ℕ) → side_of own ≡ Exchanges exchanger → Gets es r item → RepliesAt es r own (reply.Swapped item)
 exchanger_told es r (call.Put other bytes) item exchanger is gets = absurd (let no : ⊥ = cc in no)
@@ -210,6 +230,7 @@ exchanger_told es r (call.Take other wait) item exchanger is gets = absurd (let 
 exchanger_told es r (call.Swap other bytes wait) item exchanger is gets = inl (item, gets, refl)
 exchanger_told es r (call.Count other) item exchanger is gets = absurd (let no : ⊥ = cc in no)
 exchanger_told es r (call.Peek other) item exchanger is gets = absurd (let no : ⊥ = cc in no)
+exchanger_told es r (call.Drain other max) item exchanger is gets = absurd (let no : ⊥ = cc in no)
 
 -- ---- keys
 

@@ -12,11 +12,11 @@ use Rattle.rv_text.specs.declared.answer.Answer.{Answer}
 use Rattle.rv_text.specs.declared.answer.Refusal.TheVariants.{EpochFull}
 use Rattle.rv_text.specs.Limits.{FitsAnswer, FitsMessage}
 use Rattle.rv_text.specs.Calls.{wait_of}
-use Rattle.rv_book.specs.declared.account.Act.{Act}
-use Rattle.rv_book.specs.declared.account.Act.TheVariants as act
-use Rattle.rv_book.specs.declared.account.Entry.{Entry}
-use Rattle.rv_book.specs.Account.{Account, call_in, with_entry}
-use Rattle.rv_book.specs.Calls.{IsPut, Stays, need_of}
+use Rattle.rv_account.specs.declared.entry.Act.{Act}
+use Rattle.rv_account.specs.declared.entry.Act.TheVariants as act
+use Rattle.rv_account.specs.declared.entry.Entry.{Entry}
+use Rattle.rv_account.specs.Account.{Account, call_in, with_entry}
+use Rattle.rv_account.specs.Calls.{IsPut, Stays, need_of}
 use Rattle.rv_book.specs.Counting.{NumberOf}
 use Rattle.rv_book.specs.Legal.{Legal}
 use Rattle.rv_book.specs.Limits.{FitsAccount, FitsAct, FitsEntry}
@@ -33,7 +33,7 @@ use Rattle.rv_book.proofs.Legality.{follows_itself}
 use Rattle.rv_book.proofs.Places.{get-append_cases}
 use Rattle.rv_book.proofs.Sides.{IsRequestUntil, Waiting-back, cancel_stops, due_until, tick_stops}
 use Rattle.rv_book.proofs.ToldCancelled.{is_under}
-use Rattle.rv_world.proofs.Answered.{HasRoom, HasRoomFor, act_of, became_at}
+use Rattle.rv_world.proofs.Answered.{HasRoom, HasRoomFor, act_of, became_at, next_legal}
 
 -- ---- how many wait behind one entry more
 
@@ -46,14 +46,14 @@ module _ (a : Account) (e : Entry) (n m : ℕ) (legal : Legal (with_entry a e)) 
   one_more =
       let Q = λ (r : ℕ). Waiting a.entries r ⊎ (r ≡ length a.entries) in
       let count : NumberOf Q (n + 1) = number_push (Waiting a.entries) Q n (length a.entries) before (waiting_below a.entries) (λ r. ((λ h. h), (λ h. h))) in
-      number_at_most (Waiting (a.entries ++ e ∷ [])) Q m (n + 1) (λ r waits. elim (Waiting-back a.entries e r (follows_itself a e legal).pairs.names_free_partner waits) [
+      number_at_most (Waiting (a.entries ++ e ∷ [])) Q m (n + 1) (λ r waits. elim (Waiting-back a.entries e r (follows_itself a e legal).pairs.names_free_partners waits) [
         | inl was ↦ inl was.there
         | inr new ↦ inr new.0
       ]) after count
 
   -- no more, where the entry itself does not wait
   no_more : (Waiting (a.entries ++ e ∷ []) (length a.entries) → ⊥) → m ≤ n
-  no_more not_last = number_at_most (Waiting (a.entries ++ e ∷ [])) (Waiting a.entries) m n (λ r waits. elim (Waiting-back a.entries e r (follows_itself a e legal).pairs.names_free_partner waits) [
+  no_more not_last = number_at_most (Waiting (a.entries ++ e ∷ [])) (Waiting a.entries) m n (λ r waits. elim (Waiting-back a.entries e r (follows_itself a e legal).pairs.names_free_partners waits) [
     | inl was ↦ was.there
     | inr new ↦ absurd (not_last (subst (Waiting (a.entries ++ e ∷ [])) new.0 waits))
   ]) after before
@@ -63,7 +63,7 @@ module _ (a : Account) (e : Entry) (n m : ℕ) (legal : Legal (with_entry a e)) 
   one_less says r waits stops =
       let Q = λ (s : ℕ). Waiting a.entries s × (s ≡ r → ⊥) in
       let rest = number_drop (Waiting a.entries) Q n r before waits (λ s. ((λ h. h), (λ h. h))) in
-      let most : m ≤ rest.0 = number_at_most (Waiting (a.entries ++ e ∷ [])) Q m rest.0 (λ s still. elim (Waiting-back a.entries e s (follows_itself a e legal).pairs.names_free_partner still) [
+      let most : m ≤ rest.0 = number_at_most (Waiting (a.entries ++ e ∷ [])) Q m rest.0 (λ s still. elim (Waiting-back a.entries e s (follows_itself a e legal).pairs.names_free_partners still) [
         | inl was ↦ (was.there, λ is. was.unstopped (subst (λ p. StoppedAt (a.entries ++ e ∷ []) p (length a.entries)) (sym is) stops))
         | inr new ↦ absurd (none-some new.1.call (sym says ∙ new.1.arrives))
       ]) after rest.2 in
@@ -94,7 +94,7 @@ calm_room : (a : Account) (e : Entry) → Legal (with_entry a e) → call_in e.a
 calm_room a e legal says room m after =
     let found = find_waiting a.entries in
     let space : length a.entries + found.0 + 1 ≤ 100000 = room_for a 1 found.0 room found.1 in
-    let most : m ≤ found.0 = no_more a e found.0 m legal found.1 after (λ waits. elim (Waiting-back a.entries e (length a.entries) (follows_itself a e legal).pairs.names_free_partner waits) [
+    let most : m ≤ found.0 = no_more a e found.0 m legal found.1 after (λ waits. elim (Waiting-back a.entries e (length a.entries) (follows_itself a e legal).pairs.names_free_partners waits) [
       | inl was ↦ let inside = waiting_below a.entries (length a.entries) was.there in omega (arith, inside)
       | inr new ↦ none-some new.1.call (sym says ∙ new.1.arrives)
     ]) in
@@ -120,7 +120,7 @@ arrival_room a e call legal says room m after =
           let most : m ≤ found.0 = no_more a e found.0 m legal found.1 after not_last in
           let one : 1 ≤ need_of call = need_positive (wait_of call) in
           omega arith
-      | inl waits ↦ elim (Waiting-back a.entries e (length a.entries) (follows_itself a e legal).pairs.names_free_partner waits) [
+      | inl waits ↦ elim (Waiting-back a.entries e (length a.entries) (follows_itself a e legal).pairs.names_free_partners waits) [
         | inl was ↦ let inside = waiting_below a.entries (length a.entries) was.there in absurd (omega (arith, inside))
         | inr new ↦
             let same : new.1.call ≡ call = same_Some _ _ (sym new.1.arrives ∙ says) in
@@ -183,8 +183,8 @@ ticked_fits a t moment fits moment_fits (inl ticks) =
     (stop_room a e fits (subst Legal added.follows added.legal) (ap call_in added.act_is) due.0 due.1.waits (tick_stops a.entries e due.0 added.act_is until))
 
 -- the account and the answer are within the limits
-pub next_fits : (a b : Account) (now : ℕ) (m : Message) (x : Answer) → FitsAccount a → FitsMessage m → Next a now m b x → FitsAccount b × FitsAnswer x
-next_fits a b now m x fits message_fits next =
+pub next_fits : (a b : Account) (now : ℕ) (m : Message) (x : Answer) → Legal a → FitsAccount a → FitsMessage m → Next a now m b x → FitsAccount b × FitsAnswer x
+next_fits a b now m x legal fits message_fits next =
     let t = next.ticked in
     let moment : ℕ = step_moment a now in
     let moment_fits : moment ≤ max_moment = step_moment_fits a now fits in
@@ -195,4 +195,4 @@ next_fits a b now m x fits message_fits next =
           let added = entered.adds in
           added_fits t b moment (act_of m) added ticked moment_fits (act_fits m message_fits) (message_few t added.entry m ticked added.act_is entered.room) (message_room t added.entry m ticked (subst Legal added.follows added.legal) added.act_is entered.room)
     ] in
-    (after, step_fits t b moment m x ticked after message_fits next.steps)
+    (after, step_fits t b moment m x (next_legal a b now m x legal next) ticked after message_fits next.steps)

@@ -12,7 +12,7 @@ use Rattle.rv_text.specs.declared.answer.Answer.{Answer}
 use Rattle.rv_text.specs.declared.answer.Answer.TheVariants as answers
 use Rattle.rv_text.specs.declared.answer.Refusal.TheVariants as refusals
 use Rattle.rv_text.specs.declared.answer.Reply.{Reply}
-use Rattle.rv_book.specs.Account.{Account, Extends}
+use Rattle.rv_account.specs.Account.{Account, Extends}
 use Rattle.rv_book.specs.Steps.{Next}
 use Rattle.rv_book.proofs.Staying.{steps_extend}
 use Rattle.rv_text.specs.Members.{max_identifier}

@@ -3,13 +3,14 @@ use Rattle.std.proofs.Common.{◌≡◌, inl, inr, ℕ, List, Some, option_and_t
 use Rattle.std.proofs.lemmas.Option.{same_Some}
 use Rattle.rv_text.specs.declared.message.Key.{Key}
 use Rattle.rv_text.specs.declared.call.Call.{Call}
+use Rattle.rv_text.specs.declared.call.Call.TheVariants.{Drain}
 use Rattle.rv_text.specs.declared.call.Side.{Side}
 use Rattle.rv_text.specs.declared.call.Side.TheVariants.{Gives, Takes, Exchanges}
 use Rattle.rv_text.specs.declared.answer.Reply.{Reply}
 use Rattle.rv_text.specs.declared.answer.Reply.TheVariants as reply
 use Rattle.rv_text.specs.Calls.{side_of}
-use Rattle.rv_book.specs.Account.{Account, act_at, call_at, call_in}
-use Rattle.rv_book.specs.Calls.{opposite}
+use Rattle.rv_account.specs.Account.{Account, act_at, call_at, call_in}
+use Rattle.rv_account.specs.Calls.{may_name, opposite}
 use Rattle.rv_book.specs.Legal.{Legal}
 use Rattle.rv_book.specs.Replies.{Gets, HasReply, Meet, RepliesAt}
 use Rattle.rv_book.proofs.CallKinds.{exchanges_item, gives_item}
@@ -17,12 +18,13 @@ use Rattle.rv_book.proofs.Keys.{act_called}
 use Rattle.rv_book.proofs.Leaving.{items_leave_in_order}
 use Rattle.rv_book.proofs.OnePartner.{arrives_once}
 use Rattle.rv_world.specs.World.{World, IsAccountOf, WasAsked, first_world}
-use Rattle.rv_world.specs.Headline.{ArrivesAt, Headline, IsExchanged, IsAnswered, IsAssigned, IsGiven, IsReplyOf, NeverHandedOver, OrderOfArrival, ReceivedMeansAssigned, TrueExchange}
+use Rattle.rv_world.specs.Headline.{ArrivesAt, Headline, IsExchanged, IsAnswered, IsAssigned, IsDrained, IsGiven, IsReplyOf, NeverHandedOver, OrderOfArrival, ReceivedMeansAssigned, TrueExchange}
 use Rattle.rv_world.specs.Laws.{HeadlineHolds}
 use Rattle.rv_world.specs.Sound.{IsSound}
+use Rattle.rv_world.proofs.Drained.{TakesItems, as_many, hands_over_at, meets_named, names_met, partners_rise, takes_items}
 use Rattle.rv_world.proofs.Growth.{runs_grow}
 use Rattle.rv_world.proofs.OneReply.{still_answered}
-use Rattle.rv_world.proofs.Partners.{Partner, arrival_epoch, exchanger_told, giver_opposes, item_got, meet_back, no_means_unmet, one_met, pair_meets, pair_of, partner_of, received_met, swapped_got, taker_told}
+use Rattle.rv_world.proofs.Partners.{Partner, arrival_epoch, drained_got, exchanger_told, item_got, meet_back, meet_opposes, no_means_unmet, one_met, pair_meets, pair_of, partner_of, received_met, single_exchanger, single_giver, swapped_got, taker_told}
 use Rattle.rv_world.proofs.Soundness.{first_sound, runs_sound}
 
 -- ---- a reply that is answered, as its account tells it
@@ -61,6 +63,10 @@ module _ (w : World) (key : Key) (sound : IsSound w) (a : Account) (r : ℕ) (ow
   arrived_there : (p : ℕ) (again : Call) → ArrivesAt a.entries key p again → p ≡ r
   arrived_there p again also = arrives_once a p r key again own legal also arrived
 
+  -- who hands its item over to the arrival is of the opposite side
+  gets_opposes : (item : List ℕ) → (gets : Gets a.entries r item) → opposite (side_of own) ≡ Some (side_of gets.call)
+  gets_opposes item gets = meet_opposes a r gets.giver own gets.call legal called gets.arrived (meet_back a.entries gets.giver r gets.meet)
+
   received_assigned : RepliesAt a.entries r own reply.Received → IsAssigned w key
   received_assigned replies =
       let met = received_met a.entries r own replies in
@@ -71,7 +77,7 @@ module _ (w : World) (key : Key) (sound : IsSound w) (a : Account) (r : ℕ) (ow
           let takes = takes_of (side_of own) (side_of partner.other) queue gives partner.opposes in
           let item = gives_item own queue gives in
           let taker = act_called (act_at a.entries partner.place) partner.other partner.arrived in
-          let gets : Gets a.entries partner.place item.0 = record { giver = r; call = own; meet = partner.meet; arrived = called; hands_over = item.1 } in
+          let single = single_giver own queue gives in
           record {
             account = a;
             is_of = is_of;
@@ -86,18 +92,18 @@ module _ (w : World) (key : Key) (sound : IsSound w) (a : Account) (r : ℕ) (ow
             taker_key = taker.0;
             taker_call = partner.other;
             taker_arrived = taker.1;
-            taker_told = inl (record { place = partner.place; call = partner.other; arrived = taker.1; replies = taker_told a.entries partner.place partner.other item.0 queue takes gets });
+            taker_told = taker_told a r partner.place own partner.other item.0 taker.0 queue legal called item.1 taker.1 takes partner.meet;
             only = λ g t again pair also.
                 let place : g ≡ r = arrived_there g again also in
-                (place, one_met a r t partner.place legal (subst (λ p. Meet a.entries p t) place (pair_meets a.entries g t pair)) partner.meet);
+                (place, one_met a r t partner.place own legal called single (subst (λ p. Meet a.entries p t) place (pair_meets a.entries g t pair)) partner.meet);
           }
 
   item_given : (item : List ℕ) → RepliesAt a.entries r own (reply.Item item) → IsGiven w key item
-  item_given item replies = let got = item_got a.entries r own item replies in given got.1.0 got.1.1 got.0
+  item_given item replies = let got = item_got a.entries r own item replies in given got.1.0 got.1.1 got.2 got.0
     where
-      given : (queue : ℕ) → side_of own ≡ Takes queue → Gets a.entries r item → IsGiven w key item
-      given queue takes gets =
-          let gives = gives_of (side_of own) (side_of gets.call) queue takes (giver_opposes a r own item legal called gets) in
+      given : (queue : ℕ) → side_of own ≡ Takes queue → may_name own ≡ 1 → Gets a.entries r item → IsGiven w key item
+      given queue takes single gets =
+          let gives = gives_of (side_of own) (side_of gets.call) queue takes (gets_opposes item gets) in
           let giver = act_called (act_at a.entries gets.giver) gets.call gets.arrived in
           record {
             account = a;
@@ -114,7 +120,36 @@ module _ (w : World) (key : Key) (sound : IsSound w) (a : Account) (r : ℕ) (ow
             only = λ g t again pair also.
                 let place : t ≡ r = arrived_there t again also in
                 let meets : Meet a.entries r g = meet_back a.entries g r (subst (λ p. Meet a.entries g p) place (pair_meets a.entries g t pair)) in
-                (one_met a r g gets.giver legal meets (meet_back a.entries gets.giver r gets.meet), place);
+                (one_met a r g gets.giver own legal called single meets (meet_back a.entries gets.giver r gets.meet), place);
+          }
+
+  drained_given : (items : List (List ℕ)) → RepliesAt a.entries r own (reply.Drained items) → IsDrained w key items
+  drained_given items replies = let got = drained_got a.entries r own items replies in given got.0 got.1 got.2 (takes_items a.entries r items got.3)
+    where
+      given : (queue max : ℕ) → own ≡ Drain queue max → TakesItems a.entries r items → IsDrained w key items
+      given queue max is takes =
+          let drains : call_at a.entries r ≡ Some (Drain queue max) = called ∙ ap Some is in
+          record {
+            account = a;
+            is_of = is_of;
+            taker = r;
+            call = own;
+            arrived = arrived;
+            givers = takes.entry.partners;
+            rising = partners_rise a r queue max legal drains takes.entry takes.there;
+            as_many = as_many a.entries r items takes;
+            pairs = λ g named.
+                let over = hands_over_at a.entries r named.0 g items takes named.1 in
+                let giver : call_at a.entries g ≡ Some over.call = ap (option_and_then call_in) over.arrived in
+                let meet = meets_named a r queue max legal drains g takes.entry takes.there named in
+                let opposes = meet_opposes a r g own over.call legal called giver (meet_back a.entries g r meet) in
+                let gives = gives_of (side_of own) (side_of over.call) queue (ap side_of is) opposes in
+                pair_of a.entries g r queue over.call own giver gives called (ap side_of is) meet;
+            hands_over = λ place g there. hands_over_at a.entries r place g items takes there;
+            only = λ g t again pair also.
+                let place : t ≡ r = arrived_there t again also in
+                let meet = subst (λ p. Meet a.entries g p) place (pair_meets a.entries g t pair) in
+                (names_met a r queue max legal drains g takes.entry takes.there meet, place);
           }
 
   swapped_exchanged : (item : List ℕ) → RepliesAt a.entries r own (reply.Swapped item) → IsExchanged w key item
@@ -123,7 +158,7 @@ module _ (w : World) (key : Key) (sound : IsSound w) (a : Account) (r : ℕ) (ow
       exchanged : (exchanger : ℕ) → side_of own ≡ Exchanges exchanger → Gets a.entries r item → IsExchanged w key item
       exchanged exchanger side gets =
           let meets : Meet a.entries r gets.giver = meet_back a.entries gets.giver r gets.meet in
-          let exchanges = exchanges_of (side_of own) (side_of gets.call) exchanger side (giver_opposes a r own item legal called gets) in
+          let exchanges = exchanges_of (side_of own) (side_of gets.call) exchanger side (gets_opposes item gets) in
           let own_item = exchanges_item own exchanger side in
           let other = act_called (act_at a.entries gets.giver) gets.call gets.arrived in
           let back : Gets a.entries gets.giver own_item.0 = record { giver = r; call = own; meet = meets; arrived = called; hands_over = own_item.1 } in
@@ -146,7 +181,7 @@ module _ (w : World) (key : Key) (sound : IsSound w) (a : Account) (r : ℕ) (ow
             other_told = inl (record { place = gets.giver; call = gets.call; arrived = other.1; replies = exchanger_told a.entries gets.giver gets.call own_item.0 exchanger exchanges back });
             only = λ p s again swap also.
                 let place : p ≡ r = arrived_there p again also in
-                (place, one_met a r s gets.giver legal (subst (λ q. Meet a.entries q s) place swap.3) meets);
+                (place, one_met a r s gets.giver own legal called (single_exchanger own exchanger side) (subst (λ q. Meet a.entries q s) place swap.3) meets);
           }
 
 pub received_means_assigned : (w : World) → IsSound w → ReceivedMeansAssigned w
@@ -154,6 +189,8 @@ received_means_assigned w sound = record {
   received = λ key answered. told_leads w key reply.Received (IsAssigned w key) sound answered (λ is. let no : ⊥ = cc in no) (received_assigned w key sound);
   items = λ key item answered. told_leads w key (reply.Item item) (IsGiven w key item) sound answered (λ is. let no : ⊥ = cc in no)
       (λ a r own is_of legal arrived. item_given w key sound a r own is_of legal arrived item);
+  drained = λ key items answered. told_leads w key (reply.Drained items) (IsDrained w key items) sound answered (λ is. let no : ⊥ = cc in no)
+      (λ a r own is_of legal arrived. drained_given w key sound a r own is_of legal arrived items);
 }
 
 -- ---- never handed over

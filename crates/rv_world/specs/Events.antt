@@ -100,7 +100,7 @@ sender (message.Hello client incarnation) = client
 sender (message.Request key call) = key.client
 sender (message.Cancel key) = key.client
 
--- what was said is told, or, where that has a text for which there was no memory, the refusal of that name
+-- what was said is told, or, where that has texts for which there was no memory, the refusal of that name
 abbrev pub IsTold : Answer → Answer → Type 0
 IsTold said told = (told ≡ said) ⊎ (HasText said × (told ≡ answers.Refused refusals.NoMemory))
 

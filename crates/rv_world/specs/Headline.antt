@@ -1,6 +1,7 @@
 -- The headline: what holds of the world after every list of events, and between it and every later world.
-use Rattle.std.specs.Prelude.{◌≡◌, ◌⊎◌, ◌++◌, ℕ, List, Some, slice_get}
+use Rattle.std.specs.Prelude.{◌≡◌, ◌⊎◌, ◌++◌, ℕ, List, Some, length, slice_get}
 use Rattle.std.specs.List.{Contains}
+use Rattle.std.specs.List.Sorted.{IsStrictlyIncreasing}
 use Rattle.rv_text.specs.declared.message.Key.{Key}
 use Rattle.rv_text.specs.declared.call.Call.{Call}
 use Rattle.rv_text.specs.declared.call.Side.TheVariants.{Exchanges}
@@ -8,9 +9,9 @@ use Rattle.rv_text.specs.Calls.{item_of}
 use Rattle.rv_text.specs.declared.answer.Answer.TheVariants as answers
 use Rattle.rv_text.specs.declared.answer.Reply.{Reply}
 use Rattle.rv_text.specs.declared.answer.Reply.TheVariants as reply
-use Rattle.rv_book.specs.declared.account.Entry.{Entry}
-use Rattle.rv_book.specs.declared.account.Act.TheVariants.{Arrive}
-use Rattle.rv_book.specs.Account.{Account, Extends, act_at}
+use Rattle.rv_account.specs.declared.entry.Entry.{Entry}
+use Rattle.rv_account.specs.declared.entry.Act.TheVariants.{Arrive}
+use Rattle.rv_account.specs.Account.{Account, Among, Extends, act_at, partners_at}
 use Rattle.rv_book.specs.Legal.{Legal}
 use Rattle.rv_book.specs.Order.{InOrder, PairAt}
 use Rattle.rv_book.specs.Replies.{HasReply, Meet}
@@ -67,8 +68,22 @@ pub record LegalAccounts (w : World) : Type 0 where
 abbrev pub IsPair : List Entry → ℕ → ℕ → Type 0
 IsPair entries g t = (queue p : ℕ) × PairAt entries queue p g t
 
+-- the drain of this key, at t, is told a list in which the item stands where g stands among its partners
+pub record IsToldAmong (entries : List Entry) (key : Key) (g t : ℕ) (item : List ℕ) : Type 0 where
+  pub partners : List ℕ
+  pub named : partners_at entries t ≡ Some partners
+  pub items : List (List ℕ)
+  pub told : HasReply entries key (reply.Drained items)
+  pub place : ℕ
+  pub giver_there : slice_get partners place ≡ Some g
+  pub item_there : slice_get items place ≡ Some item
+
+-- the taker of this key, at t, is told the item of the giver at g: alone, or in the giver's place of a list
+abbrev pub IsToldItem : List Entry → Key → ℕ → ℕ → List ℕ → Type 0
+IsToldItem entries key g t item = HasReply entries key (reply.Item item) ⊎ IsToldAmong entries key g t item
+
 -- of the account of its epoch exactly one pair has the arrival of this key as its giver; its taker's reply
--- is the item that was asked under the key
+-- is the item that was asked under the key, or a list with that item in its place
 pub record IsAssigned (w : World) (key : Key) : Type 0 where
   pub account : Account
   pub is_of : IsAccountOf w key.epoch account
@@ -83,7 +98,7 @@ pub record IsAssigned (w : World) (key : Key) : Type 0 where
   pub taker_key : Key
   pub taker_call : Call
   pub taker_arrived : ArrivesAt account.entries taker_key taker taker_call
-  pub taker_told : HasReply account.entries taker_key (reply.Item item)
+  pub taker_told : IsToldItem account.entries taker_key giver taker item
   pub only : (g t : ℕ) (other : Call) → IsPair account.entries g t → ArrivesAt account.entries key g other
       → (g ≡ giver) × (t ≡ taker)
 
@@ -103,10 +118,39 @@ pub record IsGiven (w : World) (key : Key) (item : List ℕ) : Type 0 where
   pub only : (g t : ℕ) (other : Call) → IsPair account.entries g t → ArrivesAt account.entries key t other
       → (g ≡ giver) × (t ≡ taker)
 
--- what is answered received was assigned to one taker; what is answered an item has one giver
+-- the giver at g stands at a place of the list and hands over the item there
+pub record HandsOverAt (entries : List Entry) (items : List (List ℕ)) (place g : ℕ) : Type 0 where
+  pub key : Key
+  pub call : Call
+  pub arrived : ArrivesAt entries key g call
+  pub item : List ℕ
+  pub hands_over : item_of call ≡ Some item
+  pub there : slice_get items place ≡ Some item
+
+-- the givers of the pairs that have the arrival of this key as their taker, in the order of their arrival,
+-- are as many as the items, and each hands over the item in its place
+pub record IsDrained (w : World) (key : Key) (items : List (List ℕ)) : Type 0 where
+  pub account : Account
+  pub is_of : IsAccountOf w key.epoch account
+  pub taker : ℕ
+  pub call : Call
+  pub arrived : ArrivesAt account.entries key taker call
+  pub givers : List ℕ
+  pub rising : IsStrictlyIncreasing givers
+  pub as_many : length givers ≡ length items
+  pub pairs : (g : ℕ) → Among givers g → IsPair account.entries g taker
+  pub hands_over : (place g : ℕ) → slice_get givers place ≡ Some g
+      → HandsOverAt account.entries items place g
+  pub only : (g t : ℕ) (other : Call) → IsPair account.entries g t → ArrivesAt account.entries key t other
+      → Among givers g × (t ≡ taker)
+
+-- what is answered received was assigned to one taker; what is answered an item has one giver, and what is
+-- answered drained has one giver for each item
 pub record ReceivedMeansAssigned (w : World) : Type 0 where
   pub received : (key : Key) → IsAnswered w key reply.Received → IsAssigned w key
   pub items : (key : Key) (item : List ℕ) → IsAnswered w key (reply.Item item) → IsGiven w key item
+  pub drained : (key : Key) (items : List (List ℕ)) → IsAnswered w key (reply.Drained items)
+      → IsDrained w key items
 
 -- ---- 4: never handed over after a no
 

@@ -6,7 +6,7 @@ use Rattle.rv_text.specs.declared.message.Key.{Key}
 use Rattle.rv_text.specs.declared.message.Message.{Message}
 use Rattle.rv_text.specs.declared.call.Call.{Call}
 use Rattle.rv_text.specs.declared.answer.Reply.{Reply}
-use Rattle.rv_book.specs.Account.{Account}
+use Rattle.rv_account.specs.Account.{Account}
 use Rattle.rv_client.specs.Process.{Process}
 use Rattle.rv_world.specs.declared.packet.Packet.{Packet}
 

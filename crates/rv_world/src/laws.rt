@@ -21,9 +21,9 @@ pub fn one_run()
 {}
 
 /// After every list of events, from a world of whatever epoch: no request has two replies; each account is
-/// legal; what is answered received was assigned to one taker; what is answered a no is never handed over,
-/// then or later; items leave in their order of arrival; exchange partners get each other's items; and
-/// further events only add.
+/// legal; what is answered received was assigned to one taker, and each item that is answered, alone or in a
+/// drain's list, has one giver; what is answered a no is never handed over, then or later; items leave in
+/// their order of arrival; exchange partners get each other's items; and further events only add.
 pub fn headline_holds()
     ensures { HeadlineHolds }
 {}

@@ -45,7 +45,7 @@ pub(crate) fn copy_message(alloc: Global, message: &Message) -> Result<Message, 
     }
 }
 
-// A copy of a reply. It fails only where memory for its item was refused.
+// A copy of a reply. It fails only where memory for its items was refused.
 fn copy_reply(alloc: Global, reply: &Reply) -> Result<Reply, NoMemory>
     ensures { IfOk result (λ copy. copy ≡ reply.now) }
 {
@@ -63,10 +63,11 @@ fn copy_reply(alloc: Global, reply: &Reply) -> Result<Reply, NoMemory>
             consumers: *consumers,
         }),
         Reply::Peeked(item) => Ok(Reply::Peeked(item.copy(alloc)?)),
+        Reply::Drained(items) => Ok(Reply::Drained(items.copy(alloc)?)),
     }
 }
 
-// A copy of an answer. It fails only where memory for its item was refused.
+// A copy of an answer. It fails only where memory for its items was refused.
 pub(crate) fn copy_answer(alloc: Global, answer: &Answer) -> Result<Answer, NoMemory>
     ensures { IfOk result (λ copy. copy ≡ answer.now) }
 {

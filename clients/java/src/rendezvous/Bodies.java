@@ -15,10 +15,12 @@ import java.nio.CharBuffer;
 import java.nio.charset.CharacterCodingException;
 import java.nio.charset.StandardCharsets;
 import java.util.ArrayList;
+import java.util.Collections;
 import java.util.HashSet;
 import java.util.List;
 import java.util.Map;
 import java.util.Set;
+import java.util.stream.StreamSupport;
 
 /** Bodies of messages, which are written, and of answers, which are read: the members of their rows, and no others. */
 final class Bodies {
@@ -31,14 +33,16 @@ final class Bodies {
         }
     }
 
-    static final int GREATEST_BODY = 4096;
     static final int GREATEST_ITEM = 512;
+    static final int GREATEST_DRAIN = 16;
     private static final int GREATEST_COUNT = 100_000;
     private static final List<String> KEY = List.of("client", "epoch", "incarnation", "number");
-    private static final Map<String, List<String>> REPLIES = Map.of(
-        "done", List.of(), "item", List.of("item"), "empty", List.of(), "received", List.of(), "nobody", List.of(),
-        "swapped", List.of("item"), "timedout", List.of(), "cancelled", List.of(),
-        "counted", List.of("consumers", "items"), "peeked", List.of("item"));
+    private static final Map<String, List<String>> REPLIES = Map.ofEntries(
+        Map.entry("done", List.of()), Map.entry("item", List.of("item")), Map.entry("empty", List.of()),
+        Map.entry("received", List.of()), Map.entry("nobody", List.of()), Map.entry("swapped", List.of("item")),
+        Map.entry("timedout", List.of()), Map.entry("cancelled", List.of()),
+        Map.entry("counted", List.of("consumers", "items")), Map.entry("peeked", List.of("item")),
+        Map.entry("drained", List.of("texts")));
     private static final Map<Long, String> DETAILS =
         Map.of(2L, "current", 4L, "current", 5L, "last", 7L, "open", 8L, "last");
     private static final Gson GSON = new GsonBuilder().disableHtmlEscaping().create();
@@ -120,7 +124,9 @@ final class Bodies {
             case "reply":
                 return isText(value);
             case "item":
-                return isText(value) && isItem(value.getAsString());
+                return isItem(value);
+            case "texts":
+                return areTexts(value);
             case "items":
             case "consumers":
                 return isWhole(value, 0, GREATEST_COUNT);
@@ -129,6 +135,16 @@ final class Bodies {
             default:
                 return isWhole(value, name.equals("last") ? 0 : 1, Key.GREATEST);
         }
+    }
+
+    private static boolean isItem(JsonElement value) {
+        return isText(value) && isItem(value.getAsString());
+    }
+
+    /** Whether a value is a list of texts that one drain may give. */
+    private static boolean areTexts(JsonElement value) {
+        return value.isJsonArray() && value.getAsJsonArray().size() <= GREATEST_DRAIN
+            && StreamSupport.stream(value.getAsJsonArray().spliterator(), false).allMatch(Bodies::isItem);
     }
 
     private static boolean isText(JsonElement value) {
@@ -146,6 +162,18 @@ final class Bodies {
     static String word(JsonObject members, String name) {
         JsonElement value = members.get(name);
         return value != null && isText(value) ? value.getAsString() : "";
+    }
+
+    /** The items that a reply brings, oldest first: those of a drain, or the one of a reply that has one. */
+    static List<String> itemsOf(JsonObject reply) {
+        if (reply.has("item")) {
+            return List.of(word(reply, "item"));
+        }
+        List<String> items = new ArrayList<>();
+        if (reply.has("texts")) {
+            reply.getAsJsonArray("texts").forEach(text -> items.add(text.getAsString()));
+        }
+        return Collections.unmodifiableList(items);
     }
 
     /** The number of a member that has one. */

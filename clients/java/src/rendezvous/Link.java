@@ -55,8 +55,8 @@ final class Link implements AutoCloseable {
             }
         }
         int length = Short.toUnsignedInt(read(2, key, ends).getShort());
-        if (length < 1 || length > Bodies.GREATEST_BODY) {
-            throw new Bodies.NoAnswer("a frame of " + length + " bytes");
+        if (length == 0) {
+            throw new Bodies.NoAnswer("a frame of 0 bytes");
         }
         return read(length, key, ends).array();
     }

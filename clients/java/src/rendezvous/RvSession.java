@@ -4,6 +4,7 @@ import com.google.gson.JsonObject;
 import java.io.IOException;
 import java.net.InetSocketAddress;
 import java.time.Duration;
+import java.util.List;
 import java.util.concurrent.locks.LockSupport;
 
 /**
@@ -69,6 +70,7 @@ public final class RvSession implements AutoCloseable {
     /**
      * Goes on with the request that an exception left unsettled, and gives the word of its reply: {@code done},
      * {@code received}, {@code item} and so on; with {@code item} and {@code swapped} stands the text behind a space.
+     * The items of a {@code drained} are in {@link #items()}.
      */
     public String again() {
         if (!isUnsettled()) {
@@ -84,6 +86,14 @@ public final class RvSession implements AutoCloseable {
     public String giveUp() {
         cancelling = true;
         return again();
+    }
+
+    /**
+     * The items that the reply to the request before brought, oldest first: those of a drain, or the one of a take, a
+     * peek or a swap. None where it brought none, or there was none.
+     */
+    public List<String> items() {
+        return lastReply == null ? List.of() : Bodies.itemsOf(lastReply);
     }
 
     /** The reply to the request before; null where there was none. */

@@ -4,6 +4,7 @@ import com.google.gson.JsonObject;
 import java.util.AbstractQueue;
 import java.util.Collection;
 import java.util.Iterator;
+import java.util.List;
 import java.util.Objects;
 import java.util.concurrent.CancellationException;
 import java.util.concurrent.TimeUnit;
@@ -27,8 +28,10 @@ import java.util.concurrent.TransferQueue;
  *     interrupt, and set it again.
  * <li>These throw {@link UnsupportedOperationException}: {@link #offer(String)} and its timed form, {@link #add},
  *     {@link #addAll}, {@link #remainingCapacity}, {@link #contains}, {@link #containsAll}, {@link #remove(Object)},
- *     {@link #removeAll}, {@link #retainAll}, {@link #clear}, {@link #iterator} and with it streams and arrays, and
- *     {@link #drainTo(Collection)} in both its forms.
+ *     {@link #removeAll}, {@link #retainAll}, {@link #clear}, and {@link #iterator} and with it streams and arrays.
+ * <li>{@link #drainTo(Collection)} and {@link #drainTo(Collection, int)} take up to 16 items in one step of the
+ *     server, and more in several steps, between which others may take and put: up to 16 are one atomic whole, more
+ *     are not.
  * </ul>
  */
 public final class RvTransferQueue extends AbstractQueue<String> implements TransferQueue<String> {
@@ -61,10 +64,15 @@ public final class RvTransferQueue extends AbstractQueue<String> implements Tran
     /** The item goes to the tail; nobody is waited for. */
     @Override
     public void put(String item) {
-        JsonObject reply = clients.session().ask(Calls.giving(call("put"), item));
+        settled(clients.session().ask(Calls.giving(call("put"), item)));
+    }
+
+    /** The reply, which is not that the request was given up before it came. */
+    private static JsonObject settled(JsonObject reply) {
         if (Bodies.word(reply, "reply").equals("cancelled")) {
-            throw new CancellationException("the put was given up before it came");
+            throw new CancellationException("the request was given up before it came");
         }
+        return reply;
     }
 
     /** Waits until a consumer was assigned the item. */
@@ -107,6 +115,59 @@ public final class RvTransferQueue extends AbstractQueue<String> implements Tran
     @Override
     public String peek() {
         return itemOf(clients.session().ask(call("peek")));
+    }
+
+    /**
+     * Takes all items that are there, oldest first, and waits for none: in steps of at most 16 items, until one finds
+     * fewer. The transfers among them are received.
+     *
+     * <p>Each step is one step of the server's book: nothing comes between two of its items. All steps together are
+     * not: where there are 16 items or more, others may take and put between two steps, and where they put without end
+     * this goes on.
+     *
+     * <p>Where a step ends by an exception, what finished steps took is in the collection, and the exception says what
+     * is known of its own step. Where that is unsettled, it may be {@link RvSession#again asked again}, and
+     * {@link RvSession#items} then has its items. It also has those of a finished step, where the collection itself
+     * refuses them. An interrupt ends no step; the thread stays interrupted.
+     *
+     * @return how many items were added to the collection
+     * @throws IllegalArgumentException if the collection is this queue, before anything is asked
+     */
+    @Override
+    public int drainTo(Collection<? super String> into) {
+        return drainTo(into, Integer.MAX_VALUE);
+    }
+
+    /**
+     * Takes so many items at most, oldest first, and waits for none. Up to 16 items are one step of the server's book.
+     * More go by steps of at most 16, which together are no atomic whole: all that {@link #drainTo(Collection)} says of
+     * them holds. Where {@code most} is below 1 nothing is asked.
+     *
+     * @return how many items were added to the collection
+     * @throws IllegalArgumentException if the collection is this queue, before anything is asked
+     */
+    @Override
+    public int drainTo(Collection<? super String> into, int most) {
+        if (Objects.requireNonNull(into) == this) {
+            throw new IllegalArgumentException("a queue is not drained into itself");
+        }
+        int drained = 0;
+        boolean more = true;
+        while (more && drained < most) {
+            int step = Math.min(Bodies.GREATEST_DRAIN, most - drained);
+            List<String> items = drainedStep(step);
+            into.addAll(items);
+            drained += items.size();
+            more = items.size() == step;
+        }
+        return drained;
+    }
+
+    /** The items of one step, at most so many. */
+    private List<String> drainedStep(int most) {
+        JsonObject call = call("drain");
+        call.addProperty("max", most);
+        return Bodies.itemsOf(settled(clients.session().ask(call)));
     }
 
     private int counted(String what) {
@@ -163,18 +224,6 @@ public final class RvTransferQueue extends AbstractQueue<String> implements Tran
     @Override
     public int remainingCapacity() {
         throw leftOut("remainingCapacity");
-    }
-
-    /** Left out. */
-    @Override
-    public int drainTo(Collection<? super String> into) {
-        throw leftOut("drainTo");
-    }
-
-    /** Left out. */
-    @Override
-    public int drainTo(Collection<? super String> into, int most) {
-        throw leftOut("drainTo");
     }
 
     /** Left out. */

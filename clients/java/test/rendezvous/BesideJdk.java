@@ -79,7 +79,7 @@ final class BesideJdk {
 
         /** A step of the first thread. */
         private String alone(Random chance) throws InterruptedException {
-            switch (chance.nextInt(9)) {
+            switch (chance.nextInt(10)) {
                 case 0:
                 case 1:
                 case 2:
@@ -95,9 +95,22 @@ final class BesideJdk {
                     return "peek " + queue.peek();
                 case 7:
                     return "size " + queue.size() + " " + queue.isEmpty() + " " + queue.getWaitingConsumerCount();
+                case 8:
+                    return drained(chance);
                 default:
                     return traded(next(), 1);
             }
+        }
+
+        /** A drain of all, or of so many, sometimes of more items than one step takes. */
+        private String drained(Random chance) throws InterruptedException {
+            for (int left = chance.nextInt(4) > 0 ? 0 : chance.nextInt(40); left > 0; left--) {
+                queue.put(next());
+            }
+            List<String> into = new ArrayList<>(List.of("before"));
+            int most = chance.nextInt(40) - 2;
+            int count = chance.nextBoolean() ? queue.drainTo(into) : queue.drainTo(into, most);
+            return "drained " + count + " " + into;
         }
 
         private String traded(String mine, long millis) throws InterruptedException {
@@ -165,8 +178,12 @@ final class BesideJdk {
                 Thread.sleep(0, 100_000);
             }
             StringBuilder met = new StringBuilder();
-            if (chance.nextInt(3) == 0) {
+            int how = chance.nextInt(4);
+            if (how == 0) {
                 other.interrupt();
+            } else if (how == 1) {
+                List<String> into = new ArrayList<>();
+                met.append(queue.drainTo(into)).append(into).append(", ");
             } else {
                 for (int taken = 0; taken <= before; taken++) {
                     met.append(queue.poll()).append(", ");

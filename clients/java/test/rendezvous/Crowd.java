@@ -77,7 +77,7 @@ final class Crowd {
     /** One call, some of which are interrupted, and all that wait for ever. */
     private void ask() throws InterruptedException, TimeoutException {
         long millis = MILLIS[chance.nextInt(MILLIS.length)];
-        switch (chance.nextInt(10)) {
+        switch (chance.nextInt(11)) {
             case 0 -> queue.put(given("put", null));
             case 1 -> forever(() -> queue.transfer(given("transfer", "forever")));
             case 2 -> queue.tryTransfer(given("transfer", "now"));
@@ -96,6 +96,12 @@ final class Crowd {
             }
             case 7 -> exchanger.exchange(swapped(millis), millis, TimeUnit.MILLISECONDS);
             case 8 -> forever(() -> exchanger.exchange(swapped("forever")));
+            case 9 -> {
+                int most = 1 + chance.nextInt(16);
+                call = Calls.at("drain", "queue", 3);
+                call.addProperty("max", most);
+                queue.drainTo(new ArrayList<>(), most);
+            }
             default -> {
                 call = Calls.at("count", "queue", 3);
                 queue.size();

@@ -8,6 +8,7 @@ import java.time.Duration;
 import java.util.ArrayList;
 import java.util.List;
 import java.util.Set;
+import java.util.concurrent.ArrayBlockingQueue;
 import java.util.concurrent.TimeUnit;
 
 /**
@@ -17,6 +18,7 @@ import java.util.concurrent.TimeUnit;
 final class Driver {
     private RvClients clients;
     private RvTransferQueue queue;
+    private final List<String> drained = new ArrayList<>();
 
     private Driver() {}
 
@@ -67,6 +69,12 @@ final class Driver {
             case "exchange":
                 return given.size() == 1 ? new RvExchanger(clients, 5).exchange(given.get(0))
                     : new RvExchanger(clients, 5).exchange(given.get(0), number(given, 1), TimeUnit.MICROSECONDS);
+            case "drained":
+                List<String> all = List.copyOf(drained);
+                drained.clear();
+                return all;
+            case "items":
+                return clients.session().items();
             case "left-out":
                 return leftOut();
             case "bad":
@@ -97,6 +105,10 @@ final class Driver {
                 return queue.size();
             case "consumers":
                 return queue.getWaitingConsumerCount();
+            case "drain":
+                return given.isEmpty() ? queue.drainTo(drained) : queue.drainTo(drained, number(given, 0));
+            case "drain-into":
+                return queue.drainTo(new ArrayBlockingQueue<>(number(given, 0)));
             default:
                 throw new IllegalArgumentException(word);
         }
@@ -122,10 +134,10 @@ final class Driver {
     /** How many of the calls that the profile leaves out throw that they are not supported. */
     private int leftOut() {
         List<Runnable> calls = List.of(() -> queue.offer("a"), () -> offer(queue), () -> queue.add("a"),
-            () -> queue.addAll(List.of("a")), queue::remainingCapacity, () -> queue.drainTo(new ArrayList<>()),
-            () -> queue.drainTo(new ArrayList<>(), 1), () -> queue.contains("a"), () -> queue.containsAll(Set.of("a")),
-            () -> queue.remove("a"), () -> queue.removeAll(Set.of("a")), () -> queue.retainAll(Set.of("a")),
-            queue::clear, queue::iterator, queue::toArray, () -> queue.stream().toList());
+            () -> queue.addAll(List.of("a")), queue::remainingCapacity, () -> queue.contains("a"),
+            () -> queue.containsAll(Set.of("a")), () -> queue.remove("a"), () -> queue.removeAll(Set.of("a")),
+            () -> queue.retainAll(Set.of("a")), queue::clear, queue::iterator, queue::toArray,
+            () -> queue.stream().toList());
         return (int) calls.stream().filter(call -> throwsIt(call, UnsupportedOperationException.class)).count();
     }
 
@@ -136,9 +148,11 @@ final class Driver {
     /** How many calls with what no request may have are refused before anything is sent. */
     private int bad() {
         List<Runnable> calls = List.of(() -> queue.put("x".repeat(513)), () -> queue.put("é".repeat(257)),
-            () -> queue.put("\ud800"), () -> new RvTransferQueue(clients, 64), () -> new RvExchanger(clients, -1));
-        int refused = (int) calls.stream().filter(call -> throwsIt(call, IllegalArgumentException.class)).count();
-        return refused + (throwsIt(() -> queue.put(null), NullPointerException.class) ? 1 : 0);
+            () -> queue.put("\ud800"), () -> new RvTransferQueue(clients, 64), () -> new RvExchanger(clients, -1),
+            () -> queue.drainTo(queue), () -> queue.drainTo(queue, 0));
+        List<Runnable> nulls = List.of(() -> queue.put(null), () -> queue.drainTo(null), () -> queue.drainTo(null, 0));
+        return (int) (calls.stream().filter(call -> throwsIt(call, IllegalArgumentException.class)).count()
+            + nulls.stream().filter(call -> throwsIt(call, NullPointerException.class)).count());
     }
 
     private static boolean throwsIt(Runnable call, Class<? extends RuntimeException> kind) {

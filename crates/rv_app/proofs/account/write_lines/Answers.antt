@@ -6,7 +6,7 @@ use Rattle.rv_app.proofs.account.write_lines.Goals as goal
 
 pub loop-entry-preserved : goal.loop-entry-preserved
 loop-entry-preserved g c =
-    let short = subst (λ (bytes : List ℕ). length bytes < 4160) (sym c.as_bytes.ensures.value) c.in-Ok.ensures.short in
+    let short = subst (λ (bytes : List ℕ). length bytes < 65727) (sym c.as_bytes.ensures.value) c.in-Ok.ensures.short in
     record {
       wrote = wrote_more c.loop-entry.invariant.wrote _ _ c.as_bytes.result.now c.in-Some.entry.now _ (sym c.in-Some.ensures) (c.as_bytes.ensures.value ∙ c.in-Ok.ensures.text) c.in_ok-line-2.ensures.ok c.in_ok-line-2.ensures.count short;
       unfailed = c.in_ok-line-2.ensures.told ∙ c.loop-entry.invariant.unfailed;
@@ -34,3 +34,6 @@ returns-in_default-entry_line-clause-part g c =
 pub returns-clause-all : goal.returns-clause-all
 returns-clause-all g c =
     writes_all g.W.Write.contents c.args.sink.now c.loop-entry.sink c.loop-entry.output c.loop-entry.invariant.wrote _ (sym c.in_default.ensures) (c.in_ok-flush-2.ensures.told ∙ c.loop-entry.invariant.unfailed) c.in_ok-flush-2.ensures.ok
+
+pub entry_line-requires-clause-partners : goal.entry_line-requires-clause-partners
+entry_line-requires-clause-partners g c = c.requires.fits.partners c.loop-entry.place c.in-Some.entry.now (sym c.in-Some.ensures)

@@ -10,7 +10,7 @@ use Rattle.rv_app.proofs.calls.call_lines.Given as goal
 abbrev pub invariant-loop-line : goal.invariant-loop-line
 invariant-loop-line g l = record {
   numbers : HasNumbers l.idle (length l.rest);
-  small : l.printed + 4160 * length l.rest ≤ 4160 * length l.input;
+  small : l.printed + 65727 * length l.rest ≤ 65727 * length l.input;
   so_far : (key : Key) → l.initial.idle ≡ Some key
       → SoFar g.O.Write.contents g.R.Read.remaining g.W.Write.contents l.tries (lines l.input) key (link l.initial.from l.initial.to) (link l.from l.to) l.initial.out l.out l.idle l.rest l.printed;
 }

@@ -1,5 +1,11 @@
-use Rattle.rv_audit.proofs.Telling.{over}
+use Rattle.std.proofs.Common.{ℕ, List, subst}
+use Rattle.std.specs.Bool.{IsTrue}
+use Rattle.rv_audit.proofs.Telling.{Iff, over}
+use Rattle.rv_audit.specs.Passed.{HasAmong, IsPassedBy, passed}
 use Rattle.rv_audit.proofs.rules.passes_over.Goals as goal
 
-pub returns-in-Some-Some : goal.returns-in-Some-Some
-returns-in-Some-Some c = over _ c.args.entry.now c.in-Some-Some.field-0-0.now c.in-Some-Some.place c.is_passed_by.result c.in-Some-Some.ensures.some c.in-Some-Some.is-1 c.is_passed_by.ensures
+pub returns-in-Some : goal.returns-in-Some
+returns-in-Some c =
+    let es = (passed c.args.front.now).entries in
+    let told = subst (λ (places : List ℕ). Iff (IsTrue c.any_passed.result) (HasAmong (IsPassedBy es places) places)) c.as_slice.ensures c.any_passed.ensures in
+    over es c.args.entry.now c.in-Some.field-0.now c.any_passed.result c.in-Some.ensures.some told

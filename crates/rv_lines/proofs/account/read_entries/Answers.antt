@@ -1,7 +1,7 @@
 -- Each line moves the reading on, and the first that is read as none more stops it.
 use Rattle.std.proofs.Common.{◌≡◌, ℕ, List, Err, ap, arith, length, subst, sym, ◌∙◌}
 use Rattle.std.proofs.lemmas.Result.{err_from_is_err_and}
-use Rattle.rv_book.specs.declared.account.Entry.{Entry}
+use Rattle.rv_account.specs.declared.entry.Entry.{Entry}
 use Rattle.rv_lines.specs.declared.fault.AccountFault.TheVariants.{BadLine}
 use Rattle.rv_lines.specs.Entries.{IsNoNext}
 use Rattle.rv_lines.proofs.Turns.{Read, read_more, so_many, stops_at}

@@ -2,7 +2,7 @@ use Rattle.std.proofs.Common.{IfNone, IfSome, refl, sym, ap, subst}
 use Rattle.rv_audit.proofs.Touching.{front_arrives, waits_with, waits_without, whole_arrives}
 use Rattle.rv_audit.specs.Passed.{passed, WaitsWith}
 use Rattle.std.proofs.Common.{option_and_then}
-use Rattle.rv_book.specs.Account.{key_in}
+use Rattle.rv_account.specs.Account.{key_in}
 use Rattle.rv_book.specs.Legal.{WaitsUnder}
 use Rattle.rv_audit.proofs.front.Front.cancelled.Goals as goal
 

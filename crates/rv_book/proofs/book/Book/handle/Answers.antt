@@ -1,6 +1,6 @@
 -- What a verdict shows is its step's.
 use Rattle.std.proofs.Common.{◌∙◌, subst, sym}
-use Rattle.rv_book.specs.Account.{Account}
+use Rattle.rv_account.specs.Account.{Account}
 use Rattle.rv_book.specs.Steps.{Next}
 use Rattle.rv_book.specs.Verdicts.{WasGiven, said_in}
 use Rattle.rv_book.proofs.Stamping.{gives_stamp, still_given}

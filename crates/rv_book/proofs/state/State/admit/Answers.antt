@@ -1,10 +1,10 @@
 -- After a client's first hello that was recorded the account and its tables are sound.
-use Rattle.std.proofs.Common.{◌∙◌, inr, None, refl, sym, ap, subst, arith, option_and_then}
+use Rattle.std.proofs.Common.{◌∙◌, inr, [], refl, sym, ap, subst, arith, option_and_then}
 use Rattle.rv_session.specs.Standings.{MayEnter}
 use Rattle.rv_session.specs.Table.{fresh, session_of, waiting_place}
-use Rattle.rv_book.specs.declared.account.Act.TheVariants.{Hello}
+use Rattle.rv_account.specs.declared.entry.Act.TheVariants.{Hello}
 use Rattle.rv_book.specs.declared.state.State.{State}
-use Rattle.rv_book.specs.Account.{with_entry}
+use Rattle.rv_account.specs.Account.{with_entry}
 use Rattle.rv_book.specs.Arriving.{entry}
 use Rattle.rv_book.specs.Tables.{NoEntryDue, account_of}
 use Rattle.rv_book.proofs.Greeting.{comes_ready, sound_idle, space_ready}
@@ -52,7 +52,7 @@ returns-clause-sound c =
 
 pub returns-clause-ok : goal.returns-clause-ok
 returns-clause-ok c =
-    let e = entry c.args.moment (Hello c.args.client c.args.incarnation) None in
+    let e = entry c.args.moment (Hello c.args.client c.args.incarnation) [] in
     record {
       entry = e;
       moment_is = refl;

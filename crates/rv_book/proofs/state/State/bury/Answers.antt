@@ -1,10 +1,10 @@
 -- A cancel before its request comes leaves a sound state, in which the request is cancelled.
-use Rattle.std.proofs.Common.{None, sym, subst, arith}
+use Rattle.std.proofs.Common.{None, [], sym, subst, arith}
 use Rattle.rv_session.specs.Meanings.{HasNext}
 use Rattle.rv_session.specs.Table.{OnlySets, settled_session}
 use Rattle.rv_session.specs.declared.kept.Kept.TheVariants as kept
 use Rattle.rv_book.specs.Arriving.{IsCancelled, entry}
-use Rattle.rv_book.specs.declared.account.Act.TheVariants.{Cancel}
+use Rattle.rv_account.specs.declared.entry.Act.TheVariants.{Cancel}
 use Rattle.rv_book.specs.Tables.{account_of}
 use Rattle.rv_book.proofs.Cancelling.{buried_cancelled, buried_sound}
 use Rattle.rv_book.proofs.Greeting.{comes_ready, space_ready}
@@ -31,7 +31,7 @@ returns-clause-ok c =
     let old = c.args.self.now in
     let ready = c.make_room.new.self in
     let prepared = c.in_ok-make_room.ensures.ok in
-    let e = entry c.args.moment (Cancel c.args.key) None in
+    let e = entry c.args.moment (Cancel c.args.key) [] in
     let comes = comes_ready old ready c.args.moment (Cancel c.args.key) 1 _ c.requires.comes prepared in
     let has = subst (λ t. HasNext t c.args.key) (sym prepared.same.sessions) c.requires.next in
     let done = buried_cancelled ready c.args.moment c.args.key comes has in

@@ -1,8 +1,8 @@
 -- A cancel of a request that waits leaves a sound state, in which it is cancelled.
-use Rattle.std.proofs.Common.{◌∙◌, None, sym, ap, subst}
-use Rattle.rv_book.specs.Account.{with_entry}
+use Rattle.std.proofs.Common.{◌∙◌, [], sym, ap, subst}
+use Rattle.rv_account.specs.Account.{with_entry}
 use Rattle.rv_book.specs.Arriving.{IsCancelled, entry}
-use Rattle.rv_book.specs.declared.account.Act.TheVariants.{Cancel}
+use Rattle.rv_account.specs.declared.entry.Act.TheVariants.{Cancel}
 use Rattle.rv_book.specs.Tables.{account_of}
 use Rattle.rv_book.proofs.Cancelling.{ended_cancelled, ended_sound, there}
 use Rattle.rv_book.proofs.Ending.{may_end}
@@ -23,6 +23,6 @@ returns-clause-sound c =
 pub returns-clause-cancelled : goal.returns-clause-cancelled
 returns-clause-cancelled c =
     let old = c.args.self.now in
-    let e = entry c.args.moment (Cancel c.args.key) None in
+    let e = entry c.args.moment (Cancel c.args.key) [] in
     let pushed = c.push.ensures.entry ∙ ap (λ stored. with_entry stored.account e) c.end.ensures.account in
     subst (λ b. IsCancelled (account_of old) b c.args.moment c.args.key) (sym pushed) (ended_cancelled old c.args.moment c.args.key c.requires.comes c.args.place c.requires.waits)

@@ -3,7 +3,7 @@ use Rattle.std.proofs.Common.{refl}
 use Rattle.rv_text.specs.declared.message.Message.TheVariants.{Hello}
 use Rattle.rv_text.specs.declared.answer.Answer.TheVariants.{Welcome, Refused}
 use Rattle.rv_text.specs.declared.answer.Refusal.TheVariants.{OldIncarnation, ClientsFull}
-use Rattle.rv_book.specs.declared.account.Act as act
+use Rattle.rv_account.specs.declared.entry.Act as act
 use Rattle.rv_book.specs.Tables.{account_of}
 use Rattle.rv_book.proofs.Repeating.{hello_again, old_hello, one_client_too_many, new_hello, newer_hello}
 use Rattle.rv_book.proofs.Stepping.{becomes_refused, entered, err_both, on_ok_both, unentered}

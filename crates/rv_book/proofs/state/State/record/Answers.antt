@@ -4,15 +4,15 @@ use Rattle.rv_text.specs.Calls.{side_of, wait_of}
 use Rattle.rv_session.specs.Owed.{Owed}
 use Rattle.rv_session.specs.Table.{OnlySets, waiting_session}
 use Rattle.rv_session.specs.declared.kept.Kept.{Kept}
-use Rattle.rv_book.specs.Account.{Account, with_entry}
+use Rattle.rv_account.specs.Account.{Account, just, with_entry}
 use Rattle.rv_book.specs.Arriving.{IsRecorded, entry}
 use Rattle.rv_book.specs.Elapsing.{without_duty}
 use Rattle.rv_book.specs.Limits.{FitEntries}
 use Rattle.rv_book.specs.Meeting.{ArrivedOn, ends_waiting}
 use Rattle.rv_book.specs.Tables.{account_of, partners_reply}
-use Rattle.rv_book.specs.declared.account.Act.TheVariants.{Arrive}
+use Rattle.rv_account.specs.declared.entry.Act.TheVariants.{Arrive}
 use Rattle.rv_book.specs.Views.{AreBelow}
-use Rattle.rv_book.proofs.Recording.{Arrives, fit_after, least, meets, next, sees, sound_after, told}
+use Rattle.rv_book.proofs.Recording.{Arrives, fit_after, least, meets, named_entry, next, room_named, sees, sound_after, told}
 use Rattle.rv_book.proofs.Settling.{own_due, partner_due}
 use Rattle.rv_book.proofs.Waiters.{below_account}
 use Rattle.rv_book.proofs.state.State.record.Goals as goal
@@ -28,7 +28,14 @@ count-self-requires-clause-least c =
     let old = c.args.self.now in
     let duty = c.begin-duty.ensures.duty ∙ ap (λ n. record { place = n; client = c.args.key.client }) c.len-place.ensures in
     let on = subst (λ (d : Owed). ArrivedOn old.stations c.arrive-arrived.new.self (side_of c.args.call) (wait_of c.args.call) d c.arrive-arrived.result) duty c.arrive-arrived.ensures in
-    least old c.args.moment c.args.key c.args.call c.arrive-arrived.new.self c.arrive-arrived.result (record { may = c.requires; on = on })
+    least old c.args.moment c.args.key c.args.call c.arrive-arrived.new.self c.arrive-arrived.result (record { places = c.args.places; may = c.requires; on = on })
+
+pub named-partners-requires-clause-room : goal.named-partners-requires-clause-room
+named-partners-requires-clause-room c =
+    let old = c.args.self.now in
+    let duty = c.begin-duty.ensures.duty ∙ ap (λ n. record { place = n; client = c.args.key.client }) c.len-place.ensures in
+    let on = subst (λ (d : Owed). ArrivedOn old.stations c.arrive-arrived.new.self (side_of c.args.call) (wait_of c.args.call) d c.arrive-arrived.result) duty c.arrive-arrived.ensures in
+    room_named old c.args.moment c.args.key c.args.call c.arrive-arrived.new.self c.arrive-arrived.result (record { places = c.args.places; may = c.requires; on = on })
 
 pub settle-requires-clause-waits : goal.settle-requires-clause-waits
 settle-requires-clause-waits c =
@@ -39,7 +46,7 @@ settle-requires-clause-waits c =
     let arrived = c.arrive-arrived.result in
     let duty = c.begin-duty.ensures.duty ∙ ap (λ n. record { place = n; client = key.client }) c.len-place.ensures in
     let on = subst (λ (d : Owed). ArrivedOn old.stations c.arrive-arrived.new.self (side_of call) (wait_of call) d arrived) duty c.arrive-arrived.ensures in
-    let is : Arrives old c.args.moment key call c.arrive-arrived.new.self arrived = record { may = c.requires; on = on } in
+    let is : Arrives old c.args.moment key call c.arrive-arrived.new.self arrived = record { places = c.args.places; may = c.requires; on = on } in
     let sound = c.requires.comes.sound in
     partner_due a old.sessions c.begin-duty.new.self key call arrived.partner _ arrived.other sound.legal sound.sessions_are (next old c.args.moment key call c.arrive-arrived.new.self arrived is)
     (meets old c.args.moment key call c.arrive-arrived.new.self arrived is) c.begin-duty.ensures.waits (on.other a.entries sound.stations_are.parked)
@@ -49,8 +56,8 @@ settle-requires-clause-fit c =
     let old = c.args.self.now in
     let duty = c.begin-duty.ensures.duty ∙ ap (λ n. record { place = n; client = c.args.key.client }) c.len-place.ensures in
     let on = subst (λ (d : Owed). ArrivedOn old.stations c.arrive-arrived.new.self (side_of c.args.call) (wait_of c.args.call) d c.arrive-arrived.result) duty c.arrive-arrived.ensures in
-    subst (λ (a : Account). FitEntries a.entries) (sym c.push.ensures.entry)
-    (fit_after old c.args.moment c.args.key c.args.call c.arrive-arrived.new.self c.arrive-arrived.result (record { may = c.requires; on = on }))
+    subst (λ (a : Account). FitEntries a.entries) (sym (named_entry (account_of c.args.self.now) _ c.args.moment (Arrive c.args.key c.args.call) _ c.arrive-arrived.result.partner c.push.ensures.entry c.named-partners.ensures))
+    (fit_after old c.args.moment c.args.key c.args.call c.arrive-arrived.new.self c.arrive-arrived.result (record { places = c.args.places; may = c.requires; on = on }))
 
 pub settle-requires-2-clause-waits : goal.settle-requires-2-clause-waits
 settle-requires-2-clause-waits c =
@@ -61,7 +68,7 @@ settle-requires-2-clause-waits c =
     let arrived = c.arrive-arrived.result in
     let duty = c.begin-duty.ensures.duty ∙ ap (λ n. record { place = n; client = key.client }) c.len-place.ensures in
     let on = subst (λ (d : Owed). ArrivedOn old.stations c.arrive-arrived.new.self (side_of call) (wait_of call) d arrived) duty c.arrive-arrived.ensures in
-    let is : Arrives old c.args.moment key call c.arrive-arrived.new.self arrived = record { may = c.requires; on = on } in
+    let is : Arrives old c.args.moment key call c.arrive-arrived.new.self arrived = record { places = c.args.places; may = c.requires; on = on } in
     let begins = subst (λ n. OnlySets old.sessions c.begin-duty.new.self key.client (waiting_session key.incarnation key.number n)) c.len-place.ensures c.begin-duty.ensures.waits in
     own_due a old.sessions c.begin-duty.new.self c.settle.new.self.sessions key call arrived.partner (length a.entries) arrived.other arrived.own c.reply_to_partner-others.result
     (next old c.args.moment key call c.arrive-arrived.new.self arrived is) (meets old c.args.moment key call c.arrive-arrived.new.self arrived is) begins c.settle.ensures.sessions
@@ -72,8 +79,8 @@ settle-requires-2-clause-fit c =
     let old = c.args.self.now in
     let duty = c.begin-duty.ensures.duty ∙ ap (λ n. record { place = n; client = c.args.key.client }) c.len-place.ensures in
     let on = subst (λ (d : Owed). ArrivedOn old.stations c.arrive-arrived.new.self (side_of c.args.call) (wait_of c.args.call) d c.arrive-arrived.result) duty c.arrive-arrived.ensures in
-    subst (λ (a : Account). FitEntries a.entries) (sym (ap (λ (stored : _). stored.account) c.settle.ensures.account ∙ c.push.ensures.entry))
-    (fit_after old c.args.moment c.args.key c.args.call c.arrive-arrived.new.self c.arrive-arrived.result (record { may = c.requires; on = on }))
+    subst (λ (a : Account). FitEntries a.entries) (sym (ap (λ (stored : _). stored.account) c.settle.ensures.account ∙ (named_entry (account_of c.args.self.now) _ c.args.moment (Arrive c.args.key c.args.call) _ c.arrive-arrived.result.partner c.push.ensures.entry c.named-partners.ensures)))
+    (fit_after old c.args.moment c.args.key c.args.call c.arrive-arrived.new.self c.arrive-arrived.result (record { places = c.args.places; may = c.requires; on = on }))
 
 pub returns-clause-sound : goal.returns-clause-sound
 returns-clause-sound c =
@@ -85,17 +92,17 @@ returns-clause-sound c =
     let stations = c.arrive-arrived.new.self in
     let duty = c.begin-duty.ensures.duty ∙ ap (λ n. record { place = n; client = key.client }) c.len-place.ensures in
     let on = subst (λ (d : Owed). ArrivedOn old.stations stations (side_of call) (wait_of call) d arrived) duty c.arrive-arrived.ensures in
-    let is : Arrives old c.args.moment key call stations arrived = record { may = c.requires; on = on } in
+    let is : Arrives old c.args.moment key call stations arrived = record { places = c.args.places; may = c.requires; on = on } in
     let begins = subst (λ n. OnlySets old.sessions c.begin-duty.new.self key.client (waiting_session key.incarnation key.number n)) c.len-place.ensures c.begin-duty.ensures.waits in
     let others = c.reply_to_partner-others.ensures ∙ ap (λ side. partners_reply side c.len-place.result) c.side.ensures ∙ ap (partners_reply (side_of call)) c.len-place.ensures in
     let will = c.reply_to-kept.ensures (sees old c.args.moment key call stations arrived is) in
-    let entries = ap (λ (b : Account). b.entries) c.push.ensures.entry in
+    let entries = ap (λ (b : Account). b.entries) (named_entry (account_of c.args.self.now) _ c.args.moment (Arrive c.args.key c.args.call) _ c.arrive-arrived.result.partner c.push.ensures.entry c.named-partners.ensures) in
     let other_due = c.settle.ensures.due ∙ ap (λ es. without_duty es arrived.other old.due) entries in
     let own_due = c.settle-2.ensures.due ∙ ap (λ es. without_duty es arrived.own c.settle.new.self.due) (ap (λ (stored : _). stored.account.entries) c.settle.ensures.account ∙ entries)
-    ∙ ap (without_duty (with_entry a (entry c.args.moment (Arrive key call) arrived.partner)).entries arrived.own) other_due in
+    ∙ ap (without_duty (with_entry a (entry c.args.moment (Arrive key call) (just arrived.partner))).entries arrived.own) other_due in
     sound_after old c.args.moment key call stations arrived is c.reply_to-kept.result c.reply_to_partner-others.result will c.begin-duty.new.self begins others
     c.settle.new.self.sessions c.settle-2.new.self.sessions c.settle.ensures.sessions c.settle-2.ensures.sessions c.settle-2.new.self
-    (ap (λ (stored : _). stored.account) (c.settle-2.ensures.account ∙ c.settle.ensures.account) ∙ c.push.ensures.entry) refl
+    (ap (λ (stored : _). stored.account) (c.settle-2.ensures.account ∙ c.settle.ensures.account) ∙ (named_entry (account_of c.args.self.now) _ c.args.moment (Arrive c.args.key c.args.call) _ c.arrive-arrived.result.partner c.push.ensures.entry c.named-partners.ensures)) refl
     (c.settle-2.ensures.stations ∙ c.settle.ensures.stations) own_due
     (ap (λ n. n + ends_waiting arrived.other) (c.settle-2.ensures.waiting ∙ c.settle.ensures.waiting) ∙ c.count-self.ensures)
     (subst (λ (stored : _). old.account.room ≤ stored.room + 1) (sym (c.settle-2.ensures.account ∙ c.settle.ensures.account)) c.push.ensures.room)
@@ -110,11 +117,11 @@ returns-clause-recorded c =
     let stations = c.arrive-arrived.new.self in
     let duty = c.begin-duty.ensures.duty ∙ ap (λ n. record { place = n; client = key.client }) c.len-place.ensures in
     let on = subst (λ (d : Owed). ArrivedOn old.stations stations (side_of call) (wait_of call) d arrived) duty c.arrive-arrived.ensures in
-    let is : Arrives old c.args.moment key call stations arrived = record { may = c.requires; on = on } in
+    let is : Arrives old c.args.moment key call stations arrived = record { places = c.args.places; may = c.requires; on = on } in
     let begins = subst (λ n. OnlySets old.sessions c.begin-duty.new.self key.client (waiting_session key.incarnation key.number n)) c.len-place.ensures c.begin-duty.ensures.waits in
     let others = c.reply_to_partner-others.ensures ∙ ap (λ side. partners_reply side c.len-place.result) c.side.ensures ∙ ap (partners_reply (side_of call)) c.len-place.ensures in
     let will = c.reply_to-kept.ensures (sees old c.args.moment key call stations arrived is) in
     let done = told old c.args.moment key call stations arrived is c.reply_to-kept.result c.reply_to_partner-others.result will c.begin-duty.new.self begins others in
-    let pushed = ap (λ (stored : _). stored.account) (c.settle-2.ensures.account ∙ c.settle.ensures.account) ∙ c.push.ensures.entry in
+    let pushed = ap (λ (stored : _). stored.account) (c.settle-2.ensures.account ∙ c.settle.ensures.account) ∙ (named_entry (account_of c.args.self.now) _ c.args.moment (Arrive c.args.key c.args.call) _ c.arrive-arrived.result.partner c.push.ensures.entry c.named-partners.ensures) in
     subst (λ (result : Option Kept). IsRecorded a (account_of c.settle-2.new.self) c.args.moment key call result) (sym c.told-told.ensures)
     (subst (λ b. IsRecorded a b c.args.moment key call (option_map (λ d. c.reply_to-kept.result) arrived.own)) (sym pushed) done)

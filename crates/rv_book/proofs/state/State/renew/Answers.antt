@@ -1,9 +1,9 @@
 -- After a hello of a greater incarnation that was recorded the account and its tables are sound.
-use Rattle.std.proofs.Common.{◌∙◌, None, refl, sym, ap, subst, arith}
+use Rattle.std.proofs.Common.{◌∙◌, [], refl, sym, ap, subst, arith}
 use Rattle.rv_session.specs.Table.{OnlySets, fresh, session_of, waiting_of}
 use Rattle.rv_session.specs.declared.kept.Kept.TheVariants.{Cancelled}
-use Rattle.rv_book.specs.declared.account.Act.TheVariants.{Hello}
-use Rattle.rv_book.specs.Account.{with_entry}
+use Rattle.rv_account.specs.declared.entry.Act.TheVariants.{Hello}
+use Rattle.rv_account.specs.Account.{with_entry}
 use Rattle.rv_book.specs.Arriving.{entry}
 use Rattle.rv_book.specs.Tables.{account_of}
 use Rattle.rv_book.proofs.Standing.{newer_lower, not_new}
@@ -39,7 +39,7 @@ returns-clause-sound c =
 
 pub returns-clause-ok : goal.returns-clause-ok
 returns-clause-ok c =
-    let e = entry c.args.moment (Hello c.args.client c.args.incarnation) None in
+    let e = entry c.args.moment (Hello c.args.client c.args.incarnation) [] in
     record {
       entry = e;
       moment_is = refl;

@@ -1,13 +1,14 @@
 -- What is kept is the reply, whomever the call met.
 use Rattle.std.proofs.Common.{◌∙◌, Option, None, sym, subst}
 use Rattle.rv_text.specs.declared.call.Call.{Call}
-use Rattle.rv_text.specs.declared.call.Call.TheVariants.{Swap, Take, Transfer}
+use Rattle.rv_text.specs.declared.call.Call.TheVariants.{Drain, Swap, Take, Transfer}
 use Rattle.rv_text.specs.declared.call.Side.TheVariants.{Gives, Takes}
 use Rattle.rv_session.specs.declared.kept.Kept.{Kept}
 use Rattle.rv_session.specs.declared.kept.Kept as kept
 use Rattle.rv_book.specs.Arriving.{GoesOn, WillReply}
 use Rattle.rv_book.specs.Tables.{Sees, account_of}
 use Rattle.rv_book.proofs.Counts.{count_replies}
+use Rattle.rv_book.proofs.Drains.{drain_replies}
 use Rattle.rv_book.proofs.Opposites.{looks_alone}
 use Rattle.rv_book.proofs.Peeks.{peek_finds_none, peek_replies}
 use Rattle.rv_book.proofs.Puts.{put_replies}
@@ -99,3 +100,9 @@ returns-in-None-front c = λ sees ends.
     let are = (subst (Sees state) c.in-Peek.is sees) (looks_alone queue) in
     subst (λ (call : Call). WillReply a call c.args.partner kept.TheVariants.Empty) (sym c.in-Peek.is)
     (peek_finds_none a queue c.args.partner (seen_none a.entries state.stations queue are (sym c.in-None-front.is ∙ c.front.ensures)))
+
+pub returns-in-Drain : goal.returns-in-Drain
+returns-in-Drain c = λ sees ends.
+    let a = account_of c.args.self.now in
+    subst (λ (call : Call). WillReply a call c.args.partner (kept.TheVariants.Drained c.len.result)) (sym c.in-Drain.is)
+    (subst (λ n. WillReply a (Drain c.in-Drain.queue c.in-Drain.max) c.args.partner (kept.TheVariants.Drained n)) (sym c.len.ensures) (drain_replies c.in-Drain.queue c.in-Drain.max a c.args.partner))

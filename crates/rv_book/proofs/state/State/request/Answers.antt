@@ -4,8 +4,8 @@ use Rattle.std.proofs.lemmas.Result.{IfOk-weaker, IfErr-weaker}
 use Rattle.rv_text.specs.declared.message.Message.TheVariants.{Request}
 use Rattle.rv_text.specs.declared.answer.Answer.TheVariants.{Refused}
 use Rattle.rv_text.specs.declared.answer.Refusal.TheVariants.{OtherCall}
-use Rattle.rv_book.specs.declared.account.Act.TheVariants.{Arrive}
-use Rattle.rv_book.specs.Calls.{need_of}
+use Rattle.rv_account.specs.declared.entry.Act.TheVariants.{Arrive}
+use Rattle.rv_account.specs.Calls.{need_of}
 use Rattle.rv_book.specs.Arriving.{said_of}
 use Rattle.rv_book.specs.Tables.{Becomes, IsRefused, account_of}
 use Rattle.rv_book.proofs.Repeating.{next_key, refused_key, repeated, repeated_otherwise, repeated_waiting, waiting_otherwise}

@@ -12,7 +12,7 @@ invariant_of-self c =
     let w = world_of c.self.inside.state in
     record {
       sound = comes_sound w c.args.event.now _ c.step.result c.self.invariant.sound c.step.ensures.comes;
-      fits = comes_fits w c.args.event.now _ c.step.result c.self.invariant.fits c.requires c.step.ensures.comes;
+      fits = comes_fits w c.args.event.now _ c.step.result c.self.invariant.sound c.self.invariant.fits c.requires c.step.ensures.comes;
       newest = c.step.ensures.newest;
     }
 

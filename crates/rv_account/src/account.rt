@@ -1,0 +1,225 @@
+//! The account of an epoch: what came to the book, in order, and who met whom.
+ghost use Rattle.std.specs.Prelude.{◌≡◌, ◌↔◌, ◌<◌, ◌≤◌, ◌+◌, ◌==◌, [], Some, IfOk, IsSome, IsTrue, OnOk};
+ghost use Rattle.std.specs.Prelude.{length, option_map, slice_get};
+ghost use Rattle.std.specs.Option.{option_copied};
+ghost use Rattle.rv_text.specs.Members.{FitsWait};
+ghost use Rattle.rv_account.specs.Account.{call_at, entry, item_at, items_at, limit_at, own_moment};
+ghost use Rattle.rv_account.specs.Account.{partners_items, with_entry};
+ghost use Rattle.rv_account.specs.Calls.{limit_after};
+ghost use Rattle.rv_account.specs.Limits.{FitEntries, max_moment};
+
+use crate::entry::{Act, Entry};
+use crate::partners::Partners;
+use rv_session::Place;
+use rv_text::{Call, Item, Items, NoMemory, Wait};
+use std::alloc::Global;
+use std::marker::Model;
+
+// The moment at which a wait that begins at a moment has elapsed, if it ends by itself.
+fn limit_after(moment: u64, wait: Wait) -> Option<u64>
+    requires moment { moment ≤ max_moment }
+    requires wait { FitsWait wait }
+    ensures { result ≡ limit_after moment wait }
+{
+    match wait {
+        Wait::Now => None,
+        Wait::Millis(millis) => Some(moment + millis),
+        Wait::Forever => None,
+    }
+}
+
+/// All entries of an epoch, in the order in which they were recorded. Contracts see its epoch, its opening
+/// moment and the list of its entries; and beside that, for how many entries more it has room.
+#[derive(Debug, Drop)]
+pub struct Account {
+    epoch: u64,
+    opened: u64,
+    entries: Vec<Entry>,
+}
+
+impl Model for Account {
+    ghost use Rattle.rv_account.specs.Account.{Stored};
+    ghost use Rattle.std.specs.Prelude.{◌-◌, vec_capacity, vec_len};
+
+    ghost Value = { Stored };
+
+    ghost view = { λ a. record {
+      account = record { epoch = a.epoch; opened = a.opened; entries = a.entries.items };
+      room = vec_capacity a.entries - vec_len a.entries;
+    } };
+}
+
+impl Account {
+    /// The epoch; in a book's account 1 to 2^53 - 1.
+    pub fn epoch(&self) -> u64
+        ensures { result ≡ self.now.account.epoch }
+    {
+        self.epoch
+    }
+
+    /// The moment at which the epoch was opened, in milliseconds; in a book's account at most 2^62.
+    pub fn opened(&self) -> u64
+        ensures { result ≡ self.now.account.opened }
+    {
+        self.opened
+    }
+
+    /// How many entries there are.
+    pub fn len(&self) -> usize
+        ensures { result ≡ length self.now.account.entries }
+    {
+        self.entries.len()
+    }
+
+    /// Whether there is no entry yet.
+    pub fn is_empty(&self) -> bool
+        ensures { result ≡ (length self.now.account.entries == 0) }
+    {
+        self.entries.is_empty()
+    }
+
+    /// The entry at a place, if the account has one there.
+    pub fn entry(&self, place: Place) -> Option<&Entry>
+        ensures { option_copied result ≡ slice_get self.now.account.entries place }
+    {
+        self.entries.get(place)
+    }
+
+    /// The call of the arrival at a place, if one stands there.
+    pub fn call(&self, place: Place) -> Option<&Call>
+        ensures { option_map (λ c. c.now) result ≡ call_at self.now.account.entries place }
+    {
+        match &self.entry(place)?.act {
+            Act::Arrive { call, .. } => Some(call),
+            Act::Hello { .. } | Act::Cancel { .. } | Act::Tick => None,
+        }
+    }
+
+    /// Whether an arrival with this call stands at a place.
+    pub fn has_call(&self, place: Place, call: &Call) -> bool
+        ensures { IsTrue result ↔ (call_at self.now.account.entries place ≡ Some call.now) }
+    {
+        self.call(place).is_some_and(|other| other.is_same(call))
+    }
+
+    /// The limit of the request that arrived at a place, if it has one.
+    pub fn limit(&self, place: Place) -> Option<u64>
+        requires { FitEntries self.now.account.entries }
+        ensures { result ≡ limit_at self.now.account.entries place }
+    {
+        let entry = self.entry(place)?;
+        limit_after(entry.moment, self.call(place)?.wait()?)
+    }
+
+    /// The item that the arrival at a place hands over.
+    pub fn item(&self, place: Place) -> &Item
+        requires { IsSome (item_at self.now.account.entries place) }
+        ensures { item_at self.now.account.entries place ≡ Some result.now }
+    {
+        self.call(place).and_then(Call::item).unwrap()
+    }
+
+    /// Copies of the items that the partners of the entry at a place hand over, in the order of their places.
+    /// It fails only where memory was refused.
+    pub fn partners_items(&self, place: Place) -> Result<Items, NoMemory>
+        requires { IsSome (partners_items self.now.account.entries place) }
+        ensures { IfOk result (λ items. partners_items self.now.account.entries place ≡ Some items) }
+    {
+        let partners = self.entry(place).unwrap().partners.as_slice();
+        self.items(partners)
+    }
+
+    // Copies of the items that the arrivals at these places hand over, in their order.
+    fn items(&self, places: &[Place]) -> Result<Items, NoMemory>
+        requires { IsSome (items_at self.now.account.entries places.now) }
+        ensures { IfOk result (λ items. items_at self.now.account.entries places.now ≡ Some items) }
+    {
+        let alloc = self.allocator();
+        let mut items = Vec::with_capacity(alloc, places.len())?;
+        for place in places {
+            items.push(self.item(*place).copy(alloc)?)?;
+        }
+        Ok(Items::from_vec(items))
+    }
+
+    /// The last entry's moment; where there are no entries, the opening moment.
+    pub fn own_moment(&self) -> u64
+        ensures { result ≡ own_moment self.now.account }
+    {
+        self.entries
+            .last()
+            .map_or(self.opened, |entry| entry.moment)
+    }
+
+    /// An empty account.
+    pub fn empty(alloc: Global, epoch: u64, opened: u64) -> Account
+        ensures epoch { result.account.epoch ≡ epoch }
+        ensures opened { result.account.opened ≡ opened }
+        ensures entries { result.account.entries ≡ [] }
+    {
+        Account::from_entries(epoch, opened, Vec::new(alloc))
+    }
+
+    /// Makes room for so many entries more. Where that is refused the account and the room that it had stay.
+    pub fn reserve(&mut self, more: usize) -> Result<(), NoMemory>
+        ensures same { self.new.account ≡ self.old.account }
+        ensures kept { self.old.room ≤ self.new.room }
+        ensures room { OnOk result (more ≤ self.new.room) }
+    {
+        self.entries.reserve(more)
+    }
+
+    /// The allocator that the account keeps.
+    pub fn allocator(&self) -> Global {
+        *self.entries.allocator()
+    }
+
+    /// Records one entry more, which has its room.
+    pub fn push(&mut self, moment: u64, act: Act, partners: Partners)
+        requires { 0 < self.old.room }
+        ensures entry { self.new.account ≡ with_entry self.old.account (entry moment act partners) }
+        ensures room { self.old.room ≤ self.new.room + 1 }
+    {
+        let entry = Entry {
+            moment,
+            act,
+            partners,
+        };
+        self.entries.push(entry).unwrap();
+    }
+
+    /// Records one entry more, which has its room, and names no partner.
+    pub fn push_alone(&mut self, moment: u64, act: Act)
+        requires { 0 < self.old.room }
+        ensures entry { self.new.account ≡ with_entry self.old.account (entry moment act []) }
+        ensures room { self.old.room ≤ self.new.room + 1 }
+    {
+        self.push(moment, act, Partners::none(self.allocator()));
+    }
+
+    /// The account of this epoch, opening moment and entries, legal or not. It takes no memory. A book's
+    /// account is always legal; this is for accounts that come from elsewhere.
+    pub fn from_entries(epoch: u64, opened: u64, entries: Vec<Entry>) -> Account
+        ensures epoch { result.account.epoch ≡ epoch }
+        ensures opened { result.account.opened ≡ opened }
+        ensures entries { result.account.entries ≡ entries.items }
+    {
+        Account {
+            epoch,
+            opened,
+            entries,
+        }
+    }
+
+    /// A copy, legal or not, by the allocator that the account keeps. It fails only where memory was refused.
+    pub fn clone_out(&self) -> Result<Account, NoMemory>
+        ensures { IfOk result (λ copy. copy.account ≡ self.now.account) }
+    {
+        let alloc = self.allocator();
+        let mut entries = Vec::with_capacity(alloc, self.len())?;
+        for entry in &self.entries {
+            entries.push(entry.copy(alloc)?)?;
+        }
+        Ok(Account::from_entries(self.epoch, self.opened, entries))
+    }
+}

@@ -1,0 +1,66 @@
+//! Entries: what came to the book, and whom it met.
+ghost use Rattle.std.specs.Prelude.{◌≡◌, IfOk};
+
+use crate::partners::Partners;
+use rv_text::{Call, Key, NoMemory};
+use std::alloc::Global;
+
+/// What an entry records.
+#[derive(Debug, PartialEq, Eq, Drop)]
+pub enum Act {
+    /// A client opened a session.
+    Hello { client: u64, incarnation: u64 },
+    /// A request came for the first time.
+    Arrive { key: Key, call: Call },
+    /// A request was cancelled: while it waited, or before it came.
+    Cancel { key: Key },
+    /// The wait of each request whose limit had come ended.
+    Tick,
+}
+
+/// One line of an account.
+#[derive(Debug, PartialEq, Eq, Drop)]
+pub struct Entry {
+    /// When it was recorded, in milliseconds; in a book's account at most 2^62.
+    pub moment: u64,
+    /// What it records.
+    pub act: Act,
+    /// On the later arrival of a pair or swap, the places of the earlier ones that it met, which rise.
+    pub partners: Partners,
+}
+
+impl Act {
+    // A copy. It fails only where memory for the item of its call was refused.
+    fn copy(&self, alloc: Global) -> Result<Act, NoMemory>
+        ensures { IfOk result (λ act. act ≡ self.now) }
+    {
+        match self {
+            Act::Hello {
+                client,
+                incarnation,
+            } => Ok(Act::Hello {
+                client: *client,
+                incarnation: *incarnation,
+            }),
+            Act::Arrive { key, call } => Ok(Act::Arrive {
+                key: *key,
+                call: call.copy(alloc)?,
+            }),
+            Act::Cancel { key } => Ok(Act::Cancel { key: *key }),
+            Act::Tick => Ok(Act::Tick),
+        }
+    }
+}
+
+impl Entry {
+    // A copy. It fails only where memory was refused.
+    pub(crate) fn copy(&self, alloc: Global) -> Result<Entry, NoMemory>
+        ensures { IfOk result (λ entry. entry ≡ self.now) }
+    {
+        Ok(Entry {
+            moment: self.moment,
+            act: self.act.copy(alloc)?,
+            partners: self.partners.copy(alloc)?,
+        })
+    }
+}

@@ -1,0 +1,44 @@
+-- Of the places under a number those that are none of some others: one looks from each to the next.
+use Rattle.std.proofs.Common.{◌≡◌, ◌⊎◌, inl, inr, ℕ, ◌-◌, ◌<◌, true, List, Option, Some, None, IfSome, IfNone, sym, subst, ◌∙◌, arith}
+use Rattle.std.proofs.lemmas.Bool.{cases_lt, false≢true}
+use Rattle.rv_account.specs.Account.{Among}
+use Rattle.rv_book.proofs.Numbers.{same_or_not}
+use Rattle.rv_audit.specs.Marks.{GoesOnAt, IsLowest, IsNext, NoneBehind, NoneUnder, marked}
+use Rattle.rv_audit.specs.declared.marks.Marks.{Marks}
+
+-- how many places are left to be looked at
+abbrev pub left_from : Option ℕ → ℕ
+left_from None = 0
+left_from (Some p) = 18446744073709551616 - p
+
+module _ (m : Marks) (number : ℕ) (places : List ℕ) where
+  pub goes_first : (found : Option ℕ) → IfSome found (IsLowest m number) → IfNone found (NoneUnder m number) → GoesOnAt m number places found
+  goes_first None some none = λ p there. absurd (false≢true (sym (none p) ∙ there))
+  goes_first (Some q) some none = (some.there, λ p less there. absurd (false≢true (sym (some.lowest p less) ∙ there)))
+
+  module _ (place : ℕ) (at : GoesOnAt m number places (Some place)) (own : Among places place) where
+    up_to : (p : ℕ) → marked m number p ≡ true → Among places p ⊎ (place < p)
+    up_to p there = elim (cases_lt p place) [
+      | inl below ↦ inl (at.1 p below there)
+      | inr above ↦ elim (same_or_not p place) [
+        | inl same ↦ inl (subst (Among places) (sym same) own)
+        | inr apart ↦ inr (elim (cases_lt place p) [ inl behind ↦ behind | inr most ↦ absurd (apart (omega arith)) ])
+      ]
+    ]
+
+    pub goes_on : (found : Option ℕ) → IfSome found (IsNext m number place) → IfNone found (NoneBehind m number place) → GoesOnAt m number places found
+    goes_on None some none = λ p there. elim (up_to p there) [
+      | inl among ↦ among
+      | inr behind ↦ absurd (false≢true (sym (none p behind) ∙ there))
+    ]
+    goes_on (Some q) some none = (
+      some.there,
+      λ p less there. elim (up_to p there) [
+        | inl among ↦ among
+        | inr behind ↦ absurd (false≢true (sym (some.next p behind less) ∙ there))
+      ],
+    )
+
+    pub fewer_left : (found : Option ℕ) → place < 18446744073709551616 → IfSome found (IsNext m number place) → left_from found < left_from (Some place)
+    fewer_left None fits some = omega arith
+    fewer_left (Some q) fits some = let behind : place < q = some.behind in omega arith

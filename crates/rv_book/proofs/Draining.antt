@@ -1,0 +1,267 @@
+-- After a drain the account and its tables are sound, and who was taken out was told that it was received.
+use Rattle.std.proofs.Common.{◌≡◌, ℕ, ◌+◌, ◌≤◌, List, [], ◌∷◌, ◌++◌, length, take, Option, Some, None, IsSome, is_some, option_and_then, refl, sym, ap, subst, ◌∙◌, arith}
+use Rattle.std.proofs.lemmas.Option.{same_Some}
+use Rattle.rv_text.specs.declared.call.Call.{Call}
+use Rattle.rv_text.specs.declared.call.Side.{Side}
+use Rattle.rv_text.specs.declared.call.Side.TheVariants.{Gives, Takes}
+use Rattle.rv_text.specs.declared.call.Wait.TheVariants.{Now}
+use Rattle.rv_text.specs.declared.call.Wait.{Wait}
+use Rattle.rv_text.specs.declared.message.Key.{Key}
+use Rattle.rv_text.specs.Calls.{side_of, wait_of}
+use Rattle.rv_session.specs.Table.{OnlySets, OnlySettles, Table, settled_session, waiting_session}
+use Rattle.rv_session.specs.Meanings.{HasNext}
+use Rattle.rv_session.specs.Standings.{standing_of}
+use Rattle.rv_session.specs.declared.standing.Standing.TheVariants as standing
+use Rattle.rv_book.specs.Meeting.{HasRoomToName}
+use Rattle.rv_session.specs.declared.kept.Kept.{Kept}
+use Rattle.rv_session.specs.declared.kept.Kept.TheVariants as kept
+use Rattle.rv_session.specs.declared.session.Session.{Session}
+use Rattle.rv_account.specs.declared.entry.Act.TheVariants.{Arrive}
+use Rattle.rv_account.specs.declared.entry.Entry.{Entry}
+use Rattle.rv_account.specs.Account.{Account, Among, Names, call_at, entry, limit_at, limit_in, with_entry}
+use Rattle.rv_account.specs.Calls.{IsPut, Lasts, MayMeet, Stays, limit_after, may_name, need_by, need_of, opposite}
+use Rattle.rv_book.specs.declared.state.State.{State}
+use Rattle.rv_book.specs.Arriving.{IsKept, IsNext, IsRecorded}
+use Rattle.rv_book.specs.Counting.{NumberOf}
+use Rattle.rv_book.specs.Draining.{IsDraining, MayDrain, WillTell, items_in}
+use Rattle.rv_book.specs.Elapsing.{AreDeadlines, deadline_after, with_deadline, without_deadline}
+use Rattle.rv_book.specs.Legal.{KeepsTime, Legal, MayFollow, NothingDue}
+use Rattle.rv_book.specs.Limits.{FitEntries}
+use Rattle.std.specs.Global.{Vec}
+use Rattle.rv_book.specs.Parked.{AreStations, IsLine}
+use Rattle.rv_book.specs.Tables.{Comes, IsPrepared, IsSession, IsSound, account_of, partners_reply, with_due}
+use Rattle.rv_book.specs.TakingOut.{IsLeft, Left}
+use Rattle.rv_book.specs.Waiting.{NamesPartner, Waiting}
+use Rattle.rv_book.proofs.Closing.{Closes, names_closes, waits_on}
+use Rattle.rv_book.proofs.Counting.{number_at_most}
+use Rattle.rv_book.proofs.FewClients.{few_still}
+use Rattle.rv_book.proofs.Growing.{NamesAt-last, act_read, call_read, reads_on}
+use Rattle.rv_book.proofs.Keeping.{fit_with, sound_same, sound_with}
+use Rattle.rv_book.proofs.Keys.{no_hello}
+use Rattle.rv_book.proofs.Legality.{Legal-with_entry}
+use Rattle.rv_book.proofs.NamingFront.{front_follows, named_open}
+use Rattle.rv_book.proofs.Places.{get-append_end}
+use Rattle.rv_book.proofs.Replying.{recorded_kept, reply_laws}
+use Rattle.rv_book.proofs.SessionTable.{Changes, IsAt, named_at}
+use Rattle.rv_book.proofs.Standing.{is_next}
+use Rattle.rv_book.proofs.TakenSessions.{Tells, sessions_changed_at_last}
+use Rattle.rv_book.proofs.TakenTables.{due_at_last, number_at_last, stations_at_last}
+use Rattle.rv_book.proofs.TakingOut.{same_state}
+
+-- ---- what an arrival that names the first of the other side tells them
+
+has_wait : (call : Call) (wait : Option Wait) → wait_of call ≡ wait → MayMeet call → (IsPut call → ⊥) → IsSome wait
+has_wait call None is meets no_put = absurd (no_put (meets, is))
+has_wait call (Some wait) is meets no_put = refl
+
+module _ (a : Account) (moment : ℕ) (key : Key) (call : Call) (side : Side) (places : List ℕ) (opposes : opposite (side_of call) ≡ Some side) (line : IsLine a.entries side places) where
+  abbrev e : Entry
+  e = entry moment (Arrive key call) (take (may_name call) places)
+
+  pub tells_named : Legal (with_entry a e) → Tells a e (Names e) (partners_reply (side_of call) (length a.entries))
+  tells_named legal r met waits named arrived =
+      let opened = named_open a.entries moment key call side places opposes line r named in
+      let place = length a.entries in
+      let here : call_at (a.entries ++ e ∷ []) place ≡ Some call = ap call_read (get-append_end a.entries e) in
+      let same : opened.of_side.call ≡ met = same_Some _ _ (sym opened.of_side.arrived ∙ arrived) in
+      let own : waits.is_open.call ≡ met = same_Some _ _ (sym waits.is_open.arrived ∙ arrived) in
+      let stays = subst Stays own waits.is_open.stays in
+      let names : NamesPartner (a.entries ++ e ∷ []) place r = record { call = call; arrived = here; meets = ap is_some opposes; named = NamesAt-last a.entries e r named } in
+      (reply_laws met).met (with_entry a e) r place call legal (reads_on call_read refl a.entries (e ∷ []) r met arrived) here names
+      (opposes ∙ ap Some (sym opened.of_side.is ∙ ap side_of same)) (has_wait met (wait_of met) refl stays.0 (subst (λ c. IsPut c → ⊥) own waits.no_put))
+
+-- ---- the state
+
+-- the entry is within the limits
+pub fit_drained : (old : State) (moment : ℕ) (key : Key) (call : Call) (partners : List ℕ) → Comes old moment (Arrive key call) → FitEntries ((account_of old).entries ++ entry moment (Arrive key call) partners ∷ [])
+fit_drained old moment key call partners comes = fit_with (account_of old).entries (entry moment (Arrive key call) partners) comes.sound.fits.entries (comes.moment_fits, comes.act_fits)
+
+module _ (old : State) (moment : ℕ) (key : Key) (call : Call) (queue max : ℕ) (room : Vec ℕ) (k : Kept) (may : MayDrain old moment key call queue max room k) where
+  abbrev pub before : Account
+  before = account_of old
+
+  abbrev pub place : ℕ
+  place = length before.entries
+
+  abbrev pub places : List ℕ
+  places = take (may_name call) (items_in old queue)
+
+  abbrev pub own_entry : Entry
+  own_entry = entry moment (Arrive key call) places
+
+  abbrev pub after : Account
+  after = with_entry before own_entry
+
+  abbrev pub sound : IsSound old
+  sound = may.comes.sound
+
+  pub opposes : opposite (side_of call) ≡ Some (Gives queue)
+  opposes = ap opposite may.side
+
+  pub next : IsNext before key
+  next = is_next before old.sessions sound.sessions_are sound.legal key may.next
+
+  pub follows : MayFollow before own_entry
+  follows = front_follows before moment key call (Gives queue) (items_in old queue) opposes (sound.stations_are.lines (Gives queue)) may.comes.time may.comes.nothing_due next
+
+  pub legal_after : Legal after
+  legal_after = Legal-with_entry before own_entry sound.legal follows
+
+  pub closes : Closes before.entries own_entry (Names own_entry)
+  closes = names_closes before.entries own_entry key call refl (λ stays. subst Lasts may.at_once stays.1) follows.pairs.names_free_partners
+
+  pub tells : Tells before own_entry (Names own_entry) kept.Received
+  tells = subst (Tells before own_entry (Names own_entry)) (ap (λ s. partners_reply s place) may.side)
+      (tells_named before moment key call (Gives queue) (items_in old queue) opposes (sound.stations_are.lines (Gives queue)) legal_after)
+
+  pub kept_is : IsKept after.entries place call k
+  kept_is =
+      let named : take max (items_in old queue) ≡ places = ap (λ n. take n (items_in old queue)) may.most in
+      subst (λ partners. WillTell before call partners k) named may.will moment key sound.legal legal_after
+
+  pub drained_recorded : IsRecorded before after moment key call (Some k)
+  drained_recorded = recorded_kept before moment key call places k legal_after kept_is
+
+-- the items were taken out, the request's number began, its entry was recorded, and it was settled with this
+pub record Drains (old mid new : State) (moment : ℕ) (key : Key) (call : Call) (queue max : ℕ) (room : Vec ℕ) (k : Kept) : Type 0 where
+  pub may : MayDrain old moment key call queue max room k
+  pub draining : IsDraining mid (take (may_name call) (items_in old queue))
+  pub same : mid.account ≡ old.account
+  pub begun : Table
+  pub begins : OnlySets mid.sessions begun key.client (waiting_session key.incarnation key.number (length (account_of old).entries))
+  pub settles : OnlySettles begun new.sessions key.client (length (account_of old).entries) k
+  pub pushed : account_of new ≡ with_entry (account_of old) (entry moment (Arrive key call) (take (may_name call) (items_in old queue)))
+  pub room_left : old.account.room ≤ new.account.room + 1
+  pub stations : new.stations ≡ mid.stations
+  pub waiting : new.waiting ≡ mid.waiting
+  pub due : new.due ≡ without_deadline (limit_at (account_of new).entries (length (account_of old).entries)) (length (account_of old).entries) mid.due
+
+module _ (old mid new : State) (moment : ℕ) (key : Key) (call : Call) (queue max : ℕ) (room : Vec ℕ) (k : Kept) (is : Drains old mid new moment key call queue max room k) where
+  abbrev was : Account
+  was = account_of old
+
+  abbrev at : ℕ
+  at = length was.entries
+
+  abbrev new_entry : Entry
+  new_entry = entry moment (Arrive key call) (take (may_name call) (items_in old queue))
+
+  abbrev is_now : Account
+  is_now = with_entry was new_entry
+
+  own_next : IsNext was key
+  own_next = next old moment key call queue max room k is.may
+
+  own_closes : Closes was.entries new_entry (Names new_entry)
+  own_closes = closes old moment key call queue max room k is.may
+
+  own_tells : Tells was new_entry (Names new_entry) kept.Received
+  own_tells = tells old moment key call queue max room k is.may
+
+  own_legal : Legal is_now
+  own_legal = legal_after old moment key call queue max room k is.may
+
+  abbrev own_sound : IsSound old
+  own_sound = is.may.comes.sound
+
+  -- the state between, over the account as it was
+  abbrev left_state : State
+  left_state = record { account = old.account; sessions = mid.sessions; stations = mid.stations; waiting = mid.waiting; due = mid.due }
+
+  left : IsLeft left_state (Names new_entry) kept.Received
+  left = subst (λ s. IsLeft s (Among new_entry.partners) kept.Received) (same_state mid old.account is.same) is.draining
+
+  -- ---- its own session
+
+  changes : Changes mid.sessions new.sessions key.client (settled_session key.incarnation key.number (Some at) k)
+  changes =
+      let same : is.settles.session ≡ waiting_session key.incarnation key.number at = same_Some _ _ (sym is.settles.there ∙ is.begins.own) in
+      record {
+        epoch = is.settles.sets.epoch ∙ is.begins.epoch;
+        own = is.settles.sets.own ∙ ap (λ (s : Session). Some (settled_session s.incarnation s.last (Some at) k)) same;
+        others = λ other apart. is.settles.sets.others other apart ∙ is.begins.others other apart;
+      }
+
+  own_at : IsAt is_now.entries key.client key.incarnation key.number
+  own_at =
+      let above : key.number ≡ own_next.last + 1 = own_next.next in
+      named_at was.entries new_entry key key.incarnation own_next.last refl (record { incarnation = own_next.incarnation; number = own_next.is_last }) (omega arith)
+
+  own_session : IsKept is_now.entries at call k → IsSession is_now key.client (settled_session key.incarnation key.number (Some at) k)
+  own_session kept = record {
+    incarnation = own_at.incarnation;
+    number = own_at.number;
+    stands = record {
+      call = call;
+      arrived = ap act_read (get-append_end was.entries new_entry)
+          ∙ ap (λ epoch. Some (Arrive (record { epoch = epoch; client = key.client; incarnation = key.incarnation; number = key.number }) call)) own_next.epoch;
+      kept_is = kept;
+    };
+  }
+
+  -- ---- the tables
+
+  no_limit : limit_at is_now.entries at ≡ None
+  no_limit = ap (option_and_then limit_in) (get-append_end was.entries new_entry) ∙ ap (option_and_then (limit_after moment)) is.may.at_once
+
+  due_is : new.due ≡ mid.due
+  due_is = is.due ∙ ap (λ (b : Account). without_deadline (limit_at b.entries at) at mid.due) is.pushed ∙ ap (λ o. without_deadline o at mid.due) no_limit
+
+  fewer : mid.waiting ≤ old.waiting
+  fewer = number_at_most (Left (Names new_entry) (Waiting was.entries)) (Waiting was.entries) mid.waiting old.waiting (λ r both. both.0) left.waiting_is own_sound.waiting_is
+
+  pub drained_sound : IsSound new
+  drained_sound =
+      let own_kept = kept_is old moment key call queue max room k is.may in
+      let space : length was.entries + old.waiting + 1 ≤ 100000 = is.may.space in
+      let enough : old.waiting + 1 ≤ old.account.room = is.may.room in
+      let left_room : old.account.room ≤ new.account.room + 1 = is.room_left in
+      let same : new.waiting ≡ mid.waiting = is.waiting in
+      let less : mid.waiting ≤ old.waiting = fewer in
+      sound_with was new_entry new own_sound.fits (record {
+        legal = own_legal;
+        entry_fits = (is.may.comes.moment_fits, is.may.comes.act_fits);
+        account = is.pushed;
+        sessions_are = sessions_changed_at_last was new_entry (Names new_entry) kept.Received own_legal (waits_on was.entries new_entry (Names new_entry) own_closes) own_tells mid.sessions new.sessions key.client
+            (settled_session key.incarnation key.number (Some at) k) refl left.sessions_are changes (own_session own_kept);
+        stations_are = subst (AreStations is_now.entries) (sym is.stations) (stations_at_last was.entries new_entry (Names new_entry) own_closes mid.stations left.stations_are);
+        waiting_is = subst (NumberOf (Waiting is_now.entries)) (sym is.waiting) (number_at_last was.entries new_entry (Names new_entry) own_closes mid.waiting left.waiting_is);
+        due_are = subst (AreDeadlines is_now.entries) (sym due_is) (due_at_last was.entries new_entry (Names new_entry) own_closes mid.due left.due_are);
+        clients = few_still was.entries new_entry (λ c i own. absurd (no_hello key call c i own)) own_sound.fits.clients;
+        space = omega arith;
+        spare = omega arith;
+      })
+
+-- ---- a drain for which all growths were made may be recorded
+
+pub may_drain : (old new : State) (moment : ℕ) (key : Key) (call : Call) (queue max : ℕ) (room : Vec ℕ) (k : Kept) → Comes old moment (Arrive key call) → standing_of old.sessions key ≡ standing.Next → HasNext old.sessions key
+    → side_of call ≡ Takes queue → wait_of call ≡ Some Now → max ≡ may_name call → IsPrepared old new moment call → HasRoomToName new.stations call room
+    → WillTell (account_of new) call (take max (items_in new queue)) k → MayDrain new moment key call queue max room k
+may_drain old new moment key call queue max room k comes stands next side at_once most prepared names will =
+    let ready = prepared.ready in
+    let same = ready.same in
+    let due : new.due ≡ old.due = prepared.due ∙ ap (λ wait. with_deadline (deadline_after moment wait) (length (account_of old).entries) old.due) at_once in
+    let one : need_of call ≡ 1 = ap need_by at_once in
+    let sound = sound_same old (with_due new old.due) comes.sound same in
+    let roomy : old.waiting + need_of call ≤ new.account.room = ready.room in
+    let spacious : length (account_of old).entries + old.waiting + need_of call ≤ 100000 = ready.space in
+    let waiting : new.waiting ≡ old.waiting = same.waiting in
+    let entries : length (account_of new).entries ≡ length (account_of old).entries = ap (λ (a : Account). length a.entries) same.account in
+    record {
+      comes = record {
+        sound = subst IsSound (ap (with_due new) (sym due)) sound;
+        time = subst (λ a. KeepsTime a moment) (sym same.account) comes.time;
+        moment_fits = comes.moment_fits;
+        nothing_due = subst (λ (a : Account). NothingDue a.entries moment) (sym same.account) comes.nothing_due;
+        act_fits = comes.act_fits;
+      };
+      stands = ap (λ t. standing_of t key) same.sessions ∙ stands;
+      next = subst (λ t. HasNext t key) (sym same.sessions) next;
+      side = side;
+      at_once = at_once;
+      most = most;
+      names = names;
+      room = omega arith;
+      space = omega arith;
+      will = will;
+    }

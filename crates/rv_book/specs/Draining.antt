@@ -1,0 +1,69 @@
+-- What a drain takes out of a queue, one item a turn, before its entry is recorded.
+use Rattle.std.specs.Prelude.{◌≡◌, ◌+◌, ◌≤◌, ◌++◌, [], ◌∷◌, ℕ, List, Some, None, length, take}
+use Rattle.std.specs.Global.{Vec}
+use Rattle.rv_text.specs.declared.call.Call.{Call}
+use Rattle.rv_text.specs.declared.call.Side.{Side}
+use Rattle.rv_text.specs.declared.call.Side.TheVariants.{Gives, Takes}
+use Rattle.rv_text.specs.declared.call.Wait.TheVariants.{Now}
+use Rattle.rv_text.specs.declared.message.Key.{Key}
+use Rattle.rv_text.specs.Calls.{side_of, wait_of}
+use Rattle.rv_session.specs.declared.kept.Kept.{Kept}
+use Rattle.rv_session.specs.declared.kept.Kept.TheVariants as kept
+use Rattle.rv_session.specs.declared.standing.Standing.TheVariants as standing
+use Rattle.rv_session.specs.Meanings.{HasNext}
+use Rattle.rv_session.specs.Standings.{standing_of}
+use Rattle.rv_session.specs.Table.{Table, session_of, waiting_of}
+use Rattle.rv_account.specs.declared.entry.Act.TheVariants.{Arrive}
+use Rattle.rv_account.specs.Account.{Account, Among, entry, with_entry}
+use Rattle.rv_account.specs.Calls.{may_name}
+use Rattle.rv_book.specs.Arriving.{IsKept}
+use Rattle.rv_book.specs.Legal.{Legal}
+use Rattle.rv_book.specs.Meeting.{HasRoomToName}
+use Rattle.rv_book.specs.Tables.{Comes, HasSpace, account_of}
+use Rattle.rv_book.specs.declared.state.State.{State}
+use Rattle.rv_book.specs.TakingOut.{IsLeft}
+use Rattle.rv_book.specs.Views.{waiting_on}
+
+-- the side takes
+abbrev pub IsTaker : Side → Type 0
+IsTaker side = (queue : ℕ) × (side ≡ Takes queue)
+
+-- the places of the items that wait in a queue, the oldest first
+abbrev pub items_in : State → ℕ → List ℕ
+items_in state queue = waiting_on state.stations (Gives queue)
+
+-- the tables are what the account says, but for what was taken out at these places and was received
+abbrev pub IsDraining : State → List ℕ → Type 0
+IsDraining state places = IsLeft state (Among places) kept.Received
+
+-- the oldest item of the queue was taken out, and its place is listed behind the others
+pub record TookItem (old new : State) (queue : ℕ) (before after : List ℕ) : Type 0 where
+  pub place : ℕ
+  pub first : items_in old queue ≡ place ∷ items_in new queue
+  pub listed : after ≡ before ++ place ∷ []
+
+-- the session of each client for whom nothing waits is as it was
+pub record SameIdle (old new : Table) : Type 0 where
+  pub epoch : new.epoch ≡ old.epoch
+  pub idle : (client : ℕ) → waiting_of old client ≡ None → session_of new client ≡ session_of old client
+
+-- what is kept will be the reply, where the call arrives behind the account with these partners
+abbrev pub WillTell : Account → Call → List ℕ → Kept → Type 0
+WillTell a call partners kept = (moment : ℕ) (key : Key) → Legal a
+    → let b = with_entry a (entry moment (Arrive key call) partners) in
+    Legal b → IsKept b.entries (length a.entries) call kept
+
+-- a request that has its session's next number, takes up to so many items of a queue at once and never waits
+-- comes to a sound state; all that it adds has room, and this will be its reply
+pub record MayDrain (state : State) (moment : ℕ) (key : Key) (call : Call) (queue max : ℕ) (places : Vec ℕ)
+    (kept : Kept) : Type 0 where
+  pub comes : Comes state moment (Arrive key call)
+  pub stands : standing_of state.sessions key ≡ standing.Next
+  pub next : HasNext state.sessions key
+  pub side : side_of call ≡ Takes queue
+  pub at_once : wait_of call ≡ Some Now
+  pub most : max ≡ may_name call
+  pub names : HasRoomToName state.stations call places
+  pub room : state.waiting + 1 ≤ state.account.room
+  pub space : HasSpace state 1
+  pub will : WillTell (account_of state) call (take max (items_in state queue)) kept

@@ -1,0 +1,67 @@
+"""Drains of both clients on a server: items of puts and of transfers, in order, and the longest answer."""
+import rendezvous as rv
+from client_parts import java
+from model_parts.tables import table_audit
+from serve_parts.programs import Server
+from serve_parts.wire import demand, together, until
+
+# An item of as many bytes as an item may have, each of which is written in six.
+LONGEST = "\u0001" * 512
+
+
+def session(server, number):
+    """A session of a client."""
+    return rv.Session(("127.0.0.1", server.port), number, 1, patience=20)
+
+
+def judged(server):
+    """The server ends behind its connections, and its account is legal."""
+    account = server.ended()
+    server.audited()
+    fault = table_audit(account)
+    demand(not fault, f"place {fault} of the account")
+
+
+def both_drain_in_order(program):
+    """Two clients give, by puts and by a transfer that waits; a third takes what is there, oldest first."""
+    with Server(program, 4, 3) as server:
+        with session(server, 1) as giver, session(server, 2) as waiter, session(server, 3) as taker:
+            giver.put(3, "a")
+
+            def drain():
+                until("a transfer", lambda: giver.count(3).items == 2)
+                giver.put(3, "c")
+                return [taker.drain(3, most) for most in (2, 16, 1)]
+
+            receipt, drained = together(lambda: waiter.transfer(3, "b"), drain)
+        demand(drained == [["a", "b"], ["c"], []], f"it drained {drained}")
+        demand(receipt.key.client == 2, f"{receipt}")
+        judged(server)
+
+
+def the_longest_answer(program):
+    """Sixteen items of as many bytes as there may be, each in Python and in Java."""
+    with Server(program, 2, 1 if java.missing() else 2) as server:
+        with session(server, 1) as one:
+            for _ in range(36):
+                one.put(3, LONGEST)
+            demand(one.drain(3, 16) == [LONGEST] * 16, "Python drained others")
+            if java.missing():
+                demand(one.drain(3, 16) + one.drain(3, 16) == [LONGEST] * 20, "Python drained others")
+            else:
+                in_java(server.port)
+            demand(one.count(3) == rv.Counts(0, 0), "something is left")
+        judged(server)
+
+
+def in_java(port):
+    """The 20 items that are left, in two steps."""
+    with java.driver() as driver:
+        driver.expect(f"open {port} 2 5000", "result open")
+        driver.expect("drain 18", "result 18")
+        driver.expect("drain", "result 2")
+        driver.expect("drained", f"result [{', '.join([LONGEST] * 20)}]")
+        driver.expect("drain", "result 0")
+
+
+CASES = [both_drain_in_order, the_longest_answer]

@@ -1,0 +1,134 @@
+"""Books that drain wrongly, made of the model by a change in its step. Each must be found: by the worked row of drains,
+and with no expected values, by what must hold of a random world, or by its audit."""
+import random
+from contextlib import contextmanager
+from dataclasses import replace
+
+from model_parts import steps
+from model_parts.account import OTHER_SIDE, Entry, Request, is_open, open_at
+from model_parts.plays import Play, make_play
+from model_parts.rows import DRAIN_ROW, ROWS, row_fault
+from model_parts.texts import MAX_DRAIN
+
+# How many random worlds a wrong book has, at most, and how many lines each.
+WORLDS, LINES = 40, 300
+reply, entered = steps.reply, steps.entered
+
+
+def is_drain(entry):
+    """Whether an entry is the arrival of a drain."""
+    return isinstance(entry.act, Request) and entry.act.call.word == "drain"
+
+
+def newest_first(entries, key):
+    """The reply of a key, of a drain with its texts the other way round."""
+    members = reply(entries, key)
+    return {**members, "texts": members["texts"][::-1]} if members and "texts" in members else members
+
+
+def drained_not_told(entries, key):
+    """The reply of a key, of which none is told to a transfer that a drain took."""
+    members = reply(entries, key)
+    if not members or members["reply"] != "received":
+        return members
+    r = next(r for r, entry in enumerate(entries) if isinstance(entry.act, Request) and entry.act.key == key)
+    return None if any(is_drain(entry) and r in entry.partners for entry in entries) else members
+
+
+def named_newest_first(account, moment, message):
+    """The account with a drain's entry whose partners stand newest first."""
+    after = entered(account, moment, message)
+    return with_last(after, after.entries[-1].partners[::-1]) if is_drain(after.entries[-1]) else after
+
+
+def one_too_many(account, moment, message):
+    """The account with a drain's entry that takes one more than it may, where one more is there."""
+    if not (isinstance(message, Request) and message.call.word == "drain"):
+        return entered(account, moment, message)
+    there = open_at(account.entries, OTHER_SIDE["taking"], message.call.at)
+    return account.with_entry(Entry(moment, message, tuple(there[: message.call.max + 1])))
+
+
+def one_too_few(account, moment, message):
+    """The account with a drain's entry that leaves the last item where it takes several."""
+    after = entered(account, moment, message)
+    return with_last(after, after.entries[-1].partners[:1]) if is_drain(after.entries[-1]) else after
+
+
+def second_first(account, moment, message):
+    """The account with a drain's entry that passes over the oldest item where there is another one."""
+    after = entered(account, moment, message)
+    partners = after.entries[-1].partners
+    return with_last(after, partners[1:]) if is_drain(after.entries[-1]) and len(partners) > 1 else after
+
+
+def drained_stays(account, moment, message):
+    """The account with a message's entry, for which what was drained before is there as if it was not."""
+    forgotten = tuple(replace(entry, partners=()) if is_drain(entry) else entry for entry in account.entries)
+    if not (isinstance(message, Request) and message.call.side == "taking"):
+        return entered(account, moment, message)
+    there = [r for r in open_at(forgotten, "giving", message.call.at) if is_open(forgotten, r)]
+    return account.with_entry(Entry(moment, message, tuple(there[: min(message.call.may_name, MAX_DRAIN)])))
+
+
+def with_last(account, partners):
+    """The account whose last entry has these partners."""
+    return replace(account, entries=(*account.entries[:-1], replace(account.entries[-1], partners=partners)))
+
+
+# What each wrong book does, and what it puts in the place of which part of the step.
+WRONG_BOOKS = [
+    ("a drain's texts are told newest first", {"reply": newest_first}),
+    ("a drain's partners stand newest first", {"entered": named_newest_first}),
+    ("a drained item stays in the queue", {"entered": drained_stays}),
+    ("a drain takes one more than it may", {"entered": one_too_many}),
+    ("a drain leaves what it may take", {"entered": one_too_few}),
+    ("a drain passes over the oldest item", {"entered": second_first}),
+    ("a drained transfer is not told received", {"reply": drained_not_told}),
+]
+
+
+@contextmanager
+def stepping(parts):
+    """Within it the model steps by these parts."""
+    kept = {name: getattr(steps, name) for name in parts}
+    vars(steps).update(parts)
+    try:
+        yield
+    finally:
+        vars(steps).update(kept)
+
+
+def drain_row_fault():
+    """What the worked row of drains tells of the book."""
+    [(epoch, lines)] = [row[1:] for row in ROWS if row[0] == DRAIN_ROW]
+    return row_fault(epoch, lines)
+
+
+class DrainPlay(Play):
+    """A world's lines with many drains, in one queue or two."""
+
+    def __init__(self, chance):
+        super().__init__(chance)
+        self.script.drains, self.script.puts, self.script.queues = 0.6, 0.5, self.script.queues[:1]
+        self.script.gives = 0.6
+
+
+def world_fault(seed):
+    """What a random world breaks of what must hold of all, if something. One that comes to an account which no entry can
+    follow tells nothing."""
+    try:
+        return make_play(random.Random(seed), LINES, DrainPlay)[1]
+    except ValueError:
+        return None
+
+
+def wrong_book_faults():
+    """Each wrong book by its name and how it is looked at, with that it was not found, if it was not. The right book, looked
+    at in the same ways, must have no fault."""
+    for name, parts in [("the right book", {}), *WRONG_BOOKS]:
+        with stepping(parts):
+            seen = {"its worked row": drain_row_fault(),
+                    "random worlds": next(filter(None, map(world_fault, range(WORLDS))), None)}
+        for what, fault in seen.items():
+            yield f"{name}, by {what}", None if bool(fault) == bool(parts) else fault or "it was not found"
