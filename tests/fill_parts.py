@@ -1,4 +1,5 @@
-"""Long scripts of `rv book`, whose answers are known by how the lines are made, with no model."""
+"""Long scripts of `rv book`, whose answers are known by how the lines are made, with no model. Every second client's
+sessions are of version 2."""
 import json
 import subprocess
 
@@ -12,6 +13,11 @@ def text(**members):
     return json.dumps(members, sort_keys=True, separators=(",", ":"))
 
 
+def version(client):
+    """The member that tells of a client's version: none of version 1."""
+    return {} if client % 2 else {"version": 2}
+
+
 class Fill:
     """Lines and their answers: each client's last number, its last call, and the items of each queue, oldest first."""
 
@@ -21,8 +27,8 @@ class Fill:
         self.numbers = dict.fromkeys(range(1, CLIENTS + 1), 0)
         self.calls = {}
         self.items = {queue: [] for queue in range(QUEUES)}
-        # What the last drain was told.
-        self.told = None
+        # What the last drain was told, and the key of the request that took each item.
+        self.told, self.took = None, {}
 
     def say(self, body, answer):
         """One line and its answer. Where no moment is set, each line has a greater one than the line before."""
@@ -31,8 +37,8 @@ class Fill:
 
     def hello(self, client, incarnation=1):
         """A client is welcome."""
-        self.say(text(kind="hello", client=client, incarnation=incarnation),
-                 text(kind="welcome", client=client, epoch=EPOCH, incarnation=incarnation))
+        members = {"client": client, "incarnation": incarnation, **version(client)}
+        self.say(text(kind="hello", **members), text(kind="welcome", epoch=EPOCH, **members))
 
     def key(self, client):
         """The key of the client's last number."""
@@ -50,6 +56,11 @@ class Fill:
         answer = text(kind="reply", **key, **reply) if reply else text(kind="waiting", **key)
         self.say(text(kind="request", **key, **self.calls[client]), answer)
 
+    def received(self, client, taker):
+        """The client's last request, a transfer whose item the request of this key took: the key is told in version 2."""
+        by = {f"by_{name}": taker[name] for name in ("client", "incarnation", "number")}
+        self.again(client, {"reply": "received", **(by if version(client) else {})})
+
     def refused(self, client, answer, **call):
         """A request of the client's next number that is refused."""
         key = {**self.key(client), "number": self.numbers[client] + 1}
@@ -66,12 +77,14 @@ class Fill:
         first, self.items[queue] = self.items[queue][:1], self.items[queue][1:]
         reply = {"reply": "item", "item": first[0]} if first else {"reply": "empty"}
         self.ask(client, reply, call="take", queue=queue, wait="now")
+        self.took.update((item, self.key(client)) for item in first)
 
     def drain(self, client, queue, most):
         """A drain gets the oldest items, as many as there are and as it may take."""
         texts, self.items[queue] = self.items[queue][:most], self.items[queue][most:]
         self.told = {"reply": "drained", "texts": texts}
         self.ask(client, self.told, call="drain", queue=queue, max=most)
+        self.took.update((item, self.key(client)) for item in texts)
 
     def count(self, client, queue, items=0, consumers=0):
         """A count of so many."""

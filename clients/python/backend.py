@@ -8,7 +8,7 @@ import pathlib
 import tarfile
 import zipfile
 
-NAME, VERSION = "rv_rendezvous", "1.0.0"
+NAME, VERSION = "rv_rendezvous", "2.0.0"
 SUMMARY = "A client of the rendezvous server rv: hand-overs that are told, and swaps, between processes"
 FOLDER = pathlib.Path(__file__).resolve().parent
 MODULE = "rendezvous.py"

@@ -4,7 +4,8 @@ taken.
     from rendezvous import Session
 
     with Session("127.0.0.1:7411", client=1, incarnation=1) as session:
-        session.transfer(3, "a")            # waits until a consumer was assigned the item
+        receipt = session.transfer(3, "a")  # waits until a consumer was assigned the item
+        print(receipt.by)                   # the key of that consumer's request
  A call repeats its request, under one key and over new connections, until it has its one reply. It never
 returns a guess: what is not known is an exception with the request's key, and `Session.again` asks that very
 request again.
@@ -33,9 +34,11 @@ GREATEST_DRAIN = 16
 GREATEST_PLACE = 63
 GREATEST_WAIT = 86_400_000
 GREATEST_COUNT = 100_000
+GREATEST_VERSION = 2
 REFUSALS = {
     1: "bad text", 2: "other epoch", 3: "no session", 4: "old incarnation", 5: "old number", 6: "other call",
     7: "busy", 8: "gap", 9: "clients full", 10: "epoch full", 11: "no memory",
+    12: "other version",
 }
 
 
@@ -50,9 +53,10 @@ class Key(NamedTuple):
 
 class Receipt(NamedTuple):
     """A transfer was received: its item was assigned to exactly one consumer's request. `key` is the
-    transfer's."""
+    transfer's, `by` the consumer's, which a session of version 1 is not told: there it is None."""
 
     key: Key
+    by: Optional[Key] = None
 
 
 class Counts(NamedTuple):
@@ -104,12 +108,12 @@ class Replaced(RendezvousError):
 
 
 class Refused(RendezvousError):
-    """The server refused, for a reason that a repeat would not change. `number` and `name` are the
-    refusal's."""
+    """The server refused, for a reason that a repeat would not change. `number` and `name` are the refusal's;
+    `current` is the version that the session speaks, where that was refused (12), and else None."""
 
-    def __init__(self, key: Optional[Key], number: int) -> None:
-        super().__init__(key, f"refused {number}, {REFUSALS[number]}")
-        self.number, self.name = number, REFUSALS[number]
+    def __init__(self, key: Optional[Key], number: int, current: Optional[int] = None, why: str = "") -> None:
+        super().__init__(key, f"refused {number}, {REFUSALS[number]}{why}")
+        self.number, self.name, self.current = number, REFUSALS[number], current
 
 
 class Interrupted(KeyboardInterrupt):
@@ -156,38 +160,45 @@ def are_texts(value: Any) -> bool:
 
 
 KEY = ("client", "epoch", "incarnation", "number")
+# The consumer's key in a receipt, whose epoch is the answer's.
+BY = ("by_client", "by_incarnation", "by_number")
 REPLIES: Dict[str, Tuple[str, ...]] = {
     "done": (), "item": ("item",), "empty": (), "received": (), "nobody": (), "swapped": ("item",),
     "timedout": (), "cancelled": (), "counted": ("consumers", "items"), "peeked": ("item",),
     "drained": ("texts",),
 }
-DETAILS = {2: "current", 4: "current", 5: "last", 7: "open", 8: "last"}
+DETAILS = {2: "current", 4: "current", 5: "last", 7: "open", 8: "last", 12: "current"}
+# The limits of members that are whole numbers; of all others they are 1 and GREATEST.
+LIMITS = {"items": (0, GREATEST_COUNT), "consumers": (0, GREATEST_COUNT), "last": (0, GREATEST),
+          "version": (2, GREATEST_VERSION)}
 
 
 def further_members(answer: Members) -> Tuple[str, ...]:
     """The names that an answer of its kind has beside `kind`."""
     kind = answer.get("kind")
     if kind == "welcome":
-        return KEY[:3]
+        return (*KEY[:3], "version") if "version" in answer else KEY[:3]
     if kind == "waiting":
         return KEY
     if kind == "reply" and isinstance(answer.get("reply"), str) and answer["reply"] in REPLIES:
-        return (*KEY, "reply", *REPLIES[answer["reply"]])
+        named = BY if answer["reply"] == "received" and BY[0] in answer else REPLIES[answer["reply"]]
+        return (*KEY, "reply", *named)
     if kind == "refused" and is_whole(answer.get("code"), 1, max(REFUSALS)):
         detail = DETAILS.get(answer["code"])
         return ("code", detail) if detail else ("code",)
     raise NoAnswer(f"an answer of no kind: {answer}")
 
 
-def keeps_limit(name: str, value: Any) -> bool:
+def keeps_limit(answer: Members, name: str) -> bool:
     """Whether a member of an answer keeps its limit."""
+    value = answer[name]
     if name == "item":
         return is_item(value)
     if name == "texts":
         return are_texts(value)
-    if name in ("items", "consumers"):
-        return is_whole(value, 0, GREATEST_COUNT)
-    return name in ("kind", "reply", "code") or is_whole(value, 0 if name == "last" else 1, GREATEST)
+    if name == "current" and answer["code"] == 12:
+        return is_whole(value, 1, GREATEST_VERSION)
+    return name in ("kind", "reply", "code") or is_whole(value, *LIMITS.get(name, (1, GREATEST)))
 
 
 def read_answer(body: bytes) -> Members:
@@ -198,7 +209,7 @@ def read_answer(body: bytes) -> Members:
         raise NoAnswer(f"no JSON: {body[:80]!r}") from fault
     if not isinstance(answer, dict) or set(answer) != {"kind", *further_members(answer)}:
         raise NoAnswer(f"no answer's members: {body[:80]!r}")
-    if not all(keeps_limit(name, value) for name, value in answer.items()):
+    if not all(keeps_limit(answer, name) for name in answer):
         raise NoAnswer(f"a member past its limit: {body[:80]!r}")
     return answer
 
@@ -206,6 +217,11 @@ def read_answer(body: bytes) -> Members:
 def key_of(answer: Members) -> Key:
     """The key that an answer names."""
     return Key(answer["epoch"], answer["client"], answer["incarnation"], answer["number"])
+
+
+def consumer_of(reply: Members) -> Optional[Key]:
+    """The key of the consumer that a reply names; None where it names none."""
+    return Key(reply["epoch"], *(reply[name] for name in BY)) if BY[0] in reply else None
 
 
 # ---- the process
@@ -217,15 +233,16 @@ class Process:
     where the greatest number was used), and the request's where it is outstanding, with its `call`.
     """
 
-    def __init__(self, client: int, incarnation: int) -> None:
-        self.client, self.incarnation = client, incarnation
+    def __init__(self, client: int, incarnation: int, version: int = GREATEST_VERSION) -> None:
+        self.client, self.incarnation, self.version = client, incarnation, version
         self.state = "new"
         self.key: Optional[Key] = None
         self.call: Optional[Members] = None
 
     def hello(self) -> Members:
-        """The message of a client that has no session yet."""
-        return {"kind": "hello", "client": self.client, "incarnation": self.incarnation}
+        """The message of a client that has no session yet. It names a version above the first."""
+        named = {"version": self.version} if self.version > 1 else {}
+        return {"kind": "hello", "client": self.client, "incarnation": self.incarnation, **named}
 
     def begin(self, call: Members) -> Key:
         """An idle process asks a call, under its next key."""
@@ -260,11 +277,15 @@ class Process:
         """What an answer is to a process that listens for its welcome."""
         if answer["kind"] == "refused":
             return "turned away"
-        own = (self.client, self.incarnation)
-        if answer["kind"] != "welcome" or (answer["client"], answer["incarnation"]) != own:
+        if answer["kind"] != "welcome" or not self.is_own(answer):
             return "ignored"
-        self.state, self.key = "idle", Key(answer["epoch"], *own, 1)
+        self.state, self.key = "idle", Key(answer["epoch"], self.client, self.incarnation, 1)
         return "welcomed"
+
+    def is_own(self, welcome: Members) -> bool:
+        """Whether a welcome is of its client, its incarnation and its version."""
+        named = (welcome["client"], welcome["incarnation"], welcome.get("version", 1))
+        return named == (self.client, self.incarnation, self.version)
 
     def told(self, answer: Members) -> str:
         """What an answer is to a process that listens for the reply of its own key."""
@@ -377,17 +398,20 @@ class Session:
     """One client in one incarnation: it asks one request at a time, and is used by one thread at a time.
 
     `client` is a number that no other process has, `incarnation` one above each that this client was started
-    with. `patience` is for how many seconds a call goes on while nothing at all is heard; None is for ever.
-    `answer` is for how many seconds it waits for one answer before it throws the connection away: the server
-    itself takes up to about a second for a request that waits.
+    with. `version` is what the session speaks: in version 2 a receipt names the consumer, in version 1, which
+    each server knows, it does not. `patience` is for how many seconds a call goes on while nothing at all is
+    heard; None is for ever. `answer` is for how many seconds it waits for one answer before it throws the
+    connection away: the server itself takes up to about a second for a request that waits.
     """
 
     def __init__(self, address: Address, client: int, incarnation: int, *,
-                 patience: Optional[float] = 30.0, answer: float = 5.0) -> None:
+                 version: int = GREATEST_VERSION, patience: Optional[float] = 30.0,
+                 answer: float = 5.0) -> None:
         for name, number in (("client", client), ("incarnation", incarnation)):
             checked(f"the {name} is 1 to {GREATEST}", is_whole(number, 1, GREATEST))
+        checked(f"the version is 1 to {GREATEST_VERSION}", is_whole(version, 1, GREATEST_VERSION))
         self.address, self.patience, self.answer = address_of(address), patience, answer
-        self.process = Process(client, incarnation)
+        self.process = Process(client, incarnation, version)
         self.reply: Optional[Members] = None
         self._link: Optional[Link] = None
         self._asked: Optional[Members] = None
@@ -429,7 +453,7 @@ class Session:
         self._call(carrying(placed("put", queue), item))
 
     def transfer(self, queue: int, item: str) -> Receipt:
-        """Waits until a consumer was assigned the item."""
+        """Waits until a consumer was assigned the item. The receipt names that consumer's request."""
         return self._call({**carrying(placed("transfer", queue), item), "wait": "forever"})
 
     def try_transfer(self, queue: int, item: str, timeout: Optional[float] = None) -> Optional[Receipt]:
@@ -567,7 +591,7 @@ class Session:
         if outcome == "replaced":
             raise Replaced(key, answer["current"])
         if outcome == "ignored" and answer["kind"] == "refused":
-            self._refused(key, answer, tries)
+            self._refused(message, answer, tries)
         elif outcome == "ignored":
             self._passed_over(message, answer, tries)
         return outcome == "settled"
@@ -581,11 +605,12 @@ class Session:
             self._hang_up()
             tries.failed(self.process.key, "answers to other messages came")
 
-    def _refused(self, key: Optional[Key], refusal: Members, tries: "Tries") -> None:
+    def _refused(self, message: Members, refusal: Members, tries: "Tries") -> None:
         """Goes on behind a refusal that a repeat may change, and raises all others."""
-        code, number = refusal["code"], key.number if key else 0
-        if code in (1, 6, 7, 8, 10) or code == 5 and refusal["last"] > number or code == 3 and tries.greeted:
-            raise Refused(key, code)
+        key, code = self.process.key, refusal["code"]
+        another = code == 5 and refusal["last"] > (key.number if key else 0)
+        if code in (1, 6, 7, 8, 10, 12) or another or code == 3 and tries.greeted:
+            raise refused_as(key, message, refusal)
         if code == 3:
             tries.greeted = tries.hello_due = True
         else:
@@ -597,18 +622,29 @@ class Session:
         tries = Tries(self.patience)
         while self.process.state == "new":
             answer = self._exchange(self.process.hello(), tries)
-            if answer is not None and self.process.hear(answer) == "turned away":
-                self._turned_away(answer, tries)
+            if answer is not None:
+                self._greeted(answer, tries)
         if self.process.state == "ended":
             raise Misused("the session has ended: start another")
 
+    def _greeted(self, answer: Members, tries: "Tries") -> None:
+        """Takes in an answer to the hello."""
+        outcome = self.process.hear(answer)
+        if outcome == "turned away":
+            self._turned_away(answer, tries)
+        elif outcome == "ignored":
+            self._hang_up()
+            tries.failed(None, "answers to other messages came")
+
     def _turned_away(self, refusal: Members, tries: "Tries") -> None:
-        """A refused hello is said again only for want of memory."""
+        """A refused hello is said again only for want of memory; all else ends the connection too."""
+        if refusal["code"] == 11:
+            tries.failed(None, "refused 11, no memory")
+            return
+        self._hang_up()
         if refusal["code"] == 4:
             raise Replaced(None, refusal["current"])
-        if refusal["code"] != 11:
-            raise Refused(None, refusal["code"])
-        tries.failed(None, "refused 11, no memory")
+        raise refused_as(None, self.process.hello(), refusal)
 
     # ---- one exchange
 
@@ -678,6 +714,16 @@ class Tries:
         self.pause = min(self.MOST, 2 * self.pause)
 
 
+def refused_as(key: Optional[Key], message: Members, refusal: Members) -> Refused:
+    """The exception of a refusal, which says what it means where it is about the version."""
+    if refusal["code"] == 12:
+        spoken = refusal["current"]
+        return Refused(key, 12, spoken, f": the client's session in this incarnation speaks {spoken}")
+    if refusal["code"] == 1 and "version" in message:
+        return Refused(key, 1, why=": a server that knows version 1 alone refuses this hello")
+    return Refused(key, refusal["code"])
+
+
 def result_of(key: Key, call: Members, reply: Members, late: bool) -> Any:
     """What a call gives for its reply."""
     word = reply["reply"]
@@ -686,7 +732,7 @@ def result_of(key: Key, call: Members, reply: Members, late: bool) -> Any:
     if word == "drained":
         return list(reply["texts"])
     if word == "received":
-        return Receipt(key)
+        return Receipt(key, consumer_of(reply))
     if word == "counted":
         return Counts(reply["items"], reply["consumers"])
     if word == "cancelled" and not late:

@@ -1,6 +1,7 @@
 """A pool of two workers, each of which dies once in the middle of a job, and is started anew.
  What was received was assigned to one worker: it is never offered again, so it is never done twice. What
-nobody received is still the boss's, who offers it again.
+nobody received is still the boss's, who offers it again. By the receipts the boss knows which worker, in
+which of its starts, had a job that was not done.
 
 usage: pool.py ADDRESS                                  the boss, client 10, who starts the workers
        pool.py ADDRESS CLIENT INCARNATION               a worker
@@ -28,7 +29,7 @@ class Boss:
     """Hands jobs over, and starts a worker anew that died."""
 
     def __init__(self, address):
-        self.address, self.workers = address, {}
+        self.address, self.workers, self.takers = address, {}, {}
         self.session = Session(address, client=10, incarnation=1)
 
     def start(self, client, incarnation):
@@ -44,11 +45,12 @@ class Boss:
                 self.start(client, incarnation + 1)
 
     def hand_over(self, job):
-        """Offers a job until somebody receives it."""
-        while not self.session.try_transfer(JOBS, job, timeout=1):
+        """Offers a job until somebody receives it, and keeps whose request that was."""
+        while not (receipt := self.session.try_transfer(JOBS, job, timeout=1)):
             print(f"{job} was received by nobody, and is offered again")
             self.restart_the_dead()
         print(f"{job} was received")
+        self.takers[job] = receipt.by
 
     def run(self):
         """All jobs, and what came of them."""
@@ -63,6 +65,9 @@ class Boss:
                 process.wait()
             while result := self.session.poll(RESULTS):
                 print(result)
+                del self.takers[result.removesuffix(" is done")]
+        for job, taker in self.takers.items():
+            print(f"{job} was lost with its worker, in incarnation {taker.incarnation}")
 
 
 if len(sys.argv) == 2:

@@ -1,4 +1,4 @@
-"""Hands three items over to whoever takes them from queue 3.
+"""Hands three items over to whoever takes them from queue 3, and tells whose requests took them.
 
 usage: producer.py ADDRESS CLIENT INCARNATION
 """
@@ -10,4 +10,4 @@ address, client, incarnation = sys.argv[1], int(sys.argv[2]), int(sys.argv[3])
 with Session(address, client, incarnation) as session:
     for item in ("first", "second", "third"):
         receipt = session.transfer(3, item)
-        print(f"{item} was received, by the receipt of request {receipt.key.number}")
+        print(f"{item} was received by client {receipt.by.client}, in its request {receipt.by.number}")

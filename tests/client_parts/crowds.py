@@ -1,5 +1,6 @@
-"""Crowds of Python and Java clients on one server, over a link that loses, repeats, cuts and delays: what
-each was told must stand in the account, which must be legal by the model's audit and by `rv audit`."""
+"""Crowds of Python and Java clients on one server, of version 1 and 2 in turn, over a link that loses,
+repeats, cuts and delays: what each was told must stand in the account, which must be legal by the model's
+audit and by `rv audit`."""
 import json
 import random
 import subprocess
@@ -41,7 +42,7 @@ class Client:
     """A Python client that asks random calls, and gives up some that wait."""
 
     def __init__(self, address, number, chance, told):
-        self.session = rv.Session(address, number, 1, patience=20, answer=2)
+        self.session = rv.Session(address, number, 1, version=1 + number % 2, patience=20, answer=2)
         self.chance, self.told, self.number, self.items = chance, told, number, 0
 
     def run(self, ends):
@@ -124,6 +125,10 @@ def a_crowd(program, seed, seconds):
     demand(seconds < 10 or min(proxy.met.values()) > 0, f"the link did too little: {proxy.met}")
     several = sum(len(members.get("texts", "")) > 1 for members in told.replies.values())
     demand(seconds < 10 or several > 0, "no drain took several items")
+    named = sum("by_client" in members for members in told.replies.values())
+    received = sum(members["reply"] == "received" for members in told.replies.values())
+    demand(seconds < 10 or 0 < named < received, f"{named} of {received} receipts name the consumer")
+    return f"{len(told.asked)} calls, {received} receipts, of which {named} name the consumer"
 
 
 def judge(account, told):
@@ -142,7 +147,7 @@ class Replies:
     """The reply of each key in a legal account, in one walk."""
 
     def __init__(self, account):
-        self.entries, self.open, self.made, self.waits = account.entries, {}, {}, {}
+        self.entries, self.open, self.made, self.waits, self.versions = account.entries, {}, {}, {}, {}
         for place, entry in enumerate(self.entries):
             self.walk(place, entry)
 
@@ -154,6 +159,7 @@ class Replies:
                 self.stop(r, "timedout")
         elif isinstance(act, Hello):
             self.stop(self.waits.get(act.client), "cancelled")
+            self.versions[act.client] = act.version
         elif isinstance(act, Cancel):
             waits = self.waits.get(act.key.client)
             self.stop(waits, "cancelled")
@@ -214,10 +220,17 @@ class Replies:
         items, word = [other.call.item for other in others], act.call.word
         if word == "drain":
             self.made[act.key] = {"reply": "drained", "texts": items}
-        elif word in ("put", "transfer"):
-            self.made[act.key] = {"reply": "done" if word == "put" else "received"}
+        elif word == "transfer":
+            self.made[act.key] = {"reply": "received", **self.named(act.key.client, others[0].key)}
+        elif word == "put":
+            self.made[act.key] = {"reply": "done"}
         else:
             self.made[act.key] = {"reply": "item" if word == "take" else "swapped", "item": items[0]}
+
+    def named(self, client, taker):
+        """The consumer's key, as a client's session is told it."""
+        members = {f"by_{name}": value for name, value in vars(taker).items() if name != "epoch"}
+        return members if self.versions[client] == 2 else {}
 
     def look(self, call):
         """What a count or a peek is told."""

@@ -1,25 +1,12 @@
 """Drains of both clients on a server: items of puts and of transfers, in order, and the longest answer."""
 import rendezvous as rv
 from client_parts import java
-from model_parts.tables import table_audit
+from client_parts.receipts import judged, session
 from serve_parts.programs import Server
 from serve_parts.wire import demand, together, until
 
 # An item of as many bytes as an item may have, each of which is written in six.
 LONGEST = "\u0001" * 512
-
-
-def session(server, number):
-    """A session of a client."""
-    return rv.Session(("127.0.0.1", server.port), number, 1, patience=20)
-
-
-def judged(server):
-    """The server ends behind its connections, and its account is legal."""
-    account = server.ended()
-    server.audited()
-    fault = table_audit(account)
-    demand(not fault, f"place {fault} of the account")
 
 
 def both_drain_in_order(program):
@@ -35,7 +22,7 @@ def both_drain_in_order(program):
 
             receipt, drained = together(lambda: waiter.transfer(3, "b"), drain)
         demand(drained == [["a", "b"], ["c"], []], f"it drained {drained}")
-        demand(receipt.key.client == 2, f"{receipt}")
+        demand(receipt == rv.Receipt(rv.Key(1, 2, 1, 1), rv.Key(1, 3, 1, 1)), f"{receipt}")
         judged(server)
 
 

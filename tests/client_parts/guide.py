@@ -8,6 +8,7 @@ import tempfile
 import xml.dom.minidom
 
 from client_parts import java
+from client_parts.table_cases import cases
 from serve_parts.programs import free_port
 from serve_parts.wire import demand
 
@@ -82,4 +83,22 @@ def a_marked_fault(_):
         xml.dom.minidom.parseString(ran.stdout)
 
 
-CASES = [the_pictures, a_marked_fault, the_guide]
+def a_receipt_in_pictures(_):
+    """The picture of a play tells whose request a receipt names, and that of an account which hellos are of
+    version 2."""
+    story = [case for case in cases() if case["story"] == "a receipt names the consumer"]
+    with tempfile.TemporaryDirectory(prefix="rv-draw-") as name:
+        files = [pathlib.Path(name) / part for part in ("play", "seen")]
+        for file in files:
+            file.write_text("".join(case[file.name] + "\n" for case in story))
+        shown = subprocess.run([ROOT / "tools/draw", "play", *files], capture_output=True, text=True,
+                               timeout=60)
+    account = (ROOT / "examples/received.account").read_text()
+    drawn = subprocess.run([ROOT / "tools/draw", "account"], input=account, capture_output=True, text=True,
+                           timeout=60)
+    for ran, words in [(shown, ["hello 1/1 v2", "received by 2/1/1"]), (drawn, ["hello 1 v2", "hello 2"])]:
+        demand(not ran.stderr and all(f">{each}<" in ran.stdout for each in words), f"{words}: {ran.stderr}")
+        xml.dom.minidom.parseString(ran.stdout)
+
+
+CASES = [the_pictures, a_marked_fault, a_receipt_in_pictures, the_guide]

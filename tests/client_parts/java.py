@@ -2,6 +2,7 @@
 scripted server."""
 import contextlib
 import functools
+import itertools
 import json
 import pathlib
 import shutil
@@ -9,7 +10,8 @@ import subprocess
 import tempfile
 import time
 
-from client_parts.scripted import HANG_UP, SILENCE, Scripted, refused, reply, waiting, welcome
+from client_parts.scripted import (
+    BY, HANG_UP, SILENCE, Scripted, old_server, received_by, refused, reply, waiting, welcome)
 from serve_parts.wire import demand, frame
 
 ROOT = pathlib.Path(__file__).resolve().parent.parent.parent
@@ -86,10 +88,10 @@ def driver():
 
 
 @contextlib.contextmanager
-def opened(java, *deeds, patience=2000):
-    """A scripted server behind its welcome, with the driver's client 1."""
-    with Scripted(welcome, *deeds) as server:
-        java.expect(f"open {server.port} 1 {patience}", "result open")
+def opened(java, *deeds, patience=2000, version="", hello=welcome):
+    """A scripted server that meets the hello so, with the driver's client 1."""
+    with Scripted(hello, *deeds) as server:
+        java.expect(f"open {server.port} 1 {patience} {version}".rstrip(), "result open")
         yield server
 
 
@@ -107,6 +109,9 @@ def each_call(java):
              ("try a", reply("received"), {"call": "transfer", "item": "a", "wait": "now"}, "true"),
              ("try a 0", reply("timedout"), {"call": "transfer", "item": "a", "wait": 0}, "false"),
              ("try a 1001", reply("received"), {"call": "transfer", "item": "a", "wait": 2}, "true"),
+             ("transfer a", received_by(*BY), {"call": "transfer", "item": "a", "wait": "forever"},
+              "received"),
+             ("try a", received_by(*BY), {"call": "transfer", "item": "a", "wait": "now"}, "true"),
              ("take", reply("item", item="\u2028<ü"), {"call": "take", "wait": "forever"}, "\u2028<ü"),
              ("poll", reply("empty"), {"call": "take", "wait": "now"}, "null"),
              ("poll -5", reply("timedout"), {"call": "take", "wait": 0}, "null"),
@@ -115,8 +120,8 @@ def each_call(java):
              ("peek", reply("empty"), {"call": "peek"}, "null"),
              ("size", reply("counted", items=2, consumers=0), {"call": "count"}, "2"),
              ("consumers", reply("counted", items=0, consumers=3), {"call": "count"}, "3")]
-    for number, (line, answer, members, result) in enumerate(calls):
-        with opened(java, answer) as server:
+    for version, (number, (line, answer, members, result)) in itertools.product((1, 2), enumerate(calls)):
+        with opened(java, answer, version=version) as server:
             java.expect(line, f"result {result}")
             key = {"epoch": 1, "client": 1, "incarnation": 1, "number": 1}
             wanted = {"kind": "request", "queue": 3, **key, **members}
@@ -124,6 +129,87 @@ def each_call(java):
     with opened(java, reply("swapped", item="y"), reply("timedout")) as server:
         java.expect("exchange x", "result y")
         java.expect("exchange x 0", "threw TimeoutException")
+
+
+def receipts(java):
+    """A receipt has the transfer's key, and names the consumer that its reply names, in the reply's epoch."""
+    ninth = lambda hello: welcome(hello, 9)
+    calls = [("transfer-receipt a", "forever", "result {}"), ("try-receipt a", "now", "result Optional[{}]"),
+             ("try-receipt a 1001", 2, "result Optional[{}]")]
+    for line, wait, wanted in calls:
+        with opened(java, received_by(2, 3, 4), reply("received"), hello=ninth) as server:
+            java.expect("receipt", "result Optional.empty")
+            java.expect(line, wanted.format("9/1/1/1 by 9/2/3/4"))
+            java.expect("receipt", "result Optional[9/1/1/1 by 9/2/3/4]")
+            java.expect(line, wanted.format("9/1/1/2 by nobody named"))
+            demand([members["wait"] for members in server.heard[1:]] == [wait] * 2, f"{server.heard}")
+    with opened(java, reply("nobody"), reply("timedout"), reply("cancelled"), reply("done")):
+        java.expect("try-receipt a", "result Optional.empty")
+        java.expect("try-receipt a 0", "result Optional.empty")
+        java.expect("transfer-receipt a", "threw CancellationException")
+        java.expect("put a", "result done")
+        java.expect("receipt", "result Optional.empty")
+    with opened(java, HANG_UP, patience=300) as server:
+        server.deeds += [HANG_UP] * 200
+        java.expect("transfer a", "threw Unsettled 1/1/1/1")
+        with server.lock:
+            server.deeds[:] = [received_by(2, 3, 4)]
+        java.expect("again", "result received")
+        java.expect("receipt", "result Optional[1/1/1/1 by 1/2/3/4]")
+
+
+def what_is_no_receipt(java):
+    """A reply that names a part of a consumer, or names one where no receipt is told, settles nothing."""
+    whole = dict(zip(("by_client", "by_incarnation", "by_number"), (2, 3, 4)))
+    bad = [reply("received", **{n: value for n, value in whole.items() if n != name}) for name in whole]
+    odd = [("by_client", 0), ("by_incarnation", 2**53), ("by_number", 1.0), ("by_number", "1")]
+    bad += [reply("received", **{**whole, name: value}) for name, value in odd]
+    bad += [reply("received", **whole, by_epoch=1), reply("done", **whole)]
+    with opened(java, *bad, received_by(2, 3, 4), patience=20_000) as server:
+        java.expect("transfer-receipt a", "result 1/1/1/1 by 1/2/3/4")
+        demand(len(server.heard) == 2 + len(bad), f"{len(server.heard)} frames came")
+
+
+def versions(java):
+    """A session asks for version 2, or for the one that it is told, and only its own welcome counts."""
+    hello = {"kind": "hello", "client": 1, "incarnation": 1}
+    for version, said in [("", {"version": 2}), (2, {"version": 2}), (1, {})]:
+        other = {} if said else {"version": 2}
+        others = [lambda asked, odd=odd: {"kind": "welcome", "epoch": 1, "client": 1, "incarnation": 1, **odd}
+                  for odd in (other, {"version": 1}, {"version": 3}, {"version": "2"}, {"version": 2.0})]
+        deeds = [*others[1:], welcome, refused(3), welcome, reply("done")]
+        with opened(java, *deeds, patience=20_000, version=version, hello=others[0]) as server:
+            java.expect("put a", "result done")
+            hellos = [members for members in server.heard if members["kind"] == "hello"]
+            demand(hellos == [{**hello, **said}] * (len(others) + 2), f"{hellos}")
+    with opened(java, *[lambda asked: {**welcome(asked), "client": 2}] * 900, patience=300,
+                hello=lambda asked: {**welcome(asked), "client": 2}) as server:
+        java.expect("put a", "threw Unsettled null")
+        demand(len(server.heard) < 30, f"{len(server.heard)} hellos were said")
+
+
+def other_versions(java):
+    """A hello of another version than the session's is told so, and by which; and so is one that an old
+    server does not know."""
+    for current in (1, 2):
+        with opened(java, version=3 - current, hello=refused(12, current=current)):
+            java.expect("put a", f"threw Refused null 12 other version {current}")
+            told = java.tell("words")
+            demand(told.endswith(f"in this incarnation speaks {current}"), f"it says {told}")
+    with opened(java, refused(3), refused(12, current=1)):
+        java.expect("put a", "threw Refused 1/1/1/1 12 other version 1")
+    odd = [refused(12, current=odd) for odd in (0, 3, "1")]
+    with opened(java, *odd, welcome, reply("done"), hello=refused(12)) as server:
+        java.expect("put a", "result done")
+        demand(len(server.heard) == 6, f"{len(server.heard)} frames came")
+    with opened(java, hello=old_server):
+        java.expect("put a", "threw Refused null 1 bad text")
+        told = java.tell("words")
+        demand("version 1 alone" in told, f"it says {told}")
+    with opened(java, reply("received"), version=1, hello=old_server):
+        java.expect("transfer-receipt a", "result 1/1/1/1 by nobody named")
+    for version in (0, 3):
+        java.expect(f"open 1 1 1 {version}", "threw IllegalArgumentException")
 
 
 def texts(count, begins=0):
@@ -195,7 +281,8 @@ def what_is_not_taken_in(java):
 def repeats_until_it_is_told(java):
     """Waiting, an answer to something else, a lost one, what is no frame and no answer."""
     bad = [b"\x00\x00", frame(b"[" * 65_535), frame(b"{}"), frame(b"\xff"),
-           frame(b'{"kind":"refused","code":1.0}'), frame(b'{"code":12,"kind":"refused"}')]
+           frame(b'{"kind":"refused","code":1.0}'), frame(b'{"code":12,"kind":"refused"}'),
+           frame(b'{"code":13,"kind":"refused"}')]
     deeds = [waiting, HANG_UP, welcome, *bad, waiting, reply("received")]
     with opened(java, *deeds, patience=10_000) as server:
         java.expect("transfer a", "result received")
@@ -285,6 +372,6 @@ def what_is_left_out(java):
         demand(not server.heard, "something was sent")
 
 
-CASES = [each_call, drains_by_steps, a_drain_is_asked_under_one_key, a_step_that_fails,
-         what_is_not_taken_in, repeats_until_it_is_told, an_unsettled_request, interrupts, a_timeout_is_kept,
-         refusals, what_is_left_out]
+CASES = [each_call, receipts, what_is_no_receipt, versions, other_versions, drains_by_steps,
+         a_drain_is_asked_under_one_key, a_step_that_fails, what_is_not_taken_in, repeats_until_it_is_told,
+         an_unsettled_request, interrupts, a_timeout_is_kept, refusals, what_is_left_out]

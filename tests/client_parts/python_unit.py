@@ -1,14 +1,17 @@
 """Unit tests of the Python client over a scripted server: what it sends, what it gives, what it raises, how
 long it waits."""
 import contextlib
+import itertools
 import json
 import os
 import signal
 import threading
 import time
+import types
 
 import rendezvous as rv
-from client_parts.scripted import HANG_UP, SILENCE, Scripted, refused, reply, waiting, welcome
+from client_parts.scripted import (
+    BY, HANG_UP, SILENCE, Scripted, old_server, received_by, refused, reply, waiting, welcome)
 from serve_parts.wire import demand, frame, until
 
 
@@ -24,10 +27,12 @@ def same(got, wanted):
 
 @contextlib.contextmanager
 def raises(kind, **fields):
-    """The block must raise this, with these fields."""
+    """The block must raise this, with these fields; `raised` of what it is given has it."""
+    told = types.SimpleNamespace()
     try:
-        yield
+        yield told
     except kind as raised:
+        told.raised = raised
         same({name: getattr(raised, name) for name in fields}, fields)
     else:
         demand(False, f"no {kind.__name__} was raised")
@@ -48,19 +53,19 @@ FULL = ["\u0001" * 512] * 16
 
 
 def each_call():
-    """Each call's members, and its result."""
+    """Each call's members, and its result, in sessions of both versions."""
+    give = {"call": "transfer", "queue": 3, "item": "a"}
     calls = [
         (lambda s: s.put(3, "a"), reply("done"), {"call": "put", "queue": 3, "item": "a"}, None),
-        (lambda s: s.transfer(3, "a"), reply("received"), {"call": "transfer", "queue": 3, "item": "a",
-                                                           "wait": "forever"}, rv.Receipt(key(1))),
-        (lambda s: s.try_transfer(3, "a"), reply("nobody"), {"call": "transfer", "queue": 3, "item": "a",
-                                                             "wait": "now"}, None),
-        (lambda s: s.try_transfer(3, "a", 0.5), reply("received"),
-         {"call": "transfer", "queue": 3, "item": "a",
-                                                                   "wait": 500}, rv.Receipt(key(1))),
-        (lambda s: s.try_transfer(3, "a", timeout=0), reply("timedout"),
-         {"call": "transfer", "queue": 3, "item": "a",
-                                                                         "wait": 0}, None),
+        (lambda s: s.transfer(3, "a"), reply("received"), {**give, "wait": "forever"}, rv.Receipt(key(1))),
+        (lambda s: s.transfer(3, "a"), received_by(2, 3, 4), {**give, "wait": "forever"},
+         rv.Receipt(key(1), rv.Key(1, 2, 3, 4))),
+        (lambda s: s.try_transfer(3, "a"), reply("nobody"), {**give, "wait": "now"}, None),
+        (lambda s: s.try_transfer(3, "a"), received_by(*BY), {**give, "wait": "now"},
+         rv.Receipt(key(1), rv.Key(1, *BY))),
+        (lambda s: s.try_transfer(3, "a", 0.5), reply("received"), {**give, "wait": 500},
+         rv.Receipt(key(1))),
+        (lambda s: s.try_transfer(3, "a", timeout=0), reply("timedout"), {**give, "wait": 0}, None),
         (lambda s: s.take(63), reply("item", item="ü"), {"call": "take", "queue": 63, "wait": "forever"},
          "ü"),
         (lambda s: s.poll(0), reply("empty"), {"call": "take", "queue": 0, "wait": "now"}, None),
@@ -82,8 +87,8 @@ def each_call():
         (lambda s: s.drain(63, 16), reply("drained", texts=FULL), {"call": "drain", "queue": 63, "max": 16},
          FULL),
     ]
-    for call, answer, members, result in calls:
-        with Scripted(welcome, answer) as server, session(server) as one:
+    for version, (call, answer, members, result) in itertools.product((1, 2), calls):
+        with Scripted(welcome, answer) as server, session(server, version=version) as one:
             same(call(one), result)
             same(server.heard[1], {"kind": "request", **key(1)._asdict(), **members})
             same(one.reply, answer(server.heard[1]))
@@ -99,12 +104,90 @@ def numbers_rise():
         same(server.connections, 1)
 
 
+def receipts():
+    """A receipt names the consumer that its reply names, in the reply's epoch, however the reply came."""
+    named = rv.Receipt(key(1, 9), rv.Key(9, 2, 3, 4))
+    ninth = lambda hello: welcome(hello, 9)
+    with Scripted(ninth, waiting, HANG_UP, received_by(2, 3, 4)) as server, session(server) as one:
+        receipt = one.transfer(3, "a")
+        same((receipt, receipt.by.client, bool(receipt)), (named, 2, True))
+    with Scripted(ninth, lambda one: (time.sleep(0.1), waiting(one))[1], received_by(2, 3, 4)) as server:
+        with session(server) as one:
+            same(one.try_transfer(3, "a", 0.05), named)
+            same(asked(server)[-1], ("cancel", 1, None))
+    with Scripted(ninth) as server, session(server, patience=3.0, answer=0.6) as one:
+        with raises(rv.Unsettled, key=key(1, 9)):
+            one.transfer(3, "a")
+        with server.lock:
+            server.deeds += [received_by(2, 3, 4)]
+        same(one.again(), named)
+    same(bool(rv.Receipt(key(1))), True)
+
+
+def what_is_no_receipt():
+    """A reply that names a part of a consumer, or names one where no receipt is told, settles nothing."""
+    whole = dict(zip(("by_client", "by_incarnation", "by_number"), (2, 3, 4)))
+    bad = [reply("received", **{n: value for n, value in whole.items() if n != name}) for name in whole]
+    odd = [("by_client", 0), ("by_client", None), ("by_incarnation", 2**53), ("by_number", 1.0),
+           ("by_number", "1")]
+    bad += [reply("received", **{**whole, name: value}) for name, value in odd]
+    bad += [reply("received", **whole, by_epoch=1), reply("done", **whole), reply("item", item="a", **whole)]
+    with Scripted(welcome, *bad, received_by(2, 3, 4)) as server, session(server, patience=20) as one:
+        same(one.transfer(3, "a").by, rv.Key(1, 2, 3, 4))
+        same(len(server.heard), 2 + len(bad))
+
+
+def versions():
+    """A session asks for version 2, or for the one that it is told, and only its own welcome counts."""
+    hello = {"kind": "hello", "client": 1, "incarnation": 1}
+    for more, said in [({}, {"version": 2}), ({"version": 2}, {"version": 2}), ({"version": 1}, {})]:
+        other = {} if said else {"version": 2}
+        others = [lambda asked, odd=odd: {"kind": "welcome", "epoch": 1, "client": 1, "incarnation": 1, **odd}
+                  for odd in (other, {"version": 1}, {"version": 3}, {"version": "2"}, {"version": 2.0})]
+        with Scripted(*others, welcome, refused(3), welcome, reply("done")) as server:
+            with session(server, **more, patience=20) as one:
+                one.put(3, "a")
+            hellos = [members for members in server.heard if members["kind"] == "hello"]
+            same(hellos, [{**hello, **said}] * (len(others) + 2))
+    with Scripted(*[lambda asked: {**welcome(asked), "client": 2}] * 900) as server:
+        with raises(rv.Unsettled, key=None):
+            session(server, patience=0.3).connect()
+        demand(len(server.heard) < 30, f"{len(server.heard)} hellos were said")
+
+
+def other_versions():
+    """A hello of another version than the session's is told so, and by which; and so is one that an old
+    server does not know."""
+    for current in (1, 2):
+        with Scripted(refused(12, current=current)) as server:
+            with raises(rv.Refused, key=None, number=12, name="other version", current=current) as told:
+                session(server, version=3 - current).connect()
+            demand(f"speaks {current}" in str(told.raised), f"it says {told.raised}")
+    with Scripted(welcome, refused(3), refused(12, current=1)) as server, session(server) as one:
+        with raises(rv.Refused, key=key(1), number=12, current=1):
+            one.put(3, "a")
+    with Scripted(*[refused(12, current=odd) for odd in (0, 3, "1")], refused(12), welcome) as server:
+        with session(server):
+            same(len(server.heard), 5)
+    with Scripted(old_server) as server:
+        with raises(rv.Refused, key=None, number=1, name="bad text", current=None) as told:
+            session(server).connect()
+        demand("version 1 alone" in str(told.raised), f"it says {told.raised}")
+    with Scripted(old_server, reply("received")) as server, session(server, version=1) as one:
+        same(one.transfer(3, "a"), rv.Receipt(key(1)))
+    with Scripted(refused(1)) as server:
+        with raises(rv.Refused, number=1) as told:
+            session(server, version=1).connect()
+        demand("version" not in str(told.raised), f"it says {told.raised}")
+
+
 def repeats_until_it_is_told():
     """Waiting, a lost answer, a late one, an answer to something else, a cut frame, no frame, no answer."""
     other = {"kind": "reply", **key(7)._asdict(), "reply": "done"}
     cut = frame(b'{"kind":"reply"')[:-4]
     bad = [b"\x00\x00", b"\xff\xff", frame(b"{}"), frame(b"\xff"), frame(b'{"kind":"refused","code":1.0}'),
-           frame(b'{"code":12,"kind":"refused"}'), frame(b"[" * 65_535)]
+           frame(b'{"code":12,"kind":"refused"}'), frame(b'{"code":13,"kind":"refused"}'),
+           frame(b"[" * 65_535)]
     deeds = [waiting, SILENCE, HANG_UP, other, welcome, cut, *bad, waiting]
     with Scripted(welcome, *deeds, reply("received")) as server, session(server, patience=10) as one:
         same(one.transfer(3, "a"), rv.Receipt(key(1)))
@@ -245,6 +328,8 @@ def an_unsettled_request_is_cancelled():
 
 def interrupted_from_the_keyboard():
     """The request is cancelled; the exception has its reply, whatever that is."""
+    # where the tests run in the background, the shell has them pass interrupts over
+    signal.signal(signal.SIGINT, signal.default_int_handler)
     for told in (reply("cancelled"), reply("item", item="a")):
         with Scripted(welcome, SILENCE, told) as server, session(server, answer=20) as one:
             press = lambda: (until("a request", lambda: len(server.heard) > 1),
@@ -315,6 +400,9 @@ def what_is_not_sent():
     for client, incarnation in [(0, 1), (1, 0), (2**53, 1), (1, 2**53), (1.0, 1)]:
         with raises(ValueError):
             rv.Session("127.0.0.1:1", client, incarnation)
+    for version in (0, 3, True, "2", None):
+        with raises(ValueError):
+            rv.Session("127.0.0.1:1", 1, 1, version=version)
 
 
 def one_thread_at_a_time():
@@ -340,9 +428,9 @@ def kind_of(call):
     return None
 
 
-CASES = [each_call, numbers_rise, repeats_until_it_is_told, a_drain_is_asked_under_one_key,
-         a_drain_that_is_given_up, frames_of_each_length, a_connection_that_is_out_of_step,
-         an_unsettled_request,
-         nobody_listens, a_timeout_is_kept, cancelled_by_another_thread, an_unsettled_request_is_cancelled,
+CASES = [each_call, receipts, what_is_no_receipt, versions, other_versions, numbers_rise,
+         repeats_until_it_is_told, a_drain_is_asked_under_one_key, a_drain_that_is_given_up,
+         frames_of_each_length, a_connection_that_is_out_of_step, an_unsettled_request, nobody_listens,
+         a_timeout_is_kept, cancelled_by_another_thread, an_unsettled_request_is_cancelled,
          interrupted_from_the_keyboard, refusals, no_session, ended_and_replaced, what_is_not_sent,
          one_thread_at_a_time]

@@ -7,6 +7,8 @@ from serve_parts.listening import Listening
 from serve_parts.wire import frame
 
 SILENCE, HANG_UP = "silence", "hang up"
+# A consumer of the greatest numbers.
+BY = (2**53 - 1,) * 3
 
 
 class Scripted(Listening):
@@ -65,8 +67,13 @@ def bytes_of(deed):
 
 
 def welcome(asked, epoch=1):
-    """The welcome to a hello."""
-    return {"kind": "welcome", "epoch": epoch, "client": asked["client"], "incarnation": asked["incarnation"]}
+    """The welcome to a hello, of its version."""
+    return {**asked, "kind": "welcome", "epoch": epoch}
+
+
+def old_server(asked):
+    """What a server that knows no version says to a hello."""
+    return refused(1) if "version" in asked else welcome(asked)
 
 
 def key_members(asked):
@@ -77,6 +84,11 @@ def key_members(asked):
 def reply(word, **more):
     """A deed: the reply to whatever request comes."""
     return lambda asked: {"kind": "reply", **key_members(asked), "reply": word, **more}
+
+
+def received_by(client, incarnation, number):
+    """A deed: the reply to a transfer that this consumer received."""
+    return reply("received", by_client=client, by_incarnation=incarnation, by_number=number)
 
 
 def waiting(asked):

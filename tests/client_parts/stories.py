@@ -1,13 +1,13 @@
 """The table of cases of a client's process, made by the process of tests/model.
- A story is a list of play lines, each with the result that `rv play` must print for it. A line that begins,
-repeats, cancels or ends something, or brings an answer, is a case: what the process is, what comes, what it
-becomes, and what it says. Behind the stories stand cases that no play of a right server comes to.
+ A story is a list of play lines, each with the result that `rv play` must print for it. A line that starts,
+begins, repeats, cancels or ends something, or brings an answer, is a case: what the process is, what comes,
+what it becomes, and what it says. Behind the stories stand cases that no play of a right server comes to.
 """
 import json
 
 from model_parts.account import Key
 from model_parts.steps import refused, replied
-from model_parts.texts import MAX_IDENTIFIER, members_of, members_of_call, read_json
+from model_parts.texts import MAX_IDENTIFIER, TAKER, members_of, members_of_call, read_json
 from model_parts.world import Idle, New, Outstanding, World, call_text
 
 TAKE = '{"call":"take","queue":3,"wait":"forever"}'
@@ -24,6 +24,9 @@ DRAIN = '{"call":"drain","max":2,"queue":3}'
 # Two clients that are welcome: packets 0 and 1 each way.
 ONE = ["start 1 1", "server 0 0", "client 0"]
 TWO = [*ONE, "start 2 1", "server 1 0", "client 1"]
+# The same, where the first client's session is of version 2, or both are.
+SECOND = ["start 1 1 2", *TWO[1:]]
+SECONDS = [*SECOND[:3], "start 2 1 2", *SECOND[4:]]
 STORIES = {
     "a put is done, and told twice": [*ONE, f"begin 1 {PUT}", "server 1 1", "client 1", "client 1"],
     "a process that is new does nothing else": ["start 1 1", f"begin 1 {PUT}", "resend 1", "cancel 1",
@@ -94,21 +97,48 @@ STORIES = {
                 "start 1 2"],
     "a stranger's answer": [*TWO, f"begin 1 {TAKE}", f"begin 2 {PUT}", "server 3 1", "client 2", "server 2 2",
                             "client 3"],
+    "a receipt names the consumer": [*SECOND, f"begin 1 {TRANSFER}", "server 2 1", "client 2", "resend 1",
+                                     f"begin 2 {TAKE}", "server 3 2", "server 4 3", "client 4", "server 3 4",
+                                     "client 3", "client 5", "client 5"],
+    "a receipt names who waited": [*SECOND, f"begin 2 {TAKE}", "server 2 1", f"begin 1 {TRY}", "server 3 2",
+                                   "client 3", "server 3 3", "client 4"],
+    "a receipt names the drain": [*SECONDS, f"begin 2 {POLL}", "server 2 1", "client 2", f"begin 1 {OTHER}",
+                                  "server 3 1", f"begin 2 {DRAIN}", "server 4 2", "client 4", "server 3 3",
+                                  "client 5"],
+    "a receipt behind a cancel": [*SECOND, f"begin 1 {TRANSFER}", "server 2 1", f"begin 2 {TAKE}",
+                                  "server 3 2", "cancel 1", "server 4 3", "client 4"],
+    "only the giver is of version 1": ["start 1 1", *SECONDS[1:], f"begin 1 {TRANSFER}", "server 2 1",
+                                       f"begin 2 {TAKE}", "server 3 2", "server 2 3", "client 4", "client 3"],
+    "a greater incarnation in version 1": [*SECOND, f"begin 1 {TRANSFER}", "server 2 1", "start 1 2",
+                                           "server 3 2", "client 0", "client 3", f"begin 1 {TRANSFER}",
+                                           "server 4 2", f"begin 2 {TAKE}", "server 5 3", "server 4 3",
+                                           "client 6"],
+    "a greater incarnation in version 2": [*ONE, "start 1 2 2", "start 1 2", "server 1 0", "client 0",
+                                           "client 1", f"begin 1 {TRY}", "server 2 1", "client 2"],
     "done, where it was not heard": [*ONE, f"begin 1 {PUT}", "server 1 1", "server 1 2", "resend 1",
                                      "server 2 3",
                                      "client 3", "client 2", "client 1"],
 }
+
+
+def received_by(*taker):
+    """A transfer's reply that names this consumer: its client, incarnation and number."""
+    return {"reply": "received", **dict(zip(TAKER, taker))}
+
+
 GREATEST = Outstanding(Key(1, 1, 1, MAX_IDENTIFIER), call_text(COUNT.encode()))
 ASKING = Outstanding(Key(5, 7, 3, 4), call_text(TRANSFER.encode()))
 # What comes to such processes beside what a right server's play brings.
-BEYOND = [(process, answer) for process in (New(7, 3), Idle(Key(5, 7, 3, 4)), ASKING) for answer in [
+BEYOND = [(process, answer) for process in (New(7, 3), New(7, 3, 2), Idle(Key(5, 7, 3, 4)), ASKING)
+          for answer in [
     *(refused(code, **detail) for code, detail in [
         (1, {}), (2, {"current": 4}), (2, {"current": 5}), (2, {"current": 6}), (3, {}), (4, {"current": 2}),
         (4, {"current": 3}), (4, {"current": 4}), (5, {"last": 4}), (5, {"last": 9}), (6, {}),
         (7, {"open": 3}),
-        (8, {"last": 0}), (9, {}), (10, {}), (11, {})]),
-    *({"kind": "welcome", "epoch": 5, "client": client, "incarnation": incarnation}
-      for client, incarnation in [(7, 3), (7, 2), (7, 4), (8, 3)]),
+        (8, {"last": 0}), (9, {}), (10, {}), (11, {}), (12, {"current": 1}), (12, {"current": 2})]),
+    *({"kind": "welcome", "epoch": 5, "client": client, "incarnation": incarnation, **version}
+      for client, incarnation in [(7, 3), (7, 2), (7, 4), (8, 3)] for version in ({}, {"version": 2})),
+    replied(Key(5, 7, 3, 4), received_by(8, 1, 2)), replied(Key(5, 7, 3, 5), received_by(8, 1, 2)),
     *(replied(Key(*key), {"reply": "received"})
       for key in [(5, 7, 3, 4), (4, 7, 3, 4), (6, 7, 3, 4), (5, 8, 3, 4), (5, 7, 2, 4), (5, 7, 4, 4),
                   (5, 7, 3, 3),
@@ -126,7 +156,7 @@ BEYOND = [(process, answer) for process in (New(7, 3), Idle(Key(5, 7, 3, 4)), AS
 def process_members(process):
     """What a process is, in the members of the table."""
     if isinstance(process, New):
-        return {"state": "new", "client": process.client, "incarnation": process.incarnation}
+        return {"state": "new", **vars(process)}
     if isinstance(process, Idle):
         return {"state": "idle", "key": process.next and vars(process.next)}
     if isinstance(process, Outstanding):
@@ -149,6 +179,8 @@ def case(line, world):
     sent = len(world.to_server)
     seen = world.play(line.encode())
     made = {"play": line, "seen": seen}
+    if line.startswith("start") and len(world.to_server) > sent:
+        return {**made, **started(world, int(line.split(" ")[1]))}
     if client is None or line.startswith("crash"):
         return made
     made.update(process=before, becomes=process_members(world.processes.get(client)))
@@ -161,6 +193,12 @@ def case(line, world):
     if line.startswith("begin"):
         made["call"] = read_json(line.split(" ", 2)[2].encode())
     return made
+
+
+def started(world, client):
+    """The case of a process that has begun: it says its hello."""
+    new = process_members(world.processes[client])
+    return {"process": new, "does": "start", "says": members_of(world.to_server[-1]), "becomes": new}
 
 
 def beyond(process, answer):

@@ -29,7 +29,7 @@ def process_of(members):
     """The Python process of these members."""
     key = members.get("key")
     whose = key or members
-    process = rv.Process(whose.get("client", 1), whose.get("incarnation", 1))
+    process = rv.Process(whose.get("client", 1), whose.get("incarnation", 1), members.get("version", 1))
     process.state, process.key, process.call = members["state"], key and rv.Key(**key), members.get("call")
     return process
 
@@ -37,7 +37,8 @@ def process_of(members):
 def members_of(process):
     """What a Python process is, in the members of the table."""
     if process.state == "new":
-        return {"state": "new", "client": process.client, "incarnation": process.incarnation}
+        return {"state": "new", "client": process.client, "incarnation": process.incarnation,
+                "version": process.version}
     key = {"key": process.key and process.key._asdict()} if process.state in ("idle", "outstanding") else {}
     call = {"call": process.call} if process.state == "outstanding" else {}
     return {"state": process.state, **key, **call}
@@ -45,6 +46,8 @@ def members_of(process):
 
 def said(process, does, call):
     """The message that a process says; None where it has none to say."""
+    if does == "start":
+        return process.hello()
     try:
         if does == "begin":
             process.begin(call)

@@ -46,6 +46,11 @@ NEWEST_FIRST = "gives the items of a drain newest first"
 TOO_MANY = "takes more texts for a drain than a drain gives"
 SHORT_FRAMES = "reads no frame above 4,096 bytes"
 OUT_OF_STEP = "keeps a link that is out of step"
+OTHER_WELCOME = "is welcome in another version"
+OLD_HELLO = "says the hello of version 1 for version 2"
+OWN_NUMBER = "names the consumer by the transfer's own number"
+PART_OF_A_KEY = "takes a part of the consumer's key"
+OTHER_VERSION = "asks on where its version was refused"
 # Where a link was lost, in Python, and what goes on to another number there.
 LOST = "        except (OSError, NoAnswer) as fault:\n"
 SKIP = ("            if %s:\n"
@@ -72,6 +77,16 @@ IN_PYTHON = [
     WrongClient(OUT_OF_STEP, "python_unit, a connection that is out of step", [
         Edit(PYTHON, '            self._hang_up()\n            tries.failed(self.process.key, "answers',
              '            tries.failed(self.process.key, "answers')]),
+    WrongClient(OTHER_WELCOME, "table_cases, the python process", [
+        Edit(PYTHON, 'welcome.get("version", 1))', 'self.version)')]),
+    WrongClient(OLD_HELLO, "python_unit, versions", [
+        Edit(PYTHON, 'if self.version > 1 else {}', 'if self.version > 2 else {}')]),
+    WrongClient(OWN_NUMBER, "python_unit, each call", [
+        Edit(PYTHON, '*(reply[name] for name in BY))', '*(reply[name] for name in (*BY[:2], "number")))')]),
+    WrongClient(PART_OF_A_KEY, "python_unit, what is no receipt", [
+        Edit(PYTHON, 'named = BY if', 'named = tuple(filter(answer.get, BY)) if')]),
+    WrongClient(OTHER_VERSION, "python_unit, other versions", [
+        Edit(PYTHON, 'if code in (1, 6, 7, 8, 10, 12)', 'if code in (1, 6, 7, 8, 10)')]),
 ]
 IN_JAVA = [
     WrongClient(ANOTHER_NUMBER, "java, the java process", [
@@ -88,8 +103,8 @@ IN_JAVA = [
     WrongClient(OTHER_EPOCH, "java, the java process", [
         Edit(PROCESS, '"current") > key.epoch()', '"current") != key.epoch()')]),
     WrongClient(NOBODY, "java, each call", [
-        Edit(QUEUE, 'return Bodies.word(reply, "reply").equals("received");',
-             'return Bodies.word(reply, "reply").matches("received|timedout");')]),
+        Edit(BODIES, 'return word(reply, "reply").equals("received")',
+             'return word(reply, "reply").matches("received|timedout")')]),
     WrongClient(NEWEST_FIRST, "java, drains by steps", [
         Edit(BODIES, 'items.add(text.getAsString())', 'items.add(0, text.getAsString())')]),
     WrongClient(TOO_MANY, "java, a drain is asked under one key", [
@@ -103,6 +118,16 @@ IN_JAVA = [
         Edit(QUEUE, 'return drained;', 'into.addAll(all);\n        return drained;')]),
     WrongClient("drains more than it was asked for", "java, drains by steps", [
         Edit(QUEUE, 'Math.min(Bodies.GREATEST_DRAIN, most - drained)', 'Bodies.GREATEST_DRAIN')]),
+    WrongClient(OTHER_WELCOME, "java, the java process", [
+        Edit(PROCESS, '            && named == version;', '            && named > 0;')]),
+    WrongClient(OLD_HELLO, "java, versions", [
+        Edit(PROCESS, 'if (version > 1) {', 'if (version > 2) {')]),
+    WrongClient(OWN_NUMBER, "java, receipts", [
+        Edit(BODIES, 'number(reply, "by_number")', 'number(reply, "number")')]),
+    WrongClient(PART_OF_A_KEY, "java, what is no receipt", [
+        Edit(BODIES, 'names ? BY :', 'names ? BY.stream().filter(answer::has).toList() :')]),
+    WrongClient(OTHER_VERSION, "java, other versions", [
+        Edit(SESSION, ' || code == 12;', ';')]),
 ]
 
 

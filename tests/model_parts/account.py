@@ -52,8 +52,11 @@ class Call:
 
 @dataclass(frozen=True)
 class Hello:
+    """A hello; `version` is what its session is to speak."""
+
     client: int
     incarnation: int
+    version: int = 1
 
 
 @dataclass(frozen=True)
@@ -168,6 +171,12 @@ def incarnation(entries, client):
     return entries[places[-1]].act.incarnation if places else None
 
 
+def version(entries, client):
+    """The version of the client's last hello, if it said one."""
+    places = hellos(entries, client)
+    return entries[places[-1]].act.version if places else None
+
+
 def last_number(entries, client):
     """The greatest number of an arrival or cancel of the client since its last hello; else 0."""
     places = hellos(entries, client)
@@ -224,12 +233,27 @@ def reply_met(entries, r):
     others = met_with(entries, r)
     if not others:
         return None
+    if entries[r].act.call.word == "transfer":
+        return received(entries, r, entries[others[0]].act.key)
     item = entries[others[0]].act.call.item
     return {
-        "transfer": {"reply": "received"},
         "take": {"reply": "item", "item": item},
         "swap": {"reply": "swapped", "item": item},
     }[entries[r].act.call.word]
+
+
+def received(entries, r, taker):
+    """The reply of a transfer that met the consumer of this key."""
+    return receipt(version(entries[:r], entries[r].act.key.client), taker)
+
+
+def receipt(spoken, taker):
+    """What a transfer is told that the consumer of this key met: in a session of version 2 the key, but for the epoch,
+    which is the answer's."""
+    if spoken == 1:
+        return {"reply": "received"}
+    by = {"by_client": taker.client, "by_incarnation": taker.incarnation, "by_number": taker.number}
+    return {"reply": "received", **by}
 
 
 def reply_unmet(entries, r):

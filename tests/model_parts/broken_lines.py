@@ -12,6 +12,7 @@ epoch 1 opened 0
 TAKE = b'{"call":"take","client":2,'
 HEAD = b"epoch 1 opened 0\n"
 HELLO = b'{"client":1,"incarnation":1,"kind":"hello"}'
+SECOND = HELLO.replace(b"}", b',"version":2}')
 LONG = HELLO + b" " * (65_535 - len(HELLO))
 DRAIN = b'{"call":"drain","client":2,"epoch":1,"incarnation":1,"kind":"request","max":2,"number":1,"queue":3}'
 POLL = b'{"call":"take","client":2,"epoch":1,"incarnation":1,"kind":"request","number":1,"queue":3,"wait":"now"}'
@@ -108,6 +109,15 @@ TEXTS = [
     (HEAD + b"0 - " + LONG, "legal"),
     (HEAD + b"0 - " + LONG + b" ", "bad line 2"),
     (HEAD + b'0 - {"kind":"hello","incarnation":7,"incarnation":1,"client":1}', "legal"),
+    (HEAD + b"0 - " + SECOND, "legal"),
+    (HEAD + b'0 - {"version":2,"kind":"hello","incarnation":1,"client":1}', "legal"),
+    (HEAD + b"0 - " + SECOND + b"\n0 - " + HELLO, "fault 1 N1"),
+    (HEAD + b"0 - " + HELLO + b"\n0 - " + SECOND, "fault 1 N1"),
+    (HEAD + b"0 - " + HELLO + b"\n0 - " + SECOND.replace(b'"incarnation":1', b'"incarnation":2'), "legal"),
+    (HEAD + b"0 0 " + SECOND, "fault 0 P1"),
+    *((HEAD + b"0 - " + SECOND.replace(b"2}", told + b"}"), "bad line 2")
+      for told in [b"1", b"3", b"0", b"2.0", b'"2"', b"null", b"[2]", b"2,\"by_client\":1"]),
+    (HEAD + b'0 - {"client":1,"epoch":1,"incarnation":1,"kind":"cancel","number":1,"version":2}', "bad line 2"),
     (HEAD + b"0  - " + HELLO, "bad line 2"),
     (HEAD + b" 0 - " + HELLO, "bad line 2"),
     (HEAD + b"0 -\t" + HELLO, "bad line 2"),

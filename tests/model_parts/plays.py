@@ -72,7 +72,8 @@ class Play:
         newest = max((earlier for other, earlier in self.world.started if other == client), default=0)
         if self.odds(0.005):
             newest = MAX_IDENTIFIER - 1
-        return b"start %d %d" % (client, max(1, newest + self.chance.choice([1] * 12 + [2, 0, -1])))
+        line = b"start %d %d" % (client, max(1, newest + self.chance.choice([1] * 12 + [2, 0, -1])))
+        return line + b" 2" if self.odds(self.script.seconds) else line
 
     def speech(self):
         """A client says what its process may say, or now and then something else."""
@@ -98,7 +99,7 @@ class Play:
         answers = [k for k, (client, _) in enumerate(self.world.to_client) if client == new.client]
         if answers and self.odds(0.5):
             return b"client %d" % answers[-1]
-        hello = self.world.to_server.index(Hello(new.client, new.incarnation))
+        hello = self.world.to_server.index(Hello(new.client, new.incarnation, new.version))
         return b"server %d %s" % (hello, self.script.moment())
 
     def call(self):
@@ -120,7 +121,7 @@ class Play:
             odd(self.chance.choice(ODD_NUMBERS)), odd(self.chance.choice(ODD_NUMBERS)),
             b" ".join([self.chance.choice(WORDS), *words[1:]]), self.chance.choice(ODD_LINES), b" " + line,
             line + b" ", line + b"\r", line.replace(b" ", b"  ", 1), line.replace(b" ", b"\t", 1), line[:-1],
-            b" ".join(words[:-1]), line + b" 1", line.upper(), line + b"\x00",
+            b" ".join(words[:-1]), line + b" 1", line + b" 2", line + b" 3", line + b" 02", line.upper(), line + b"\x00",
         ])
 
 

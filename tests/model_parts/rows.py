@@ -1,15 +1,17 @@
 """Worked rows: what each line is told, with values that were set beforehand. The model is tested by all of them but
 the long ones, and the program by those whose messages it knows.
 
-A row is lines `[@MOMENT] WHAT => ANSWER`; without @MOMENT the moment is 0. WHAT is `hello CLIENT/INCARNATION`,
-`cancel KEY`, `KEY CALL`, or `line` and the line's text itself. KEY is `CLIENT#NUMBER` with incarnation 1, or
-`CLIENT/INCARNATION#NUMBER`, and `EPOCH:` may stand before it. ANSWER is `welcome`, `waiting`, `refused CODE DETAIL`,
-a reply's word and members (of `drained` its texts), or `{..`, the text itself.
+A row is lines `[@MOMENT] WHAT => ANSWER`; without @MOMENT the moment is 0. WHAT is `hello CLIENT/INCARNATION`, with
+` version VERSION` behind it where that is told, `cancel KEY`, `KEY CALL`, or `line` and the line's text itself. KEY is
+`CLIENT#NUMBER` with incarnation 1, or `CLIENT/INCARNATION#NUMBER`, and `EPOCH:` may stand before it. ANSWER is
+`welcome`, `waiting`, `refused CODE DETAIL`, a reply's word and members (of `drained` its texts, of `received` the key
+that it names), or `{..`, the text itself.
 """
 import json
 import re
 
 from model_parts.account import Account, Key
+from model_parts.answers import DETAILS
 from model_parts.lines import account_text
 from model_parts.steps import told
 from model_parts.texts import written
@@ -27,7 +29,6 @@ MANY_TAKERS = "\n".join([
     "2#514 count 3 => counted 0 0",
 ])
 THREE = "hello 1/1 => welcome\nhello 2/1 => welcome\nhello 3/1 => welcome\n"
-DETAILS = {2: "current", 4: "current", 5: "last", 7: "open", 8: "last"}
 LONGEST = '"' + 512 * "\\u0001" + '"'
 # Three drains: of two items, of the one that is left, and of none; the first one's reply is told again.
 DRAIN_ROW = "a drain, its repeat and what is left"
@@ -521,14 +522,20 @@ def call_members(text):
     return members
 
 
+def session_members(text):
+    """The members that a hello and its welcome have of a session."""
+    own, _, version = text.partition(" version ")
+    client, incarnation = map(int, own.split("/"))
+    return {"client": client, "incarnation": incarnation, **({"version": int(version)} if version else {})}
+
+
 def line_of(what, moment, epoch):
     """The line that a row means, and the key members that its reply has."""
     if what.startswith("line "):
         return what.removeprefix("line "), {}
     first, rest = what.split(" ", 1)
     if first == "hello":
-        client, incarnation = map(int, rest.split("/"))
-        members = {"client": client, "incarnation": incarnation}
+        members = session_members(rest)
         return f"{moment} {written({'kind': 'hello', **members})}", {"epoch": epoch, **members}
     key = key_of(rest if first == "cancel" else first, epoch)
     act = {"kind": "cancel"} if first == "cancel" else {"kind": "request", **call_members(rest)}
@@ -550,6 +557,9 @@ def answer_of(text, key):
         members["items"], members["consumers"] = map(int, rest[0].split())
     elif word == "drained":
         members["texts"] = texts_of(rest[0] if rest else "")
+    elif word == "received" and rest:
+        taker = key_of(rest[0], key["epoch"])
+        members.update((f"by_{name}", taker[name]) for name in ("client", "incarnation", "number"))
     elif rest:
         members["item"] = json.loads(rest[0])
     return written({"kind": "reply", **key, **members})
@@ -581,8 +591,7 @@ def result_of(text):
         return text
     first, rest = words[before], " ".join(words[before + 1 :])
     if first == "welcome":
-        client, incarnation = map(int, rest.split("/"))
-        body = answer_of("welcome", {"epoch": 1, "client": client, "incarnation": incarnation})
+        body = answer_of("welcome", {"epoch": 1, **session_members(rest)})
     elif first == "refused":
         body = answer_of(f"refused {rest}", {})
     else:
@@ -649,9 +658,9 @@ def world_row_fault(pairs, partners, held):
     return world_fault(world) if set(said) == {"legal"} else f"an account breaks a rule: {said}"
 
 
-def play_row_faults():
+def play_row_faults(worlds=WORLDS):
     """Each worked world by its name, with what is wrong with it, if something is."""
-    for name, *world in WORLDS:
+    for name, *world in worlds:
         yield name, world_row_fault(*world)
 
 
@@ -666,9 +675,9 @@ def row_fault(epoch, lines):
     return None if said == "legal" else f"the account breaks a rule: {said}"
 
 
-def row_faults():
+def row_faults(rows=ROWS):
     """Each row by its name, with what is wrong with it, if something is."""
-    for name, epoch, lines in ROWS:
+    for name, epoch, lines in rows:
         yield name, row_fault(epoch, lines)
 
 

@@ -2,10 +2,10 @@
 import json
 
 from model_parts.account import (
-    MAX_CLIENTS, Account, Key, Request, incarnation, last_number, limit, reply, waiting, waiting_of)
+    MAX_CLIENTS, Account, Key, Request, incarnation, last_number, limit, reply, version, waiting, waiting_of)
 from model_parts.audit import audit
 from model_parts.steps import replied, told
-from model_parts.texts import KEY, MAX_BODY_BYTES, MAX_IDENTIFIER, members_of_call, written
+from model_parts.texts import KEY, MAX_BODY_BYTES, MAX_IDENTIFIER, members_of_call, members_of_version, written
 
 LETTERS = ["a", "b", "x", " ", "/", '"', "\\", "\0", "\x01", "\b", "\t", "\n", "\f", "\r", "\x1f", "\x7f", "\x80",
            "é", "߿", "ࠀ", "\u2028", "\ud7ff", "\ue000", "�", "\uffff", "𝄞", "\U0010ffff"]
@@ -15,7 +15,9 @@ VALUES = [*NUMBERS, None, True, "", "1", "now", "forever", "NOW", "put", "take",
 TEXTS = ["", "[]", '"hello"', "null", "{}", "{", "}", "01", "nul", "[" * 127 + "]" * 127, "[" * 128 + "]" * 128]
 NUMERALS = ["1.0", "1e2", "1E0", "-0", "-1", "01", "+1", ".5", "1.", "1e999", "1e-999", "0x1", "NaN", "Infinity",
             "18446744073709551615", "18446744073709551616", "9" * 400, '"1"', "0", "00"]
-FURTHER = ["x", "", "Kind", "item", "wait", "queue", "exchanger", "max", "texts"]
+FURTHER = ["x", "", "Kind", "item", "wait", "queue", "exchanger", "max", "texts", "version", "version", "by_client"]
+# What a hello tells of its version, of which 2 alone makes a message.
+VERSIONS = [1, 1, 2, 2, 3, 0, 2.0, "2", None, [2], 2**64 + 2]
 BYTES = [b"\xff", b"\xc0\x80", b"\xed\xa0\x80", b"\xc2\xa0", b"\x0b", b"\x00"]
 ESCAPES = [b"\\ud800", b"\\udc00", b"\\ud83d\\ude00", b"\\x", b"\\u12", b"\\"]
 MILLIS = [0, 0, 1, 1, 2, 3, 5, 10, 20, 100, 86_399_999, 86_400_000, 86_400_001]
@@ -53,6 +55,7 @@ class Script:
         self.patience = chance.choice([0.2, 0.5, 0.9])
         self.haste = chance.choice([0.1, 0.5, 0.9])
         self.drains = chance.choice([0, 0.1, 0.5])
+        self.seconds = chance.choice([0, 0.5, 0.9, 1])
         if chance.random() < 0.3:
             self.hoard()
         self.pace = chance.choice(PACES)
@@ -84,7 +87,7 @@ class Script:
 
     def newcomer(self):
         """The hello of the next newcomer."""
-        members = {"kind": "hello", "client": self.newcomers.pop(), "incarnation": self.chance.choice([1, 1, 2])}
+        members = self.hello_of(self.newcomers.pop(), self.chance.choice([1, 1, 2]))
         return self.moment() + b" " + written(members).encode()
 
     def any_line(self):
@@ -133,20 +136,32 @@ class Script:
         return self.chance.choice(self.crowd if self.crowd and self.odds(0.3) else self.clients)
 
     def hello(self):
-        """A hello: of a new incarnation, of this one again, or of an old one."""
+        """A hello: of a new incarnation, of this one again, or of an old one; now and then of a version that is told
+        otherwise."""
         client = self.client()
         current = incarnation(self.account.entries, client)
         number = self.chance.choice([1, 2]) if current is None else current + self.chance.choice([0, 0, 1, 1, 2, -1])
         if self.odds(0.01):
             number = MAX_IDENTIFIER
-        return {"kind": "hello", "client": client, "incarnation": max(1, number)}
+        hello = self.hello_of(client, max(1, number))
+        return {**hello, "version": self.chance.choice(VERSIONS)} if self.odds(0.04) else hello
+
+    def hello_of(self, client, number):
+        """A hello in an incarnation: of the session's version where there is one, and else of any; now and then of the
+        other one."""
+        spoken = 2 if self.odds(self.seconds) else 1
+        if number == incarnation(self.account.entries, client):
+            spoken = version(self.account.entries, client)
+        if self.odds(0.06):
+            spoken = 3 - spoken
+        return {"kind": "hello", "client": client, "incarnation": number, **members_of_version(spoken)}
 
     def of_a_key(self):
         """A request or cancel, mostly one that its session may send next."""
         entries, client = self.account.entries, self.client()
         current = incarnation(entries, client)
         if current is None and self.odds(0.8):
-            return {"kind": "hello", "client": client, "incarnation": 1}
+            return self.hello_of(client, 1)
         last = last_number(entries, client) if current else 0
         step = 0 if waiting_of(entries, client) and self.odds(0.6) else self.chance.choice(self.steps)
         number = max(1, last + step)
@@ -238,6 +253,7 @@ class Script:
             lambda: padded(self.chance.choice([4_096, 4_097, MAX_BODY_BYTES, MAX_BODY_BYTES + 1])),
             lambda: nested(self.chance.choice([1, 125, 126, 127])),
             lambda: body[:-1] + b',"kind":"hello"}',
+            lambda: body[:-1] + b',"version":%d}' % self.chance.choice([1, 2, 2, 3]),
             lambda: self.chance.choice(TEXTS).encode(),
         ])()
 

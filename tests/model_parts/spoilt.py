@@ -25,7 +25,8 @@ HEADS = [b"", b" ", b"epoch", b"epoch 1", b"epoch 1 opened", b"epoch 1 opened ",
          b"epoch - opened 0", b"epoch 1 opened -"]
 BODIES = [b"{}", b"[]", b"null", b"1", b'""', b"{", b"}", b"-", b'{"kind":"tick"}', b'{"kind":"welcome"}',
           b'{"client":1,"epoch":1,"incarnation":1,"kind":"welcome"}', b'{"code":1,"kind":"refused"}',
-          b'{"client":0,"incarnation":1,"kind":"hello"}', b'{"client":9007199254740992,"incarnation":1,"kind":"hello"}']
+          b'{"client":0,"incarnation":1,"kind":"hello"}', b'{"client":9007199254740992,"incarnation":1,"kind":"hello"}',
+          *(b'{"client":1,"incarnation":1,"kind":"hello","version":%s}' % told for told in [b"1", b"2", b"3", b'"2"', b"2.0"])]
 
 
 class AccountScript(Script):
@@ -258,12 +259,14 @@ class SpoiltEntries:
         self.set(j, act=replace(self.entries[j].act, key=key))
 
     def greeting(self):
-        """A hello's client or incarnation is another."""
+        """A hello's client, incarnation or version is another."""
         j = self.place(Hello)
         if j is None:
             return
         hello = self.entries[j].act
-        if self.odds(0.4):
+        if self.odds(0.2):
+            hello = replace(hello, version=3 - hello.version)
+        elif self.odds(0.4):
             hello = replace(hello, client=self.chance.choice([*self.script.clients, 5_000]))
         else:
             number = self.chance.choice([hello.incarnation - 1, hello.incarnation + 1, 1, MAX_IDENTIFIER])
@@ -303,7 +306,8 @@ class SpoiltEntries:
             return
         match self.entries[j].act:
             case Request(key, _):
-                self.set(j, act=self.chance.choice([Cancel(key), Cancel(key), Hello(key.client, key.incarnation + 1)]))
+                self.set(j, act=self.chance.choice(
+                    [Cancel(key), Cancel(key), Hello(key.client, key.incarnation + 1, self.chance.choice([1, 2]))]))
             case Cancel(key):
                 self.set(j, act=Request(key, self.any_call(self.chance.choice(WORDS), self.script.queues[0])))
             case Hello():

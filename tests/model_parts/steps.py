@@ -3,9 +3,9 @@ from itertools import combinations
 
 from model_parts.account import (
     MAX_CLIENTS, MAX_ENTRIES, MAX_MOMENT, OTHER_SIDE, Cancel, Entry, Hello, Request, Tick, arrival_of, incarnation,
-    last_number, open_at, overdue, reply, stays, waiting, waiting_of)
+    last_number, open_at, overdue, reply, stays, version, waiting, waiting_of)
 from model_parts.audit import broken_rule
-from model_parts.texts import MAX_DRAIN, NoReading, read_line, written
+from model_parts.texts import MAX_DRAIN, NoReading, members_of, read_line, written
 
 # Of so many places all lists are tried.
 FEW = 3
@@ -33,7 +33,7 @@ def replied(key, members):
 
 def welcome(account, hello):
     """The members of a welcome."""
-    return {"kind": "welcome", "epoch": account.epoch, "client": hello.client, "incarnation": hello.incarnation}
+    return {**members_of(hello), "kind": "welcome", "epoch": account.epoch}
 
 
 def step_moment(account, now):
@@ -100,7 +100,8 @@ def hello_lines(account, hello):
     if current is not None and current > hello.incarnation:
         return refused(4, current=current)
     if current == hello.incarnation:
-        return welcome(account, hello)
+        spoken = version(account.entries, hello.client)
+        return welcome(account, hello) if spoken == hello.version else refused(12, current=spoken)
     clients = {entry.act.client for entry in account.entries if isinstance(entry.act, Hello)}
     if current is None and len(clients) >= MAX_CLIENTS:
         return refused(9)

@@ -20,6 +20,8 @@ CALLS = {
     "peek": {"queue"},
 }
 KEY = ("epoch", "client", "incarnation", "number")
+# Behind the epoch, which is the answer's, the key of a consumer that an answer names.
+TAKER = ("by_client", "by_incarnation", "by_number")
 
 
 class NoReading(Exception):
@@ -34,11 +36,21 @@ def written(members):
 def members_of(message):
     """The members of a message."""
     match message:
-        case Hello():
-            return {"kind": "hello", **vars(message)}
+        case Hello(client, incarnation, version):
+            return {"kind": "hello", "client": client, "incarnation": incarnation, **members_of_version(version)}
         case Cancel(key):
             return {"kind": "cancel", **vars(key)}
     return {"kind": "request", **vars(message.key), **members_of_call(message.call)}
+
+
+def members_of_version(version):
+    """What a hello or its welcome tells of the version: nothing of the first."""
+    return {"version": version} if version != 1 else {}
+
+
+def version_of(members):
+    """The version that members tell, of which it is taken out: the first, unless a member tells the second."""
+    return whole(members.pop("version"), 2, 2) if "version" in members else 1
 
 
 def members_of_call(call):
@@ -68,14 +80,20 @@ def read_message(body):
     demand(isinstance(members, dict))
     kind = members.pop("kind", None)
     if kind == "hello":
-        demand(members.keys() == {"client", "incarnation"})
-        return Hello(whole(members["client"], 1, MAX_IDENTIFIER), whole(members["incarnation"], 1, MAX_IDENTIFIER))
+        return read_hello(members)
     demand(kind in ("request", "cancel") and members.keys() >= set(KEY))
     key = Key(*(whole(members.pop(name), 1, MAX_IDENTIFIER) for name in KEY))
     if kind == "request":
         return Request(key, read_call(members))
     demand(not members)
     return Cancel(key)
+
+
+def read_hello(members):
+    """The hello with these members."""
+    version = version_of(members)
+    demand(members.keys() == {"client", "incarnation"})
+    return Hello(*(whole(members[name], 1, MAX_IDENTIFIER) for name in ("client", "incarnation")), version)
 
 
 def read_call(members):

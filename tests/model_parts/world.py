@@ -5,9 +5,9 @@ from dataclasses import dataclass, field
 from model_parts.account import (
     Account, Call, Cancel, Hello, Key, Request, arrival_of, arrivals, is_open, met_with, open_at, reply)
 from model_parts.audit import audit
-from model_parts.steps import refused, step
+from model_parts.steps import step
 from model_parts.texts import (
-    KEY, MAX_BODY_BYTES, MAX_IDENTIFIER, NoReading, demand, read_call, read_json, written)
+    KEY, MAX_BODY_BYTES, MAX_IDENTIFIER, TAKER, NoReading, demand, read_call, read_json, written)
 
 NO_SUCH_PACKET, NOT_IDLE, NOT_OUTSTANDING, NOT_GREATER, EPOCH_NOT_GREATER, NO_SUCH_CLIENT = range(1, 7)
 # The replies after which nothing is handed over.
@@ -22,6 +22,7 @@ class Refused(Exception):
 class New:
     client: int
     incarnation: int
+    version: int = 1
 
 
 @dataclass(frozen=True)
@@ -78,12 +79,12 @@ class World:
             raise Refused(refusal)
         return process
 
-    def do_start(self, client, incarnation):
+    def do_start(self, client, incarnation, version=1):
         if any(other == client and earlier >= incarnation for other, earlier in self.started):
             raise Refused(NOT_GREATER)
         self.started.append((client, incarnation))
-        self.processes[client] = New(client, incarnation)
-        return self.send(Hello(client, incarnation))
+        self.processes[client] = New(client, incarnation, version)
+        return self.send(Hello(client, incarnation, version))
 
     def do_begin(self, client, call):
         key = self.process(client, Idle, NOT_IDLE).next
@@ -130,8 +131,7 @@ class World:
         """What a new process makes of an answer."""
         if answer["kind"] == "refused":
             return f"turned away {answer['code']}"
-        own = (answer["client"], answer["incarnation"]) == (new.client, new.incarnation)
-        if answer["kind"] != "welcome" or not own:
+        if answer["kind"] != "welcome" or not is_own(new, answer):
             return "ignored"
         self.processes[new.client] = Idle(Key(answer["epoch"], new.client, new.incarnation, 1))
         return "welcomed"
@@ -168,6 +168,11 @@ class World:
         return [(key_of(answer), reply_of(answer)) for _, answer in self.to_client if answer["kind"] == "reply"]
 
 
+def is_own(new, answer):
+    """Whether a welcome is that of a new process: of its client, its incarnation and its version."""
+    return {"version": 1, **answer}.items() >= vars(new).items()
+
+
 def key_of(answer):
     """The key that an answer's members name."""
     return Key(*(answer[name] for name in KEY))
@@ -192,6 +197,13 @@ def identifier(text):
     return number(text)
 
 
+def session(text):
+    """An incarnation, and the version: the second where it stands behind, and else the first."""
+    incarnation, space, version = text.partition(b" ")
+    demand(not space or version == b"2")
+    return identifier(incarnation), 2 if space else 1
+
+
 def call_text(text):
     """The call that a call text says."""
     demand(1 <= len(text) <= MAX_BODY_BYTES)
@@ -206,7 +218,7 @@ def read_event(line):
     first, space, second = rest.partition(b" ")
     match word:
         case b"start":
-            return "start", identifier(first), identifier(second)
+            return "start", identifier(first), *session(second)
         case b"begin":
             return "begin", identifier(first), call_text(second)
         case b"server":
@@ -264,7 +276,8 @@ def illegal(world):
 
 
 def unassigned(world):
-    """A transfer that was received by nobody, or an item that is not its one giver's, or that a partner got else."""
+    """A transfer that was received by nobody, or by another than it was told; or an item that is not its one giver's, or
+    that a partner got else."""
     calls = dict(world.asked)
     for key, told in world.answered():
         if told["reply"] not in ("received", "item", "drained", "swapped"):
@@ -274,13 +287,18 @@ def unassigned(world):
         others = sorted(q if r == p else p for p, q in pairs(account) if r in (p, q))
         if len(others) != len(told.get("texts", [None])):
             return f"{key} was answered {told}, and is in {len(others)} pairs"
-        acts = [account.entries[other].act for other in others]
-        if told["reply"] == "received" and got_of(account, r, acts[0].key) != calls[key].item:
-            return f"{key} was answered received, and {acts[0].key} got another item"
-        gave = [calls[act.key].item for act in acts]
-        if told["reply"] != "received" and texts_of(told) != gave:
+        keys = [account.entries[other].act.key for other in others]
+        if told["reply"] == "received":
+            if got_of(account, r, keys[0]) != calls[key].item or named(key, told) not in (None, keys[0]):
+                return f"{key} was answered {told}, and {keys[0]} got {got_of(account, r, keys[0])}"
+        elif texts_of(told) != (gave := [calls[other].item for other in keys]):
             return f"{key} was answered {told}, and was given {gave}"
     return None
+
+
+def named(key, told):
+    """The key of the consumer that the reply to a key names, which is of the same epoch; none where it names none."""
+    return Key(key.epoch, *(told[name] for name in TAKER)) if told.keys() >= set(TAKER) else None
 
 
 def texts_of(told):

@@ -1,14 +1,15 @@
-"""Books that drain wrongly, made of the model by a change in its step. Each must be found: by the worked row of drains,
-and with no expected values, by what must hold of a random world, or by its audit."""
+"""Books that drain wrongly, or that name the wrong consumer, made of the model by a change in its step. Each must be found:
+by a worked row, and with no expected values, by what must hold of a random world, or by its audit."""
 import random
 from contextlib import contextmanager
 from dataclasses import replace
 
 from model_parts import steps
-from model_parts.account import OTHER_SIDE, Entry, Request, is_open, open_at
+from model_parts.account import OTHER_SIDE, Entry, Hello, Request, arrival_of, is_open, open_at, received
 from model_parts.plays import Play, make_play
 from model_parts.rows import DRAIN_ROW, ROWS, row_fault
 from model_parts.texts import MAX_DRAIN
+from model_parts.version_rows import BOTH_ROW, NAMED_ROW, VERSION_ROWS
 
 # How many random worlds a wrong book has, at most, and how many lines each.
 WORLDS, LINES = 40, 300
@@ -29,10 +30,57 @@ def newest_first(entries, key):
 def drained_not_told(entries, key):
     """The reply of a key, of which none is told to a transfer that a drain took."""
     members = reply(entries, key)
-    if not members or members["reply"] != "received":
+    if not is_receipt(members):
         return members
-    r = next(r for r, entry in enumerate(entries) if isinstance(entry.act, Request) and entry.act.key == key)
+    r = arrival_of(entries, key)
     return None if any(is_drain(entry) and r in entry.partners for entry in entries) else members
+
+
+def is_receipt(members):
+    """Whether a reply is that an item was received."""
+    return bool(members) and members["reply"] == "received"
+
+
+def latest_named(entries, key):
+    """The reply of a key, of which a receipt of version 2 names the consumer that came last to the queue, whoever took the
+    item."""
+    members = reply(entries, key)
+    if not is_receipt(members):
+        return members
+    r = arrival_of(entries, key)
+    return received(entries, r, consumers(entries, r)[-1])
+
+
+def consumers(entries, r):
+    """The keys of all takes and drains in the queue of an arrival, oldest first."""
+    at = entries[r].act.call.at
+    there = [entry.act for entry in entries if isinstance(entry.act, Request) and entry.act.call.side == "taking"]
+    return [act.key for act in there if act.call.at == at]
+
+
+def latest_that_waits_named(entries, key):
+    """The reply of a key, of which a receipt of version 2 that is told at once names the last of the consumers that wait."""
+    members, r = reply(entries, key), arrival_of(entries, key)
+    if not is_receipt(members) or not entries[r].partners:
+        return members
+    there = open_at(entries[:r], "taking", entries[r].act.call.at)
+    return received(entries, r, entries[there[-1]].act.key)
+
+
+def none_named(entries, key):
+    """The reply of a key as if each session had version 1."""
+    return reply(with_version(entries, 1), key)
+
+
+def all_named(entries, key):
+    """The reply of a key as if each session had version 2."""
+    return reply(with_version(entries, 2), key)
+
+
+def with_version(entries, version):
+    """The entries, each hello with this version."""
+    return tuple(replace(entry, act=replace(entry.act, version=version)) if isinstance(entry.act, Hello) else entry
+                 for entry in entries)
 
 
 def named_newest_first(account, moment, message):
@@ -85,7 +133,13 @@ WRONG_BOOKS = [
     ("a drain leaves what it may take", {"entered": one_too_few}),
     ("a drain passes over the oldest item", {"entered": second_first}),
     ("a drained transfer is not told received", {"reply": drained_not_told}),
+    ("a receipt names the consumer that came last to the queue", {"reply": latest_named}),
+    ("a receipt names the last of the consumers that wait", {"reply": latest_that_waits_named}),
+    ("a receipt of version 2 names nobody", {"reply": none_named}),
+    ("a receipt of version 1 names its consumer", {"reply": all_named}),
 ]
+# The rows of which one at least tells of each wrong book.
+FOUND_BY = [row for row in [*ROWS, *VERSION_ROWS] if row[0] in (DRAIN_ROW, NAMED_ROW, BOTH_ROW)]
 
 
 @contextmanager
@@ -99,26 +153,26 @@ def stepping(parts):
         vars(steps).update(kept)
 
 
-def drain_row_fault():
-    """What the worked row of drains tells of the book."""
-    [(epoch, lines)] = [row[1:] for row in ROWS if row[0] == DRAIN_ROW]
-    return row_fault(epoch, lines)
+def rows_fault():
+    """What the worked rows tell of the book."""
+    return next(filter(None, (row_fault(epoch, lines) for _, epoch, lines in FOUND_BY)), None)
 
 
-class DrainPlay(Play):
-    """A world's lines with many drains, in one queue or two."""
+class BusyPlay(Play):
+    """A world's lines in one queue, with many drains, or with many takes that wait, and with sessions of both versions."""
 
     def __init__(self, chance):
         super().__init__(chance)
-        self.script.drains, self.script.puts, self.script.queues = 0.6, 0.5, self.script.queues[:1]
-        self.script.gives = 0.6
+        script, drains = self.script, chance.random() < 0.6
+        script.drains, script.gives, script.patience = (0.6, 0.6, script.patience) if drains else (0.1, 0.4, 0.9)
+        script.puts, script.queues, script.seconds = 0.5, script.queues[:1], 0.6
 
 
 def world_fault(seed):
     """What a random world breaks of what must hold of all, if something. One that comes to an account which no entry can
     follow tells nothing."""
     try:
-        return make_play(random.Random(seed), LINES, DrainPlay)[1]
+        return make_play(random.Random(seed), LINES, BusyPlay)[1]
     except ValueError:
         return None
 
@@ -128,7 +182,7 @@ def wrong_book_faults():
     at in the same ways, must have no fault."""
     for name, parts in [("the right book", {}), *WRONG_BOOKS]:
         with stepping(parts):
-            seen = {"its worked row": drain_row_fault(),
+            seen = {"worked rows": rows_fault(),
                     "random worlds": next(filter(None, map(world_fault, range(WORLDS))), None)}
         for what, fault in seen.items():
             yield f"{name}, by {what}", None if bool(fault) == bool(parts) else fault or "it was not found"

@@ -7,12 +7,13 @@ from model_parts.account import Key
 from model_parts.texts import written
 from serve_parts.programs import Caller, Server
 from serve_parts.wire import (
-    BAD_TEXT, PATIENCE, Peer, Wrong, demand, frame, give, hello, replied, request, take, until, waits, welcome)
+    BAD_TEXT, PATIENCE, Peer, Wrong, demand, frame, give, hello, refused, replied, request, take, until, waits, welcome)
 
 ONE = Key(1, 2, 1, 1)
 WISH = take("forever")
 HELLO, ASKED = hello(2), request(ONE, WISH)
 WELCOME, WAITS = frame(welcome(2)), frame(waits(ONE))
+SECOND, SECOND_WELCOME = hello(2, version=2), frame(welcome(2, version=2))
 ITEM = replied(ONE, reply="item", item="a")
 ANSWER = frame(ITEM)
 
@@ -27,23 +28,32 @@ def lines(*calls):
 
 def refusal(code, **detail):
     """The frame of a refusal."""
-    return frame(written({"kind": "refused", "code": code, **detail}).encode())
+    return frame(refused(code, **detail))
 
 
 def two_callers(program):
-    """Two callers hand an item over, and swap."""
+    """Two callers hand an item over, and swap, each in either version: the giver's own tells whether it is told who took
+    its item."""
+    named = {"reply": "received", "by_client": 2, "by_incarnation": 1, "by_number": 1}
+    for gives, receipt in [(1, {"reply": "received"}), (2, named)]:
+        for takes in (1, 2):
+            hand_over(program, gives, takes, receipt)
+
+
+def hand_over(program, gives, takes, receipt):
+    """Two callers of these versions."""
     gift, first, second = give("transfer", "a", "forever"), *(swapped(item) for item in "bc")
     with Server(program, workers=2, connections=2) as server:
         given, got = Key(1, 1, 1, 1), Key(1, 2, 1, 1)
         after = [Key(1, client, 1, 2) for client in (1, 2)]
-        with Caller(program, server.port, 1, lines(gift, first)) as giver:
+        with Caller(program, server.port, 1, lines(gift, first), speak=gives) as giver:
             # A caller does not try again where nobody listens yet.
-            giver = again_if_early(program, server, giver, lines(gift, first))
-            with giver, Caller(program, server.port, 2, lines(WISH, second)) as taker:
+            giver = again_if_early(program, server, giver, lines(gift, first), gives)
+            with giver, Caller(program, server.port, 2, lines(WISH, second), speak=takes) as taker:
                 taker.judge(replied(got, reply="item", item="a") + b"\n" + replied(after[1], reply="swapped", item="b") + b"\n")
-                giver.judge(replied(given, reply="received") + b"\n" + replied(after[0], reply="swapped", item="c") + b"\n")
+                giver.judge(replied(given, **receipt) + b"\n" + replied(after[0], reply="swapped", item="c") + b"\n")
         asked = {given: gift, got: WISH, after[0]: first, after[1]: second}
-        account = server.judged(asked, [(given, {"reply": "received"}), (got, {"reply": "item", "item": "a"})])
+        account = server.judged(asked, [(given, receipt), (got, {"reply": "item", "item": "a"})])
         demand(account is None or len(account.entries) == 6, "the account has other than six entries")
 
 
@@ -52,7 +62,7 @@ def swapped(item):
     return {"call": "swap", "exchanger": 5, "item": item, "wait": "forever"}
 
 
-def again_if_early(program, server, caller, text):
+def again_if_early(program, server, caller, text, speak):
     """The caller, or one like it where the server did not listen yet."""
     ends = time.monotonic() + PATIENCE
     while True:
@@ -60,7 +70,7 @@ def again_if_early(program, server, caller, text):
         if caller.runs() or time.monotonic() > ends:
             return caller
         caller.judge(b"", 1, b"address fault\n")
-        caller = Caller(program, server.port, 1, text)
+        caller = Caller(program, server.port, 1, text, speak=speak)
 
 
 def a_line_as_soon_as_it_is_settled(program):
@@ -112,6 +122,21 @@ def started_again(program):
                     continue
                 keys = [Key(1, client, incarnation, number) for number in range(1, len(wanted) + 1)]
                 caller.judge(b"".join(replied(key, **reply) + b"\n" for key, reply in zip(keys, wanted)))
+        server.ended()
+
+
+def started_in_another_version(program):
+    """A client that is started again in its incarnation is welcome in the version of its session alone; in a greater
+    incarnation in any."""
+    gift = lines(give("transfer", "a", "now"))
+    runs = [(1, 2, None), (1, 1, b"refused 12"), (1, 2, None), (2, 1, None), (2, 2, b"refused 12"), (1, 1, b"refused 4"),
+            (1, 2, b"refused 4"), (3, 2, None)]
+    with Server(program, workers=1, connections=len(runs) + 1) as server:
+        server.greeted(9).close()
+        for incarnation, speak, word in runs:
+            with Caller(program, server.port, 1, gift, incarnation, tries=2, speak=speak) as caller:
+                told = replied(Key(1, 1, incarnation, 1), reply="nobody")
+                caller.judge((word or told) + b"\n", int(word is not None))
         server.ended()
 
 
@@ -195,6 +220,12 @@ SCRIPTS = [
     ([refusal(1)], b"refused 1", 1, [HELLO]),
     ([refusal(9)], b"refused 9", 1, [HELLO]),
     ([refusal(11)], b"refused 11", 1, [HELLO]),
+    ([refusal(12, current=2)], b"refused 12", 1, [HELLO]),
+    ([refusal(12, current=3)], b"not welcome", 1, [HELLO]),
+    ([refusal(12)], b"not welcome", 1, [HELLO]),
+    ([SECOND_WELCOME] * 3, b"not welcome", 1, [HELLO] * 3),
+    ([SECOND_WELCOME, WELCOME, ANSWER], ITEM, 0, [HELLO, HELLO, ASKED]),
+    ([WELCOME, refusal(12, current=2), SECOND_WELCOME, ANSWER], ITEM, 0, [HELLO, ASKED, ASKED, ASKED]),
     ([ANSWER, WELCOME, ANSWER], ITEM, 0, [HELLO, HELLO, ASKED]),
     ([WELCOME, WAITS, ANSWER], ITEM, 0, [HELLO, ASKED, ASKED]),
     ([WELCOME, WAITS, WAITS, ANSWER], ITEM, 0, [HELLO, ASKED, ASKED, ASKED]),
@@ -229,19 +260,32 @@ BAD_LINES = [b"x", b"", b"{}", ASKED, HELLO, lines(PUTS[0])[:-2], b'{"call":"off
              b'{"call":"put","item":"%s","queue":3}' % (b"x" * 513), b'{"call":"put","item":"a","queue":64}', b" " * 5000]
 
 
-def at_a_script(program, steps, text, tries, printed, status, heard, slowly=False):
+# The same of a caller of version 2.
+SECOND_SCRIPTS = [
+    ([WELCOME] * 3, b"not welcome", 1, [SECOND] * 3),
+    ([WELCOME, SECOND_WELCOME, WAITS, ANSWER], ITEM, 0, [SECOND, SECOND, ASKED, ASKED]),
+    ([frame(welcome(2, 1, 2, version=2)), frame(welcome(3, version=2)), SECOND_WELCOME, ANSWER], ITEM, 0, [SECOND] * 3 + [ASKED]),
+    ([refusal(12, current=1)], b"refused 12", 1, [SECOND]),
+    ([refusal(4, current=2)], b"refused 4", 1, [SECOND]),
+    ([frame(welcome(2, version=3))], b"not welcome", 1, [SECOND]),
+    ([SECOND_WELCOME, refusal(12, current=1), WELCOME, ANSWER], ITEM, 0, [SECOND, ASKED, ASKED, ASKED]),
+]
+
+
+def at_a_script(program, steps, text, tries, printed, status, heard, slowly=False, speak=1):
     """A caller at a listener that answers by a script must end so."""
     with Scripted(steps, slowly) as listener:
-        with Caller(program, listener.port, 2, text, tries=tries) as caller:
+        with Caller(program, listener.port, 2, text, tries=tries, speak=speak) as caller:
             caller.judge(printed, status)
     demand(listener.heard == heard and not listener.fault,
            f"{steps}: the listener heard {listener.heard} and met {listener.fault}, not {heard}")
 
 
 def strange_servers(program):
-    """Rubbish, half a frame, another's answers, and answers that settle nothing."""
-    for steps, printed, status, heard in SCRIPTS:
-        at_a_script(program, steps, lines(WISH), 3, printed + b"\n", status, heard)
+    """Rubbish, half a frame, another's answers, those of another version, and answers that settle nothing."""
+    for speak, scripts in [(1, SCRIPTS), (2, SECOND_SCRIPTS)]:
+        for steps, printed, status, heard in scripts:
+            at_a_script(program, steps, lines(WISH), 3, printed + b"\n", status, heard, speak=speak)
     at_a_script(program, [WELCOME, WAITS, ANSWER], lines(WISH), 3, ITEM + b"\n", 0, [HELLO, ASKED, ASKED], slowly=True)
     at_a_script(program, [WELCOME, WAITS], lines(WISH), 1, b"unsettled 1\n", 1, [HELLO, ASKED])
 
@@ -276,5 +320,6 @@ def no_packet_waits(program):
     demand(took < EXCHANGES * DELAY / 2, f"{EXCHANGES} requests took {took:.1f} seconds")
 
 
-CASES = [two_callers, a_line_as_soon_as_it_is_settled, settled_in_turn, started_again, started_while_it_waits,
+CASES = [two_callers, a_line_as_soon_as_it_is_settled, settled_in_turn, started_again, started_in_another_version,
+         started_while_it_waits,
          strange_servers, lines_of_calls, no_packet_waits]

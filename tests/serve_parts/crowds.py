@@ -4,10 +4,10 @@ import random
 import threading
 import time
 
-from model_parts.account import Key
+from model_parts.account import Key, receipt
 from serve_parts.programs import Server
 from serve_parts.wire import (
-    cancel, demand, drain, frame, give, hello, key_of, members_of, reply_of, request, swap, take, together,
+    cancel, demand, drain, frame, give, hello, key_of, members_of, refused, reply_of, request, swap, take, together,
     welcome)
 
 SIZES = (4, 10, 25, 60)
@@ -32,10 +32,13 @@ class Ledger:
     def __init__(self):
         self.lock = threading.Lock()
         self.asked, self.told, self.given_up = {}, {}, set()
+        # The version of each key's session.
+        self.spoken = {}
 
-    def ask(self, key, call):
+    def ask(self, key, call, version=1):
         with self.lock:
             demand(self.asked.setdefault(key, call) == call, f"{key} is asked with two calls")
+            self.spoken[key] = version
 
     def tell(self, key, reply):
         """Keeps a reply; a second one must be the same."""
@@ -50,6 +53,7 @@ class Client:
     def __init__(self, server, ledger, number, chance):
         self.server, self.ledger, self.number, self.chance = server, ledger, number, chance
         self.incarnation, self.last, self.peer, self.before = 1, 0, None, None
+        self.version = chance.choice([1, 2])
 
     def run(self):
         """Says hello, and asks until each request has its reply; now and then it starts anew."""
@@ -75,17 +79,25 @@ class Client:
             self.peer = None
 
     def greet(self):
-        self.link().expect(hello(self.number, self.incarnation), welcome(self.number, self.server.epoch, self.incarnation))
+        """Says hello in its version; now and then in the other one too, in which it is not welcome."""
+        self.say_hello(self.version, welcome(self.number, self.server.epoch, self.incarnation, self.version))
+        if self.chance.random() < 0.2:
+            self.say_hello(3 - self.version, refused(12, current=self.version))
+
+    def say_hello(self, version, wanted):
+        self.link().expect(hello(self.number, self.incarnation, version), wanted)
 
     def start_anew(self):
-        """Gives up a request that nobody heard an answer to, in the middle of it, and starts in a greater incarnation."""
+        """Gives up a request that nobody heard an answer to, in the middle of it, and starts in a greater incarnation and
+        in any version."""
         key, call = self.next_key(), self.call()
-        self.ledger.ask(key, call)
+        self.ledger.ask(key, call, self.version)
         self.ledger.given_up.add(key)
         self.link().send(frame(request(key, call)))
         time.sleep(self.chance.choice([0, 0.01, 0.05]))
         self.hang_up()
         self.incarnation += self.chance.choice([1, 1, 3])
+        self.version = self.chance.choice([1, 2])
         self.last, self.before = 0, None
         self.greet()
 
@@ -109,7 +121,7 @@ class Client:
     def settle(self, call):
         """Asks until the request has its reply, over a link that does not care; then asks now and then once more."""
         key = self.next_key()
-        self.ledger.ask(key, call)
+        self.ledger.ask(key, call, self.version)
         if self.chance.random() < 0.05:
             self.hear(key, cancel(key))
         tries = 0
@@ -234,7 +246,7 @@ def take_the_rest(server, ledger, number):
 
 def crowd_fault(ledger, left):
     """What of all that was told cannot be, if something."""
-    for part in [wrong_kinds, wrong_texts, twice_taken, after_a_no, unassigned, lost, untrue_swaps, disorder]:
+    for part in [wrong_kinds, wrong_texts, wrong_names, twice_taken, after_a_no, unassigned, lost, untrue_swaps, disorder]:
         fault = part(ledger, left)
         if fault:
             return f"{part.__name__.replace('_', ' ')}: {fault}"
@@ -289,6 +301,25 @@ def wrong_texts(ledger, left):
             if any(giver == earlier and int(given) <= int(before) for earlier, before in givers[:number]):
                 return f"{key} was told {told}, out of order"
     return None
+
+
+def wrong_names(ledger, left):
+    """A receipt of version 2 that does not name the consumer who was told the item, or one who gave up; one of version 1
+    that names anybody."""
+    takers = {item: key for item, key, _ in taken(ledger)}
+    for key, call, told in told_of(ledger, "transfer"):
+        if told and told["reply"] == "received":
+            taker = takers.get(call["item"], gone_taker(ledger, key, call, told))
+            if taker is None or told != receipt(ledger.spoken[key], taker):
+                return f"{key} was told {told}, and {taker} took its item"
+    return None
+
+
+def gone_taker(ledger, key, call, told):
+    """The key of a consumer who gave up and may have got the item of a transfer: the one that is named, where one is."""
+    given_up = [other for other, wish, heard in told_of(ledger, "take", "drain")
+                if heard is None and wish["queue"] == call["queue"]]
+    return next((other for other in given_up if told == receipt(ledger.spoken[key], other)), None)
 
 
 def twice_taken(ledger, left):

@@ -22,6 +22,8 @@ class Hostile:
 
     def __init__(self, server, chance, client):
         self.server, self.chance, self.client = server, chance, client
+        version = chance.choice([1, 2])
+        self.hello, self.welcome = hello(client, version=version), welcome(client, version=version)
         self.kinds = [self.noise, self.bad_length, self.cut_frame, self.nonsense, self.reset, self.silence]
 
     def run(self, left):
@@ -42,7 +44,7 @@ class Hostile:
     def good(self):
         """Some frames of this client's own, and the answers to them."""
         times = self.chance.choice([0, 0, 1, 5])
-        return frame(hello(self.client)) * times, [welcome(self.client)] * times
+        return frame(self.hello) * times, [self.welcome] * times
 
     def noise(self):
         """Random bytes."""
@@ -60,7 +62,7 @@ class Hostile:
     def cut_frame(self):
         """Good frames and one that is cut: they are answered."""
         data, answers = self.good()
-        whole = frame(hello(self.client))
+        whole = frame(self.hello)
         cut = self.chance.choice([whole[: self.chance.randint(1, 44)], b"\x10\x01", b"\xff\xff" + whole,
                                   b"GET / HTTP/1.1\r\n\r\n"])
         with self.server.connect() as peer:
@@ -81,7 +83,7 @@ class Hostile:
     def reset(self):
         """The connection is reset, in the middle of what is asked."""
         peer = self.server.connect()
-        peer.send(frame(hello(self.client)) * self.chance.choice([1, 50]) + self.bytes(0, 50))
+        peer.send(frame(self.hello) * self.chance.choice([1, 50]) + self.bytes(0, 50))
         time.sleep(self.chance.choice([0, 0, 0.001]))
         peer.reset()
 

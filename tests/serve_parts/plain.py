@@ -7,7 +7,7 @@ import time
 from model_parts.account import Key
 from serve_parts.programs import Server, free_port
 from serve_parts.wire import (
-    BAD_TEXT, MAX_FRAME, PATIENCE, Peer, cancel, demand, drain, frame, give, hello, key_of, members_of, replied,
+    BAD_TEXT, MAX_FRAME, PATIENCE, Peer, cancel, demand, drain, frame, give, hello, members_of, refused, replied,
     reply_of, request, take, together, until, waits, welcome)
 
 GREATEST = 2**53 - 1
@@ -94,6 +94,35 @@ def a_request_that_waits_alone(program):
             peer.expect(request(fourth, give("transfer", "a", 300)), replied(fourth, reply="timedout"))
         asked = {first: take("forever"), second: take(20), third: take("forever"), fourth: give("transfer", "a", 300)}
         server.judged(asked, [(first, {"reply": "cancelled"}), (second, {"reply": "timedout"})])
+
+
+def sessions_of_both_versions(program):
+    """A hello tells its session's version, which no other hello of its incarnation changes. In the second a transfer is
+    told who took its item: in its own frame where it waits, at once where a consumer does, and again."""
+    with Server(program, workers=3, connections=3) as server:
+        gift, wish, second = give("transfer", "a", "forever"), take("forever"), give("transfer", "b", "now", queue=4)
+        one, two, three = (lambda number, client=client: Key(1, client, 1, number) for client in (1, 2, 3))
+        plain = {"reply": "received"}
+        by = {number: {**plain, "by_client": 3, "by_incarnation": 1, "by_number": number} for number in (1, 2, 3)}
+        asked = {one(1): gift, two(1): gift, three(1): wish, three(2): wish, three(3): take("forever", queue=4), one(2): second}
+        with server.greeted(1, version=2) as giver, server.greeted(2) as other, server.greeted(3) as taker:
+            for peer, client, version in [(giver, 1, 2), (other, 2, 1)]:
+                peer.expect(hello(client, version=3 - version), refused(12, current=version))
+                peer.expect(hello(client, version=3), BAD_TEXT)
+            for peer, key, receipt in [(giver, one(1), by[1]), (other, two(1), plain)]:
+                peer.send(frame(request(key, gift)))
+                time.sleep(0.1)
+                taker.expect(request(three(key.client), wish), replied(three(key.client), reply="item", item="a"))
+                got = peer.hear()
+                demand(got == replied(key, **receipt), f"the transfer that waited was answered {got!r}")
+                peer.expect(hello(key.client, version=key.client % 2 + 1), welcome(key.client, version=key.client % 2 + 1))
+                peer.expect(request(key, gift), replied(key, **receipt))
+            taker.send(frame(request(three(3), asked[three(3)])))
+            time.sleep(0.1)
+            giver.expect(request(one(2), second), replied(one(2), **by[3]))
+            got = taker.hear()
+            demand(got == replied(three(3), reply="item", item="b"), f"the take that waited was answered {got!r}")
+        server.judged(asked, [(one(1), by[1]), (two(1), plain), (one(2), by[3])])
 
 
 def many_that_wait(program):
@@ -228,7 +257,7 @@ def a_late_client(program):
     """Who comes after the last accept is refused, and not left waiting, though a connection is still served."""
     with Server(program, workers=2, connections=1) as server:
         with server.greeted(1) as peer:
-            def refused():
+            def is_refused():
                 try:
                     late = server.connect()
                 except ConnectionError:
@@ -243,7 +272,7 @@ def a_late_client(program):
                     except TimeoutError:
                         return False
 
-            until("a late client is refused", refused)
+            until("a late client is refused", is_refused)
             demand(server.runs(), "serve ended before its last connection did")
             peer.expect(hello(1), welcome(1))
         server.judged({}, [])
@@ -354,7 +383,8 @@ def serve_words(**other):
 
 def call_words(**other):
     """The words of a caller that finds nobody."""
-    return words_of("call", {"connect": "127.0.0.1:1", "client": "1", "incarnation": "1", "tries": "1"} | other)
+    options = {"connect": "127.0.0.1:1", "client": "1", "incarnation": "1", "tries": "1", "speak": "1"}
+    return words_of("call", options | other)
 
 
 def words_of(command, options):
@@ -383,29 +413,33 @@ def bad_words(program):
     bad = (2, b"command fault 1\n")
     for name in ("listen", "epoch", "workers", "connections"):
         ends_so(program, serve_words(**{name: None}), *bad)
-    for name in ("connect", "client", "incarnation", "tries"):
+    for name in ("connect", "client", "incarnation", "tries", "speak"):
         ends_so(program, call_words(**{name: None}), *bad)
     odd = ["", "x", "-1", "+1", "1.0", " 1", "1 ", "0x1", "1" + "0" * 19, "０"]
     limits = {"epoch": ["0", "9007199254740992"], "workers": ["0", "65"], "connections": ["4294967296"],
-              "client": ["0", "9007199254740992"], "incarnation": ["0", "9007199254740992"], "tries": ["4294967296"]}
+              "client": ["0", "9007199254740992"], "incarnation": ["0", "9007199254740992"], "tries": ["4294967296"],
+              "speak": ["0", "3"]}
     for name, values in limits.items():
         for value in [*odd, *values]:
             words = serve_words if name in ("epoch", "workers", "connections") else call_words
             ends_so(program, words(**{name: value}), *bad)
     for words in [serve_words() + ["--tries", "1"], serve_words() + ["--epoch", "1"], serve_words() + ["x"],
-                  call_words() + ["--epoch", "1"], call_words() + ["x"], ["serve"], ["call"], ["serve", "--help"],
+                  serve_words() + ["--speak", "1"], call_words() + ["--speak", "1"], call_words() + ["--epoch", "1"],
+                  call_words() + ["x"], ["serve"], ["call"], ["serve", "--help"],
                   ["call", "--help"], ["--epoch", "1", *serve_words(epoch=None)], ["Serve", *serve_words()[1:]]]:
         ends_so(program, words, *bad)
     for options in [{"epoch": str(GREATEST)}, {"workers": "64"}, {"workers": "0000000000000000064"}, {"epoch": "01"}]:
         ran = subprocess.run([program, *serve_words(**options)], input=b"", capture_output=True, timeout=PATIENCE)
         first = b"epoch %d opened 0\n" % int(options.get("epoch", "1"))
         demand(ran.stdout in (b"", first) and (ran.stderr, ran.returncode) == (b"", 0), f"{options}: {ran}")
-    for options in [{"tries": "0"}, {"tries": "4294967295"}, {"client": str(GREATEST)}, {"incarnation": str(GREATEST)}]:
+    for options in [{"tries": "0"}, {"tries": "4294967295"}, {"client": str(GREATEST)}, {"incarnation": str(GREATEST)},
+                    {"speak": "2"}, {"speak": "02"}]:
         ends_so(program, call_words(**options), 1, b"address fault\n")
 
 
 CASES = [
-    a_hand_over, a_consumer_that_waits, a_drain, a_request_that_waits_alone, many_that_wait, a_new_incarnation, long_texts,
+    a_hand_over, a_consumer_that_waits, a_drain, a_request_that_waits_alone, sessions_of_both_versions, many_that_wait,
+    a_new_incarnation, long_texts,
     ends_of_connections, too_many_frames, no_packet_waits, its_connections, a_late_client, a_silent_peer, many_at_once,
     a_port_that_is_taken, nobody_listens, broken_streams, addresses, bad_words,
 ]

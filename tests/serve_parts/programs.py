@@ -128,10 +128,10 @@ class Server(Process):
                 self.made += 1
             return self.peer(connection)
 
-    def greeted(self, client, incarnation=1):
+    def greeted(self, client, incarnation=1, version=1):
         """A connection whose client was welcomed."""
         peer = self.connect()
-        peer.expect(hello(client, incarnation), welcome(client, self.epoch, incarnation))
+        peer.expect(hello(client, incarnation, version), welcome(client, self.epoch, incarnation, version))
         return peer
 
     def use_up(self):
@@ -177,9 +177,9 @@ class Server(Process):
 class Caller(Process):
     """A caller, with these lines for its input."""
 
-    def __init__(self, program, port, client, lines, incarnation=1, tries=20):
+    def __init__(self, program, port, client, lines, incarnation=1, tries=20, speak=1):
         super().__init__([program, "call", "--connect", f"127.0.0.1:{port}", "--client", str(client),
-                          "--incarnation", str(incarnation), "--tries", str(tries)])
+                          "--incarnation", str(incarnation), "--tries", str(tries), "--speak", str(speak)])
         try:
             self.process.stdin.write(lines)
             self.process.stdin.close()

@@ -6,7 +6,7 @@ import threading
 import time
 
 from model_parts.account import Key
-from model_parts.texts import KEY, read_json, written
+from model_parts.texts import KEY, members_of_version, read_json, written
 
 # How long a client waits for bytes, for room, or for a server that is to end, in seconds.
 PATIENCE = 30
@@ -29,9 +29,10 @@ def frame(body):
     return struct.pack(">H", len(body)) + body
 
 
-def hello(client, incarnation=1):
+def hello(client, incarnation=1, version=1):
     """The body of a hello."""
-    return written({"kind": "hello", "client": client, "incarnation": incarnation}).encode()
+    members = {"kind": "hello", "client": client, "incarnation": incarnation}
+    return written({**members, **members_of_version(version)}).encode()
 
 
 def request(key, call):
@@ -64,10 +65,15 @@ def swap(item, wait, exchanger=5):
     return {"call": "swap", "exchanger": exchanger, "item": item, "wait": wait}
 
 
-def welcome(client, epoch=1, incarnation=1):
+def welcome(client, epoch=1, incarnation=1, version=1):
     """The body of a welcome."""
     members = {"kind": "welcome", "client": client, "epoch": epoch, "incarnation": incarnation}
-    return written(members).encode()
+    return written({**members, **members_of_version(version)}).encode()
+
+
+def refused(code, **detail):
+    """The body of a refusal."""
+    return written({"kind": "refused", "code": code, **detail}).encode()
 
 
 def replied(key, **reply):

@@ -3,9 +3,10 @@ import random
 import socket
 import subprocess
 
-from model_parts.account import Key
-from model_parts.texts import (
-    KEY, MAX_BODY_BYTES, MAX_DRAIN, MAX_IDENTIFIER, MAX_ITEM_BYTES, NoReading, demand as holds, read_json, whole, written)
+from model_parts.account import Hello, Key
+from model_parts.answers import CODES, LEAST, MOST, REPLIES, read_answer
+from model_parts.texts import KEY, MAX_DRAIN, MAX_IDENTIFIER, TAKER, NoReading, members_of_version, written
+from model_parts.world import is_own
 from serve_parts.accounts import account_fault
 from serve_parts.listening import Listening
 from serve_parts.wire import (
@@ -14,15 +15,15 @@ from torture_parts.mutants import EDGES, Mutants
 from torture_parts.system import HostileServer, System
 
 CALLERS, RUNS, LINES = 8, 12, 5
-MOST_PLACES, CODES = 100_000, 11
 # What a caller ends with where it prints no line more, with its words on standard error.
 FAULTS = [(1, b"run fault 3\n"), (2, b"command fault 2\n"), (1, b"address fault\n")]
 WORDS = (b"not welcome", b"refused 11", b"unsettled")
 
 
-def call_words(port, client, tries):
+def call_words(port, client, tries, speak):
     """The words of a caller."""
-    return ["call", "--connect", f"127.0.0.1:{port}", "--client", str(client), "--incarnation", "1", "--tries", str(tries)]
+    return ["call", "--connect", f"127.0.0.1:{port}", "--client", str(client), "--incarnation", "1", "--tries", str(tries),
+            "--speak", str(speak)]
 
 
 def any_call(chance, item):
@@ -64,8 +65,8 @@ def one_caller(program, server, client, calls, chance):
     system = System(chance.randrange(2**31))
     system.be(growth=1_500, cut_read=3, failed_read=6_000, cut_write=3, failed_write=6_000)
     text = b"".join(written(call).encode() + b"\n" for call in calls)
-    ran = subprocess.run([program, *call_words(server.port, client, 5)], input=text, capture_output=True, env=system.env,
-                         timeout=PATIENCE)
+    words = call_words(server.port, client, 5, chance.choice([1, 2]))
+    ran = subprocess.run([program, *words], input=text, capture_output=True, env=system.env, timeout=PATIENCE)
     *lines, rest = ran.stdout.split(b"\n")
     end = (ran.returncode, ran.stderr)
     word = lines.pop() if lines and lines[-1].startswith(WORDS) else None
@@ -79,60 +80,23 @@ def one_caller(program, server, client, calls, chance):
 
 # ---- answers that are spoilt
 
-REPLIES = {"done": (), "received": (), "nobody": (), "item": ("item",), "empty": (), "swapped": ("item",), "timedout": (),
-           "cancelled": (), "counted": ("consumers", "items"), "peeked": ("item",), "drained": ("texts",)}
-DETAILS = {2: "current", 4: "current", 5: "last", 7: "open", 8: "last"}
-LEAST = {"last": 0, "consumers": 0, "items": 0, "code": 1}
-MOST = {"consumers": MOST_PLACES, "items": MOST_PLACES, "code": CODES}
 OWN = {"client": 2, "epoch": 1, "incarnation": 1, "number": 1}
-WELCOME = {"kind": "welcome", "client": 2, "epoch": 1, "incarnation": 1}
+NAMED = {"kind": "reply", **OWN, "reply": "received", **dict.fromkeys(TAKER, 7)}
+WELCOMES = [{"kind": "welcome", "client": 2, "epoch": 1, "incarnation": 1, **members_of_version(version)} for version in (1, 2)]
 ANSWERS = [
-    WELCOME, {**WELCOME, "incarnation": 2}, {"kind": "waiting", **OWN}, {"kind": "reply", **OWN, "reply": "done"},
+    *WELCOMES, {**WELCOMES[0], "incarnation": 2}, {"kind": "waiting", **OWN}, {"kind": "reply", **OWN, "reply": "done"},
     {"kind": "reply", **OWN, "reply": "item", "item": "a\n\u00e9"}, {"kind": "reply", **OWN, "number": 2, "reply": "empty"},
     {"kind": "reply", **OWN, "reply": "counted", "items": 3, "consumers": 0}, {"kind": "refused", "code": 2, "current": 1},
     {"kind": "refused", "code": 2, "current": 9}, {"kind": "refused", "code": 4, "current": 1}, {"kind": "refused", "code": 11},
     {"kind": "refused", "code": 4, "current": 3}, {"kind": "refused", "code": 5, "last": 0}, {"kind": "refused", "code": 6},
     {"kind": "refused", "code": 7, "open": 1}, {"kind": "refused", "code": 1}, {"kind": "refused", "code": 3},
     {"kind": "reply", **OWN, "reply": "drained", "texts": ["a", "", "\n\u00e9"]},
+    NAMED, {"kind": "reply", **OWN, "reply": "received"}, {"kind": "refused", "code": 12, "current": 2},
 ]
-ITEM, COUNTED, DRAINED = ANSWERS[4], ANSWERS[6], ANSWERS[17]
+ITEM, COUNTED, DRAINED = ANSWERS[5], ANSWERS[7], ANSWERS[18]
 # Answers that settle nothing, and how many answers a caller is sent at most.
-STILL = [ANSWERS[at] for at in (2, 5, 7, 9, 10, 12, 13, 14, 15, 16)]
+STILL = [ANSWERS[at] for at in (3, 6, 8, 10, 11, 13, 14, 15, 16, 17, 21)]
 MOST_ANSWERS = 6
-
-
-def read_answer(body):
-    """The members of an answer whose body the bytes are."""
-    holds(1 <= len(body) <= MAX_BODY_BYTES)
-    members = read_json(body)
-    holds(isinstance(members, dict))
-    names = {"welcome": KEY[:3], "waiting": KEY, "reply": (*KEY, "reply"), "refused": ("code",)}.get(word_of(members, "kind"))
-    holds(names is not None and members.keys() >= set(names))
-    if members["kind"] == "reply":
-        holds(word_of(members, "reply") in REPLIES)
-        names += REPLIES[members["reply"]]
-    if members["kind"] == "refused":
-        names += (DETAILS[whole(members["code"], 1, CODES)],) if whole(members["code"], 1, CODES) in DETAILS else ()
-    holds(members.keys() == {"kind", *names})
-    for name in names:
-        if name == "item":
-            holds(is_item(members["item"]))
-        elif name == "texts":
-            texts = members["texts"]
-            holds(isinstance(texts, list) and len(texts) <= MAX_DRAIN and all(map(is_item, texts)))
-        elif name != "reply":
-            whole(members[name], LEAST.get(name, 1), MOST.get(name, MAX_IDENTIFIER))
-    return members
-
-
-def is_item(value):
-    """Whether a value is a text of an item."""
-    return isinstance(value, str) and len(value.encode()) <= MAX_ITEM_BYTES
-
-
-def word_of(members, name):
-    """A member that is a text."""
-    return members.get(name) if isinstance(members.get(name), str) else None
 
 
 class Link:
@@ -146,14 +110,13 @@ class Link:
         size = int.from_bytes(self.data[:2])
         body, self.data = self.data[2 : 2 + size], self.data[2 + size :]
         try:
-            holds(1 <= size <= MAX_FRAME and len(body) == size)
-            return read_answer(body)
+            return read_answer(body) if len(body) == size else None
         except NoReading:
             return None
 
 
-def caller(data, tries):
-    """What a caller of one line prints of these answers, and whether it stops there."""
+def caller(data, tries, speak):
+    """What a caller of one line and this version prints of these answers, and whether it stops there."""
     link = Link(data)
     for _ in range(tries):
         answer = link.ask()
@@ -161,7 +124,7 @@ def caller(data, tries):
             return "not welcome", 1
         if answer["kind"] == "refused":
             return f"refused {answer['code']}", 1
-        if answer["kind"] == "welcome" and (answer["client"], answer["incarnation"]) == (2, 1):
+        if answer["kind"] == "welcome" and is_own(Hello(2, 1, speak), answer):
             return one_call(link, {**OWN, "epoch": answer["epoch"]}, tries)
     return "not welcome", 1
 
@@ -197,11 +160,12 @@ class Sender(Listening):
                 pass
 
 
-def answers(chance):
+def answers(chance, speak):
     """The bytes of some answers, one of them spoilt or more."""
     mutants, data = Mutants(chance), b""
     for at in range(chance.randint(2, MOST_ANSWERS)):
-        known = chance.choice([WELCOME] * 60 + ANSWERS if at == 0 else [*STILL, *ANSWERS, *[COUNTED, ITEM, DRAINED] * 5])
+        own = [WELCOMES[speak - 1]] * 60 + ANSWERS
+        known = chance.choice(own if at == 0 else [*STILL, *ANSWERS, *[COUNTED, ITEM, DRAINED, NAMED] * 5])
         body = written(known).encode()
         if mutants.odds(0.2 if at == 0 else 0.6):
             body = chance.choice([lambda: mutants.flipped(body), lambda: spoilt(mutants, known), mutants.shape])()
@@ -221,10 +185,12 @@ def spoilt(mutants, members):
         edges = EDGES["item"]
     elif name == "texts":
         edges = [[], [""] * MAX_DRAIN, [""] * (MAX_DRAIN + 1), ["a", 1], [["a"]], *([text] for text in EDGES["item"])]
+    elif name in ("version", "current", "code"):
+        edges += [1, 2, 3, CODES]
     number = mutants.chance.choice(edges)
     pairs[at : at + 1] = mutants.chance.choice([
         [], [(name, number)], [(name, number)], [(name, mutants.value())], [(name, value), (name, value)],
-        [(name, value), (mutants.chance.choice([*REPLIES, *LEAST, "current", "item", "texts"]), number)],
+        [(name, value), (mutants.chance.choice([*REPLIES, *LEAST, *TAKER, "code", "current", "item", "texts"]), number)],
         [(name, mutants.chance.choice([*REPLIES, "welcome", "reply", "waiting", "refused"]))]])
     mutants.chance.shuffle(pairs)
     return ("{" + ",".join(f"{written(name)}:{mutants.text(value)}" for name, value in pairs) + "}").encode()
@@ -236,10 +202,11 @@ def spoilt_answers(program, seed, count):
     with Sender() as sender:
         for number in range(count // MOST_ANSWERS):
             chance = random.Random(f"answers {seed} {number}")
-            sender.data = answers(chance)
-            printed, status = caller(sender.data, MOST_ANSWERS)
-            ran = subprocess.run([program, *call_words(sender.port, 2, MOST_ANSWERS)], input=text, capture_output=True,
-                                 timeout=PATIENCE)
+            speak = chance.choice([1, 2])
+            sender.data = answers(chance, speak)
+            printed, status = caller(sender.data, MOST_ANSWERS, speak)
+            words = call_words(sender.port, 2, MOST_ANSWERS, speak)
+            ran = subprocess.run([program, *words], input=text, capture_output=True, timeout=PATIENCE)
             got = ran.stdout, ran.stderr, ran.returncode
             demand(got == (printed.encode() + b"\n", b"", status), f"number {number}, {sender.data!r}: {got}, not {printed}")
     return count // MOST_ANSWERS

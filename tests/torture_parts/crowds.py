@@ -7,7 +7,7 @@ import time
 
 from serve_parts import crowds
 from serve_parts.crowds import Ledger, crowd_fault, take_the_rest
-from serve_parts.wire import cancel, demand, hello, members_of, request, together, welcome
+from serve_parts.wire import demand, hello, members_of, together
 from torture_parts.system import HostileServer, System
 
 NO_MEMORY = {"code": 11, "kind": "refused"}
@@ -24,18 +24,17 @@ class Stubborn(crowds.Client):
         except ConnectionError:
             self.hang_up()
 
-    def greet(self):
+    def say_hello(self, version, wanted):
         for _ in range(MOST_TRIES):
             try:
-                answer = self.link().told(hello(self.number, self.incarnation))
+                answer = self.link().told(hello(self.number, self.incarnation, version))
             except ConnectionError:
                 self.hang_up()
                 continue
             if answer != NO_MEMORY:
-                wanted = members_of(welcome(self.number, self.server.epoch, self.incarnation))
-                demand(answer == wanted, f"a hello was answered {answer}")
+                demand(answer == members_of(wanted), f"a hello was answered {answer}")
                 return
-        demand(False, f"client {self.number} is not welcome after {MOST_TRIES} tries")
+        demand(False, f"client {self.number} has no answer to its hello after {MOST_TRIES} tries")
 
     def try_once(self, key, call, body):
         try:

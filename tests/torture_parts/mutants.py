@@ -14,7 +14,6 @@ from model_parts.scripts import (
 from model_parts.steps import told
 from model_parts.texts import MAX_DRAIN, MAX_IDENTIFIER, MAX_ITEM_BYTES, MAX_PLACE, MAX_WAIT, written
 from model_parts.verdicts import verdict
-from model_parts.world import World
 from serve_parts.programs import Server
 from serve_parts.wire import MAX_FRAME, demand, frame
 
@@ -28,6 +27,7 @@ DRAINS = next(drain_texts())[0].encode()
 KEY = {"client": 1, "epoch": 1, "incarnation": 1, "number": 1}
 SHAPES = [
     {"kind": "hello", "client": 1, "incarnation": 1},
+    {"kind": "hello", "client": 1, "incarnation": 1, "version": 2},
     {"kind": "request", **KEY, "call": "put", "item": "a", "queue": 3},
     {"kind": "request", **KEY, "call": "transfer", "item": "a", "queue": 3, "wait": "now"},
     {"kind": "request", **KEY, "call": "take", "queue": 3, "wait": 0},
@@ -37,10 +37,13 @@ SHAPES = [
     {"kind": "request", **KEY, "call": "peek", "queue": 3},
     {"kind": "cancel", **KEY},
     {"kind": "welcome", "client": 1, "epoch": 1, "incarnation": 1},
+    {"kind": "welcome", "client": 1, "epoch": 1, "incarnation": 1, "version": 2},
     {"kind": "reply", **KEY, "reply": "item", "item": "a"},
     {"kind": "reply", **KEY, "reply": "drained", "texts": ["a", ""]},
+    {"kind": "reply", **KEY, "reply": "received", "by_client": 2, "by_incarnation": 1, "by_number": 1},
     {"kind": "waiting", **KEY},
     {"kind": "refused", "code": 4, "current": 2},
+    {"kind": "refused", "code": 12, "current": 2},
 ]
 IDENTIFIERS = [0, 1, MAX_IDENTIFIER, MAX_IDENTIFIER + 1]
 # The limits of members, and what is just beyond them.
@@ -48,6 +51,7 @@ EDGES = {
     **dict.fromkeys(KEY, IDENTIFIERS),
     **dict.fromkeys(("queue", "exchanger"), [0, MAX_PLACE, MAX_PLACE + 1, 2**64]),
     "max": [0, 1, MAX_DRAIN, MAX_DRAIN + 1],
+    "version": [0, 1, 2, 3],
     "wait": ["now", "forever", 0, 1, MAX_WAIT, MAX_WAIT + 1],
     "item": ["", "x" * MAX_ITEM_BYTES, "x" * (MAX_ITEM_BYTES + 1), "\u00e9" * 256, "\u00e9" * 257],
 }

@@ -19,9 +19,11 @@ CLIENTS, ENTRIES = 1_024, 3
 
 
 def talk_of(client):
-    """What a client asks in turn, with the answers: it says hello, puts "a" and takes it."""
+    """What a client asks in turn, with the answers: it says hello, each other one in version 2, puts "a" and takes it."""
     put, poll = (Key(1, client, 1, number) for number in (1, 2))
-    return [(hello(client), welcome(client)), (request(put, give("put", "a")), replied(put, reply="done")),
+    version = client % 2 + 1
+    return [(hello(client, version=version), welcome(client, version=version)),
+            (request(put, give("put", "a")), replied(put, reply="done")),
             (request(poll, take("now")), replied(poll, reply="item", item="a"))]
 
 
@@ -133,9 +135,9 @@ def each_byte_of_a_server(program):
 # ---- a caller
 
 LINES = [give("put", "a"), take("now"), {"call": "count", "queue": 3}]
-ASKED = [hello(2), *(request(Key(1, 2, 1, number), call) for number, call in enumerate(LINES, 1))]
+ASKED = [hello(2, version=2), *(request(Key(1, 2, 1, number), call) for number, call in enumerate(LINES, 1))]
 REPLIES = [{"reply": "done"}, {"reply": "item", "item": "a"}, {"reply": "counted", "items": 0, "consumers": 0}]
-ANSWERS = [welcome(2), *(replied(Key(1, 2, 1, number), **reply) for number, reply in enumerate(REPLIES, 1))]
+ANSWERS = [welcome(2, version=2), *(replied(Key(1, 2, 1, number), **reply) for number, reply in enumerate(REPLIES, 1))]
 PRINTED = [answer + b"\n" for answer in ANSWERS[1:]]
 TEXT = b"".join(written(call).encode() + b"\n" for call in LINES)
 
@@ -185,7 +187,7 @@ def whole_body(data):
 def call(program, system, listener):
     """What a caller prints, how it ends, and the bytes that the listener heard."""
     before = len(listener.heard)
-    words = ["call", "--connect", listener.address, "--client", "2", "--incarnation", "1", "--tries", "3"]
+    words = ["call", "--connect", listener.address, "--client", "2", "--incarnation", "1", "--tries", "3", "--speak", "2"]
     ran = subprocess.run([program, *words], input=TEXT, capture_output=True, env=system.env, timeout=PATIENCE)
     # A caller that connected was accepted, at once or soon.
     connected = ran.stderr not in (b"command fault 2\n", b"address fault\n") or len(listener.heard) > before

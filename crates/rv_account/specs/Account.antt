@@ -69,14 +69,14 @@ own_moment a = unwrap_or (moment_at a.entries (length a.entries - 1)) a.opened
 
 -- the call of an arrival
 abbrev pub call_in : Act → Option Call
-call_in (Hello client incarnation) = None
+call_in (Hello client incarnation version) = None
 call_in (Arrive key call) = Some call
 call_in (Cancel key) = None
 call_in Tick = None
 
 -- the key that an act names
 abbrev pub key_in : Act → Option Key
-key_in (Hello client incarnation) = None
+key_in (Hello client incarnation version) = None
 key_in (Arrive key call) = Some key
 key_in (Cancel key) = Some key
 key_in Tick = None

@@ -10,7 +10,7 @@ abbrev pub max_moment : ℕ
 max_moment = 2 ^ 62
 
 abbrev pub FitsAct : Act → Type 0
-FitsAct (Hello client incarnation) = FitsIdentifier client × FitsIdentifier incarnation
+FitsAct (Hello client incarnation version) = FitsIdentifier client × FitsIdentifier incarnation
 FitsAct (Arrive key call) = FitsKey key × FitsCall call
 FitsAct (Cancel key) = FitsKey key
 FitsAct Tick = Unit {0}

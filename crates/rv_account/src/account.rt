@@ -3,7 +3,7 @@ ghost use Rattle.std.specs.Prelude.{◌≡◌, ◌↔◌, ◌<◌, ◌≤◌, �
 ghost use Rattle.std.specs.Prelude.{length, option_map, slice_get};
 ghost use Rattle.std.specs.Option.{option_copied};
 ghost use Rattle.rv_text.specs.Members.{FitsWait};
-ghost use Rattle.rv_account.specs.Account.{call_at, entry, item_at, items_at, limit_at, own_moment};
+ghost use Rattle.rv_account.specs.Account.{call_at, entry, item_at, key_at, items_at, limit_at, own_moment};
 ghost use Rattle.rv_account.specs.Account.{partners_items, with_entry};
 ghost use Rattle.rv_account.specs.Calls.{limit_after};
 ghost use Rattle.rv_account.specs.Limits.{FitEntries, max_moment};
@@ -11,7 +11,7 @@ ghost use Rattle.rv_account.specs.Limits.{FitEntries, max_moment};
 use crate::entry::{Act, Entry};
 use crate::partners::Partners;
 use rv_session::Place;
-use rv_text::{Call, Item, Items, NoMemory, Wait};
+use rv_text::{Call, Item, Items, Key, NoMemory, Wait};
 use std::alloc::Global;
 use std::marker::Model;
 
@@ -109,6 +109,14 @@ impl Account {
     {
         let entry = self.entry(place)?;
         limit_after(entry.moment, self.call(place)?.wait()?)
+    }
+
+    /// The key that the entry at a place names: of the request that arrived there, or that is cancelled.
+    pub fn key(&self, place: Place) -> Key
+        requires { IsSome (key_at self.now.account.entries place) }
+        ensures { key_at self.now.account.entries place ≡ Some result }
+    {
+        self.entry(place).and_then(|entry| entry.act.key()).unwrap()
     }
 
     /// The item that the arrival at a place hands over.

@@ -2,18 +2,27 @@
 ghost use Rattle.std.specs.Prelude.{◌≡◌, IfOk};
 
 use crate::partners::Partners;
-use rv_text::{Call, Key, NoMemory};
+use rv_text::{Call, Key, NoMemory, Version};
 use std::alloc::Global;
 
 /// What an entry records.
 #[derive(Debug, PartialEq, Eq, Drop)]
 pub enum Act {
-    /// A client opened a session.
-    Hello { client: u64, incarnation: u64 },
+    /// A client opened a session of this version.
+    Hello {
+        client: u64,
+        incarnation: u64,
+        version: Version,
+    },
     /// A request came for the first time.
-    Arrive { key: Key, call: Call },
+    Arrive {
+        key: Key,
+        call: Call,
+    },
     /// A request was cancelled: while it waited, or before it came.
-    Cancel { key: Key },
+    Cancel {
+        key: Key,
+    },
     /// The wait of each request whose limit had come ended.
     Tick,
 }
@@ -30,6 +39,19 @@ pub struct Entry {
 }
 
 impl Act {
+    ghost use Rattle.rv_account.specs.Account.{key_in};
+
+    // The key that it names, if it names one.
+    pub(crate) fn key(&self) -> Option<Key>
+        ensures { result ≡ key_in self.now }
+    {
+        match self {
+            Act::Arrive { key, .. } => Some(*key),
+            Act::Cancel { key } => Some(*key),
+            Act::Hello { .. } | Act::Tick => None,
+        }
+    }
+
     // A copy. It fails only where memory for the item of its call was refused.
     fn copy(&self, alloc: Global) -> Result<Act, NoMemory>
         ensures { IfOk result (λ act. act ≡ self.now) }
@@ -38,9 +60,11 @@ impl Act {
             Act::Hello {
                 client,
                 incarnation,
+                version,
             } => Ok(Act::Hello {
                 client: *client,
                 incarnation: *incarnation,
+                version: *version,
             }),
             Act::Arrive { key, call } => Ok(Act::Arrive {
                 key: *key,

@@ -68,7 +68,7 @@ module _ {R W : Type 0} (remaining : R → Option (List ℕ)) (contents : W → 
   -- the client is welcome in this epoch
   abbrev pub IsWelcomed : Starting → ℕ → ℕ → Link R W → Link R W → Type 0
   IsWelcomed starting tries epoch before after = LastHello starting tries before after
-      (Ok (answers.Welcome epoch starting.client starting.incarnation))
+      (Ok (answers.Welcome epoch starting.client starting.incarnation starting.version))
 
   -- as many hellos as there may be tries were in vain
   pub record AllInVain (starting : Starting) (tries : ℕ) (before after : Link R W) : Type 0 where
@@ -144,7 +144,8 @@ module _ {R W : Type 0} (remaining : R → Option (List ℕ)) (contents : W → 
   -- one hello welcomed the client, or ended with this word
   abbrev pub HelloEnds : Starting → Link R W → Link R W → Result (Option Key) Word → Type 0
   HelloEnds starting before after (Ok next) = (epoch : ℕ)
-      × SaysHello starting before after (Ok (answers.Welcome epoch starting.client starting.incarnation))
+      × SaysHello starting before after
+      (Ok (answers.Welcome epoch starting.client starting.incarnation starting.version))
       × (next ≡ Some (first_key starting epoch))
   HelloEnds starting before after (Err (word.Refused refusal)) =
       SaysHello starting before after (Ok (answers.Refused refusal))

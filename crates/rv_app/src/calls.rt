@@ -18,6 +18,7 @@ use crate::word::Word;
 use rv_client::{Idle, New};
 use rv_frame::{Sink, Source};
 use rv_run::{OutputFault, RunFault, read_input};
+use rv_text::Version;
 use std::alloc::Global;
 use std::io::{Read, Write};
 
@@ -32,7 +33,8 @@ pub enum CallSaid {
 
 /// Says hello over a link, makes the calls that the lines say, one after the other, and writes the body of
 /// the reply's answer and LF to `out` for each as soon as it is settled. The client and its incarnation keep
-/// their limits. Hello is said, and each request asked, at most `tries` times.
+/// their limits, and the hello asks for the version. Hello is said, and each request asked, at most `tries`
+/// times.
 ///
 /// All lines are read before hello is said, and read faults, want of memory and too long an input are found
 /// before anything is written. The run ends where a line cannot be settled, with one word behind those that
@@ -51,6 +53,7 @@ pub fn call_run<L: Read, O: Write, R: Read, W: Write>(
     to: &mut Sink<W>,
     client: u64,
     incarnation: u64,
+    version: Version,
     tries: u32,
 ) -> Result<CallSaid, RunFault>
     requires client { FitsIdentifier client }
@@ -58,13 +61,13 @@ pub fn call_run<L: Read, O: Write, R: Read, W: Write>(
 
     // Each line of an input that keeps the limit is settled and has its text, or a word ends the run.
     ensures ran { IfOk result (λ said. RanCalls L.remaining O.contents R.remaining W.contents
-        (record { client = client; incarnation = incarnation }) tries lines.old lines.new
+        (record { client = client; incarnation = incarnation; version = version }) tries lines.old lines.new
         (link from.old to.old) (link from.new to.new) out.old out.new (Ok said)) }
 
     // Exactly the first `sent` bytes of such lines went out, and not the whole of the last.
     ensures stopped_writing { (fault : _) → result ≡ Err (RunFault.WriteFault fault) →
         RanCalls L.remaining O.contents R.remaining W.contents
-        (record { client = client; incarnation = incarnation }) tries lines.old lines.new
+        (record { client = client; incarnation = incarnation; version = version }) tries lines.old lines.new
         (link from.old to.old) (link from.new to.new) out.old out.new (Err (RunFault.WriteFault fault)) }
 
     // The lines before the one that found no memory are settled and have their texts, or nothing was done.
@@ -72,7 +75,7 @@ pub fn call_run<L: Read, O: Write, R: Read, W: Write>(
         ((source_failed lines.new ≡ false)
         × DidNothing (link from.old to.old) (link from.new to.new) out.old out.new)
         ⊎ RanCalls L.remaining O.contents R.remaining W.contents
-        (record { client = client; incarnation = incarnation }) tries lines.old lines.new
+        (record { client = client; incarnation = incarnation; version = version }) tries lines.old lines.new
         (link from.old to.old) (link from.new to.new) out.old out.new (Err RunFault.NoMemory) }
 
     // The other faults write nothing and ask nothing.
@@ -83,7 +86,13 @@ pub fn call_run<L: Read, O: Write, R: Read, W: Write>(
         × DidNothing (link from.old to.old) (link from.new to.new) out.old out.new }
 {
     let input = read_input(alloc, lines)?;
-    match say_hello(alloc, New::start(client, incarnation), from, to, tries) {
+    match say_hello(
+        alloc,
+        New::start(client, incarnation, version),
+        from,
+        to,
+        tries,
+    ) {
         Ok(idle) => call_lines(alloc, idle, &input, out, from, to, tries),
         Err(word) => print_word(alloc, word, out, 0),
     }

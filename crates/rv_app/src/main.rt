@@ -25,6 +25,7 @@ pub use rv_command::{Command, CommandFault, read_command};
 use rv_frame::{Sink, Source};
 pub use rv_play::play_run;
 pub use rv_run::{OutputFault, RunFault};
+use rv_text::Version;
 use server::serve_epoch;
 use std::io::ErrorKind;
 use std::net::{TcpListener, TcpStream};
@@ -67,7 +68,8 @@ fn run_program<T: Threads + Wait + AllocGlobal + time::Clock + Sync>(
             client,
             incarnation,
             tries,
-        } => return run_call(rt, connect, client, incarnation, tries),
+            speak,
+        } => return run_call(rt, connect, client, incarnation, speak, tries),
     }
     Ok(ExitCode::SUCCESS)
 }
@@ -131,6 +133,7 @@ fn run_call(
     connect: &str,
     client: u64,
     incarnation: u64,
+    version: Version,
     tries: u32,
 ) -> Result<ExitCode, ProgramFault>
     requires client { FitsIdentifier client }
@@ -153,6 +156,7 @@ fn run_call(
         &mut to,
         client,
         incarnation,
+        version,
         tries,
     )? {
         CallSaid::Whole => Ok(ExitCode::SUCCESS),

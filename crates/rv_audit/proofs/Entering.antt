@@ -1,6 +1,7 @@
 -- What each session has come to, when one more entry was passed.
 use Rattle.std.proofs.Common.{◌≡◌, ◌⊎◌, inl, inr, ℕ, ◌+◌, ◌<◌, ◌≤◌, List, [], ◌∷◌, ◌++◌, length, Option, Some, None, option_and_then, refl, sym, ap, subst, ◌∙◌, arith}
 use Rattle.std.proofs.lemmas.Option.{none-some, same_Some}
+use Rattle.rv_text.specs.declared.version.Version.{Version}
 use Rattle.rv_text.specs.declared.message.Key.{Key}
 use Rattle.rv_text.specs.declared.call.Call.{Call}
 use Rattle.rv_account.specs.declared.entry.Entry.{Entry}
@@ -9,7 +10,7 @@ use Rattle.rv_account.specs.declared.entry.Act.TheVariants.{Arrive, Cancel, Hell
 use Rattle.rv_account.specs.Account.{Account, act_at, call_in, key_in}
 use Rattle.rv_account.specs.Calls.{IsPut}
 use Rattle.rv_book.specs.Legal.{IsNextNumber, Legal, MayFollow, NamesFreePartners, WaitsUnder}
-use Rattle.rv_book.specs.Sessions.{HasIncarnation, LastHello, LastNumber, NamesKey, SaidHello}
+use Rattle.rv_book.specs.Sessions.{HasIncarnation, HasOpened, LastHello, LastNumber, NamesKey, SaidHello}
 use Rattle.rv_book.specs.Waiting.{Waiting}
 use Rattle.rv_book.proofs.Growing.{act_read, call_read, reads_back, reads_within}
 use Rattle.rv_book.proofs.Keys.{NamesKey-back, NamesKey-on, act_called, client_of, key_read}
@@ -25,11 +26,15 @@ use Rattle.rv_audit.specs.declared.sessions.Sessions.{Sessions}
 
 -- ---- a session, with its last number
 
-abbrev at_of : List Entry → ℕ → Session → Type 0
-at_of es client s = IsAt es client s.incarnation s.last
+-- its last hello opened it
+opened_by : (es : List Entry) (client incarnation : ℕ) (has : HasIncarnation es client incarnation) → HasOpened es client incarnation has.1.version
+opened_by es client incarnation has = record { h = has.0; last = has.1; version_is = refl }
 
-is_at : (es : List Entry) (client : ℕ) (s : Session) → IsSession es client s → at_of es client s
-is_at es client s is = record { incarnation = is.incarnation; number = is.number }
+opened_in : (es : List Entry) (client incarnation : ℕ) (version : Version) → HasOpened es client incarnation version → HasIncarnation es client incarnation
+opened_in es client incarnation version opened = (opened.h, opened.last)
+
+is_at : (es : List Entry) (client : ℕ) (s : Session) (is : IsSession es client s) → IsAt es client s.incarnation is.incarnation.1.version s.last
+is_at es client s is = record { opened = opened_by es client s.incarnation is.incarnation; number = is.number }
 
 -- who waits with one entry more, and isn't that entry, waited
 waited : (es : List Entry) (e : Entry) (r client : ℕ) (key : Key) → NamesFreePartners es e → Waiting (es ++ e ∷ []) r → NamesKey (es ++ e ∷ []) client r key → IsApart e.act client
@@ -45,16 +50,17 @@ waited es e r client key free waits names apart = elim (NamesKey-back es e clien
 -- ---- another client's session stays
 
 no_hello_on : (es : List Entry) (e : Entry) (client : ℕ) → IsApart e.act client → (SaidHello es client → ⊥) → SaidHello (es ++ e ∷ []) client → ⊥
-no_hello_on es e client apart none said = elim (reads_back act_read refl es e said.0 (Hello client said.1) said.2) [
-  | inl inside ↦ none (said.0, said.1, inside.1)
-  | inr own ↦ apart.no_hello said.1 own.1
+no_hello_on es e client apart none said = elim (reads_back act_read refl es e said.0 (Hello client said.1 said.2) said.3) [
+  | inl inside ↦ none (said.0, said.1, said.2, inside.1)
+  | inr own ↦ apart.no_hello said.1 said.2 own.1
 ]
 
 session_on : (es : List Entry) (e : Entry) (client : ℕ) (s : Session) → NamesFreePartners es e → IsApart e.act client → IsSession es client s → IsSession (es ++ e ∷ []) client s
 session_on es e client s free apart is =
-    let at = IsAt-on es e client s.incarnation s.last apart (is_at es client s is) in
+    let version : Version = is.incarnation.1.version in
+    let at = IsAt-on es e client s.incarnation version s.last apart (is_at es client s is) in
     record {
-      incarnation = at.incarnation;
+      incarnation = opened_in (es ++ e ∷ []) client s.incarnation version at.opened;
       number = at.number;
       named = λ r there. let named = is.named r there in (named.0, NamesKey-on es (e ∷ []) client r named.0 named.1);
       alone = λ r key waits names. let was = waited es e r client key free waits names apart in is.alone r key was.0 was.1;
@@ -67,15 +73,16 @@ session_of_on es e client (Some s) free apart is = session_on es e client s free
 -- ---- the client's own
 
 -- after a hello the session is fresh
-greeted : (es : List Entry) (e : Entry) (c i : ℕ) → e.act ≡ Hello c i → IsAt (es ++ e ∷ []) c i 0
-greeted es e c i is =
-    let own : act_at (es ++ e ∷ []) (length es) ≡ Some (Hello c i) = ap act_read (get-append_end es e) ∙ ap Some is in
+greeted : (es : List Entry) (e : Entry) (c i : ℕ) (v : Version) → e.act ≡ Hello c i v → IsAt (es ++ e ∷ []) c i v 0
+greeted es e c i v is =
+    let own : act_at (es ++ e ∷ []) (length es) ≡ Some (Hello c i v) = ap act_read (get-append_end es e) ∙ ap Some is in
     let hello : LastHello (es ++ e ∷ []) c i (length es) = record {
+      version = v;
       hello = own;
-      last = λ r j later there. elim (reads_back act_read refl es e r (Hello c j) there) [ inl inside ↦ omega arith | inr last ↦ omega arith ];
+      last = λ r j w later there. elim (reads_back act_read refl es e r (Hello c j w) there) [ inl inside ↦ omega arith | inr last ↦ omega arith ];
     } in
     record {
-      incarnation = (length es, hello);
+      opened = record { h = length es; last = hello; version_is = refl };
       number = record {
         incarnation = i;
         h = length es;
@@ -116,33 +123,41 @@ module _ (a : Account) (e : Entry) (legal : Legal a) (follows : MayFollow a e) w
   inside_of : (r : ℕ) → Waiting es r → r < length es
   inside_of r waits = reads_within call_read refl es r waits.is_open.call waits.is_open.arrived
 
-  hello_session : (client incarnation : ℕ) → e.act ≡ Hello client incarnation → IsSession after client (record { incarnation = incarnation; last = 0; request = None })
-  hello_session client incarnation says =
-      let at = greeted es e client incarnation says in
+  hello_session : (client incarnation : ℕ) (version : Version) → e.act ≡ Hello client incarnation version → IsSession after client (record { incarnation = incarnation; last = 0; request = None })
+  hello_session client incarnation version says =
+      let at = greeted es e client incarnation version says in
       record {
-        incarnation = at.incarnation;
+        incarnation = opened_in after client incarnation version at.opened;
         number = at.number;
         named = λ r there. absurd (none-some r there);
         alone = λ r key waits names. elim (Waiting-back es e r free waits) [
           | inl was ↦
               let before = old_names client r key (inside_of r was.there) names in
               let at_r = key_of client r key was.there before in
-              absurd (was.unstopped (hello_stops es e client incarnation r says (record {
+              absurd (was.unstopped (hello_stops es e client incarnation r version says (record {
                 key = key;
                 call = at_r.0;
                 arrived = at_r.1;
                 of_client = sym before.of_client;
                 no_put = no_put r at_r.0 key was.there at_r.1;
               })))
-          | inr new_one ↦ absurd (no_call e (Hello client incarnation) says refl new_one.1)
+          | inr new_one ↦ absurd (no_call e (Hello client incarnation version) says refl new_one.1)
         ];
       }
 
   own_name : (key : Key) → key_in e.act ≡ Some key → NamesKey after key.client (length es) key
   own_name key names = record { named = ap key_read (get-append_end es e) ∙ names; of_client = refl }
 
-  counted : (key : Key) (n : ℕ) → key_in e.act ≡ Some key → HasIncarnation es key.client key.incarnation → LastNumber es key.client n → n ≤ key.number → IsAt after key.client key.incarnation key.number
-  counted key n names has last most = named_at es e key key.incarnation n names (record { incarnation = has; number = last }) most
+  -- after an entry that names a key of its session, that key's number is the last
+  record Counted (key : Key) : Type 0 where
+    has : HasIncarnation after key.client key.incarnation
+    number : LastNumber after key.client key.number
+
+  counted : (key : Key) (n : ℕ) → key_in e.act ≡ Some key → HasIncarnation es key.client key.incarnation → LastNumber es key.client n → n ≤ key.number → Counted key
+  counted key n names has last most =
+      let version : Version = has.1.version in
+      let at = named_at es e key key.incarnation version n names (record { opened = opened_by es key.client key.incarnation has; number = last }) most in
+      record { has = opened_in after key.client key.incarnation version at.opened; number = at.number }
 
   arrival_session : (key : Key) (call : Call) → e.act ≡ Arrive key call → IsSession after key.client (record { incarnation = key.incarnation; last = key.number; request = Some (length es) })
   arrival_session key call arrives =
@@ -151,7 +166,7 @@ module _ (a : Account) (e : Entry) (legal : Legal a) (follows : MayFollow a e) w
       let number : key.number ≡ next.last + 1 = next.next in
       let at = counted key next.last names (follows.numbers.of_session key names).1 next.is_last (omega arith) in
       record {
-        incarnation = at.incarnation;
+        incarnation = at.has;
         number = at.number;
         named = λ r there. (key, subst (λ n. NamesKey after key.client n key) (same_Some _ _ there) (own_name key names));
         alone = λ r other waits others. elim (Waiting-back es e r free waits) [
@@ -160,7 +175,7 @@ module _ (a : Account) (e : Entry) (legal : Legal a) (follows : MayFollow a e) w
         ];
       }
 
-  cancel_at : (key : Key) → key_in e.act ≡ Some key → WaitsUnder es key ⊎ IsNextNumber es key → IsAt after key.client key.incarnation key.number
+  cancel_at : (key : Key) → key_in e.act ≡ Some key → WaitsUnder es key ⊎ IsNextNumber es key → Counted key
   cancel_at key names (inl under) =
       let is = waiting_is_last a under.place key under.call legal under.waits under.arrived in
       counted key key.number names is.incarnation is.number (omega arith)
@@ -182,7 +197,7 @@ module _ (a : Account) (e : Entry) (legal : Legal a) (follows : MayFollow a e) w
       let turn = follows.numbers.cancels key says in
       let at = cancel_at key names turn in
       record {
-        incarnation = at.incarnation;
+        incarnation = at.has;
         number = at.number;
         named = λ r there. absurd (none-some r there);
         alone = λ r other waits others. elim (Waiting-back es e r free waits) [
@@ -202,19 +217,19 @@ module _ (a : Account) (e : Entry) (legal : Legal a) (follows : MayFollow a e) w
 
   tick_apart : (client : ℕ) → e.act ≡ Tick → IsApart e.act client
   tick_apart client says = record {
-    no_hello = λ incarnation own. tick_greets_not client incarnation (sym (ap Some says) ∙ own);
+    no_hello = λ incarnation version own. tick_greets_not client incarnation version (sym (ap Some says) ∙ own);
     no_key = λ key names of_client. none-some key (sym (ap key_in says) ∙ names);
   }
     where
-      tick_greets_not : (c i : ℕ) → Some Tick ≡ Some (Hello c i) → ⊥
-      tick_greets_not c i same = cc
+      tick_greets_not : (c i : ℕ) (v : Version) → Some Tick ≡ Some (Hello c i v) → ⊥
+      tick_greets_not c i v same = cc
 
   others_apart : (client : ℕ) → client_of e.act ≡ client → (other : ℕ) → (other ≡ client → ⊥) → IsApart e.act other
   others_apart client is other differs = other_apart e.act other (λ same. differs (sym same ∙ is))
 
   joined_by : (old new : Sessions) (does : Act) → e.act ≡ does → AreSessions es old → EntersIf old new (session_after does (length es)) → AreSessions after new
-  joined_by old new (Hello client incarnation) says are enters =
-      entered_by old new client _ are enters (others_apart client (ap client_of says)) (hello_session client incarnation says)
+  joined_by old new (Hello client incarnation version) says are enters =
+      entered_by old new client _ are enters (others_apart client (ap client_of says)) (hello_session client incarnation version says)
   joined_by old new (Arrive key call) says are enters =
       entered_by old new key.client _ are enters (others_apart key.client (ap client_of says)) (arrival_session key call says)
   joined_by old new (Cancel key) says are enters =

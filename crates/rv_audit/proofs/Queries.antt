@@ -112,7 +112,7 @@ waits_at a client None legal is w =
     let same : named.0 ≡ w.key = same_Some _ _ (sym (ap (option_and_then key_in) named.1) ∙ w.names.named) in
     let has = (waiting_is_last a w.place named.0 w.waits.is_open.call legal w.waits named.1).incarnation in
     let of_client : named.0.client ≡ client = ap (λ (k : Key). k.client) same ∙ w.names.of_client in
-    absurd (is (has.0, named.0.incarnation, subst (λ c. act_at a.entries has.0 ≡ Some (Hello c named.0.incarnation)) of_client has.1.hello))
+    absurd (is (has.0, named.0.incarnation, has.1.version, subst (λ c. act_at a.entries has.0 ≡ Some (Hello c named.0.incarnation has.1.version)) of_client has.1.hello))
 
 pub named_by : (es : List Entry) (client r : ℕ) (s : Option Session) → IsSessionOf es client s → request_of s ≡ Some r → (key : Key) × NamesKey es client r key
 named_by es client r (Some s) is there = is.named r there

@@ -34,7 +34,7 @@ falls_not_back a e time falls =
     omega arith
 
 nothing_past : (es : List Entry) (moment : ℕ) (act : Act) → KeepsLimits es moment act → act ≢ Tick → SomethingDue es moment → ⊥
-nothing_past es moment (Hello client incarnation) nothing no_tick due = nothing due.0 due.1
+nothing_past es moment (Hello client incarnation version) nothing no_tick due = nothing due.0 due.1
 nothing_past es moment (Arrive key call) nothing no_tick due = nothing due.0 due.1
 nothing_past es moment (Cancel key) nothing no_tick due = nothing due.0 due.1
 nothing_past es moment Tick something no_tick due = no_tick refl
@@ -51,7 +51,7 @@ ticks_for_something es e keeps ticks =
 
 pub starts_newer : (es : List Entry) (does : Act) → RaisesIncarnation es does → StartsNoNewer es does → ⊥
 starts_newer es does raises starts =
-    let newer : starts.reached < starts.incarnation = raises starts.client starts.incarnation starts.hello starts.place starts.reached starts.earlier in
+    let newer : starts.reached < starts.incarnation = raises starts.client starts.incarnation starts.version starts.hello starts.place starts.reached starts.earlier_version starts.earlier in
     let no_newer : starts.incarnation ≤ starts.reached = starts.no_newer in
     omega arith
 
@@ -64,12 +64,12 @@ is_of_session a does session strange = elim strange.no_session [
 next_in_turn : (es : List Entry) (key : Key) → IsNextNumber es key → IsOutOfTurn es key → ⊥
 next_in_turn es key next (inl not_next) = elim not_next.counts_to [
   | inl last ↦ not_next.other (next.next ∙ ap (λ n. n + 1) (one_last_number es key.client next.last not_next.last next.is_last last))
-  | inr none ↦ none.0 (next.is_last.h, next.is_last.incarnation, next.is_last.hello.hello)
+  | inr none ↦ none.0 (next.is_last.h, next.is_last.incarnation, next.is_last.hello.version, next.is_last.hello.hello)
 ]
 next_in_turn es key next (inr waits) = next.idle waits
 
 pub counts_in_turn : (es : List Entry) (does : Act) → CountsUp es does → CancelsInTurn es does → BreaksCount es does → ⊥
-counts_in_turn es (Hello client incarnation) counts cancels breaks = breaks
+counts_in_turn es (Hello client incarnation version) counts cancels breaks = breaks
 counts_in_turn es (Arrive key call) counts cancels breaks = next_in_turn es key (counts key call refl) breaks
 counts_in_turn es (Cancel key) counts cancels breaks = elim (cancels key refl) [
   | inl waits ↦ breaks.0 waits

@@ -5,6 +5,7 @@ use Rattle.std.specs.List.{slice_get, slice_index}
 use Rattle.std.specs.List.Sorted.{IsStrictlyIncreasing}
 use Rattle.std.proofs.lemmas.Bool.{cases_lt}
 use Rattle.std.proofs.lemmas.Option.{none-some, same_Some}
+use Rattle.rv_text.specs.declared.version.Version.{Version}
 use Rattle.rv_text.specs.declared.message.Key.{Key}
 use Rattle.rv_text.specs.declared.call.Call.{Call}
 use Rattle.rv_text.specs.declared.call.Call.TheVariants.{Drain}
@@ -49,8 +50,8 @@ keeps_time a e legal stays =
       since = λ r moment there. let most = own.since r moment there in omega arith;
     }
 
-hello_no_tick : (client incarnation : ℕ) → Hello client incarnation ≡ Tick → ⊥
-hello_no_tick client incarnation is = cc
+hello_no_tick : (client incarnation : ℕ) (version : Version) → Hello client incarnation version ≡ Tick → ⊥
+hello_no_tick client incarnation version is = cc
 
 arrival_no_tick : (key : Key) (call : Call) → Arrive key call ≡ Tick → ⊥
 arrival_no_tick key call is = cc
@@ -59,7 +60,7 @@ cancel_no_tick : (key : Key) → Cancel key ≡ Tick → ⊥
 cancel_no_tick key is = cc
 
 pub keeps_limits : (es : List Entry) (moment : ℕ) (does : Act) → (does ≢ Tick → SomethingDue es moment → ⊥) → (does ≡ Tick → NothingDue es moment → ⊥) → KeepsLimits es moment does
-keeps_limits es moment (Hello client incarnation) past idle = λ r due. past (hello_no_tick client incarnation) (r, due)
+keeps_limits es moment (Hello client incarnation version) past idle = λ r due. past (hello_no_tick client incarnation version) (r, due)
 keeps_limits es moment (Arrive key call) past idle = λ r due. past (arrival_no_tick key call) (r, due)
 keeps_limits es moment (Cancel key) past idle = λ r due. past (cancel_no_tick key) (r, due)
 keeps_limits es moment Tick past idle = elim (something_or_nothing es moment) [ inl something ↦ something | inr nothing ↦ absurd (idle refl nothing) ]
@@ -67,14 +68,16 @@ keeps_limits es moment Tick past idle = elim (something_or_nothing es moment) [ 
 -- ---- numbers
 
 pub raises_incarnation : (es : List Entry) (does : Act) → (StartsNoNewer es does → ⊥) → RaisesIncarnation es does
-raises_incarnation es does newer client incarnation hello r reached earlier = elim (cases_lt reached incarnation) [
+raises_incarnation es does newer client incarnation version hello r reached earlier_version earlier = elim (cases_lt reached incarnation) [
   | inl less ↦ less
   | inr most ↦ absurd (newer (record {
     client = client;
     incarnation = incarnation;
+    version = version;
     hello = hello;
     place = r;
     reached = reached;
+    earlier_version = earlier_version;
     earlier = earlier;
     no_newer = most;
   }))
@@ -82,7 +85,7 @@ raises_incarnation es does newer client incarnation hello r reached earlier = el
 
 incarnation_or_not : (es : List Entry) (client incarnation : ℕ) → HasIncarnation es client incarnation ⊎ (HasIncarnation es client incarnation → ⊥)
 incarnation_or_not es client incarnation = elim (find_hello es client) [
-  | inr none ↦ inr (λ has. none has.0 incarnation has.1.hello)
+  | inr none ↦ inr (λ has. none has.0 incarnation has.1.version has.1.hello)
   | inl found ↦ elim (same_or_not found.0 incarnation) [
     | inl same ↦ inl (subst (HasIncarnation es client) same found.1)
     | inr other ↦ inr (λ has. other (one_incarnation es client found.0 incarnation found.1 has))

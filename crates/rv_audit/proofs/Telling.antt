@@ -4,6 +4,7 @@ use Rattle.std.specs.Bool.{IsTrue}
 use Rattle.std.proofs.lemmas.Bool.{cases_lt, false≢true}
 use Rattle.std.proofs.lemmas.Bool.Decides.{nat_tests}
 use Rattle.std.proofs.lemmas.Option.{same_Some}
+use Rattle.rv_text.specs.declared.version.Version.{Version}
 use Rattle.rv_text.specs.declared.message.Key.{Key}
 use Rattle.rv_text.specs.declared.call.Call.{Call}
 use Rattle.rv_text.specs.declared.call.Side.{Side}
@@ -192,41 +193,43 @@ for_nothing es e false ticks due = (λ t. record { ticks = ticks; nothing_due = 
 
 -- ---- sessions
 
-pub reached : (a : Account) (client incarnation : ℕ) (s : Session) (b : Bool) → nat_le incarnation s.incarnation ≡ b → Legal a → IsSession a.entries client s
-    → Iff (IsTrue b) (StartsNoNewer a.entries (Hello client incarnation))
-reached a client incarnation s true most legal is = (
+pub reached : (a : Account) (client incarnation : ℕ) (version : Version) (s : Session) (b : Bool) → nat_le incarnation s.incarnation ≡ b → Legal a → IsSession a.entries client s
+    → Iff (IsTrue b) (StartsNoNewer a.entries (Hello client incarnation version))
+reached a client incarnation version s true most legal is = (
   λ t. record {
     client = client;
     incarnation = incarnation;
+    version = version;
     hello = refl;
     place = is.incarnation.0;
     reached = s.incarnation;
+    earlier_version = is.incarnation.1.version;
     earlier = is.incarnation.1.hello;
     no_newer = grind (arith, nat_tests);
   },
   λ breaks. refl,
 )
-reached a client incarnation s false above legal is = (
+reached a client incarnation version s false above legal is = (
   λ t. absurd (false≢true t),
   λ breaks.
       let over : s.incarnation < incarnation = grind (arith, nat_tests) in
-      let same = same_hello_parts client incarnation breaks.client breaks.incarnation breaks.hello in
-      let earlier = subst (λ c. act_at a.entries breaks.place ≡ Some (Hello c breaks.reached)) (sym same.0) breaks.earlier in
-      let at_most : breaks.reached ≤ s.incarnation = hellos_at_most a client s.incarnation breaks.place breaks.reached legal is.incarnation earlier in
+      let same = same_hello_parts client incarnation breaks.client breaks.incarnation version breaks.version breaks.hello in
+      let earlier = subst (λ c. act_at a.entries breaks.place ≡ Some (Hello c breaks.reached breaks.earlier_version)) (sym same.0) breaks.earlier in
+      let at_most : breaks.reached ≤ s.incarnation = hellos_at_most a client s.incarnation breaks.place breaks.reached breaks.earlier_version legal is.incarnation earlier in
       let own : incarnation ≡ breaks.incarnation = same.1 in
       let no_newer : breaks.incarnation ≤ breaks.reached = breaks.no_newer in
       absurd (omega arith),
 )
   where
-    same_hello_parts : (c i d j : ℕ) → Hello c i ≡ Hello d j → (c ≡ d) × (i ≡ j)
-    same_hello_parts c i d j e = (let f : c ≡ d = cc in f, let f : i ≡ j = cc in f)
+    same_hello_parts : (c i d j : ℕ) (v w : Version) → Hello c i v ≡ Hello d j w → (c ≡ d) × (i ≡ j)
+    same_hello_parts c i d j v w e = (let f : c ≡ d = cc in f, let f : i ≡ j = cc in f)
 
 one_count : (es : List Entry) (client m n : ℕ) → LastNumber es client m → CountsTo es client n → n ≡ m
 one_count es client m n is (inl last) = one_last_number es client n m last is
-one_count es client m n is (inr none) = absurd (none.0 (is.h, is.incarnation, is.hello.hello))
+one_count es client m n is (inr none) = absurd (none.0 (is.h, is.incarnation, is.hello.version, is.hello.hello))
 
 none_count : (es : List Entry) (client n : ℕ) → (SaidHello es client → ⊥) → CountsTo es client n → n ≡ 0
-none_count es client n none (inl last) = absurd (none (last.h, last.incarnation, last.hello.hello))
+none_count es client n none (inl last) = absurd (none (last.h, last.incarnation, last.hello.version, last.hello.hello))
 none_count es client n none (inr is) = is.1
 
 pub not_next : (es : List Entry) (key : Key) (s : Session) (b : Bool) → IsSession es key.client s → (b ≡ true → key.number ≢ s.last + 1) → (b ≡ false → key.number ≡ s.last + 1)

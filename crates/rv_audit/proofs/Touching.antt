@@ -4,6 +4,7 @@ use Rattle.std.proofs.lemmas.Bool.{false≢true}
 use Rattle.std.proofs.lemmas.Bool.Decides.{nat_tests}
 use Rattle.std.proofs.lemmas.Option.{none-some, same_Some}
 use Rattle.std.specs.Bool.{IsTrue, then_some}
+use Rattle.rv_text.specs.declared.version.Version.{Version}
 use Rattle.rv_text.specs.declared.message.Key.{Key}
 use Rattle.rv_text.specs.declared.call.Call.{Call}
 use Rattle.rv_account.specs.declared.entry.Entry.{Entry}
@@ -80,13 +81,13 @@ module _ (a : Account) (e : Entry) (legal : Legal a) (follows : MayFollow a e) w
   some_at : (P : ℕ → Type 0) (o : Option ℕ) (r : ℕ) → IfSome o P → o ≡ Some r → P r
   some_at P o r some is = subst (λ x. IfSome x P) is some
 
-  pub hello_touches : (client incarnation : ℕ) (o : Option ℕ) → e.act ≡ Hello client incarnation → IfSome o (WaitsOf es client) → IfNone o (HasWaiting es client → ⊥) → AreTouched es e (gone_at o)
+  pub hello_touches : (client incarnation : ℕ) (version : Version) (o : Option ℕ) → e.act ≡ Hello client incarnation version → IfSome o (WaitsOf es client) → IfNone o (HasWaiting es client → ⊥) → AreTouched es e (gone_at o)
   unfolding waits_of
-  hello_touches client incarnation o says some none = record {
-    touched = λ r opened went. inr (hello_stops es e client incarnation r says (request_of client r (some_at (WaitsOf es client) o r some (at_gone o r went))));
+  hello_touches client incarnation version o says some none = record {
+    touched = λ r opened went. inr (hello_stops es e client incarnation r version says (request_of client r (some_at (WaitsOf es client) o r some (at_gone o r went))));
     untouched = λ r opened left touches. elim touches [
-      | inl named ↦ names_nobody a e (Hello client incarnation) r follows says refl named
-      | inr stopped ↦ hello_untouched client r o some none left (waits_of client r opened (stopped_by_hello es e client incarnation r says stopped)) refl
+      | inl named ↦ names_nobody a e (Hello client incarnation version) r follows says refl named
+      | inr stopped ↦ hello_untouched client r o some none left (waits_of client r opened (stopped_by_hello es e client incarnation r version says stopped)) refl
     ];
   }
 

@@ -6,6 +6,7 @@
 -- partners.
 use Rattle.std.specs.Prelude.{◌≡◌, ◌≢◌, ◌⊎◌, ◌<◌, ◌≤◌, ◌+◌, ℕ, List, length, Some, slice_get, codes}
 use Rattle.std.specs.List.Sorted.{IsStrictlyIncreasing}
+use Rattle.rv_text.specs.declared.version.Version.{Version}
 use Rattle.rv_text.specs.declared.message.Key.{Key}
 use Rattle.rv_text.specs.declared.call.Call.{Call}
 use Rattle.rv_text.specs.declared.call.Side.{Side}
@@ -48,10 +49,12 @@ pub record TicksForNothing (entries : List Entry) (e : Entry) : Type 0 where
 pub record StartsNoNewer (entries : List Entry) (does : Act) : Type 0 where
   pub client : ℕ
   pub incarnation : ℕ
-  pub hello : does ≡ Hello client incarnation
+  pub version : Version
+  pub hello : does ≡ Hello client incarnation version
   pub place : ℕ
   pub reached : ℕ
-  pub earlier : act_at entries place ≡ Some (Hello client reached)
+  pub earlier_version : Version
+  pub earlier : act_at entries place ≡ Some (Hello client reached earlier_version)
   pub no_newer : incarnation ≤ reached
 
 -- the entry names a key of another epoch than the account's, or of another incarnation than that of the
@@ -77,7 +80,7 @@ IsOutOfTurn entries key = IsNotNext entries key ⊎ HasWaiting entries key.clien
 
 -- an arrival is out of turn; or a cancel is, and doesn't name the request that waits in its session
 abbrev pub BreaksCount : List Entry → Act → Type 0
-BreaksCount entries (Hello client incarnation) = ⊥
+BreaksCount entries (Hello client incarnation version) = ⊥
 BreaksCount entries (Arrive key call) = IsOutOfTurn entries key
 BreaksCount entries (Cancel key) = (¬ WaitsUnder entries key) × IsOutOfTurn entries key
 BreaksCount entries Tick = ⊥

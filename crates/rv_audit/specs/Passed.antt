@@ -277,7 +277,7 @@ WaitsUntil e (Some limit) = WaitsFor e limit
 
 -- what an act makes of its client's session
 abbrev pub session_after : Act → ℕ → Option (ℕ × Session)
-session_after (Hello client incarnation) place =
+session_after (Hello client incarnation version) place =
     Some (client, record { incarnation = incarnation; last = 0; request = None })
 session_after (Arrive key call) place =
     Some (key.client, record { incarnation = key.incarnation; last = key.number; request = Some place })

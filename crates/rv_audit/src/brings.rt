@@ -92,6 +92,7 @@ pub(crate) fn session_after(act: &Act, place: Place) -> Option<(u64, Session)>
         Act::Hello {
             client,
             incarnation,
+            ..
         } => Some((
             *client,
             Session {

@@ -2,6 +2,7 @@
 ghost use Rattle.std.specs.Prelude.{◌≡◌, ◌↔◌, ◌<◌, ◌^◌, ℕ, Some, None, true, false};
 ghost use Rattle.std.specs.Prelude.{option_and_then, option_map, length, IfNone, IfSome, IsTrue, OnOk};
 ghost use Rattle.rv_text.specs.declared.call.Side.{Side};
+ghost use Rattle.rv_text.specs.declared.version.Version.{Version};
 ghost use Rattle.rv_account.specs.declared.entry.Act.TheVariants.{Hello};
 ghost use Rattle.rv_account.specs.Account.{Among, call_at};
 ghost use Rattle.rv_book.specs.Legal.{HasWaiting, MayFollow, SomethingDue, WaitsUnder};
@@ -199,7 +200,8 @@ impl<'a> Front<'a> {
     // Whether the client said a hello of this incarnation or a greater one.
     pub(crate) fn reaches(&self, client: u64, incarnation: u64) -> bool
         requires { IsFront self.now }
-        ensures { IsTrue result ↔ StartsNoNewer (passed self.now).entries (Hello client incarnation) }
+        ensures { (version : Version)
+            → IsTrue result ↔ StartsNoNewer (passed self.now).entries (Hello client incarnation version) }
     {
         match self.sessions.of(client) {
             Some(session) => incarnation <= session.incarnation,

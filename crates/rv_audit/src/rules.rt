@@ -57,6 +57,7 @@ fn starts_no_newer(front: &Front<'_>, act: &Act) -> bool
         Act::Hello {
             client,
             incarnation,
+            ..
         } => front.reaches(*client, *incarnation),
         Act::Arrive { .. } | Act::Cancel { .. } | Act::Tick => false,
     }

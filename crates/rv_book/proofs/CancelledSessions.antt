@@ -7,7 +7,8 @@ use Rattle.rv_text.specs.declared.call.Call.{Call}
 use Rattle.rv_text.specs.declared.message.Key.{Key}
 use Rattle.rv_session.specs.declared.kept.Kept as kept
 use Rattle.rv_session.specs.declared.session.Session.{Session}
-use Rattle.rv_session.specs.Table.{Table, OnlySets, OnlySettles, settled_session}
+use Rattle.rv_session.specs.declared.session.State.TheVariants.{Settled}
+use Rattle.rv_session.specs.Table.{Table, OnlyAdvances, OnlySettles, session_for, settled_session}
 use Rattle.rv_account.specs.declared.entry.Act.TheVariants.{Arrive, Cancel}
 use Rattle.rv_account.specs.declared.entry.Entry.{Entry}
 use Rattle.rv_account.specs.Account.{Account, act_at, key_in, with_entry}
@@ -23,7 +24,7 @@ use Rattle.rv_book.proofs.Naming.{just_none}
 use Rattle.rv_book.proofs.SessionTable.{StillWaits, named_at, sessions_changed, set_changes}
 use Rattle.rv_book.proofs.Sides.{Waiting-on, stopped_by_cancel}
 use Rattle.rv_book.proofs.ToldCancelled.{cancelled_first, ended_reply}
-use Rattle.rv_book.proofs.WaitingTable.{waiting_there, waits_in_table}
+use Rattle.rv_book.proofs.WaitingTable.{opened_in_table, waiting_there, waits_in_table}
 
 -- what waits of other clients than the cancel's still does
 still_waits : (a : Account) (e : Entry) (key : Key) (other : ℕ) → e.act ≡ Cancel key → e.partners ≡ [] → (other ≡ key.client → ⊥) → StillWaits a e other
@@ -45,9 +46,9 @@ sessions_ended a e old new key call place are before legal says none arrived wai
     let same_key : last_key a key.client s ≡ key = same_Some _ _ (ap key_in one) in
     let number : s.last ≡ key.number = ap (λ (k : Key). k.number) same_key in
     let most : s.last ≤ key.number = omega arith in
-    let named = named_at a.entries e key s.incarnation s.last (ap key_in says) (record { incarnation = found.is.incarnation; number = found.is.number }) most in
-    let own : IsSession b key.client (settled_session s.incarnation s.last (Some place) kept.TheVariants.Cancelled) = record {
-      incarnation = named.incarnation;
+    let named = named_at a.entries e key s.incarnation s.version s.last (ap key_in says) (record { opened = found.is.opened; number = found.is.number }) most in
+    let own : IsSession b key.client (settled_session s (Some place) kept.TheVariants.Cancelled) = record {
+      opened = named.opened;
       number = subst (LastNumber b.entries key.client) (sym number) named.number;
       stands = record {
         call = at.call;
@@ -56,20 +57,21 @@ sessions_ended a e old new key call place are before legal says none arrived wai
       };
     } in
     let same : s ≡ settles.session = same_Some _ _ (sym found.there ∙ settles.there) in
-    let its = subst (λ (x : Session). IsSession b key.client (settled_session x.incarnation x.last (Some place) kept.TheVariants.Cancelled)) same own in
-    sessions_changed a e old new key.client (settled_session settles.session.incarnation settles.session.last (Some place) kept.TheVariants.Cancelled) are legal (ap client_of says)
+    let its = subst (λ (x : Session). IsSession b key.client (settled_session x (Some place) kept.TheVariants.Cancelled)) same own in
+    sessions_changed a e old new key.client (settled_session settles.session (Some place) kept.TheVariants.Cancelled) are legal (ap client_of says)
     (λ other. still_waits a e key other says none) (set_changes old new key.client _ settles.sets) its
 
 -- after the cancel of a session's next number the table is what the account says
 pub sessions_buried : (a : Account) (e : Entry) (old new : Table) (key : Key) → AreSessions a old → Legal a → Legal (with_entry a e) → IsNext a key → e.act ≡ Cancel key → e.partners ≡ []
-    → OnlySets old new key.client (settled_session key.incarnation key.number None kept.TheVariants.Cancelled) → AreSessions (with_entry a e) new
-sessions_buried a e old new key are before legal next says none sets =
+    → OnlyAdvances old new key (Settled None kept.TheVariants.Cancelled) → AreSessions (with_entry a e) new
+sessions_buried a e old new key are before legal next says none advances =
+    let opened = opened_in_table a old key.client key.incarnation advances.version are next.incarnation advances.was in
     let above : key.number ≡ next.last + 1 = next.next in
     let is_next : IsNextNumber a.entries key = record { last = next.last; is_last = next.is_last; next = next.next; idle = next.idle } in
     let most : next.last ≤ key.number = omega arith in
-    let named = named_at a.entries e key key.incarnation next.last (ap key_in says) (record { incarnation = next.incarnation; number = next.is_last }) most in
+    let named = named_at a.entries e key key.incarnation advances.version next.last (ap key_in says) (record { opened = opened; number = next.is_last }) most in
     let first = subst (λ epoch. CancelledFirst (with_entry a e).entries (record { epoch = epoch; client = key.client; incarnation = key.incarnation; number = key.number })) next.epoch
     (cancelled_first a e key before next.incarnation is_next says) in
-    sessions_changed a e old new key.client (settled_session key.incarnation key.number None kept.TheVariants.Cancelled) are legal (ap client_of says)
-    (λ other. still_waits a e key other says none) (set_changes old new key.client _ sets)
-    (record { incarnation = named.incarnation; number = named.number; stands = (first, refl) })
+    sessions_changed a e old new key.client (session_for key advances.version (Settled None kept.TheVariants.Cancelled)) are legal (ap client_of says)
+    (λ other. still_waits a e key other says none) (set_changes old new key.client _ advances.sets)
+    (record { opened = named.opened; number = named.number; stands = (first, refl) })

@@ -5,7 +5,7 @@ use Rattle.rv_text.specs.declared.message.Key.{Key}
 use Rattle.rv_session.specs.Meanings.{HasLast, HasNext}
 use Rattle.rv_session.specs.declared.session.State.TheVariants as state
 use Rattle.rv_session.specs.Owed.{Owed}
-use Rattle.rv_session.specs.Table.{OnlySets, OnlySettles, settled_session}
+use Rattle.rv_session.specs.Table.{OnlyAdvances, OnlySettles}
 use Rattle.rv_session.specs.declared.kept.Kept.TheVariants as kept
 use Rattle.rv_account.specs.Account.{Account, call_in, key_in, with_entry}
 use Rattle.rv_book.specs.Arriving.{IsCancelled, IsNext, entry}
@@ -48,7 +48,7 @@ module _ (old : State) (moment : ℕ) (key : Key) (comes : Comes old moment (Can
     sound = comes.sound;
     moment_fits = comes.moment_fits;
     act_fits = comes.act_fits;
-    clients = few_still before.entries own_entry (λ c i own. absurd (cancel_no_hello key c i own)) comes.sound.fits.clients;
+    clients = few_still before.entries own_entry (λ c i v own. absurd (cancel_no_hello key c i v own)) comes.sound.fits.clients;
     follows = follows;
     stops = record {
       no_call = refl;
@@ -77,7 +77,7 @@ module _ (old : State) (moment : ℕ) (key : Key) (comes : Comes old moment (Can
         let legal = legal_after old moment (Cancel key) UnderKey ends_marks in
         let owed = waiting_owed before.entries place key there.call there.waits there.arrived in
         let own : ends.duty.client ≡ key.client = ap (λ (d : Owed). d.client) (same_Some _ _ (sym ends.owed ∙ owed)) in
-        let settled = subst (λ c. OnlySettles old.sessions mid.sessions c place kept.Cancelled) own ends.settles in
+        let settled = subst (λ c. OnlySettles old.sessions mid.sessions c place kept.Cancelled) own ends.settles.settles in
         let tables = sessions_ended before own_entry old.sessions mid.sessions key there.call place comes.sound.sessions_are comes.sound.legal legal refl refl there.arrived there.waits settled in
         let request : UnderKey place = record {
           call = there.call;
@@ -106,12 +106,12 @@ module _ (old : State) (moment : ℕ) (key : Key) (comes : Comes old moment (Can
     bury_marks : Marks old moment (Cancel key) UnderKey
     bury_marks = marks (cancel_follows before moment key comes.time comes.nothing_due next.epoch next.incarnation (inr (record { last = next.last; is_last = next.is_last; next = next.next; idle = next.idle })))
 
-    pub buried_sound : (new : State) → account_of new ≡ with_entry before own_entry → OnlySets old.sessions new.sessions key.client (settled_session key.incarnation key.number None kept.Cancelled) → new.stations ≡ old.stations
+    pub buried_sound : (new : State) → account_of new ≡ with_entry before own_entry → OnlyAdvances old.sessions new.sessions key (state.Settled None kept.Cancelled) → new.stations ≡ old.stations
         → new.waiting ≡ old.waiting → new.due ≡ old.due → HasSpace old 1 → old.waiting ≤ new.account.room → IsSound new
-    buried_sound new pushed sets stations waiting due space room =
+    buried_sound new pushed advances stations waiting due space room =
         let legal = legal_after old moment (Cancel key) UnderKey bury_marks in
         marked_idle old moment (Cancel key) UnderKey bury_marks new pushed
-        (sessions_buried before own_entry old.sessions new.sessions key comes.sound.sessions_are comes.sound.legal legal next refl refl sets)
+        (sessions_buried before own_entry old.sessions new.sessions key comes.sound.sessions_are comes.sound.legal legal next refl refl advances)
         (λ r waits request. next.idle (record { place = r; key = key; waits = waits; names = record { named = ap (option_and_then key_in) request.arrived; of_client = refl } }))
         stations waiting due space room
 

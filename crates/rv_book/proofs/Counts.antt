@@ -6,7 +6,6 @@ use Rattle.rv_text.specs.declared.answer.Reply.{Reply}
 use Rattle.rv_text.specs.declared.call.Call.TheVariants.{Count}
 use Rattle.rv_text.specs.declared.call.Side.{Side}
 use Rattle.rv_text.specs.declared.call.Side.TheVariants.{Gives, Takes}
-use Rattle.rv_text.specs.Limits.{FitsReply}
 use Rattle.rv_account.specs.declared.entry.Act.TheVariants.{Arrive}
 use Rattle.rv_account.specs.declared.entry.Entry.{Entry}
 use Rattle.rv_session.specs.declared.kept.Kept as kept
@@ -22,13 +21,13 @@ use Rattle.rv_book.proofs.Deciding.{find_waiting}
 use Rattle.rv_book.proofs.FrontPairs.{find_open}
 use Rattle.rv_book.proofs.Growing.{call_read, reads_within}
 use Rattle.rv_book.proofs.Looking.{looks_waits_not, same_before}
-use Rattle.rv_book.proofs.ReplyLaws.{ReplyLaws}
+use Rattle.rv_book.proofs.ReplyLaws.{FitsIn, ReplyLaws}
 
 -- ---- what is kept
 
 pub count_replies : (a : Account) (queue items consumers : ℕ) (partner : Option ℕ) → NumberOf (OpenAt a.entries (Gives queue)) items → NumberOf (OpenAt a.entries (Takes queue)) consumers
     → WillReply a (Count queue) partner (kept.TheVariants.Counted items consumers)
-count_replies a queue items consumers partner items_are consumers_are moment key before after =
+count_replies a queue items consumers partner items_are consumers_are moment key version before after asked =
     let e = entry moment (Arrive key (Count queue)) (just partner) in
     let counts : Counts a.entries queue items consumers = record { items_are = items_are; consumers_are = consumers_are } in
     record {
@@ -60,8 +59,8 @@ number_fits a r side n fits count =
     (λ p opened. reads_within call_read refl (take r a.entries) p opened.of_side.call opened.of_side.arrived) count in
     omega arith
 
-fits : (queue : ℕ) (a : Account) (r : ℕ) (told : Reply) → FitsAccount a → RepliesAt a.entries r (Count queue) told → FitsReply told
-fits queue a r told within (items, consumers, counts, is) = subst FitsReply (sym is) (number_fits a r (Gives queue) items within counts.items_are, number_fits a r (Takes queue) consumers within counts.consumers_are)
+fits : (queue : ℕ) (a : Account) (r : ℕ) (told : Reply) → FitsAccount a → RepliesAt a.entries r (Count queue) told → FitsIn a.epoch told
+fits queue a r told within (items, consumers, counts, is) = subst (FitsIn a.epoch) (sym is) ((number_fits a r (Gives queue) items within counts.items_are, number_fits a r (Takes queue) consumers within counts.consumers_are), tt)
 
 exists_at : (queue : ℕ) (es : List Entry) (r : ℕ) → (told : Reply) × RepliesAt es r (Count queue) told
 exists_at queue es r =
@@ -76,5 +75,5 @@ counts queue = record {
   fits = λ a r told legal within arrived. fits queue a r told within;
   exists = λ a r legal arrived. inl (exists_at queue a.entries r);
   waits_not = λ a r told legal arrived w replies. looks_waits_not a.entries r queue (Count queue) arrived refl w;
-  met = λ b earlier later other legal arrived also names opposes waits. absurd (let no : ⊥ = cc in no);
+  met = λ b earlier later other version legal arrived also names opposes waits asked. absurd (let no : ⊥ = cc in no);
 }

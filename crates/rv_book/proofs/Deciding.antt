@@ -3,6 +3,7 @@ use Rattle.rv_account.specs.declared.entry.Act.{Act}
 use Rattle.rv_account.specs.declared.entry.Act.TheVariants.{Arrive, Cancel, Hello, Tick}
 use Rattle.std.proofs.Common.{Bool, List, None, Option, Some, ap, arith, false, inl, inr, length, refl, subst, suc, sym, true, zero, ℕ, ◌<◌, ◌∙◌, ◌≡◌, ◌≤◌, ◌⊎◌, [], ◌+◌, ◌∷◌}
 use Rattle.rv_text.specs.declared.call.Call.{Call}
+use Rattle.rv_text.specs.declared.version.Version.{Version}
 use Rattle.rv_account.specs.declared.entry.Entry.{Entry}
 use Rattle.rv_text.specs.declared.call.Side.TheVariants.{Exchanges, Gives, Looks, Takes}
 use Rattle.rv_book.specs.Sessions.{HasIncarnation, LastHello, LastNumber, NamesKey, SaidHello}
@@ -19,7 +20,7 @@ use Rattle.rv_book.proofs.Places.{within}
 use Rattle.rv_book.proofs.Numbers.{first_below, last_below, same_or_not}
 use Rattle.std.specs.Prelude.{is_some}
 use Rattle.rv_book.proofs.Naming.{among_named, among_none, among_or_not, first_among, named_among, partners_of}
-use Rattle.rv_book.proofs.Keys.{key_read, client_of, hello_is_own, cancel_no_hello, tick_no_hello}
+use Rattle.rv_book.proofs.Keys.{key_read, client_of, hello_is_own, cancel_no_hello, no_hello, same_hello, tick_no_hello}
 use Rattle.std.proofs.lemmas.Option.{none-some, same_Some}
 use Rattle.rv_text.specs.Calls.{side_of, wait_of}
 use Rattle.rv_book.specs.Legal.{HasWaiting}
@@ -31,43 +32,38 @@ use Rattle.rv_book.proofs.Counting.{find_number}
 
 -- a hello of the client stands at r
 abbrev pub HelloAt : List Entry → ℕ → ℕ → Type 0
-HelloAt es c r = (i : ℕ) × (act_at es r ≡ Some (Hello c i))
+HelloAt es c r = (i : ℕ) × (v : Version) × (act_at es r ≡ Some (Hello c i v))
 
-other_client : (c d i j : ℕ) → Some (Hello d j) ≡ Some (Hello c i) → d ≡ c
-other_client c d i j e = cc
-
-arrives_no_hello : (key : Key) (call : Call) (c i : ℕ) → Some (Arrive key call) ≡ Some (Hello c i) → ⊥
-arrives_no_hello key call c i e = cc
-
-hello_of : (c : ℕ) (o : Option Act) → ((i : ℕ) × (o ≡ Some (Hello c i))) ⊎ ((i : ℕ) × (o ≡ Some (Hello c i)) → ⊥)
-hello_of c None = inr (λ h. none-some (Hello c h.0) h.1)
-hello_of c (Some (Hello d j)) = elim (same_or_not d c) [
-  | inl same ↦ inl (j, ap (λ n. Some (Hello n j)) same)
-  | inr other ↦ inr (λ h. other (other_client c d h.0 j h.1))
+hello_of : (c : ℕ) (o : Option Act) → ((i : ℕ) × (v : Version) × (o ≡ Some (Hello c i v))) ⊎ ((i : ℕ) × (v : Version) × (o ≡ Some (Hello c i v)) → ⊥)
+hello_of c None = inr (λ h. none-some (Hello c h.0 h.1) h.2)
+hello_of c (Some (Hello d j w)) = elim (same_or_not d c) [
+  | inl same ↦ inl (j, w, ap (λ n. Some (Hello n j w)) same)
+  | inr other ↦ inr (λ h. other (same_hello d j c h.0 w h.1 h.2))
 ]
-hello_of c (Some (Arrive key call)) = inr (λ h. arrives_no_hello key call c h.0 h.1)
-hello_of c (Some (Cancel key)) = inr (λ h. cancel_no_hello key c h.0 h.1)
-hello_of c (Some Tick) = inr (λ h. tick_no_hello c h.0 h.1)
+hello_of c (Some (Arrive key call)) = inr (λ h. no_hello key call c h.0 h.1 h.2)
+hello_of c (Some (Cancel key)) = inr (λ h. cancel_no_hello key c h.0 h.1 h.2)
+hello_of c (Some Tick) = inr (λ h. tick_no_hello c h.0 h.1 h.2)
 
-pub find_hello : (es : List Entry) (c : ℕ) → ((i : ℕ) × HasIncarnation es c i) ⊎ ((r i : ℕ) → act_at es r ≡ Some (Hello c i) → ⊥)
+pub find_hello : (es : List Entry) (c : ℕ) → ((i : ℕ) × HasIncarnation es c i) ⊎ ((r i : ℕ) (v : Version) → act_at es r ≡ Some (Hello c i v) → ⊥)
 find_hello es c = elim (last_below (HelloAt es c) (λ r. hello_of c (act_at es r)) (length es)) [
   | inl found ↦ inl (
     found.2.0,
     (
       found.0,
       record {
-        hello = found.2.1;
-        last = λ r j later hello. found.3 r later (reads_within act_read refl es r (Hello c j) hello) (j, hello);
+        version = found.2.1;
+        hello = found.2.2;
+        last = λ r j v later hello. found.3 r later (reads_within act_read refl es r (Hello c j v) hello) (j, v, hello);
       },
     ),
   )
-  | inr none ↦ inr (λ r i hello. none r (reads_within act_read refl es r (Hello c i) hello) (i, hello))
+  | inr none ↦ inr (λ r i v hello. none r (reads_within act_read refl es r (Hello c i v) hello) (i, v, hello))
 ]
 
 pub said_or_not : (es : List Entry) (c : ℕ) → SaidHello es c ⊎ (SaidHello es c → ⊥)
 said_or_not es c = elim (find_hello es c) [
-  | inl found ↦ inl (found.1.0, found.0, found.1.1.hello)
-  | inr none ↦ inr (λ said. none said.0 said.1 said.2)
+  | inl found ↦ inl (found.1.0, found.0, found.1.1.version, found.1.1.hello)
+  | inr none ↦ inr (λ said. none said.0 said.1 said.2 said.3)
 ]
 
 -- a bound above the clients of all hellos
@@ -75,14 +71,14 @@ abbrev clients_below : List Entry → ℕ
 clients_below [] = 0
 clients_below (e ∷ es) = client_of e.act + 1 + clients_below es
 
-is_below : (es : List Entry) (c r i : ℕ) → act_at es r ≡ Some (Hello c i) → c < clients_below es
-is_below [] c r i hello = absurd (none-some _ hello)
-is_below (e ∷ es) c zero i hello = let own : client_of e.act ≡ c = hello_is_own e.act c i hello in omega arith
-is_below (e ∷ es) c (suc r) i hello = let below : c < clients_below es = is_below es c r i hello in omega arith
+is_below : (es : List Entry) (c r i : ℕ) (v : Version) → act_at es r ≡ Some (Hello c i v) → c < clients_below es
+is_below [] c r i v hello = absurd (none-some _ hello)
+is_below (e ∷ es) c zero i v hello = let own : client_of e.act ≡ c = hello_is_own e.act c i v hello in omega arith
+is_below (e ∷ es) c (suc r) i v hello = let below : c < clients_below es = is_below es c r i v hello in omega arith
 
 -- how many clients said a hello
 pub find_clients : (es : List Entry) → (n : ℕ) × NumberOf (SaidHello es) n
-find_clients es = find_number (SaidHello es) (said_or_not es) (clients_below es) (λ c said. is_below es c said.0 said.1 said.2)
+find_clients es = find_number (SaidHello es) (said_or_not es) (clients_below es) (λ c said. is_below es c said.0 said.1 said.2 said.3)
 
 -- the greatest number of the client's keys behind h and below n
 pub record Greatest (es : List Entry) (c h n m : ℕ) : Type 0 where
@@ -251,7 +247,7 @@ elapsed_or_not None moment = inr (λ over. over)
 elapsed_or_not (Some limit) moment = elim (cases_lt moment limit) [ inl early ↦ inr (λ over. omega arith) | inr over ↦ inl over ]
 
 ends_or_not : (act : Act) (moment : ℕ) (key : Key) (limit : Option ℕ) → EndsWait act moment key limit ⊎ (EndsWait act moment key limit → ⊥)
-ends_or_not (Hello client i) moment key limit = same_or_not client key.client
+ends_or_not (Hello client i v) moment key limit = same_or_not client key.client
 ends_or_not (Arrive other call) moment key limit = inr (λ ends. ends)
 ends_or_not (Cancel other) moment key limit = key_or_other other key
 ends_or_not Tick moment key limit = elapsed_or_not limit moment
@@ -306,7 +302,7 @@ arrives_no_tick key call e = cc
 
 stops_of : (es : List Entry) (r s : ℕ) (o : Option Act) → act_at es r ≡ o → StoppedAt es r s ⊎ (StoppedAt es r s → ⊥)
 stops_of es r s None there = inr (λ h. none-some _ (sym there ∙ h.arrived))
-stops_of es r s (Some (Hello client i)) there = inr (λ h. arrives_no_hello h.key h.call client i (sym h.arrived ∙ there))
+stops_of es r s (Some (Hello client i v)) there = inr (λ h. no_hello h.key h.call client i v (sym h.arrived ∙ there))
 stops_of es r s (Some (Cancel key)) there = inr (λ h. arrives_no_cancel h.key h.call key (sym h.arrived ∙ there))
 stops_of es r s (Some Tick) there = inr (λ h. arrives_no_tick h.key h.call (sym h.arrived ∙ there))
 stops_of es r s (Some (Arrive key call)) there = elim (put_or_not call) [

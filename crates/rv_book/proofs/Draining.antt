@@ -1,5 +1,5 @@
--- After a drain the account and its tables are sound, and who was taken out was told that it was received.
-use Rattle.std.proofs.Common.{◌≡◌, ℕ, ◌+◌, ◌≤◌, List, [], ◌∷◌, ◌++◌, length, take, Option, Some, None, IsSome, is_some, option_and_then, refl, sym, ap, subst, ◌∙◌, arith}
+-- After a drain the account and its tables are sound, and who was taken out was told that the drain received it.
+use Rattle.std.proofs.Common.{◌≡◌, ℕ, ◌+◌, ◌≤◌, List, [], ◌∷◌, ◌++◌, length, take, Option, Some, None, IsSome, is_some, option_and_then, option_map, refl, sym, ap, subst, ◌∙◌, arith}
 use Rattle.std.proofs.lemmas.Option.{same_Some}
 use Rattle.rv_text.specs.declared.call.Call.{Call}
 use Rattle.rv_text.specs.declared.call.Side.{Side}
@@ -7,8 +7,10 @@ use Rattle.rv_text.specs.declared.call.Side.TheVariants.{Gives, Takes}
 use Rattle.rv_text.specs.declared.call.Wait.TheVariants.{Now}
 use Rattle.rv_text.specs.declared.call.Wait.{Wait}
 use Rattle.rv_text.specs.declared.message.Key.{Key}
+use Rattle.rv_text.specs.declared.version.Version.{Version}
 use Rattle.rv_text.specs.Calls.{side_of, wait_of}
-use Rattle.rv_session.specs.Table.{OnlySets, OnlySettles, Table, settled_session, waiting_session}
+use Rattle.rv_session.specs.Kept.{told_in}
+use Rattle.rv_session.specs.Table.{OnlyAdvances, Table, session_for, settled_session}
 use Rattle.rv_session.specs.Meanings.{HasNext}
 use Rattle.rv_session.specs.Standings.{standing_of}
 use Rattle.rv_session.specs.declared.standing.Standing.TheVariants as standing
@@ -16,20 +18,22 @@ use Rattle.rv_book.specs.Meeting.{HasRoomToName}
 use Rattle.rv_session.specs.declared.kept.Kept.{Kept}
 use Rattle.rv_session.specs.declared.kept.Kept.TheVariants as kept
 use Rattle.rv_session.specs.declared.session.Session.{Session}
+use Rattle.rv_session.specs.declared.session.State.TheVariants.{Settled, Waits}
 use Rattle.rv_account.specs.declared.entry.Act.TheVariants.{Arrive}
 use Rattle.rv_account.specs.declared.entry.Entry.{Entry}
-use Rattle.rv_account.specs.Account.{Account, Among, Names, call_at, entry, limit_at, limit_in, with_entry}
+use Rattle.rv_account.specs.Account.{Account, Names, call_at, entry, limit_at, limit_in, with_entry}
 use Rattle.rv_account.specs.Calls.{IsPut, Lasts, MayMeet, Stays, limit_after, may_name, need_by, need_of, opposite}
 use Rattle.rv_book.specs.declared.state.State.{State}
-use Rattle.rv_book.specs.Arriving.{IsKept, IsNext, IsRecorded}
+use Rattle.rv_book.specs.Arriving.{IsKept, IsNext, IsRecorded, WillTell}
 use Rattle.rv_book.specs.Counting.{NumberOf}
-use Rattle.rv_book.specs.Draining.{IsDraining, MayDrain, WillTell, items_in}
+use Rattle.rv_book.specs.Draining.{IsDraining, MayDrain, items_in}
 use Rattle.rv_book.specs.Elapsing.{AreDeadlines, deadline_after, with_deadline, without_deadline}
 use Rattle.rv_book.specs.Legal.{KeepsTime, Legal, MayFollow, NothingDue}
 use Rattle.rv_book.specs.Limits.{FitEntries}
 use Rattle.std.specs.Global.{Vec}
 use Rattle.rv_book.specs.Parked.{AreStations, IsLine}
-use Rattle.rv_book.specs.Tables.{Comes, IsPrepared, IsSession, IsSound, account_of, partners_reply, with_due}
+use Rattle.rv_book.specs.Tables.{Comes, IsPrepared, IsSession, IsSound, SettlesAs, account_of, partners_reply, told_to, with_due}
+use Rattle.rv_book.specs.Sessions.{HasOpened}
 use Rattle.rv_book.specs.TakingOut.{IsLeft, Left}
 use Rattle.rv_book.specs.Waiting.{NamesPartner, Waiting}
 use Rattle.rv_book.proofs.Closing.{Closes, names_closes, waits_on}
@@ -44,9 +48,11 @@ use Rattle.rv_book.proofs.Places.{get-append_end}
 use Rattle.rv_book.proofs.Replying.{recorded_kept, reply_laws}
 use Rattle.rv_book.proofs.SessionTable.{Changes, IsAt, named_at}
 use Rattle.rv_book.proofs.Standing.{is_next}
-use Rattle.rv_book.proofs.TakenSessions.{Tells, sessions_changed_at_last}
+use Rattle.rv_book.proofs.TakenSessions.{Tells, opened_while_left, sessions_changed_at_last}
 use Rattle.rv_book.proofs.TakenTables.{due_at_last, number_at_last, stations_at_last}
 use Rattle.rv_book.proofs.TakingOut.{same_state}
+use Rattle.rv_book.proofs.Versions.{asked_last}
+use Rattle.rv_book.proofs.WaitingTable.{version_told}
 
 -- ---- what an arrival that names the first of the other side tells them
 
@@ -59,7 +65,7 @@ module _ (a : Account) (moment : ℕ) (key : Key) (call : Call) (side : Side) (p
   e = entry moment (Arrive key call) (take (may_name call) places)
 
   pub tells_named : Legal (with_entry a e) → Tells a e (Names e) (partners_reply (side_of call) (length a.entries))
-  tells_named legal r met waits named arrived =
+  tells_named legal r met version waits named arrived asked =
       let opened = named_open a.entries moment key call side places opposes line r named in
       let place = length a.entries in
       let here : call_at (a.entries ++ e ∷ []) place ≡ Some call = ap call_read (get-append_end a.entries e) in
@@ -67,8 +73,8 @@ module _ (a : Account) (moment : ℕ) (key : Key) (call : Call) (side : Side) (p
       let own : waits.is_open.call ≡ met = same_Some _ _ (sym waits.is_open.arrived ∙ arrived) in
       let stays = subst Stays own waits.is_open.stays in
       let names : NamesPartner (a.entries ++ e ∷ []) place r = record { call = call; arrived = here; meets = ap is_some opposes; named = NamesAt-last a.entries e r named } in
-      (reply_laws met).met (with_entry a e) r place call legal (reads_on call_read refl a.entries (e ∷ []) r met arrived) here names
-      (opposes ∙ ap Some (sym opened.of_side.is ∙ ap side_of same)) (has_wait met (wait_of met) refl stays.0 (subst (λ c. IsPut c → ⊥) own waits.no_put))
+      (reply_laws met).met (with_entry a e) r place call version legal (reads_on call_read refl a.entries (e ∷ []) r met arrived) here names
+      (opposes ∙ ap Some (sym opened.of_side.is ∙ ap side_of same)) (has_wait met (wait_of met) refl stays.0 (subst (λ c. IsPut c → ⊥) own waits.no_put)) asked
 
 -- ---- the state
 
@@ -110,33 +116,33 @@ module _ (old : State) (moment : ℕ) (key : Key) (call : Call) (queue max : ℕ
   pub closes : Closes before.entries own_entry (Names own_entry)
   closes = names_closes before.entries own_entry key call refl (λ stays. subst Lasts may.at_once stays.1) follows.pairs.names_free_partners
 
-  pub tells : Tells before own_entry (Names own_entry) kept.Received
+  pub tells : Tells before own_entry (Names own_entry) (kept.ReceivedBy place)
   tells = subst (Tells before own_entry (Names own_entry)) (ap (λ s. partners_reply s place) may.side)
       (tells_named before moment key call (Gives queue) (items_in old queue) opposes (sound.stations_are.lines (Gives queue)) legal_after)
 
-  pub kept_is : IsKept after.entries place call k
-  kept_is =
+  -- what is kept for it, where its session has this version
+  pub kept_is : (version : Version) → HasOpened before.entries key.client key.incarnation version → IsKept after.entries place call (told_in version k)
+  kept_is version opened =
       let named : take max (items_in old queue) ≡ places = ap (λ n. take n (items_in old queue)) may.most in
-      subst (λ partners. WillTell before call partners k) named may.will moment key sound.legal legal_after
+      subst (λ partners. WillTell before call partners k) named may.will moment key version sound.legal legal_after (asked_last before.entries own_entry key key.incarnation version refl opened)
 
-  pub drained_recorded : IsRecorded before after moment key call (Some k)
-  drained_recorded = recorded_kept before moment key call places k legal_after kept_is
-
--- the items were taken out, the request's number began, its entry was recorded, and it was settled with this
-pub record Drains (old mid new : State) (moment : ℕ) (key : Key) (call : Call) (queue max : ℕ) (room : Vec ℕ) (k : Kept) : Type 0 where
+-- the items were taken out, and the request's number began
+pub record Began (old mid : State) (begun : Table) (moment : ℕ) (key : Key) (call : Call) (queue max : ℕ) (room : Vec ℕ) (k : Kept) : Type 0 where
   pub may : MayDrain old moment key call queue max room k
   pub draining : IsDraining mid (take (may_name call) (items_in old queue))
   pub same : mid.account ≡ old.account
-  pub begun : Table
-  pub begins : OnlySets mid.sessions begun key.client (waiting_session key.incarnation key.number (length (account_of old).entries))
-  pub settles : OnlySettles begun new.sessions key.client (length (account_of old).entries) k
+  pub begins : OnlyAdvances mid.sessions begun key (Waits (length (account_of old).entries))
+
+-- then its entry was recorded, and it was settled with this
+pub record Drains (old mid new : State) (begun : Table) (moment : ℕ) (key : Key) (call : Call) (queue : ℕ) (k : Kept) : Type 0 where
+  pub settles : SettlesAs begun new.sessions key.client (length (account_of old).entries) k
   pub pushed : account_of new ≡ with_entry (account_of old) (entry moment (Arrive key call) (take (may_name call) (items_in old queue)))
   pub room_left : old.account.room ≤ new.account.room + 1
   pub stations : new.stations ≡ mid.stations
   pub waiting : new.waiting ≡ mid.waiting
   pub due : new.due ≡ without_deadline (limit_at (account_of new).entries (length (account_of old).entries)) (length (account_of old).entries) mid.due
 
-module _ (old mid new : State) (moment : ℕ) (key : Key) (call : Call) (queue max : ℕ) (room : Vec ℕ) (k : Kept) (is : Drains old mid new moment key call queue max room k) where
+module _ (old mid : State) (begun : Table) (moment : ℕ) (key : Key) (call : Call) (queue max : ℕ) (room : Vec ℕ) (k : Kept) (is : Began old mid begun moment key call queue max room k) where
   abbrev was : Account
   was = account_of old
 
@@ -155,7 +161,7 @@ module _ (old mid new : State) (moment : ℕ) (key : Key) (call : Call) (queue m
   own_closes : Closes was.entries new_entry (Names new_entry)
   own_closes = closes old moment key call queue max room k is.may
 
-  own_tells : Tells was new_entry (Names new_entry) kept.Received
+  own_tells : Tells was new_entry (Names new_entry) (kept.ReceivedBy at)
   own_tells = tells old moment key call queue max room k is.may
 
   own_legal : Legal is_now
@@ -168,34 +174,40 @@ module _ (old mid new : State) (moment : ℕ) (key : Key) (call : Call) (queue m
   abbrev left_state : State
   left_state = record { account = old.account; sessions = mid.sessions; stations = mid.stations; waiting = mid.waiting; due = mid.due }
 
-  left : IsLeft left_state (Names new_entry) kept.Received
-  left = subst (λ s. IsLeft s (Among new_entry.partners) kept.Received) (same_state mid old.account is.same) is.draining
+  left : IsLeft left_state (Names new_entry) (kept.ReceivedBy at)
+  left = subst (λ s. IsDraining s new_entry.partners) (same_state mid old.account is.same) is.draining
 
   -- ---- its own session
 
-  changes : Changes mid.sessions new.sessions key.client (settled_session key.incarnation key.number (Some at) k)
-  changes =
-      let same : is.settles.session ≡ waiting_session key.incarnation key.number at = same_Some _ _ (sym is.settles.there ∙ is.begins.own) in
-      record {
-        epoch = is.settles.sets.epoch ∙ is.begins.epoch;
-        own = is.settles.sets.own ∙ ap (λ (s : Session). Some (settled_session s.incarnation s.last (Some at) k)) same;
-        others = λ other apart. is.settles.sets.others other apart ∙ is.begins.others other apart;
-      }
+  abbrev v : Version
+  v = is.begins.version
 
-  own_at : IsAt is_now.entries key.client key.incarnation key.number
+  opened : HasOpened was.entries key.client key.incarnation v
+  opened = opened_while_left was (Names new_entry) (kept.ReceivedBy at) mid.sessions key.client key.incarnation v left.sessions_are own_next.incarnation is.begins.was
+
+  own_kept : IsKept is_now.entries at call (told_in v k)
+  own_kept = kept_is old moment key call queue max room k is.may v opened
+
+  -- what it is told
+  pub drained_recorded : IsRecorded was is_now moment key call (told_to begun (Some (record { place = at; client = key.client })) k)
+  drained_recorded =
+      let told = ap (option_map (λ w. told_in w k)) (ap (option_map (λ (s : Session). s.version)) is.begins.sets.own) in
+      subst (IsRecorded was is_now moment key call) (sym told) (recorded_kept was moment key call new_entry.partners (told_in v k) own_legal own_kept)
+
+  own_at : IsAt is_now.entries key.client key.incarnation v key.number
   own_at =
       let above : key.number ≡ own_next.last + 1 = own_next.next in
-      named_at was.entries new_entry key key.incarnation own_next.last refl (record { incarnation = own_next.incarnation; number = own_next.is_last }) (omega arith)
+      named_at was.entries new_entry key key.incarnation v own_next.last refl (record { opened = opened; number = own_next.is_last }) (omega arith)
 
-  own_session : IsKept is_now.entries at call k → IsSession is_now key.client (settled_session key.incarnation key.number (Some at) k)
-  own_session kept = record {
-    incarnation = own_at.incarnation;
+  own_session : IsSession is_now key.client (session_for key v (Settled (Some at) (told_in v k)))
+  own_session = record {
+    opened = own_at.opened;
     number = own_at.number;
     stands = record {
       call = call;
       arrived = ap act_read (get-append_end was.entries new_entry)
           ∙ ap (λ epoch. Some (Arrive (record { epoch = epoch; client = key.client; incarnation = key.incarnation; number = key.number }) call)) own_next.epoch;
-      kept_is = kept;
+      kept_is = own_kept;
     };
   }
 
@@ -204,33 +216,45 @@ module _ (old mid new : State) (moment : ℕ) (key : Key) (call : Call) (queue m
   no_limit : limit_at is_now.entries at ≡ None
   no_limit = ap (option_and_then limit_in) (get-append_end was.entries new_entry) ∙ ap (option_and_then (limit_after moment)) is.may.at_once
 
-  due_is : new.due ≡ mid.due
-  due_is = is.due ∙ ap (λ (b : Account). without_deadline (limit_at b.entries at) at mid.due) is.pushed ∙ ap (λ o. without_deadline o at mid.due) no_limit
-
   fewer : mid.waiting ≤ old.waiting
   fewer = number_at_most (Left (Names new_entry) (Waiting was.entries)) (Waiting was.entries) mid.waiting old.waiting (λ r both. both.0) left.waiting_is own_sound.waiting_is
 
-  pub drained_sound : IsSound new
-  drained_sound =
-      let own_kept = kept_is old moment key call queue max room k is.may in
-      let space : length was.entries + old.waiting + 1 ≤ 100000 = is.may.space in
-      let enough : old.waiting + 1 ≤ old.account.room = is.may.room in
-      let left_room : old.account.room ≤ new.account.room + 1 = is.room_left in
-      let same : new.waiting ≡ mid.waiting = is.waiting in
-      let less : mid.waiting ≤ old.waiting = fewer in
-      sound_with was new_entry new own_sound.fits (record {
-        legal = own_legal;
-        entry_fits = (is.may.comes.moment_fits, is.may.comes.act_fits);
-        account = is.pushed;
-        sessions_are = sessions_changed_at_last was new_entry (Names new_entry) kept.Received own_legal (waits_on was.entries new_entry (Names new_entry) own_closes) own_tells mid.sessions new.sessions key.client
-            (settled_session key.incarnation key.number (Some at) k) refl left.sessions_are changes (own_session own_kept);
-        stations_are = subst (AreStations is_now.entries) (sym is.stations) (stations_at_last was.entries new_entry (Names new_entry) own_closes mid.stations left.stations_are);
-        waiting_is = subst (NumberOf (Waiting is_now.entries)) (sym is.waiting) (number_at_last was.entries new_entry (Names new_entry) own_closes mid.waiting left.waiting_is);
-        due_are = subst (AreDeadlines is_now.entries) (sym due_is) (due_at_last was.entries new_entry (Names new_entry) own_closes mid.due left.due_are);
-        clients = few_still was.entries new_entry (λ c i own. absurd (no_hello key call c i own)) own_sound.fits.clients;
-        space = omega arith;
-        spare = omega arith;
-      })
+  module _ (new : State) (drains : Drains old mid new begun moment key call queue k) where
+    changes : Changes mid.sessions new.sessions key.client (session_for key v (Settled (Some at) (told_in v k)))
+    changes =
+        let settles = drains.settles.settles in
+        let same : settles.session ≡ session_for key v (Waits at) = same_Some _ _ (sym settles.there ∙ is.begins.sets.own) in
+        let version = version_told begun key.client (session_for key v (Waits at)) drains.settles.version is.begins.sets.own drains.settles.was in
+        record {
+          epoch = settles.sets.epoch ∙ is.begins.sets.epoch;
+          own = settles.sets.own ∙ ap (λ (s : Session). Some (settled_session s (Some at) (told_in drains.settles.version k))) same
+              ∙ ap (λ w. Some (session_for key v (Settled (Some at) (told_in w k)))) (sym version);
+          others = λ other apart. settles.sets.others other apart ∙ is.begins.sets.others other apart;
+        }
+
+    due_is : new.due ≡ mid.due
+    due_is = drains.due ∙ ap (λ (b : Account). without_deadline (limit_at b.entries at) at mid.due) drains.pushed ∙ ap (λ o. without_deadline o at mid.due) no_limit
+
+    pub drained_sound : IsSound new
+    drained_sound =
+        let space : length was.entries + old.waiting + 1 ≤ 100000 = is.may.space in
+        let enough : old.waiting + 1 ≤ old.account.room = is.may.room in
+        let left_room : old.account.room ≤ new.account.room + 1 = drains.room_left in
+        let same : new.waiting ≡ mid.waiting = drains.waiting in
+        let less : mid.waiting ≤ old.waiting = fewer in
+        sound_with was new_entry new own_sound.fits (record {
+          legal = own_legal;
+          entry_fits = (is.may.comes.moment_fits, is.may.comes.act_fits);
+          account = drains.pushed;
+          sessions_are = sessions_changed_at_last was new_entry (Names new_entry) (kept.ReceivedBy at) own_legal (waits_on was.entries new_entry (Names new_entry) own_closes) own_tells mid.sessions new.sessions key.client
+              (session_for key v (Settled (Some at) (told_in v k))) refl left.sessions_are changes own_session;
+          stations_are = subst (AreStations is_now.entries) (sym drains.stations) (stations_at_last was.entries new_entry (Names new_entry) own_closes mid.stations left.stations_are);
+          waiting_is = subst (NumberOf (Waiting is_now.entries)) (sym drains.waiting) (number_at_last was.entries new_entry (Names new_entry) own_closes mid.waiting left.waiting_is);
+          due_are = subst (AreDeadlines is_now.entries) (sym due_is) (due_at_last was.entries new_entry (Names new_entry) own_closes mid.due left.due_are);
+          clients = few_still was.entries new_entry (λ c i w own. absurd (no_hello key call c i w own)) own_sound.fits.clients;
+          space = omega arith;
+          spare = omega arith;
+        })
 
 -- ---- a drain for which all growths were made may be recorded
 

@@ -3,34 +3,32 @@ use Rattle.std.proofs.Common.{◌≡◌, ◌≤◌, inl, ℕ, suc, List, [], ◌
 use Rattle.std.specs.List.{All, slice_get}
 use Rattle.std.proofs.lemmas.List.Elements.{All-cons, All-nil}
 use Rattle.std.proofs.lemmas.Option.{none-some, same_Some}
-use Rattle.rv_text.specs.declared.answer.Reply.{Reply}
 use Rattle.rv_text.specs.declared.answer.Reply.TheVariants.{Drained}
 use Rattle.rv_text.specs.declared.call.Call.{Call}
 use Rattle.rv_text.specs.declared.call.Call.TheVariants.{Drain}
 use Rattle.rv_text.specs.declared.call.Side.TheVariants.{Gives, Takes}
 use Rattle.rv_text.specs.Calls.{drains_of, item_of, side_of}
-use Rattle.rv_text.specs.Limits.{FitsCall, FitsItem, FitsItems, FitsReply}
+use Rattle.rv_text.specs.Limits.{FitsCall, FitsItem, FitsItems}
 use Rattle.rv_text.proofs.Kept.{item_fits}
 use Rattle.rv_session.specs.declared.kept.Kept.TheVariants as kept
 use Rattle.rv_account.specs.declared.entry.Act.TheVariants.{Arrive}
 use Rattle.rv_account.specs.declared.entry.Entry.{Entry}
-use Rattle.rv_account.specs.Account.{Account, Among, Names, act_at, call_at, call_in, item_at, items_at, just, partners_at, partners_items, with_entry}
+use Rattle.rv_account.specs.Account.{Account, Among, act_at, call_at, call_in, item_at, items_at, just, partners_at, with_entry}
 use Rattle.rv_account.specs.Calls.{Stays, opposite}
 use Rattle.rv_account.proofs.Items.{joined, parts}
-use Rattle.rv_book.specs.Arriving.{IsKept, WillReply, entry}
-use Rattle.rv_book.specs.Draining.{WillTell}
+use Rattle.rv_book.specs.Arriving.{IsKept, WillReply, WillTell, entry}
 use Rattle.rv_book.specs.Legal.{Legal}
 use Rattle.rv_book.specs.Limits.{FitsAccount}
 use Rattle.rv_book.specs.Replies.{Drains}
-use Rattle.rv_book.specs.Waiting.{NamesPartner, Waiting}
+use Rattle.rv_book.specs.Waiting.{NamesPartner}
 use Rattle.rv_book.proofs.CallKinds.{gives_item}
 use Rattle.rv_book.proofs.Fronts.{read_whole}
-use Rattle.rv_book.proofs.Growing.{act_read, call_read, read_there, reads_on}
+use Rattle.rv_book.proofs.Growing.{call_read, read_there, reads_on}
 use Rattle.rv_book.proofs.Limits.{act_fits, act_there, call_of_act}
 use Rattle.rv_book.proofs.OnePartner.{goes_unnamed, partner_open}
 use Rattle.rv_book.proofs.Opposites.{one_opposite}
 use Rattle.rv_book.proofs.Places.{get-append_end}
-use Rattle.rv_book.proofs.ReplyLaws.{ReplyLaws}
+use Rattle.rv_book.proofs.ReplyLaws.{FitsIn, ReplyLaws}
 
 -- ---- the items of a list of places
 
@@ -123,7 +121,7 @@ module _ (queue max : ℕ) where
       record { reply = Drained has.0; is = ap (option_map Drained) has.1; replies = (has.0, has.1, refl) }
 
   pub drain_replies : (a : Account) (partner : Option ℕ) → WillReply a own partner (kept.Drained (length a.entries))
-  drain_replies a partner moment key before after =
+  drain_replies a partner moment key version before after asked =
       let e = entry moment (Arrive key own) (just partner) in
       drain_kept (with_entry a e) (length a.entries) after (ap call_read (get-append_end a.entries e))
 
@@ -144,10 +142,10 @@ module _ (queue max : ℕ) where
   drains = record {
     stays = λ es more epoch opened r told legal arrived replies. (replies.0, drains_on es more r replies.0 replies.1, replies.2);
     one = λ b r x y legal arrived first second. second.2 ∙ ap Drained (same_Some _ _ (sym second.1 ∙ first.1)) ∙ sym first.2;
-    fits = λ a r told legal fits arrived replies. subst FitsReply (sym replies.2) (fits_drained a r replies.0 legal fits arrived replies.1);
+    fits = λ a r told legal fits arrived replies. subst (FitsIn a.epoch) (sym replies.2) (fits_drained a r replies.0 legal fits arrived replies.1, tt);
     exists = λ a r legal arrived. let has = has_items a r legal arrived in inl (Drained has.0, (has.0, has.1, refl));
     waits_not = λ a r told legal arrived w replies. goes (subst Stays (same_Some _ _ (sym w.is_open.arrived ∙ arrived)) w.is_open.stays);
-    met = λ b earlier later other legal arrived also names opposes waits. absurd (goes_unnamed b later earlier own legal arrived goes names);
+    met = λ b earlier later other version legal arrived also names opposes waits asked. absurd (goes_unnamed b later earlier own legal arrived goes names);
   }
 
 -- ---- the call that drains
@@ -158,6 +156,6 @@ drain_is _ max is = absurd (none-some max is)
 
 -- what is kept of one will be its reply
 pub will_drain : (a : Account) (call : Call) (partners : List ℕ) (queue max : ℕ) → call ≡ Drain queue max → WillTell a call partners (kept.Drained (length a.entries))
-will_drain a call partners queue max is = subst (λ c. WillTell a c partners (kept.Drained (length a.entries))) (sym is) (λ moment key before after.
+will_drain a call partners queue max is = subst (λ c. WillTell a c partners (kept.Drained (length a.entries))) (sym is) (λ moment key version before after asked.
     let e = entry moment (Arrive key (Drain queue max)) partners in
     drain_kept queue max (with_entry a e) (length a.entries) after (ap call_read (get-append_end a.entries e)))

@@ -12,10 +12,12 @@ use Rattle.rv_text.specs.declared.call.Call.{Call}
 use Rattle.rv_book.specs.Laws.{CanCancel, CanEnter, CancelsCanEnter, HellosCanEnter, RequestsCanEnter, TicksCanEnter}
 use Rattle.rv_account.specs.declared.entry.Entry.{Entry}
 use Rattle.rv_text.specs.declared.answer.Refusal.TheVariants.{EpochFull}
-use Rattle.rv_book.specs.Sessions.{HasIncarnation, HasOnlyLower, LastHello, LastNumber, SaidHello}
+use Rattle.rv_book.specs.Sessions.{HasIncarnation, HasOnlyLower, HasOpened, LastHello, LastNumber, SaidHello}
 use Rattle.rv_book.specs.Arriving.{IsNext, entry}
 use Rattle.rv_book.specs.Legal.{KeepsTime, Legal, MayFollow, WaitsUnder}
 use Rattle.rv_text.specs.declared.message.Key.{Key}
+use Rattle.rv_text.specs.declared.version.Version.{Version}
+use Rattle.rv_text.specs.declared.version.Version.TheVariants.{One, Two}
 use Rattle.rv_book.proofs.Legality.{Legal-with_entry}
 use Rattle.std.proofs.Common.{None, Option, Some, ap, arith, ◌⊎◌, inl, inr, [], length, option_map, refl, subst, sym, ℕ, ◌+◌, ◌-◌, ◌<◌, ◌∙◌, ◌≡◌, ◌≤◌, List, option_and_then, take}
 use Rattle.rv_text.specs.declared.answer.Answer.TheVariants.{Replied, Waiting}
@@ -24,7 +26,7 @@ use Rattle.rv_book.proofs.Following.{arrival_by_pairs, cancel_follows, hello_fol
 use Rattle.std.proofs.lemmas.Bool.{cases_lt, cases_order}
 use Rattle.rv_book.proofs.Deciding.{arrives_no_cancel, arrives_no_tick, find_hello, find_last, key_or_other, same_key, find_clients, find_waiting, has_waiting_or_not, said_or_not}
 use Rattle.rv_book.proofs.Histories.{hellos_at_most, one_incarnation}
-use Rattle.rv_book.proofs.Lines.{line_again, line_busy, line_gap, line_newer, line_next, line_no_session, line_old_hello, line_old_incarnation, line_old_number, line_other_epoch, no_room, room_left}
+use Rattle.rv_book.proofs.Lines.{line_again, line_busy, line_gap, line_newer, line_next, line_no_session, line_old_hello, line_old_incarnation, line_old_number, line_other_epoch, line_other_version, no_room, room_left}
 use Rattle.rv_book.proofs.Growing.{moment_read, reads_within, act_read, read_there}
 use Rattle.rv_account.specs.Calls.{need_of}
 use Rattle.std.proofs.lemmas.Option.{none-some, same_Some, slice_get_cases}
@@ -43,6 +45,7 @@ use Rattle.rv_book.proofs.OnePartner.{arrives_once}
 use Rattle.rv_book.proofs.Ticking.{IsTicked, can_tick, ticked}
 use Rattle.rv_book.proofs.Staying.{one_call, reply_or_waits}
 use Rattle.rv_book.proofs.Counting.{one_number}
+use Rattle.rv_book.proofs.Versions.{has_version}
 
 -- ---- the step's moment
 
@@ -86,8 +89,9 @@ step_keeps_time a now legal =
 -- the last hello is the last of each front that has it
 hello_in_front : (es : List Entry) (n c i h : ℕ) → h < n → LastHello es c i h → LastHello (take n es) c i h
 hello_in_front es n c i h less last = record {
-  hello = read_front act_read es n h (Hello c i) less last.hello;
-  last = λ r other later there. last.last r other later (read_whole act_read refl es n r (Hello c other) there).1;
+  version = last.version;
+  hello = read_front act_read es n h (Hello c i last.version) less last.hello;
+  last = λ r other v later there. last.last r other v later (read_whole act_read refl es n r (Hello c other v) there).1;
 }
 
 -- the account has the arrival of the key's request
@@ -121,7 +125,7 @@ ArrivesAt es key r = (call : Call) × (act_at es r ≡ Some (Arrive key call))
 arrives_at : (es : List Entry) (key : Key) (r : ℕ) (o : Option Act) → act_at es r ≡ o → ArrivesAt es key r ⊎ (ArrivesAt es key r → ⊥)
 unfolding ArrivesAt
 arrives_at es key r None there = inr (λ h. none-some _ (sym there ∙ h.1))
-arrives_at es key r (Some (Hello client incarnation)) there = inr (λ h. no_hello key h.0 client incarnation (sym h.1 ∙ there))
+arrives_at es key r (Some (Hello client incarnation v)) there = inr (λ h. no_hello key h.0 client incarnation v (sym h.1 ∙ there))
 arrives_at es key r (Some (Cancel other)) there = inr (λ h. arrives_no_cancel key h.0 other (sym h.1 ∙ there))
 arrives_at es key r (Some Tick) there = inr (λ h. arrives_no_tick key h.0 (sym h.1 ∙ there))
 arrives_at es key r (Some (Arrive other call)) there = elim (key_or_other other key) [
@@ -201,11 +205,11 @@ at_last a key call legal (inr first) = let told = first_told a key first in inr 
 by_session : (a : Account) (key : Key) (L G : Type 0) → Legal a → key.epoch ≡ a.epoch → (Arrived a key ⊎ CancelledFirst a.entries key → L) → (IsNext a key → G) → KeyLines a key (λ refusal. Unit {0}) L G
 by_session a key L G legal epoch again goes_on =
     elim (find_hello a.entries key.client) [
-      | inr none ↦ line_no_session (λ refusal. Unit {0}) L G a key epoch (λ r incarnation hello. absurd (none r incarnation hello)) tt
+      | inr none ↦ line_no_session (λ refusal. Unit {0}) L G a key epoch (λ r incarnation v hello. absurd (none r incarnation v hello)) tt
       | inl found ↦ elim (cases_order found.0 key.incarnation) [
         | inr differ ↦ elim differ [
           | inl lower ↦ line_no_session (λ refusal. Unit {0}) L G a key epoch
-              (λ r incarnation hello. let most : incarnation ≤ found.0 = hellos_at_most a key.client found.0 r incarnation legal found.1 hello in omega arith) tt
+              (λ r incarnation v hello. let most : incarnation ≤ found.0 = hellos_at_most a key.client found.0 r incarnation v legal found.1 hello in omega arith) tt
           | inr higher ↦ line_old_incarnation (λ refusal. Unit {0}) L G a key found.0 epoch found.1 higher tt
         ]
         | inl same ↦
@@ -313,33 +317,49 @@ clients_or a client G goes_on = elim (said_or_not a.entries client) [
       ]
 ]
 
-newer_enters : (a : Account) (moment client incarnation : ℕ) → IsTicked a moment → HasOnlyLower a.entries client incarnation
-    → HelloLines a client incarnation (λ refusal. Unit {0}) (Unit {0}) ((b : Account) × Adds a moment (Hello client incarnation) b)
-newer_enters a moment client incarnation is raises =
-    let e = entry moment (Hello client incarnation) [] in
-    let after = Legal-with_entry a e is.legal (hello_follows a moment client incarnation is.time is.nothing_due raises) in
-    let added : Adds a moment (Hello client incarnation) (with_entry a e) = record { entry = e; moment_is = refl; act_is = refl; follows = refl; legal = after } in
-    line_newer _ _ _ a client incarnation raises (clients_or a client _ (room_or a 1 ((b : Account) × Adds a moment (Hello client incarnation) b) (with_entry a e, added)))
+-- a legal account with the hello's entry exists
+abbrev HelloEnters : Account → ℕ → ℕ → ℕ → Version → Type 0
+HelloEnters a moment client incarnation version =
+    HelloLines a client incarnation version (λ refusal. Unit {0}) (Unit {0}) ((b : Account) × Adds a moment (Hello client incarnation version) b)
 
-hello_enters : (a : Account) (moment client incarnation : ℕ) → IsTicked a moment
-    → HelloLines a client incarnation (λ refusal. Unit {0}) (Unit {0}) ((b : Account) × Adds a moment (Hello client incarnation) b)
-hello_enters a moment client incarnation is = elim (find_hello a.entries client) [
-  | inr none ↦ newer_enters a moment client incarnation is (λ r earlier hello. absurd (none r earlier hello))
+newer_enters : (a : Account) (moment client incarnation : ℕ) (version : Version) → IsTicked a moment → HasOnlyLower a.entries client incarnation → HelloEnters a moment client incarnation version
+newer_enters a moment client incarnation version is raises =
+    let e = entry moment (Hello client incarnation version) [] in
+    let after = Legal-with_entry a e is.legal (hello_follows a moment client incarnation version is.time is.nothing_due raises) in
+    let added : Adds a moment (Hello client incarnation version) (with_entry a e) = record { entry = e; moment_is = refl; act_is = refl; follows = refl; legal = after } in
+    line_newer _ _ _ a client incarnation version raises (clients_or a client _ (room_or a 1 ((b : Account) × Adds a moment (Hello client incarnation version) b) (with_entry a e, added)))
+
+same_version : (v w : Version) → (v ≡ w) ⊎ (v ≡ w → ⊥)
+same_version One One = inl refl
+same_version One Two = inr (λ e. let no : ⊥ = cc in no)
+same_version Two One = inr (λ e. let no : ⊥ = cc in no)
+same_version Two Two = inl refl
+
+-- a hello of the session's incarnation is a repeat, or asks for another version
+hello_at_last : (a : Account) (moment client incarnation : ℕ) (version : Version) → HasIncarnation a.entries client incarnation → HelloEnters a moment client incarnation version
+hello_at_last a moment client incarnation version has =
+    let opened = has_version a.entries client incarnation has in
+    elim (same_version opened.0 version) [
+      | inl same ↦ line_again _ _ _ a client incarnation version (subst (HasOpened a.entries client incarnation) same opened.1) tt
+      | inr other ↦ line_other_version _ _ _ a client incarnation version opened.0 opened.1 other tt
+    ]
+
+hello_enters : (a : Account) (moment client incarnation : ℕ) (version : Version) → IsTicked a moment → HelloEnters a moment client incarnation version
+hello_enters a moment client incarnation version is = elim (find_hello a.entries client) [
+  | inr none ↦ newer_enters a moment client incarnation version is (λ r earlier v hello. absurd (none r earlier v hello))
   | inl found ↦ elim (cases_order found.0 incarnation) [
-    | inl same ↦
-        let has = subst (HasIncarnation a.entries client) same found.1 in
-        line_again _ _ _ a client incarnation has tt
+    | inl same ↦ hello_at_last a moment client incarnation version (subst (HasIncarnation a.entries client) same found.1)
     | inr differ ↦ elim differ [
-      | inr higher ↦ line_old_hello _ _ _ a client incarnation found.0 found.1 higher tt
-      | inl lower ↦ newer_enters a moment client incarnation is
-          (λ r earlier hello. let most : earlier ≤ found.0 = hellos_at_most a client found.0 r earlier is.legal found.1 hello in omega arith)
+      | inr higher ↦ line_old_hello _ _ _ a client incarnation version found.0 found.1 higher tt
+      | inl lower ↦ newer_enters a moment client incarnation version is
+          (λ r earlier v hello. let most : earlier ≤ found.0 = hellos_at_most a client found.0 r earlier v is.legal found.1 hello in omega arith)
     ]
   ]
 ]
 
 pub hellos_can_enter : HellosCanEnter
-hellos_can_enter before a now client incarnation legal ticks =
-    hello_enters a (step_moment before now) client incarnation (ticked before a (step_moment before now) legal (step_keeps_time before now legal) ticks)
+hellos_can_enter before a now client incarnation version legal ticks =
+    hello_enters a (step_moment before now) client incarnation version (ticked before a (step_moment before now) legal (step_keeps_time before now legal) ticks)
 
 -- ---- time-outs
 

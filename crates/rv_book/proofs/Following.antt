@@ -6,6 +6,7 @@ use Rattle.rv_account.specs.declared.entry.Act.TheVariants.{Arrive, Cancel, Hell
 use Rattle.rv_text.specs.declared.call.Call.{Call}
 use Rattle.rv_account.specs.declared.entry.Entry.{Entry}
 use Rattle.rv_text.specs.declared.message.Key.{Key}
+use Rattle.rv_text.specs.declared.version.Version.{Version}
 use Rattle.std.specs.Prelude.{is_some}
 use Rattle.std.proofs.lemmas.Option.{none-some, same_Some}
 use Rattle.rv_text.specs.Calls.{side_of}
@@ -23,13 +24,13 @@ use Rattle.std.specs.List.Sorted.{IsStrictlyIncreasing}
 
 -- where nothing is due any act but a tick keeps the limits
 abbrev IsTick : Act → Type 0
-IsTick (Hello client incarnation) = ⊥
+IsTick (Hello client incarnation version) = ⊥
 IsTick (Arrive key call) = ⊥
 IsTick (Cancel key) = ⊥
 IsTick Tick = Unit {0}
 
 keeps_limits : (es : List Entry) (moment : ℕ) (does : Act) → (IsTick does → ⊥) → NothingDue es moment → KeepsLimits es moment does
-keeps_limits es moment (Hello client incarnation) no_tick nothing = nothing
+keeps_limits es moment (Hello client incarnation version) no_tick nothing = nothing
 keeps_limits es moment (Arrive key call) no_tick nothing = nothing
 keeps_limits es moment (Cancel key) no_tick nothing = nothing
 keeps_limits es moment Tick no_tick nothing = absurd (no_tick tt)
@@ -39,9 +40,9 @@ keeps_moments a moment does no_tick time nothing = record { keeps_time = time; k
 
 -- ---- numbers
 
-hello_numbers : (a : Account) (client incarnation : ℕ) → HasOnlyLower a.entries client incarnation → KeepsNumbers a (Hello client incarnation)
-hello_numbers a client incarnation lower = record {
-  raises_incarnation = λ c i is.
+hello_numbers : (a : Account) (client incarnation : ℕ) (v : Version) → HasOnlyLower a.entries client incarnation → KeepsNumbers a (Hello client incarnation v)
+hello_numbers a client incarnation v lower = record {
+  raises_incarnation = λ c i w is.
       let same_client : client ≡ c = cc in
       let same_incarnation : incarnation ≡ i = cc in
       subst (HasOnlyLower a.entries c) same_incarnation (subst (λ n. HasOnlyLower a.entries n incarnation) same_client lower);
@@ -58,7 +59,7 @@ same_key key other call more e = cc
 
 pub arrival_numbers : (a : Account) (key : Key) (call : Call) → IsNext a key → KeepsNumbers a (Arrive key call)
 arrival_numbers a key call next = record {
-  raises_incarnation = λ c i is. absurd (let no : ⊥ = cc in no);
+  raises_incarnation = λ c i w is. absurd (let no : ⊥ = cc in no);
   of_session = λ other is. subst (λ (k : Key). (k.epoch ≡ a.epoch) × HasIncarnation a.entries k.client k.incarnation) (same_Some _ _ is) (next.epoch, next.incarnation);
   counts_up = λ other more is. subst (IsNextNumber a.entries) (same_key _ _ _ _ is) (next_number a key next);
   cancels = λ other is. absurd (let no : ⊥ = cc in no);
@@ -69,7 +70,7 @@ same_cancel key other e = cc
 
 cancel_numbers : (a : Account) (key : Key) → key.epoch ≡ a.epoch → HasIncarnation a.entries key.client key.incarnation → WaitsUnder a.entries key ⊎ IsNextNumber a.entries key → KeepsNumbers a (Cancel key)
 cancel_numbers a key epoch has turn = record {
-  raises_incarnation = λ c i is. absurd (let no : ⊥ = cc in no);
+  raises_incarnation = λ c i w is. absurd (let no : ⊥ = cc in no);
   of_session = λ other is. subst (λ (k : Key). (k.epoch ≡ a.epoch) × HasIncarnation a.entries k.client k.incarnation) (same_Some _ _ is) (epoch, has);
   counts_up = λ other more is. absurd (let no : ⊥ = cc in no);
   cancels = λ other is. subst (λ (k : Key). WaitsUnder a.entries k ⊎ IsNextNumber a.entries k) (same_cancel _ _ is) turn;
@@ -77,7 +78,7 @@ cancel_numbers a key epoch has turn = record {
 
 tick_numbers : (a : Account) → KeepsNumbers a Tick
 tick_numbers a = record {
-  raises_incarnation = λ c i is. absurd (let no : ⊥ = cc in no);
+  raises_incarnation = λ c i w is. absurd (let no : ⊥ = cc in no);
   of_session = λ key is. absurd (none-some key is);
   counts_up = λ key call is. absurd (let no : ⊥ = cc in no);
   cancels = λ key is. absurd (let no : ⊥ = cc in no);
@@ -153,11 +154,11 @@ arrival_pairs es moment key call (Some p) single (side, opposes, oldest) =
 
 -- ---- each kind of entry
 
-pub hello_follows : (a : Account) (moment client incarnation : ℕ) → KeepsTime a moment → NothingDue a.entries moment → HasOnlyLower a.entries client incarnation → MayFollow a (entry moment (Hello client incarnation) [])
-hello_follows a moment client incarnation time nothing lower = record {
-  moments = keeps_moments a moment (Hello client incarnation) (λ no. no) time nothing;
-  numbers = hello_numbers a client incarnation lower;
-  pairs = no_pairs a.entries (entry moment (Hello client incarnation) []) refl refl;
+pub hello_follows : (a : Account) (moment client incarnation : ℕ) (v : Version) → KeepsTime a moment → NothingDue a.entries moment → HasOnlyLower a.entries client incarnation → MayFollow a (entry moment (Hello client incarnation v) [])
+hello_follows a moment client incarnation v time nothing lower = record {
+  moments = keeps_moments a moment (Hello client incarnation v) (λ no. no) time nothing;
+  numbers = hello_numbers a client incarnation v lower;
+  pairs = no_pairs a.entries (entry moment (Hello client incarnation v) []) refl refl;
 }
 
 pub arrival_by_pairs : (a : Account) (moment : ℕ) (key : Key) (call : Call) (places : List ℕ) → KeepsTime a moment → NothingDue a.entries moment → IsNext a key → KeepsPairs a.entries (entry moment (Arrive key call) places)

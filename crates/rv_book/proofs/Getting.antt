@@ -16,7 +16,7 @@ use Rattle.rv_book.proofs.Growing.{NamesPartner-on, call_read, reads_on}
 use Rattle.rv_book.proofs.Limits.{act_fits, act_there, call_of_act}
 use Rattle.rv_book.proofs.OnePartner.{meets_one}
 
-Meet-on : (es more : List Entry) (r s : ℕ) → Meet es r s → Meet (es ++ more) r s
+pub Meet-on : (es more : List Entry) (r s : ℕ) → Meet es r s → Meet (es ++ more) r s
 Meet-on es more r s (inl names) = inl (NamesPartner-on es more r s names)
 Meet-on es more r s (inr names) = inr (NamesPartner-on es more s r names)
 
@@ -29,11 +29,12 @@ gets_on es more r item gets = record {
   hands_over = gets.hands_over;
 }
 
+pub meet_met : (es : List Entry) (r s : ℕ) → Meet es r s → Met es r
+meet_met es r s (inl names) = record { later = r; earlier = s; names = names; part = inl refl }
+meet_met es r s (inr names) = record { later = s; earlier = r; names = names; part = inr refl }
+
 pub gets_met : (es : List Entry) (r : ℕ) (item : List ℕ) → Gets es r item → Met es r
-gets_met es r item gets = elim gets.meet [
-  | inl names ↦ record { later = gets.giver; earlier = r; names = names; part = inr refl }
-  | inr names ↦ record { later = r; earlier = gets.giver; names = names; part = inl refl }
-]
+gets_met es r item gets = elim gets.meet [ inl names ↦ meet_met es r gets.giver (inr names) | inr names ↦ meet_met es r gets.giver (inl names) ]
 
 -- what gets an item, and may name one, gets one item
 pub one_item : (b : Account) (r : ℕ) (call : Call) (x y : List ℕ) → Legal b → call_at b.entries r ≡ Some call → may_name call ≡ 1 → Gets b.entries r x → Gets b.entries r y → x ≡ y

@@ -3,9 +3,11 @@ use Rattle.std.proofs.Common.{◌≡◌, inl, inr, ℕ, ◌≤◌, List, [], len
 use Rattle.std.proofs.lemmas.Option.{same_Some}
 use Rattle.rv_text.specs.declared.answer.Refusal.{Refusal}
 use Rattle.rv_text.specs.declared.call.Side.{Side}
+use Rattle.rv_text.specs.declared.version.Version.{Version}
 use Rattle.rv_session.specs.Owed.{Owed}
 use Rattle.rv_session.specs.Table.{OnlySets, OnlySettles, fresh, session_of, waiting_of}
 use Rattle.rv_session.specs.declared.kept.Kept.{Kept}
+use Rattle.rv_session.specs.Kept.{told_in}
 use Rattle.rv_account.specs.Account.{Account, call_in, key_in, with_entry}
 use Rattle.rv_book.specs.Arriving.{entry}
 use Rattle.rv_account.specs.Calls.{IsPut}
@@ -56,8 +58,8 @@ waiting_if state client (Some place) sound is = (waiting_there (account_of state
 pub still_known : (old mid : State) (waiting : Option ℕ) (kept : Kept) (client : ℕ) (s : Session) → EndsIf old mid waiting kept → session_of old.sessions client ≡ Some s → IsSome (session_of mid.sessions client)
 still_known old mid None kept client s ends there = ap is_some (ap (λ (state : State). session_of state.sessions client) ends ∙ there)
 still_known old mid (Some place) kept client s ends there = elim (same_or_not client ends.duty.client) [
-  | inl same ↦ ap is_some (ap (session_of mid.sessions) same ∙ ends.settles.sets.own)
-  | inr apart ↦ ap is_some (ends.settles.sets.others client apart ∙ there)
+  | inl same ↦ ap is_some (ap (session_of mid.sessions) same ∙ ends.settles.settles.sets.own)
+  | inr apart ↦ ap is_some (ends.settles.settles.sets.others client apart ∙ there)
 ]
 
 -- ---- a state that was made ready
@@ -78,58 +80,58 @@ space_ready old ready need side prepared =
 
 -- ---- a hello that is recorded
 
-module _ (old : State) (moment client incarnation : ℕ) (comes : Comes old moment (Hello client incarnation)) (lower : HasOnlyLower (account_of old).entries client incarnation)
+module _ (old : State) (moment client incarnation : ℕ) (version : Version) (comes : Comes old moment (Hello client incarnation version)) (lower : HasOnlyLower (account_of old).entries client incarnation)
     (room_for : (refusal : Refusal) → ClientsFullDue (account_of old) client refusal → ⊥) where
   abbrev pub before : Account
   before = account_of old
 
   abbrev pub own_entry : Entry
-  own_entry = entry moment (Hello client incarnation) []
+  own_entry = entry moment (Hello client incarnation version) []
 
   abbrev pub OfClient : ℕ → Type 0
   OfClient r = IsRequestOf (account_of old).entries client r
 
-  marks : Marks old moment (Hello client incarnation) OfClient
+  marks : Marks old moment (Hello client incarnation version) OfClient
   marks = record {
     sound = comes.sound;
     moment_fits = comes.moment_fits;
     act_fits = comes.act_fits;
-    clients = few_with before own_entry client incarnation refl room_for comes.sound.fits.clients;
-    follows = hello_follows before moment client incarnation comes.time comes.nothing_due lower;
+    clients = few_with before own_entry client incarnation version refl room_for comes.sound.fits.clients;
+    follows = hello_follows before moment client incarnation version comes.time comes.nothing_due lower;
     stops = record {
       no_call = refl;
       none = refl;
-      stops = λ r request. hello_stops before.entries own_entry client incarnation r refl request;
-      stopped = λ r stopped. stopped_by_hello before.entries own_entry client incarnation r refl stopped;
+      stops = λ r request. hello_stops before.entries own_entry client incarnation r version refl request;
+      stopped = λ r stopped. stopped_by_hello before.entries own_entry client incarnation r version refl stopped;
     };
     requests = λ r request opened. open_waits before.entries client r opened request;
     one = λ r s waits first too second. one_waits before client r s first.key second.key comes.sound.legal waits too
         (record { named = ap (option_and_then key_in) first.arrived; of_client = sym first.of_client }) (record { named = ap (option_and_then key_in) second.arrived; of_client = sym second.of_client });
   }
 
-  greeted : (new : State) → Changes old.sessions new.sessions client (fresh incarnation) → AreSessions (with_entry before own_entry) new.sessions
-  greeted new changes = sessions_greeted before own_entry old.sessions new.sessions client incarnation comes.sound.sessions_are comes.sound.legal (legal_after old moment (Hello client incarnation) OfClient marks) refl refl changes
+  greeted : (new : State) → Changes old.sessions new.sessions client (fresh incarnation version) → AreSessions (with_entry before own_entry) new.sessions
+  greeted new changes = sessions_greeted before own_entry old.sessions new.sessions client incarnation version comes.sound.sessions_are comes.sound.legal (legal_after old moment (Hello client incarnation version) OfClient marks) refl refl changes
 
   -- nothing of the client waited
-  pub sound_idle : HasSpace old 1 → (new : State) → account_of new ≡ with_entry before own_entry → Changes old.sessions new.sessions client (fresh incarnation) → waiting_of old.sessions client ≡ None
+  pub sound_idle : HasSpace old 1 → (new : State) → account_of new ≡ with_entry before own_entry → Changes old.sessions new.sessions client (fresh incarnation version) → waiting_of old.sessions client ≡ None
       → new.stations ≡ old.stations → new.waiting ≡ old.waiting → new.due ≡ old.due → old.waiting ≤ new.account.room → IsSound new
   sound_idle space new pushed changes none stations waiting due room =
-      marked_idle old moment (Hello client incarnation) OfClient marks new pushed (greeted new changes)
+      marked_idle old moment (Hello client incarnation version) OfClient marks new pushed (greeted new changes)
       (λ r waits request. none_waits before old.sessions client comes.sound.legal comes.sound.sessions_are none (has_one before.entries client r waits request)) stations waiting due space room
 
   -- what waited in the client's session, if something did, was ended
   pub sound_renewed : HasSpace old 1 → (waiting : Option ℕ) (mid new : State) (kept : Kept) → waiting ≡ waiting_of old.sessions client → EndsIf old mid waiting kept → mid.account ≡ old.account
-      → account_of new ≡ with_entry (account_of mid) own_entry → OnlySets mid.sessions new.sessions client (fresh incarnation) → new.stations ≡ mid.stations → new.waiting ≡ mid.waiting
+      → account_of new ≡ with_entry (account_of mid) own_entry → OnlySets mid.sessions new.sessions client (fresh incarnation version) → new.stations ≡ mid.stations → new.waiting ≡ mid.waiting
       → new.due ≡ mid.due → old.waiting ≤ new.account.room → IsSound new
   sound_renewed space None mid new kept waits ends same pushed sets stations waiting due room =
-      let changes = set_changes old.sessions new.sessions client (fresh incarnation) (subst (λ (s : State). OnlySets s.sessions new.sessions client (fresh incarnation)) ends sets) in
+      let changes = set_changes old.sessions new.sessions client (fresh incarnation version) (subst (λ (s : State). OnlySets s.sessions new.sessions client (fresh incarnation version)) ends sets) in
       sound_idle space new (pushed ∙ ap (λ (s : State). with_entry (account_of s) own_entry) ends) changes (sym waits) (stations ∙ ap (λ (s : State). s.stations) ends) (waiting ∙ ap (λ (s : State). s.waiting) ends) (due ∙ ap (λ (s : State). s.due) ends) room
   sound_renewed space (Some place) mid new kept waits ends same pushed sets stations waiting due room =
       let there = (waiting_there before old.sessions client place comes.sound.sessions_are (sym waits)).waits in
       let owed = waiting_owed before.entries place _ there.call there.waits there.arrived in
       let own : ends.duty.client ≡ client = ap (λ (d : Owed). d.client) (same_Some _ _ (sym ends.owed ∙ owed)) in
-      let settled = subst (λ c. OnlySettles old.sessions mid.sessions c place kept) own ends.settles in
-      let changes = settled_then_entered old.sessions mid.sessions new.sessions client place kept (fresh incarnation) settled sets in
+      let settled = subst (λ c. OnlySettles old.sessions mid.sessions c place (told_in ends.settles.version kept)) own ends.settles.settles in
+      let changes = settled_then_entered old.sessions mid.sessions new.sessions client place (told_in ends.settles.version kept) (fresh incarnation version) settled sets in
       let request : OfClient place = record {
         key = _;
         call = there.call;
@@ -139,5 +141,5 @@ module _ (old : State) (moment client incarnation : ℕ) (comes : Comes old mome
             let called : there.waits.is_open.call ≡ there.call = same_Some _ _ (sym there.waits.is_open.arrived ∙ ap (option_and_then call_in) there.arrived) in
             there.waits.no_put (subst IsPut (sym called) put);
       } in
-      marked_ended old moment (Hello client incarnation) OfClient marks new (pushed ∙ ap (λ stored. with_entry stored.account own_entry) same) (greeted new changes) mid place kept there.waits request ends stations waiting due
+      marked_ended old moment (Hello client incarnation version) OfClient marks new (pushed ∙ ap (λ stored. with_entry stored.account own_entry) same) (greeted new changes) mid place kept there.waits request ends stations waiting due
       (omega (arith, room))

@@ -6,7 +6,9 @@ use Rattle.rv_text.specs.declared.call.Call.{Call}
 use Rattle.rv_text.specs.declared.call.Side.{Side}
 use Rattle.rv_text.specs.declared.call.Wait.{Wait}
 use Rattle.rv_text.specs.Calls.{item_of, side_of, wait_of}
-use Rattle.rv_text.specs.Limits.{FitsItem, FitsReply}
+use Rattle.rv_text.specs.Limits.{FitsItem}
+use Rattle.rv_text.specs.declared.version.Version.{Version}
+use Rattle.rv_session.specs.Kept.{told_in}
 use Rattle.rv_session.specs.declared.kept.Kept.{Kept}
 use Rattle.rv_account.specs.declared.entry.Act.TheVariants.{Arrive}
 use Rattle.rv_account.specs.declared.entry.Entry.{Entry}
@@ -27,7 +29,7 @@ use Rattle.rv_book.proofs.Naming.{just_names}
 use Rattle.rv_book.proofs.OnePartner.{partner_open}
 use Rattle.rv_book.proofs.Opposites.{one_opposed, one_opposite}
 use Rattle.rv_book.proofs.Places.{get-append_end}
-use Rattle.rv_book.proofs.ReplyLaws.{ReplyLaws}
+use Rattle.rv_book.proofs.ReplyLaws.{FitsIn, ReplyLaws}
 
 -- it meets one that hands over an item, and is told so
 abbrev pub TellsItem : (List ℕ → Reply) → List Entry → ℕ → Reply → Type 0
@@ -38,10 +40,12 @@ pub record IsHanded (call : Call) (wait : Wait) (alone : Reply) (other : Side) (
   pub waits : wait_of call ≡ Some wait
   pub opposes : opposite (side_of call) ≡ Some other
   pub single : may_name call ≡ 1
-  pub alone_fits : FitsReply alone
-  pub item_fits : (item : List ℕ) → FitsItem item → FitsReply (told_with item)
+  pub alone_fits : (epoch : ℕ) → FitsIn epoch alone
+  pub item_fits : (epoch : ℕ) (item : List ℕ) → FitsItem item → FitsIn epoch (told_with item)
   pub hands : (giver : Call) → side_of giver ≡ other → (item : List ℕ) × (item_of giver ≡ Some item)
   pub kept_is : (es : List Entry) (place : ℕ) → reply_of es (kept_from place) ≡ option_map told_with (item_at es place)
+  -- in each version
+  pub same : (v : Version) (place : ℕ) → told_in v (kept_from place) ≡ kept_from place
   pub settles : (place : ℕ) → partners_reply other place ≡ kept_from place
   pub from : (es : List Entry) (r : ℕ) (told : Reply) → RepliesAt es r call told → ByMeeting (TellsItem told_with) wait alone es r told
   pub back : (es : List Entry) (r : ℕ) (told : Reply) → ByMeeting (TellsItem told_with) wait alone es r told → RepliesAt es r call told
@@ -86,9 +90,9 @@ module _ (call : Call) (wait : Wait) (alone : Reply) (other : Side) (told_with :
     back = handed.back;
     was_met = λ es r told tells. gets_met es r tells.0 tells.1;
     exists = λ a r legal arrived met. let got = gets_item a r legal arrived met in (told_with got.0, (got.0, got.1, refl));
-    stays = λ es more r told tells. (tells.0, gets_on es more r tells.0 tells.1, tells.2);
+    stays = λ es more r told inside tells. (tells.0, gets_on es more r tells.0 tells.1, tells.2);
     one = λ b r x y legal arrived first second. second.2 ∙ ap told_with (one_item b r call second.0 first.0 legal arrived handed.single second.1 first.1) ∙ sym first.2;
-    fits = λ a r told within tells. subst FitsReply (sym tells.2) (handed.item_fits tells.0 (given_fits a r tells.0 within tells.1));
+    fits = λ a r told legal within tells. subst (FitsIn a.epoch) (sym tells.2) (handed.item_fits a.epoch tells.0 (given_fits a r tells.0 within tells.1));
   }
 
   -- ---- what is kept
@@ -106,7 +110,7 @@ module _ (call : Call) (wait : Wait) (alone : Reply) (other : Side) (told_with :
       }
 
   pub handed_replies : (a : Account) (place : ℕ) → WillReply a call (Some place) (kept_from place)
-  handed_replies a place moment key before after =
+  handed_replies a place moment key v before after asked =
       let e = entry moment (Arrive key call) (just (Some place)) in
       let es = (with_entry a e).entries in
       let partner = (follows_itself a e after).pairs.pairs_opposites place call (just_names place) refl handed_by.meets in
@@ -118,9 +122,11 @@ module _ (call : Call) (wait : Wait) (alone : Reply) (other : Side) (told_with :
         meets = handed_by.meets;
         named = NamesAt-last a.entries e place (just_names place);
       } in
-      kept_item es (length a.entries) place giver.call arrived (giver.is ∙ one_opposite (side_of call) other partner.side handed.opposes partner.opposes) (inr names)
+      subst (IsKept es (length a.entries) call) (sym (handed.same v place))
+      (kept_item es (length a.entries) place giver.call arrived (giver.is ∙ one_opposite (side_of call) other partner.side handed.opposes partner.opposes) (inr names))
 
   pub handed_laws : ReplyLaws call
-  handed_laws = laws_by (TellsItem told_with) call wait alone handed_by (λ b earlier later giver arrived names opposes.
+  handed_laws = laws_by (TellsItem told_with) call wait alone handed_by (λ b earlier later giver v legal arrived names opposes asked.
       let side : side_of giver ≡ other = one_opposed (side_of call) other (side_of giver) handed.opposes opposes in
-      subst (IsKept b.entries earlier call) (sym (ap (λ s. partners_reply s later) side ∙ handed.settles later)) (kept_item b.entries earlier later giver arrived side (inl names)))
+      let settles = ap (λ s. partners_reply s later) side ∙ handed.settles later in
+      subst (IsKept b.entries earlier call) (sym (ap (told_in v) settles ∙ handed.same v later)) (kept_item b.entries earlier later giver arrived side (inl names)))

@@ -10,6 +10,7 @@ pub mod Fronts
 pub mod Histories
 pub mod Keys
 pub mod Waits
+pub mod Versions
 pub mod Sides
 pub mod Slots
 pub mod Tabled
@@ -29,6 +30,7 @@ pub mod ReplyLaws
 pub mod Unmet
 pub mod Puts
 pub mod Getting
+pub mod Receipts
 pub mod ByMeeting
 pub mod Handed
 pub mod Takes

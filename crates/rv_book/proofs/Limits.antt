@@ -17,13 +17,13 @@ act_fits a r does fits there =
     subst FitsAct (same_Some _ _ entry.2) (fits.entries r entry.0 entry.1).1
 
 pub key_of_act : (does : Act) (key : Key) → FitsAct does → key_in does ≡ Some key → FitsKey key
-key_of_act (act.TheVariants.Hello client incarnation) key fits is = absurd (none-some key is)
+key_of_act (act.TheVariants.Hello client incarnation version) key fits is = absurd (none-some key is)
 key_of_act (act.TheVariants.Arrive other call) key fits is = subst FitsKey (same_Some _ _ is) fits.0
 key_of_act (act.TheVariants.Cancel other) key fits is = subst FitsKey (same_Some _ _ is) fits
 key_of_act act.TheVariants.Tick key fits is = absurd (none-some key is)
 
 pub call_of_act : (does : Act) (call : Call) → FitsAct does → call_in does ≡ Some call → FitsCall call
-call_of_act (act.TheVariants.Hello client incarnation) call fits is = absurd (none-some call is)
+call_of_act (act.TheVariants.Hello client incarnation version) call fits is = absurd (none-some call is)
 call_of_act (act.TheVariants.Arrive key other) call fits is = subst FitsCall (same_Some _ _ is) fits.1
 call_of_act (act.TheVariants.Cancel key) call fits is = absurd (none-some call is)
 call_of_act act.TheVariants.Tick call fits is = absurd (none-some call is)

@@ -1,15 +1,17 @@
 -- Which line of a step decides.
 use Rattle.rv_account.specs.Account.{Account}
-use Rattle.rv_text.specs.declared.answer.Refusal.TheVariants.{EpochFull, Gap, NoSession, OldIncarnation, OldNumber, OtherEpoch, Busy}
-use Rattle.rv_book.specs.Steps.{EpochFullDue, GapDue, KeyLines, NoSessionDue, OldIncarnationDue, OldNumberDue, OtherEpochDue, RefuseOr, WhereElse, BusyDue}
-use Rattle.rv_book.specs.Sessions.{HasIncarnation, HasOnlyLower, LastNumber}
+use Rattle.rv_text.specs.declared.answer.Refusal.TheVariants.{EpochFull, Gap, NoSession, OldIncarnation, OldNumber, OtherEpoch, OtherVersion, Busy}
+use Rattle.rv_book.specs.Steps.{EpochFullDue, GapDue, KeyLines, NoSessionDue, OldIncarnationDue, OldNumberDue, OtherEpochDue, OtherVersionDue, RefuseOr, WhereElse, BusyDue}
+use Rattle.rv_book.specs.Sessions.{HasIncarnation, HasOnlyLower, HasOpened, LastNumber}
 use Rattle.rv_text.specs.declared.message.Key.{Key}
+use Rattle.rv_text.specs.declared.version.Version.{Version}
 use Rattle.rv_text.specs.declared.answer.Refusal.{Refusal}
 use Rattle.std.proofs.Common.{arith, inl, length, refl, ℕ, ◌+◌, ◌<◌, ◌≡◌, ◌≤◌, inr, ◌⊎◌}
 use Rattle.rv_book.specs.Counting.{NumberOf}
 use Rattle.rv_book.specs.Waiting.{Waiting}
 use Rattle.rv_book.proofs.Counting.{one_number}
 use Rattle.rv_book.proofs.Histories.{one_incarnation, one_last_number}
+use Rattle.rv_book.proofs.Versions.{one_opened}
 use Rattle.rv_book.specs.Legal.{HasWaiting}
 use Rattle.rv_book.specs.Arriving.{IsNext}
 
@@ -18,7 +20,7 @@ not_other_epoch a key same refusal due = due.0 same
 
 -- a session of the key's incarnation or a greater one
 pub not_no_session : (a : Account) (key : Key) (current : ℕ) → HasIncarnation a.entries key.client current → key.incarnation ≤ current → (refusal : Refusal) → NoSessionDue a key refusal → ⊥
-not_no_session a key current has most refusal due = let less : current < key.incarnation = due.0 has.0 current has.1.hello in omega arith
+not_no_session a key current has most refusal due = let less : current < key.incarnation = due.0 has.0 current has.1.version has.1.hello in omega arith
 
 pub not_old_incarnation : (a : Account) (client incarnation current : ℕ) → HasIncarnation a.entries client current → current ≤ incarnation → (refusal : Refusal) → OldIncarnationDue a client incarnation refusal → ⊥
 not_old_incarnation a client incarnation current has most refusal due =
@@ -105,26 +107,47 @@ module _ (R : Refusal → Type 0) (L G : Type 0) (a : Account) (key : Key) where
 
 -- that no hello of the client reaches this incarnation
 no_current : (a : Account) (client incarnation : ℕ) → HasOnlyLower a.entries client incarnation → HasIncarnation a.entries client incarnation → ⊥
-no_current a client incarnation lower has = let less : incarnation < incarnation = lower has.0 incarnation has.1.hello in omega arith
+no_current a client incarnation lower has = let less : incarnation < incarnation = lower has.0 incarnation has.1.version has.1.hello in omega arith
 
 no_old_hello : (a : Account) (client incarnation : ℕ) → HasOnlyLower a.entries client incarnation → (refusal : Refusal) → OldIncarnationDue a client incarnation refusal → ⊥
 no_old_hello a client incarnation lower refusal due =
-    let less : due.current < incarnation = lower due.has.0 due.current due.has.1.hello in
+    let less : due.current < incarnation = lower due.has.0 due.current due.has.1.version due.has.1.hello in
     let more : incarnation < due.current = due.lower in
     omega arith
 
-pub line_old_hello : (R : Refusal → Type 0) (S G : Type 0) (a : Account) (client incarnation current : ℕ) → HasIncarnation a.entries client current → incarnation < current
-    → R (OldIncarnation current) → RefuseOr (OldIncarnationDue a client incarnation) R (WhereElse (HasIncarnation a.entries client incarnation) S G)
-line_old_hello R S G a client incarnation current has less refuses =
-    inl (record { refusal = OldIncarnation current; is_due = record { current = current; has = has; lower = less; is = refl }; refuses_it = refuses })
+-- a session of another version has this version
+no_other_version : (a : Account) (client incarnation : ℕ) (version : Version) → HasOpened a.entries client incarnation version → (refusal : Refusal) → OtherVersionDue a client incarnation version refusal → ⊥
+no_other_version a client incarnation version opened refusal due = due.other (one_opened a.entries client incarnation incarnation due.current version due.has opened)
 
-pub line_again : (R : Refusal → Type 0) (S G : Type 0) (a : Account) (client incarnation : ℕ) → HasIncarnation a.entries client incarnation → S
-    → RefuseOr (OldIncarnationDue a client incarnation) R (WhereElse (HasIncarnation a.entries client incarnation) S G)
-line_again R S G a client incarnation has again = inr (not_old_incarnation a client incarnation incarnation has (omega arith), inl (has, again))
+-- what a refusal does, what happens at a repeat, and what where a session is opened
+module _ (R : Refusal → Type 0) (S G : Type 0) (a : Account) (client incarnation : ℕ) (version : Version) where
+  -- the lines by the client's session
+  abbrev pub SessionLines : Type 0
+  SessionLines = RefuseOr (OldIncarnationDue a client incarnation) R (RefuseOr (OtherVersionDue a client incarnation version) R (WhereElse (HasIncarnation a.entries client incarnation) S G))
 
-pub line_newer : (R : Refusal → Type 0) (S G : Type 0) (a : Account) (client incarnation : ℕ) → HasOnlyLower a.entries client incarnation → G
-    → RefuseOr (OldIncarnationDue a client incarnation) R (WhereElse (HasIncarnation a.entries client incarnation) S G)
-line_newer R S G a client incarnation lower goes_on = inr (no_old_hello a client incarnation lower, inr (no_current a client incarnation lower, goes_on))
+  pub line_old_hello : (current : ℕ) → HasIncarnation a.entries client current → incarnation < current → R (OldIncarnation current) → SessionLines
+  line_old_hello current has less refuses = inl (record { refusal = OldIncarnation current; is_due = record { current = current; has = has; lower = less; is = refl }; refuses_it = refuses })
+
+  pub line_other_version : (current : Version) → HasOpened a.entries client incarnation current → (current ≡ version → ⊥) → R (OtherVersion current) → SessionLines
+  line_other_version current opened other refuses =
+      inr (
+        not_old_incarnation a client incarnation incarnation (opened.h, opened.last) (omega arith),
+        inl (record { refusal = OtherVersion current; is_due = record { current = current; has = opened; other = other; is = refl }; refuses_it = refuses }),
+      )
+
+  pub line_again : HasOpened a.entries client incarnation version → S → SessionLines
+  line_again opened again =
+      inr (
+        not_old_incarnation a client incarnation incarnation (opened.h, opened.last) (omega arith),
+        inr (no_other_version a client incarnation version opened, inl ((opened.h, opened.last), again)),
+      )
+
+  pub line_newer : HasOnlyLower a.entries client incarnation → G → SessionLines
+  line_newer lower goes_on =
+      inr (
+        no_old_hello a client incarnation lower,
+        inr ((λ refusal due. no_current a client incarnation lower (due.has.h, due.has.last)), inr (no_current a client incarnation lower, goes_on)),
+      )
 
 -- ---- the lines one by one
 

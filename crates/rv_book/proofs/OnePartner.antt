@@ -3,6 +3,7 @@ use Rattle.rv_account.specs.Account.{Account, Names, act_at, call_at, call_in, k
 use Rattle.rv_account.specs.declared.entry.Act.{Act}
 use Rattle.rv_account.specs.declared.entry.Act.TheVariants.{Arrive, Hello}
 use Rattle.rv_text.specs.declared.call.Call.{Call}
+use Rattle.rv_text.specs.declared.version.Version.{Version}
 use Rattle.rv_account.specs.declared.entry.Entry.{Entry}
 use Rattle.rv_book.specs.Sessions.{HasIncarnation}
 use Rattle.rv_book.specs.Legal.{IsNextNumber, IsOpenOpposite, Legal, before}
@@ -90,8 +91,8 @@ meets_one a r s t call legal arrived single (inr first) (inr second) = names_one
 
 -- ---- keys
 
-no_hello : (c i : ℕ) (key : Key) → (o : Option Act) → o ≡ Some (Hello c i) → option_and_then key_in o ≡ Some key → ⊥
-no_hello c i key o hello names = none-some key (sym (ap (option_and_then key_in) hello) ∙ names)
+no_hello : (c i : ℕ) (v : Version) (key : Key) → (o : Option Act) → o ≡ Some (Hello c i v) → option_and_then key_in o ≡ Some key → ⊥
+no_hello c i v key o hello names = none-some key (sym (ap (option_and_then key_in) hello) ∙ names)
 
 -- the session of a key that stands, before it
 of_session : (a : Account) (p : ℕ) (key : Key) → Legal a → key_at a.entries p ≡ Some key → HasIncarnation (take p a.entries) key.client key.incarnation
@@ -104,14 +105,14 @@ pub named_not_next : (a : Account) (p : ℕ) (key : Key) → Legal a → key_at 
 named_not_next a p key legal named has next =
     let same : next.is_last.h ≡ has.0 = one_last_hello a.entries key.client next.is_last.incarnation key.incarnation next.is_last.h has.0 next.is_last.hello has.1 in
     elim (cases_order p has.0) [
-      | inl is ↦ no_hello key.client key.incarnation key (act_at a.entries p) (ap (act_at a.entries) is ∙ has.1.hello) named
+      | inl is ↦ no_hello key.client key.incarnation has.1.version key (act_at a.entries p) (ap (act_at a.entries) is ∙ has.1.hello) named
       | inr differ ↦ elim differ [
         | inl less ↦
             let earlier = of_session a p key legal named in
             let there = read_whole act_read refl a.entries p earlier.0 _ earlier.1.hello in
             let below : earlier.0 < has.0 = omega arith in
-            let entry = read_there act_read refl (slice_get a.entries has.0) (Hello key.client key.incarnation) has.1.hello in
-            let raises = (legal has.0 entry.0 entry.1).numbers.raises_incarnation key.client key.incarnation (same_Some _ _ entry.2) earlier.0 key.incarnation (read_front act_read a.entries has.0 earlier.0 _ below there.1) in
+            let entry = read_there act_read refl (slice_get a.entries has.0) (Hello key.client key.incarnation has.1.version) has.1.hello in
+            let raises = (legal has.0 entry.0 entry.1).numbers.raises_incarnation key.client key.incarnation has.1.version (same_Some _ _ entry.2) earlier.0 key.incarnation earlier.1.version (read_front act_read a.entries has.0 earlier.0 _ below there.1) in
             omega arith
         | inr more ↦
             let most : key.number ≤ next.last = next.is_last.greatest p key (omega arith) (record { named = named; of_client = refl }) in

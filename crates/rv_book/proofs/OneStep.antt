@@ -3,13 +3,14 @@ use Rattle.rv_account.specs.declared.entry.Act as act
 use Rattle.rv_text.specs.declared.message.Message.TheVariants.{Cancel, Hello, Request}
 use Rattle.rv_account.specs.Account.{Account, with_entry}
 use Rattle.rv_account.specs.declared.entry.Act.{Act}
-use Rattle.rv_book.specs.Steps.{Adds, EntersOrNoMemory, EpochFullDue, GapDue, NextAt, NoSessionDue, OldIncarnationDue, OldNumberDue, OtherEpochDue, RefuseOr, Refuses, Answers, Ticks, WhereElse, step_moment, BusyDue, ClientsFullDue, OtherCallDue, Repeats, Replies}
+use Rattle.rv_book.specs.Steps.{Adds, EntersOrNoMemory, EpochFullDue, GapDue, NextAt, NoSessionDue, OldIncarnationDue, OldNumberDue, OtherEpochDue, OtherVersionDue, RefuseOr, Refuses, Answers, Ticks, WhereElse, step_moment, BusyDue, ClientsFullDue, OtherCallDue, Repeats, Replies}
 use Rattle.rv_text.specs.declared.answer.Answer.{Answer}
 use Rattle.rv_text.specs.declared.call.Call.{Call}
 use Rattle.rv_account.specs.declared.entry.Entry.{Entry}
-use Rattle.rv_text.specs.declared.answer.Refusal.TheVariants.{Busy, Gap, NoMemory, OldIncarnation, OldNumber}
+use Rattle.rv_text.specs.declared.answer.Refusal.TheVariants.{Busy, Gap, NoMemory, OldIncarnation, OldNumber, OtherVersion}
 use Rattle.rv_book.specs.Legal.{Legal}
 use Rattle.rv_text.specs.declared.message.Key.{Key}
+use Rattle.rv_text.specs.declared.version.Version.{Version}
 use Rattle.rv_text.specs.declared.message.Message.{Message}
 use Rattle.std.proofs.Common.{List, ap, inl, inr, subst, sym, ℕ, ◌∙◌, ◌≡◌, ◌≢◌}
 use Rattle.rv_book.specs.Laws.{OneNext}
@@ -19,6 +20,7 @@ use Rattle.rv_book.proofs.Legality.{follows_itself}
 use Rattle.rv_book.proofs.Histories.{one_incarnation, one_last_number}
 use Rattle.rv_book.proofs.SamePartners.{same_partners}
 use Rattle.rv_book.proofs.Staying.{one_told}
+use Rattle.rv_book.proofs.Versions.{one_opened}
 
 -- ---- the lines
 
@@ -44,6 +46,10 @@ one_no_session a key p q first second = first.1 ∙ sym second.1
 one_old_incarnation : (a : Account) (client incarnation : ℕ) (p q : Refusal) → OldIncarnationDue a client incarnation p → OldIncarnationDue a client incarnation q → p ≡ q
 one_old_incarnation a client incarnation p q first second =
     first.is ∙ ap OldIncarnation (one_incarnation a.entries client first.current second.current first.has second.has) ∙ sym second.is
+
+one_other_version : (a : Account) (client incarnation : ℕ) (version : Version) (p q : Refusal) → OtherVersionDue a client incarnation version p → OtherVersionDue a client incarnation version q → p ≡ q
+one_other_version a client incarnation version p q first second =
+    first.is ∙ ap OtherVersion (one_opened a.entries client incarnation incarnation first.current second.current first.has second.has) ∙ sym second.is
 
 one_old_number : (a : Account) (key : Key) (p q : Refusal) → OldNumberDue a key p → OldNumberDue a key q → p ≡ q
 one_old_number a key p q first second = first.is ∙ ap OldNumber (one_last_number a.entries key.client first.last second.last first.is_last second.is_last) ∙ sym second.is
@@ -92,11 +98,11 @@ one_refused a b c x y refusal first second = (first.0 ∙ sym second.0, first.1 
 one_answer : (b c : Account) (key : Key) (x y : Answer) → Legal c → b ≡ c → Answers b key x → Answers c key y → x ≡ y
 one_answer b c key x y legal same first second = one_told c key y x legal second (subst (λ (d : Account). Answers d key x) same first)
 
-one_welcome : (a b c : Account) (moment client incarnation : ℕ) (x y w : Answer) → x ≢ Refused NoMemory → y ≢ Refused NoMemory
-    → EntersOrNoMemory a moment (act.TheVariants.Hello client incarnation) b x (x ≡ w) → EntersOrNoMemory a moment (act.TheVariants.Hello client incarnation) c y (y ≡ w) → Same b c x y
-one_welcome a b c moment client incarnation x y w ample enough (inl h) k = absurd (ample h.1)
-one_welcome a b c moment client incarnation x y w ample enough (inr h) (inl k) = absurd (enough k.1)
-one_welcome a b c moment client incarnation x y w ample enough (inr h) (inr k) = (one_added a b c moment _ h.0 k.0, h.1 ∙ sym k.1)
+one_welcome : (a b c : Account) (moment client incarnation : ℕ) (version : Version) (x y w : Answer) → x ≢ Refused NoMemory → y ≢ Refused NoMemory
+    → EntersOrNoMemory a moment (act.TheVariants.Hello client incarnation version) b x (x ≡ w) → EntersOrNoMemory a moment (act.TheVariants.Hello client incarnation version) c y (y ≡ w) → Same b c x y
+one_welcome a b c moment client incarnation version x y w ample enough (inl h) k = absurd (ample h.1)
+one_welcome a b c moment client incarnation version x y w ample enough (inr h) (inl k) = absurd (enough k.1)
+one_welcome a b c moment client incarnation version x y w ample enough (inr h) (inr k) = (one_added a b c moment _ h.0 k.0, h.1 ∙ sym k.1)
 
 one_replied : (a b c : Account) (moment : ℕ) (key : Key) (does : Act) (x y : Answer) → x ≢ Refused NoMemory → y ≢ Refused NoMemory
     → EntersOrNoMemory a moment does b x (Answers b key x) → EntersOrNoMemory a moment does c y (Answers c key y) → Same b c x y
@@ -115,12 +121,13 @@ one_repeat : (a b c : Account) (key : Key) (x y : Answer) → Repeats a b key x 
 one_repeat a b c key x y first second = (first.account ∙ sym second.account, second.only x first.answers)
 
 one_next_at : (a b c : Account) (moment : ℕ) (m : Message) (x y : Answer) → NextAt a moment m b x → NextAt a moment m c y → x ≢ Refused NoMemory → y ≢ Refused NoMemory → Same b c x y
-one_next_at a b c moment (Hello client incarnation) x y first second ample enough =
+one_next_at a b c moment (Hello client incarnation version) x y first second ample enough =
     both_refuse _ _ _ _ _ (Same b c x y) (one_old_incarnation a client incarnation) (λ p. one_refused a b c x y p)
+    (both_refuse _ _ _ _ _ (Same b c x y) (one_other_version a client incarnation version) (λ p. one_refused a b c x y p)
     (both_where _ _ _ _ _ (Same b c x y) (λ h k. (h.0 ∙ sym k.0, h.1 ∙ sym k.1))
     (both_refuse _ _ _ _ _ (Same b c x y) (one_clients_full a client) (λ p. one_refused a b c x y p)
     (both_refuse _ _ _ _ _ (Same b c x y) (one_full a 1) (λ p. one_refused a b c x y p)
-    (one_welcome a b c moment client incarnation x y _ ample enough))))
+    (one_welcome a b c moment client incarnation version x y _ ample enough)))))
     first second
 one_next_at a b c moment (Request key call) x y first second ample enough =
     both_refuse _ _ _ _ _ (Same b c x y) (one_other_epoch a key) (λ p. one_refused a b c x y p)

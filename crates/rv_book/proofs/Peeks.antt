@@ -8,7 +8,7 @@ use Rattle.rv_text.specs.declared.answer.Reply.{Reply}
 use Rattle.rv_text.specs.declared.call.Call.TheVariants.{Peek}
 use Rattle.rv_text.specs.declared.call.Side.TheVariants.{Gives}
 use Rattle.rv_text.specs.Calls.{item_of}
-use Rattle.rv_text.specs.Limits.{FitsItem, FitsReply}
+use Rattle.rv_text.specs.Limits.{FitsItem}
 use Rattle.rv_text.proofs.Kept.{empty_fits, item_fits, peeked_fits}
 use Rattle.rv_account.specs.declared.entry.Act.TheVariants.{Arrive}
 use Rattle.rv_account.specs.declared.entry.Entry.{Entry}
@@ -26,7 +26,7 @@ use Rattle.rv_book.proofs.Fronts.{read_whole}
 use Rattle.rv_book.proofs.Growing.{call_read, reads_on}
 use Rattle.rv_book.proofs.Limits.{act_fits, act_there, call_of_act}
 use Rattle.rv_book.proofs.Looking.{looks_waits_not, same_before}
-use Rattle.rv_book.proofs.ReplyLaws.{ReplyLaws}
+use Rattle.rv_book.proofs.ReplyLaws.{FitsIn, ReplyLaws}
 
 -- the oldest item of a queue is its front
 front_of : (es : List Entry) (queue p : ℕ) (oldest : IsOldest es (Gives queue) p) → (item : List ℕ) × (item_of oldest.there.of_side.call ≡ Some item)
@@ -35,7 +35,7 @@ front_of es queue p oldest = gives_item oldest.there.of_side.call queue oldest.t
 -- ---- what is kept
 
 pub peek_replies : (a : Account) (queue place : ℕ) (partner : Option ℕ) → IsOldest a.entries (Gives queue) place → WillReply a (Peek queue) partner (kept.TheVariants.Peeked place)
-peek_replies a queue place partner oldest moment key before after =
+peek_replies a queue place partner oldest moment key version before after asked =
     let e = entry moment (Arrive key (Peek queue)) (just partner) in
     let es : List Entry = a.entries in
     let gives = front_of es queue place oldest in
@@ -49,7 +49,7 @@ peek_replies a queue place partner oldest moment key before after =
     }
 
 pub peek_finds_none : (a : Account) (queue : ℕ) (partner : Option ℕ) → HasNoItem a.entries queue → WillReply a (Peek queue) partner kept.TheVariants.Empty
-peek_finds_none a queue partner none moment key before after =
+peek_finds_none a queue partner none moment key version before after asked =
     let e = entry moment (Arrive key (Peek queue)) (just partner) in
     record {
       reply = reply.TheVariants.Empty;
@@ -90,9 +90,9 @@ front_fits a r queue item fits front =
     let does = act_there call_in (act_at a.entries front.place) giver.call whole.1 in
     item_fits giver.call item (call_of_act does.0 giver.call (act_fits a front.place does.0 fits does.1) does.2) front.hands_over
 
-fits : (queue : ℕ) (a : Account) (r : ℕ) (told : Reply) → FitsAccount a → RepliesAt a.entries r (Peek queue) told → FitsReply told
-fits queue a r told within (inl front) = subst FitsReply (sym front.2) (peeked_fits front.0 (front_fits a r queue front.0 within front.1))
-fits queue a r told within (inr none) = subst FitsReply (sym none.1) empty_fits
+fits : (queue : ℕ) (a : Account) (r : ℕ) (told : Reply) → FitsAccount a → RepliesAt a.entries r (Peek queue) told → FitsIn a.epoch told
+fits queue a r told within (inl front) = subst (FitsIn a.epoch) (sym front.2) (peeked_fits front.0 (front_fits a r queue front.0 within front.1), tt)
+fits queue a r told within (inr none) = subst (FitsIn a.epoch) (sym none.1) (empty_fits, tt)
 
 exists_at : (queue : ℕ) (es : List Entry) (r : ℕ) → (told : Reply) × RepliesAt es r (Peek queue) told
 exists_at queue es r = elim (find_oldest (take r es) (Gives queue)) [
@@ -109,5 +109,5 @@ peeks queue = record {
   fits = λ a r told legal within arrived. fits queue a r told within;
   exists = λ a r legal arrived. inl (exists_at queue a.entries r);
   waits_not = λ a r told legal arrived w replies. looks_waits_not a.entries r queue (Peek queue) arrived refl w;
-  met = λ b earlier later other legal arrived also names opposes waits. absurd (let no : ⊥ = cc in no);
+  met = λ b earlier later other version legal arrived also names opposes waits asked. absurd (let no : ⊥ = cc in no);
 }

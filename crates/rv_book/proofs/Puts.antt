@@ -3,18 +3,17 @@ use Rattle.std.proofs.Common.{◌≡◌, inl, ℕ, List, Option, Some, refl, sym
 use Rattle.std.proofs.lemmas.Option.{same_Some}
 use Rattle.rv_text.specs.declared.answer.Reply as reply
 use Rattle.rv_text.specs.declared.call.Call.TheVariants.{Put}
-use Rattle.rv_text.specs.Limits.{FitsReply}
 use Rattle.rv_session.specs.declared.kept.Kept as kept
 use Rattle.rv_account.specs.Account.{Account, call_at}
 use Rattle.rv_account.specs.Calls.{IsPut}
 use Rattle.rv_book.specs.Waiting.{Waiting}
 use Rattle.rv_text.proofs.Kept.{done_fits}
 use Rattle.rv_book.specs.Arriving.{WillReply}
-use Rattle.rv_book.proofs.ReplyLaws.{ReplyLaws}
+use Rattle.rv_book.proofs.ReplyLaws.{FitsIn, ReplyLaws}
 use Rattle.rv_book.specs.Legal.{before}
 
 pub put_replies : (a : Account) (queue : ℕ) (item : List ℕ) (partner : Option ℕ) → WillReply a (Put queue item) partner kept.TheVariants.Done
-put_replies a queue item partner moment key before after = record { reply = reply.TheVariants.Done; is = refl; replies = refl }
+put_replies a queue item partner moment key version before after asked = record { reply = reply.TheVariants.Done; is = refl; replies = refl }
 
 waits_not : (queue : ℕ) (item : List ℕ) (a : Account) (r : ℕ) → call_at a.entries r ≡ Some (Put queue item) → Waiting a.entries r → ⊥
 waits_not queue item a r arrived w =
@@ -25,8 +24,8 @@ pub puts : (queue : ℕ) (item : List ℕ) → ReplyLaws (Put queue item)
 puts queue item = record {
   stays = λ es more epoch opened r reply legal arrived is. is;
   one = λ b r x y legal arrived first second. second ∙ sym first;
-  fits = λ a r reply legal fits arrived is. subst FitsReply (sym is) done_fits;
+  fits = λ a r reply legal fits arrived is. subst (FitsIn a.epoch) (sym is) (done_fits, tt);
   exists = λ a r legal arrived. inl (reply.TheVariants.Done, refl);
   waits_not = λ a r reply legal arrived w is. waits_not queue item a r arrived w;
-  met = λ b earlier later other legal arrived also names opposes waits. absurd (let no : ⊥ = cc in no);
+  met = λ b earlier later other version legal arrived also names opposes waits asked. absurd (let no : ⊥ = cc in no);
 }

@@ -3,12 +3,17 @@ use Rattle.std.proofs.Common.{◌≡◌, inl, inr, ℕ, suc, ◌+◌, ◌<◌, �
 use Rattle.std.specs.Global.{Vec}
 use Rattle.std.specs.Vec.{vec_capacity}
 use Rattle.std.proofs.Math.Nat.{le-min}
+use Rattle.std.proofs.lemmas.Option.{none-some}
 use Rattle.std.specs.Prelude.{min}
 use Rattle.rv_text.specs.declared.call.Call.{Call}
 use Rattle.rv_text.specs.declared.message.Key.{Key}
+use Rattle.rv_text.specs.declared.version.Version.{Version}
 use Rattle.rv_text.specs.Calls.{side_of, wait_of}
 use Rattle.rv_session.specs.Owed.{Owed}
-use Rattle.rv_session.specs.Table.{OnlySets, Table, waiting_session}
+use Rattle.rv_session.specs.Kept.{told_in}
+use Rattle.rv_session.specs.Table.{OnlyAdvances, Table, session_for, version_in}
+use Rattle.rv_session.specs.declared.session.State.TheVariants.{Waits}
+use Rattle.rv_session.specs.declared.session.Session.{Session}
 use Rattle.rv_session.specs.declared.kept.Kept.{Kept}
 use Rattle.rv_account.specs.Account.{Account, just, with_entry}
 use Rattle.rv_book.specs.Arriving.{GoesOn, IsKept, IsNext, IsRecorded, MeetsOldest, WillReply, entry}
@@ -24,7 +29,8 @@ use Rattle.rv_book.specs.Legal.{Legal, MayFollow}
 use Rattle.rv_book.specs.Limits.{FitEntries}
 use Rattle.rv_book.specs.Meeting.{ArrivedOn, Meets, OwnDuty, PartnersDuty, ends_waiting, opposed_by, starts_waiting}
 use Rattle.rv_book.specs.Parked.{AreStations}
-use Rattle.rv_book.specs.Tables.{AreSessions, IsSound, MayRecord, SettlesIf, account_of, partners_reply, with_due}
+use Rattle.rv_book.specs.Tables.{AreSessions, IsSound, MayRecord, SettlesIf, account_of, partners_reply, told_to, with_due}
+use Rattle.rv_book.specs.Sessions.{HasOpened}
 use Rattle.rv_book.specs.Waiting.{Waiting}
 use Rattle.rv_book.proofs.ArrivedDeadlines.{due_arrived}
 use Rattle.rv_book.proofs.FewClients.{few_still}
@@ -34,10 +40,12 @@ use Rattle.rv_book.proofs.Keys.{no_hello}
 use Rattle.rv_book.proofs.Lasting.{lasting_need, need_positive}
 use Rattle.rv_book.proofs.Legality.{Legal-with_entry}
 use Rattle.rv_book.proofs.Owing.{Waits-after, goes_not_on, goes_on}
-use Rattle.rv_book.proofs.Replying.{recorded, recorded_waits}
-use Rattle.rv_book.proofs.Settling.{sessions_recorded}
+use Rattle.rv_book.proofs.Replying.{recorded_kept, recorded_waits}
+use Rattle.rv_book.proofs.Settling.{own_stays, sessions_recorded}
 use Rattle.rv_book.proofs.Standing.{is_next}
+use Rattle.rv_book.proofs.Versions.{asked_last}
 use Rattle.rv_book.proofs.Waiters.{meets_partner, stations_after, stations_as_before}
+use Rattle.rv_book.proofs.WaitingTable.{opened_in_table}
 use Rattle.rv_book.specs.Views.{Stations, waiting_on}
 
 -- ---- what an arrival may come to need
@@ -126,18 +134,36 @@ module _ (old : State) (moment : ℕ) (key : Key) (call : Call) (stations : Stat
           let room : min (may_name call) (opposed_by old.stations (opposite (side_of call))) ≤ vec_capacity is.places = is.may.names.room in
           omega arith
 
-  module _ (kept others : Kept) (will : (GoesOn call arrived.partner → ⊥) → WillReply before call arrived.partner kept) (begun : Table) (begins : OnlySets old.sessions begun key.client (waiting_session key.incarnation key.number (length before.entries)))
+  module _ (kept others : Kept) (will : (GoesOn call arrived.partner → ⊥) → WillReply before call arrived.partner kept) (begun : Table) (begins : OnlyAdvances old.sessions begun key (Waits (length before.entries)))
       (others_is : others ≡ partners_reply (side_of call) (length before.entries)) where
-    pub kept_is : (own : Option Owed) → own ≡ arrived.own → (own ≡ None → ⊥) → IsKept (before.entries ++ own_entry ∷ []) (length before.entries) call kept
+    -- the version of its own session
+    abbrev v : Version
+    v = begins.version
+
+    opened : HasOpened before.entries key.client key.incarnation v
+    opened = opened_in_table before old.sessions key.client key.incarnation v sound.sessions_are next.incarnation begins.was
+
+    pub kept_is : (own : Option Owed) → own ≡ arrived.own → (own ≡ None → ⊥) → IsKept (before.entries ++ own_entry ∷ []) (length before.entries) call (told_in v kept)
     kept_is None same settled = absurd (settled refl)
-    kept_is (Some own) same settled = will (goes_not_on call arrived.partner (duty_of_new old key) own arrived.own is.on.own (sym same)) moment key sound.legal legal_after
+    kept_is (Some own) same settled =
+        will (goes_not_on call arrived.partner (duty_of_new old key) own arrived.own is.on.own (sym same)) moment key v sound.legal legal_after (asked_last before.entries own_entry key key.incarnation v refl opened)
 
-    told_by : (own : Option Owed) → own ≡ arrived.own → IsRecorded before (with_entry before own_entry) moment key call (option_map (λ d. kept) own)
+    -- where it waits or was settled, it is told so
+    told_by : (own : Option Owed) → own ≡ arrived.own → IsRecorded before (with_entry before own_entry) moment key call (option_map (λ d. told_in v kept) own)
     told_by None same = recorded_waits before (with_entry before own_entry) moment key call arrived.partner (goes_on call arrived.partner (duty_of_new old key) arrived.own is.on.own (sym same)) sound.legal legal_after refl
-    told_by (Some own) same = recorded before (with_entry before own_entry) moment key call arrived.partner kept (will (goes_not_on call arrived.partner (duty_of_new old key) own arrived.own is.on.own (sym same))) sound.legal legal_after refl
+    told_by (Some own) same = recorded_kept before moment key call (just arrived.partner) (told_in v kept) legal_after (kept_is (Some own) same (λ none. none-some own (sym none)))
 
-    pub told : IsRecorded before (with_entry before own_entry) moment key call (option_map (λ d. kept) arrived.own)
-    told = told_by arrived.own refl
+    -- its session has its version still where the request that it met was settled
+    told_is : (mid : Table) → SettlesIf begun mid arrived.other others → (own : Option Owed) → OwnDuty (side_of call) (wait_of call) arrived.partner (duty_of_new old key) own
+        → told_to mid own kept ≡ option_map (λ d. told_in v kept) own
+    told_is mid settles None duty = refl
+    told_is mid settles (Some d) duty =
+        let there = own_stays before old.sessions begun mid key call arrived.partner (session_for key v (Waits (length before.entries))) arrived.other others next meets begins.sets settles other_is in
+        let client = ap (λ (x : Owed). version_in mid x.client) duty.0 in
+        ap (option_map (λ w. told_in w kept)) (client ∙ ap (option_map (λ (s : Session). s.version)) there)
+
+    pub told : (mid : Table) → SettlesIf begun mid arrived.other others → IsRecorded before (with_entry before own_entry) moment key call (told_to mid arrived.own kept)
+    told mid settles = subst (IsRecorded before (with_entry before own_entry) moment key call) (sym (told_is mid settles arrived.own is.on.own)) (told_by arrived.own refl)
 
     module _ (mid last : Table) (settles : SettlesIf begun mid arrived.other others) (ends : SettlesIf mid last arrived.own kept) where
       sessions_are : AreSessions (with_entry before own_entry) last
@@ -162,7 +188,7 @@ module _ (old : State) (moment : ℕ) (key : Key) (call : Call) (stations : Stat
             stations_are = subst (AreStations (before.entries ++ own_entry ∷ [])) (sym same_stations) stations_are;
             waiting_is = subst (NumberOf (Waiting (before.entries ++ own_entry ∷ []))) (sym same) count_after.2;
             due_are = subst (AreDeadlines (before.entries ++ own_entry ∷ [])) (sym same_due) due_are;
-            clients = few_still before.entries own_entry (λ c i own. absurd (no_hello key call c i own)) sound.fits.clients;
+            clients = few_still before.entries own_entry (λ c i w own. absurd (no_hello key call c i w own)) sound.fits.clients;
             space = omega arith;
             spare = omega arith;
           })

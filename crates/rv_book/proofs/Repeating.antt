@@ -1,6 +1,6 @@
 -- Which line of the step decides, from what the table of sessions says of a key or of a hello.
 use Rattle.rv_text.specs.declared.message.Message.TheVariants.{Hello, Request, Cancel}
-use Rattle.rv_text.specs.declared.answer.Refusal.TheVariants.{OldIncarnation, OtherCall, ClientsFull}
+use Rattle.rv_text.specs.declared.answer.Refusal.TheVariants.{OldIncarnation, OtherCall, OtherVersion, ClientsFull}
 use Rattle.rv_text.specs.declared.answer.Answer.TheVariants.{Welcome, Replied, Refused, Waiting}
 use Rattle.rv_account.specs.declared.entry.Act as act
 use Rattle.rv_book.specs.declared.verdict.Said as said
@@ -8,14 +8,14 @@ use Rattle.rv_session.specs.declared.session.State as state
 use Rattle.rv_session.specs.Table.{Table, session_of, session_count}
 use Rattle.rv_session.specs.Meanings.{HasNext, HasLast, RefusalMeans, IsOlder, IsNewer}
 use Rattle.rv_session.specs.Meanings as means
-use Rattle.rv_book.proofs.Standing.{settled, cancelled_first, waits, refused_lines, last_lines, is_next, not_new, room_for_client, clients_full, none_lower, newer_lower}
-use Rattle.rv_book.proofs.Lines.{line_next, line_old_hello, line_again, line_newer}
+use Rattle.rv_book.proofs.Standing.{settled, cancelled_first, waits, refused_lines, last_lines, is_next, of_incarnation, not_new, room_for_client, clients_full, none_lower, newer_lower}
+use Rattle.rv_book.proofs.Lines.{line_next, line_old_hello, line_other_version, line_again, line_newer}
 use Rattle.rv_account.specs.Account.{Account, act_at, call_in}
 use Rattle.rv_text.specs.declared.answer.Answer.{Answer}
 use Rattle.rv_book.specs.Tables.{AreSessions, Becomes, IsRepeat}
 use Rattle.rv_text.specs.declared.call.Call.{Call}
 use Rattle.rv_book.specs.Steps.{Answers, EntersOrNoMemory, EpochFullDue, NextAt, OtherCallDue, RefuseOr, Refuses, Repeats, Replies}
-use Rattle.rv_book.specs.Sessions.{HasIncarnation}
+use Rattle.rv_book.specs.Sessions.{HasIncarnation, HasOpened}
 use Rattle.rv_book.specs.Arriving.{IsCancelled}
 use Rattle.rv_book.specs.Replies.{RepliesToArrival}
 use Rattle.rv_book.specs.Verdicts.{reply_of}
@@ -24,6 +24,7 @@ use Rattle.rv_text.specs.declared.answer.Reply as reply
 use Rattle.rv_session.specs.declared.kept.Kept as kept
 use Rattle.rv_session.specs.declared.kept.Kept.{Kept}
 use Rattle.rv_text.specs.declared.message.Key.{Key}
+use Rattle.rv_text.specs.declared.version.Version.{Version}
 use Rattle.rv_book.specs.Legal.{Legal, WaitsUnder}
 use Rattle.std.proofs.Common.{None, Option, Some, ap, inl, inr, option_and_then, option_map, refl, subst, sym, ℕ, ◌<◌, ◌∙◌, ◌≡◌, ◌≤◌}
 use Rattle.rv_text.specs.declared.answer.Refusal.{Refusal}
@@ -180,30 +181,42 @@ module _ (a : Account) (t : Table) (moment : ℕ) (are : AreSessions a t) (legal
 
   -- ---- hellos
 
-  pub old_hello : (client incarnation current : ℕ) → IsOlder t client incarnation current → NextAt a moment (Hello client incarnation) a (Refused (OldIncarnation current))
-  old_hello client incarnation current is =
-      let has = subst (HasIncarnation a.entries client) (sym is.current_is) (known a t client is.session are is.there).incarnation in
-      line_old_hello (Refuses a a (Refused (OldIncarnation current))) _ _ a client incarnation current has is.greater (refl, refl)
+  -- the session that the table tells of the client was opened so
+  opened_so : (client incarnation : ℕ) (version : Version) → means.HasOpened t client incarnation version → HasOpened a.entries client incarnation version
+  opened_so client incarnation version is =
+      let opened = (known a t client is.session are is.there).opened in
+      subst (HasOpened a.entries client incarnation) is.version_is (subst (λ i. HasOpened a.entries client i is.session.version) is.same opened)
 
-  pub hello_again : (client incarnation : ℕ) → means.HasIncarnation t client incarnation → NextAt a moment (Hello client incarnation) a (Welcome a.epoch client incarnation)
-  hello_again client incarnation is =
-      let has = subst (HasIncarnation a.entries client) is.same (known a t client is.session are is.there).incarnation in
-      line_again (Refuses a a (Welcome a.epoch client incarnation)) _ _ a client incarnation has (refl, refl)
+  pub old_hello : (client incarnation : ℕ) (version : Version) (current : ℕ) → IsOlder t client incarnation current → NextAt a moment (Hello client incarnation version) a (Refused (OldIncarnation current))
+  old_hello client incarnation version current is =
+      let has = subst (HasIncarnation a.entries client) (sym is.current_is) (of_incarnation a t are legal client is.session is.there) in
+      line_old_hello (Refuses a a (Refused (OldIncarnation current))) _ _ a client incarnation version current has is.greater (refl, refl)
 
-  pub one_client_too_many : (client incarnation : ℕ) → session_of t client ≡ None → 1024 ≤ session_count t → NextAt a moment (Hello client incarnation) a (Refused ClientsFull)
-  one_client_too_many client incarnation none full =
-      line_newer (Refuses a a (Refused ClientsFull)) _ _ a client incarnation (none_lower a t are legal client incarnation none)
+  pub hello_otherwise : (client incarnation : ℕ) (version current : Version) → means.HasOther t client incarnation version current → NextAt a moment (Hello client incarnation version) a (Refused (OtherVersion current))
+  hello_otherwise client incarnation version current is =
+      let opened = opened_so client incarnation current is.opened in
+      line_other_version (Refuses a a (Refused (OtherVersion current))) _ _ a client incarnation version current opened (λ same. is.other (sym same)) (refl, refl)
+
+  pub hello_again : (client incarnation : ℕ) (version : Version) → means.HasOpened t client incarnation version → NextAt a moment (Hello client incarnation version) a (Welcome a.epoch client incarnation version)
+  hello_again client incarnation version is =
+      line_again (Refuses a a (Welcome a.epoch client incarnation version)) _ _ a client incarnation version (opened_so client incarnation version is) (refl, refl)
+
+  pub one_client_too_many : (client incarnation : ℕ) (version : Version) → session_of t client ≡ None → 1024 ≤ session_count t → NextAt a moment (Hello client incarnation version) a (Refused ClientsFull)
+  one_client_too_many client incarnation version none full =
+      line_newer (Refuses a a (Refused ClientsFull)) _ _ a client incarnation version (none_lower a t are legal client incarnation none)
       (inl (record { refusal = ClientsFull; is_due = clients_full a t are legal client none full; refuses_it = (refl, refl) }))
 
   -- the last lines of a hello that enters
-  abbrev pub EntersHello : Account → ℕ → ℕ → Answer → Type 0
-  EntersHello b client incarnation x =
-      RefuseOr (EpochFullDue a 1) (Refuses a b x) (EntersOrNoMemory a moment (act.TheVariants.Hello client incarnation) b x (x ≡ Welcome a.epoch client incarnation))
+  abbrev pub EntersHello : Account → ℕ → ℕ → Version → Answer → Type 0
+  EntersHello b client incarnation version x =
+      RefuseOr (EpochFullDue a 1) (Refuses a b x) (EntersOrNoMemory a moment (act.TheVariants.Hello client incarnation version) b x (x ≡ Welcome a.epoch client incarnation version))
 
-  pub new_hello : (b : Account) (client incarnation : ℕ) (x : Answer) → session_of t client ≡ None → session_count t < 1024 → EntersHello b client incarnation x → NextAt a moment (Hello client incarnation) b x
-  new_hello b client incarnation x none room last =
-      line_newer (Refuses a b x) _ _ a client incarnation (none_lower a t are legal client incarnation none) (inr (room_for_client a t are legal client room, last))
+  pub new_hello : (b : Account) (client incarnation : ℕ) (version : Version) (x : Answer) → session_of t client ≡ None → session_count t < 1024 → EntersHello b client incarnation version x
+      → NextAt a moment (Hello client incarnation version) b x
+  new_hello b client incarnation version x none room last =
+      line_newer (Refuses a b x) _ _ a client incarnation version (none_lower a t are legal client incarnation none) (inr (room_for_client a t are legal client room, last))
 
-  pub newer_hello : (b : Account) (client incarnation : ℕ) (x : Answer) (waiting : Option ℕ) → IsNewer t client incarnation waiting → EntersHello b client incarnation x → NextAt a moment (Hello client incarnation) b x
-  newer_hello b client incarnation x waiting is last =
-      line_newer (Refuses a b x) _ _ a client incarnation (newer_lower a t are legal client incarnation is.session is.there is.lower) (inr (not_new a t are legal client is.session is.there, last))
+  pub newer_hello : (b : Account) (client incarnation : ℕ) (version : Version) (x : Answer) (waiting : Option ℕ) → IsNewer t client incarnation waiting → EntersHello b client incarnation version x
+      → NextAt a moment (Hello client incarnation version) b x
+  newer_hello b client incarnation version x waiting is last =
+      line_newer (Refuses a b x) _ _ a client incarnation version (newer_lower a t are legal client incarnation is.session is.there is.lower) (inr (not_new a t are legal client is.session is.there, last))

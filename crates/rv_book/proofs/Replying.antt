@@ -3,13 +3,16 @@ use Rattle.std.proofs.Common.{◌≡◌, inl, inr, ℕ, List, length, Option, So
 use Rattle.rv_text.specs.declared.call.Call as call
 use Rattle.rv_text.specs.declared.call.Call.{Call}
 use Rattle.rv_text.specs.declared.message.Key.{Key}
+use Rattle.rv_text.specs.declared.version.Version.{Version}
 use Rattle.rv_account.specs.declared.entry.Act.TheVariants.{Arrive}
 use Rattle.rv_account.specs.declared.entry.Entry.{Entry}
+use Rattle.rv_session.specs.Kept.{told_in}
 use Rattle.rv_session.specs.declared.kept.Kept.{Kept}
 use Rattle.rv_account.specs.Account.{Account, act_at, just, with_entry}
-use Rattle.rv_book.specs.Arriving.{GoesOn, IsKept, IsRecorded, WillReply, entry}
+use Rattle.rv_book.specs.Arriving.{GoesOn, IsKept, IsRecorded, WillTell, entry}
 use Rattle.rv_book.specs.Legal.{Legal}
 use Rattle.rv_book.specs.Replies.{HasReply}
+use Rattle.rv_book.specs.Sessions.{AskedIn}
 use Rattle.rv_book.proofs.Growing.{act_read}
 use Rattle.rv_book.proofs.Places.{get-append_end}
 use Rattle.rv_book.proofs.Counts.{counts}
@@ -49,12 +52,14 @@ recorded_kept a moment key call partners said legal there =
       answers = inl (record { reply = there.reply; has = has; is = refl });
     }
 
-pub recorded : (a b : Account) (moment : ℕ) (key : Key) (call : Call) (partner : Option ℕ) (said : Kept) → WillReply a call partner said → Legal a → Legal b
-    → b ≡ with_entry a (entry moment (Arrive key call) (just partner)) → IsRecorded a b moment key call (Some said)
-recorded a b moment key call partner said will before after follows =
+-- as the version that it was asked in tells it
+pub recorded : (a b : Account) (moment : ℕ) (key : Key) (call : Call) (partners : List ℕ) (said : Kept) (v : Version) → WillTell a call partners said → Legal a → Legal b
+    → b ≡ with_entry a (entry moment (Arrive key call) partners) → AskedIn b.entries (length a.entries) v → IsRecorded a b moment key call (Some (told_in v said))
+recorded a b moment key call partners said v will before after follows asked =
     let legal = subst Legal follows after in
-    let P : Account → Type 0 = λ c. IsRecorded a c moment key call (Some said) in
-    subst P (sym follows) (recorded_kept a moment key call (just partner) said legal (will moment key before legal))
+    let P : Account → Type 0 = λ c. IsRecorded a c moment key call (Some (told_in v said)) in
+    let own = subst (λ (c : Account). AskedIn c.entries (length a.entries) v) follows asked in
+    subst P (sym follows) (recorded_kept a moment key call partners (told_in v said) legal (will moment key v before legal own))
 
 -- a request that goes on is told that it waits
 pub recorded_waits : (a b : Account) (moment : ℕ) (key : Key) (call : Call) (partner : Option ℕ) → GoesOn call partner → Legal a → Legal b

@@ -2,6 +2,7 @@
 -- hello the client's own is fresh.
 use Rattle.rv_session.specs.declared.session.State as state
 use Rattle.rv_session.specs.declared.session.State.{State as StateOf}
+use Rattle.rv_text.specs.declared.version.Version.{Version}
 use Rattle.rv_session.specs.declared.session.Session.{Session}
 use Rattle.rv_session.specs.declared.kept.Kept.{Kept}
 use Rattle.rv_session.specs.Table.{Table, OnlySets, OnlySettles, fresh, session_of}
@@ -12,7 +13,7 @@ use Rattle.rv_account.specs.declared.entry.Act.{Act}
 use Rattle.rv_account.specs.declared.entry.Act.TheVariants.{Arrive, Hello}
 use Rattle.rv_text.specs.declared.call.Call.{Call}
 use Rattle.rv_account.specs.declared.entry.Entry.{Entry}
-use Rattle.rv_book.specs.Sessions.{HasIncarnation, LastHello, LastNumber, SaidHello}
+use Rattle.rv_book.specs.Sessions.{HasOpened, LastHello, LastNumber, SaidHello}
 use Rattle.rv_book.specs.Arriving.{IsKept}
 use Rattle.rv_book.specs.Waiting.{Waiting}
 use Rattle.rv_book.proofs.Sides.{Waiting-on, stopped_by_hello}
@@ -27,31 +28,32 @@ use Rattle.rv_book.proofs.Naming.{just_none}
 use Rattle.rv_book.proofs.Numbers.{same_or_not}
 use Rattle.rv_book.proofs.Keys.{LastHello-on, NamesKey-back, NamesKey-on, client_of, hello_is_own, key_is_own, key_read}
 use Rattle.rv_book.proofs.Replying.{reply_laws}
+use Rattle.rv_book.proofs.Versions.{HasOpened-on}
 pub use Rattle.rv_book.proofs.WaitingTable.{waits_in_table}
 
--- the session of the client has this incarnation and this last number
-pub record IsAt (es : List Entry) (c i n : ℕ) : Type 0 where
-  pub incarnation : HasIncarnation es c i
+-- the session of the client has this incarnation, this version and this last number
+pub record IsAt (es : List Entry) (c i : ℕ) (v : Version) (n : ℕ) : Type 0 where
+  pub opened : HasOpened es c i v
   pub number : LastNumber es c n
 
 -- the act is no hello of the client and names no key of it
 pub record IsApart (does : Act) (client : ℕ) : Type 0 where
-  pub no_hello : (incarnation : ℕ) → Some does ≡ Some (Hello client incarnation) → ⊥
+  pub no_hello : (incarnation : ℕ) (version : Version) → Some does ≡ Some (Hello client incarnation version) → ⊥
   pub no_key : (key : Key) → key_in does ≡ Some key → key.client ≡ client → ⊥
 
 -- an act of another client is apart
 pub other_apart : (does : Act) (client : ℕ) → (client_of does ≡ client → ⊥) → IsApart does client
 other_apart does client other = record {
-  no_hello = λ incarnation own. other (hello_is_own does client incarnation own);
+  no_hello = λ incarnation version own. other (hello_is_own does client incarnation version own);
   no_key = λ key names of_client. other (key_is_own does key names ∙ of_client);
 }
 
 -- the session of another client than the entry's stays
-pub IsAt-on : (es : List Entry) (e : Entry) (c i n : ℕ) → IsApart e.act c → IsAt es c i n → IsAt (es ++ e ∷ []) c i n
-IsAt-on es e c i n apart is =
+pub IsAt-on : (es : List Entry) (e : Entry) (c i : ℕ) (v : Version) (n : ℕ) → IsApart e.act c → IsAt es c i v n → IsAt (es ++ e ∷ []) c i v n
+IsAt-on es e c i v n apart is =
     let no_hello_of = apart.no_hello in
     record {
-      incarnation = (is.incarnation.0, LastHello-on es e c i is.incarnation.0 no_hello_of is.incarnation.1);
+      opened = HasOpened-on es e c i v no_hello_of is.opened;
       number = record {
         incarnation = is.number.incarnation;
         h = is.number.h;
@@ -68,13 +70,13 @@ IsAt-on es e c i n apart is =
     }
 
 -- after an entry that names a key its number is the session's last
-pub named_at : (es : List Entry) (e : Entry) (key : Key) (i n : ℕ) → key_in e.act ≡ Some key → IsAt es key.client i n → n ≤ key.number → IsAt (es ++ e ∷ []) key.client i key.number
-named_at es e key i n is session above =
-    let no_hello_of = λ (j : ℕ) (own : Some e.act ≡ Some (Hello key.client j)). none-some key (sym (ap key_in (same_Some _ _ own)) ∙ is) in
+pub named_at : (es : List Entry) (e : Entry) (key : Key) (i : ℕ) (v : Version) (n : ℕ) → key_in e.act ≡ Some key → IsAt es key.client i v n → n ≤ key.number → IsAt (es ++ e ∷ []) key.client i v key.number
+named_at es e key i v n is session above =
+    let no_hello_of = λ (j : ℕ) (w : Version) (own : Some e.act ≡ Some (Hello key.client j w)). none-some key (sym (ap key_in (same_Some _ _ own)) ∙ is) in
     let last : key_at (es ++ e ∷ []) (length es) ≡ Some key = ap key_read (get-append_end es e) ∙ is in
     let inside : session.number.h < length es = reads_within act_read refl es session.number.h _ session.number.hello.hello in
     record {
-      incarnation = (session.incarnation.0, LastHello-on es e key.client i session.incarnation.0 no_hello_of session.incarnation.1);
+      opened = HasOpened-on es e key.client i v no_hello_of session.opened;
       number = record {
         incarnation = session.number.incarnation;
         h = session.number.h;
@@ -88,15 +90,16 @@ named_at es e key i n is session above =
     }
 
 -- after a hello the session is fresh
-greeted_at : (es : List Entry) (e : Entry) (c i : ℕ) → e.act ≡ Hello c i → IsAt (es ++ e ∷ []) c i 0
-greeted_at es e c i is =
-    let own : act_at (es ++ e ∷ []) (length es) ≡ Some (Hello c i) = ap act_read (get-append_end es e) ∙ ap Some is in
+greeted_at : (es : List Entry) (e : Entry) (c i : ℕ) (v : Version) → e.act ≡ Hello c i v → IsAt (es ++ e ∷ []) c i v 0
+greeted_at es e c i v is =
+    let own : act_at (es ++ e ∷ []) (length es) ≡ Some (Hello c i v) = ap act_read (get-append_end es e) ∙ ap Some is in
     let hello : LastHello (es ++ e ∷ []) c i (length es) = record {
+      version = v;
       hello = own;
-      last = λ r j later there. elim (reads_back act_read refl es e r (Hello c j) there) [ inl inside ↦ omega arith | inr last ↦ omega arith ];
+      last = λ r j w later there. elim (reads_back act_read refl es e r (Hello c j w) there) [ inl inside ↦ omega arith | inr last ↦ omega arith ];
     } in
     record {
-      incarnation = (length es, hello);
+      opened = record { h = length es; last = hello; version_is = refl };
       number = record {
         incarnation = i;
         h = length es;
@@ -172,9 +175,9 @@ set_changes old new client s sets = record { epoch = sets.epoch; own = sets.own;
 
 -- a client that said no hello said none with an entry that is apart
 pub SaidHello-back : (a : Account) (e : Entry) (client : ℕ) → IsApart e.act client → (SaidHello a.entries client → ⊥) → SaidHello (with_entry a e).entries client → ⊥
-SaidHello-back a e client apart none said = elim (reads_back act_read refl a.entries e said.0 _ said.2) [
-  | inl inside ↦ none (said.0, said.1, inside.1)
-  | inr last ↦ apart.no_hello said.1 last.1
+SaidHello-back a e client apart none said = elim (reads_back act_read refl a.entries e said.0 _ said.3) [
+  | inl inside ↦ none (said.0, said.1, said.2, inside.1)
+  | inr last ↦ apart.no_hello said.1 said.2 last.1
 ]
 
 -- the session of a client other than the entry's, of whose requests each that waits still does
@@ -182,14 +185,14 @@ pub session_on : (a : Account) (e : Entry) (client : ℕ) (o : Option Session) �
     → IsSessionOf a client o → IsSessionOf (with_entry a e) client o
 session_on a e client None legal apart still none = SaidHello-back a e client apart none
 session_on a e client (Some s) legal apart still is =
-    let at = IsAt-on a.entries e client s.incarnation s.last apart (record { incarnation = is.incarnation; number = is.number }) in
-    record { incarnation = at.incarnation; number = at.number; stands = Stands-on a e client s s.state legal apart still is.stands }
+    let at = IsAt-on a.entries e client s.incarnation s.version s.last apart (record { opened = is.opened; number = is.number }) in
+    record { opened = at.opened; number = at.number; stands = Stands-on a e client s s.state legal apart still is.stands }
 
 -- after a hello nothing waits but what waited before, of another client
-after_hello : (a : Account) (e : Entry) (client incarnation other : ℕ) → e.act ≡ Hello client incarnation → e.partners ≡ [] → (other ≡ client → ⊥) → StillWaits a e other
-after_hello a e client incarnation other says none apart = λ r key call of_client arrived w.
+after_hello : (a : Account) (e : Entry) (client incarnation : ℕ) (version : Version) (other : ℕ) → e.act ≡ Hello client incarnation version → e.partners ≡ [] → (other ≡ client → ⊥) → StillWaits a e other
+after_hello a e client incarnation version other says none apart = λ r key call of_client arrived w.
     Waiting-on a.entries e r w (just_none e r none) (λ stopped.
-    let request = stopped_by_hello a.entries e client incarnation r says stopped in
+    let request = stopped_by_hello a.entries e client incarnation r version says stopped in
     let same : Arrive request.key request.call ≡ Arrive key call = same_Some _ _ (sym request.arrived ∙ arrived) in
     apart (sym of_client ∙ sym (ap client_of same) ∙ sym request.of_client))
 
@@ -208,16 +211,16 @@ sessions_changed a e old new client s are legal of_client still changes own =
     }
 
 -- after a hello its session is fresh
-pub sessions_greeted : (a : Account) (e : Entry) (old new : Table) (client incarnation : ℕ) → AreSessions a old → Legal a → Legal (with_entry a e) → e.act ≡ Hello client incarnation → e.partners ≡ []
-    → Changes old new client (fresh incarnation) → AreSessions (with_entry a e) new
-sessions_greeted a e old new client incarnation are before legal is none changes =
-    let at = greeted_at a.entries e client incarnation is in
-    sessions_changed a e old new client (fresh incarnation) are legal (ap client_of is) (λ other. after_hello a e client incarnation other is none) changes
-    (record { incarnation = at.incarnation; number = at.number; stands = refl })
+pub sessions_greeted : (a : Account) (e : Entry) (old new : Table) (client incarnation : ℕ) (version : Version) → AreSessions a old → Legal a → Legal (with_entry a e) → e.act ≡ Hello client incarnation version → e.partners ≡ []
+    → Changes old new client (fresh incarnation version) → AreSessions (with_entry a e) new
+sessions_greeted a e old new client incarnation version are before legal is none changes =
+    let at = greeted_at a.entries e client incarnation version is in
+    sessions_changed a e old new client (fresh incarnation version) are legal (ap client_of is) (λ other. after_hello a e client incarnation version other is none) changes
+    (record { opened = at.opened; number = at.number; stands = refl })
 
 -- an empty table is that of an empty account
 pub no_sessions : (a : Account) (t : Table) → a.entries ≡ [] → t.epoch ≡ a.epoch → ((client : ℕ) → session_of t client ≡ None) → AreSessions a t
 no_sessions a t none epoch empty = record {
   epoch = epoch;
-  each = λ client. subst (IsSessionOf a client) (sym (empty client)) (λ said. none-some _ (sym (ap (λ (l : List Entry). act_at l said.0) none) ∙ said.2));
+  each = λ client. subst (IsSessionOf a client) (sym (empty client)) (λ said. none-some _ (sym (ap (λ (l : List Entry). act_at l said.0) none) ∙ said.3));
 }

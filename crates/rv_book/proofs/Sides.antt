@@ -2,6 +2,7 @@
 use Rattle.std.proofs.Common.{◌≡◌, ◌⊎◌, inl, inr, ℕ, ◌<◌, ◌≤◌, List, [], ◌∷◌, ◌++◌, length, take, Option, Some, None, option_and_then, refl, sym, ap, subst, ◌∙◌, arith, length-take}
 use Rattle.rv_account.specs.Account.{Account, Names, act_at, call_at, call_in, just}
 use Rattle.rv_text.specs.declared.call.Call.{Call}
+use Rattle.rv_text.specs.declared.version.Version.{Version}
 use Rattle.rv_account.specs.declared.entry.Entry.{Entry}
 use Rattle.rv_text.specs.declared.call.Side.{Side}
 use Rattle.std.proofs.lemmas.Option.{same_Some}
@@ -49,8 +50,8 @@ pub record IsRequestOf (es : List Entry) (client r : ℕ) : Type 0 where
   pub no_put : IsPut call → ⊥
 
 -- a hello stops the requests of its client that are no puts
-pub hello_stops : (es : List Entry) (e : Entry) (client incarnation r : ℕ) → e.act ≡ Hello client incarnation → IsRequestOf es client r → StoppedAt (es ++ e ∷ []) r (length es)
-hello_stops es e client incarnation r says request = record {
+pub hello_stops : (es : List Entry) (e : Entry) (client incarnation r : ℕ) (v : Version) → e.act ≡ Hello client incarnation v → IsRequestOf es client r → StoppedAt (es ++ e ∷ []) r (length es)
+hello_stops es e client incarnation r v says request = record {
   key = request.key;
   call = request.call;
   stopper = e;
@@ -62,8 +63,8 @@ hello_stops es e client incarnation r says request = record {
 }
 
 -- and no others
-pub stopped_by_hello : (es : List Entry) (e : Entry) (client incarnation r : ℕ) → e.act ≡ Hello client incarnation → StoppedAt (es ++ e ∷ []) r (length es) → IsRequestOf es client r
-stopped_by_hello es e client incarnation r says stopped =
+pub stopped_by_hello : (es : List Entry) (e : Entry) (client incarnation r : ℕ) (v : Version) → e.act ≡ Hello client incarnation v → StoppedAt (es ++ e ∷ []) r (length es) → IsRequestOf es client r
+stopped_by_hello es e client incarnation r v says stopped =
     let own : e ≡ stopped.stopper = same_Some _ _ (sym (get-append_end es e) ∙ stopped.there) in
     let later : r < length es = stopped.later in
     record {

@@ -9,7 +9,7 @@ use Rattle.rv_session.specs.declared.kept.Kept.{Kept}
 use Rattle.rv_session.specs.declared.kept.Kept as kept
 use Rattle.rv_book.specs.Replies.{CancelledFirst}
 use Rattle.rv_session.specs.declared.standing.Greeting.TheVariants as greeting
-use Rattle.rv_session.specs.Standings.{MayEnter, greeting_for}
+use Rattle.rv_session.specs.Standings.{Enters, MayEnter, greeting_for}
 use Rattle.rv_session.specs.Table.{Table, session_of, session_count}
 use Rattle.rv_book.proofs.Lines.{line_other_epoch, line_no_session, line_old_incarnation, line_old_number, line_last, line_gap, line_busy}
 use Rattle.rv_session.specs.Meanings.{HasNext, HasLast, RefusalMeans}
@@ -23,6 +23,7 @@ use Rattle.rv_book.specs.Legal.{Legal}
 use Rattle.rv_book.specs.Arriving.{IsKept, IsNext}
 use Rattle.std.specs.Prelude.{IsSome}
 use Rattle.rv_text.specs.declared.message.Key.{Key}
+use Rattle.rv_text.specs.declared.version.Version.{Version}
 use Rattle.std.proofs.Common.{Bool, None, Option, Some, ap, arith, cond, false, inl, inr, nat_lt, refl, subst, sym, true, ℕ, ◌<◌, ◌∙◌, ◌≡◌, ◌≤◌, ◌⊎◌}
 use Rattle.std.proofs.lemmas.Bool.{ltb-true}
 use Rattle.std.proofs.lemmas.Option.{none-some}
@@ -39,13 +40,13 @@ new_room true count is may = ltb-true count 1024 is
 new_room false count is (inl may) = absurd (let no : ⊥ = cc in no)
 new_room false count is (inr may) = absurd (let no : ⊥ = cc in no)
 
-may_count : (o : Option Session) (count incarnation : ℕ) → o ≡ None → (greeting_for o count incarnation ≡ greeting.Unknown) ⊎ (greeting_for o count incarnation ≡ greeting.Newer None) → count < 1024
-may_count None count incarnation none may = new_room (nat_lt count 1024) count refl may
-may_count (Some s) count incarnation none may = absurd (none-some s (sym none))
+may_count : (o : Option Session) (count incarnation : ℕ) (version : Version) → o ≡ None → Enters (greeting_for o count incarnation version) → count < 1024
+may_count None count incarnation version none may = new_room (nat_lt count 1024) count refl may
+may_count (Some s) count incarnation version none may = absurd (none-some s (sym none))
 
 -- where the table lets a new client enter, it has room
-pub may_new : (t : Table) (client incarnation : ℕ) → session_of t client ≡ None → MayEnter t client incarnation → session_count t < 1024
-may_new t client incarnation none may = may_count (session_of t client) (session_count t) incarnation none may
+pub may_new : (t : Table) (client incarnation : ℕ) (version : Version) → session_of t client ≡ None → MayEnter t client incarnation version → session_count t < 1024
+may_new t client incarnation version none may = may_count (session_of t client) (session_count t) incarnation version none may
 
 -- ---- keys
 
@@ -53,9 +54,13 @@ module _ (a : Account) (t : Table) (are : AreSessions a t) (legal : Legal a) whe
   epoch_is : (key : Key) → key.epoch ≡ t.epoch → key.epoch ≡ a.epoch
   epoch_is key same = same ∙ are.epoch
 
+  -- the session that the table tells has its incarnation
+  pub of_incarnation : (client : ℕ) (s : Session) → session_of t client ≡ Some s → HasIncarnation a.entries client s.incarnation
+  of_incarnation client s there = let opened = (known a t client s are there).opened in (opened.h, opened.last)
+
   -- a session of the key's incarnation
   current : (key : Key) (s : Session) → session_of t key.client ≡ Some s → s.incarnation ≡ key.incarnation → HasIncarnation a.entries key.client key.incarnation
-  current key s there same = subst (HasIncarnation a.entries key.client) same (known a t key.client s are there).incarnation
+  current key s there same = subst (HasIncarnation a.entries key.client) same (of_incarnation key.client s there)
 
   pub is_next : (key : Key) → HasNext t key → IsNext a key
   is_next key next = record {
@@ -74,12 +79,12 @@ module _ (a : Account) (t : Table) (are : AreSessions a t) (legal : Legal a) whe
   refused_lines R L G key refusal.TheVariants.NoSession is refuses = line_no_session R L G a key (epoch_is key is.epoch) (lower is.lacks) refuses
     where
       lower : (session_of t key.client ≡ None) ⊎ ((s : Session) × (session_of t key.client ≡ Some s) × (s.incarnation < key.incarnation)) → HasOnlyLower a.entries key.client key.incarnation
-      lower (inl none) = λ r earlier hello. absurd (unknown a t key.client are none (r, earlier, hello))
-      lower (inr (s, there, less)) = λ r earlier hello.
-          let most : earlier ≤ s.incarnation = hellos_at_most a key.client s.incarnation r earlier legal (known a t key.client s are there).incarnation hello in
+      lower (inl none) = λ r earlier version hello. absurd (unknown a t key.client are none (r, earlier, version, hello))
+      lower (inr (s, there, less)) = λ r earlier version hello.
+          let most : earlier ≤ s.incarnation = hellos_at_most a key.client s.incarnation r earlier version legal (of_incarnation key.client s there) hello in
           omega arith
   refused_lines R L G key (refusal.TheVariants.OldIncarnation now) is refuses =
-      let has = (known a t key.client is.session are is.of_key.there).incarnation in
+      let has = of_incarnation key.client is.session is.of_key.there in
       line_old_incarnation R L G a key now (epoch_is key is.of_key.epoch) (subst (HasIncarnation a.entries key.client) (sym is.current_is) has) is.greater refuses
   refused_lines R L G key (refusal.TheVariants.OldNumber last) is refuses =
       let session = known a t key.client is.session are is.of_key.there in
@@ -103,6 +108,7 @@ module _ (a : Account) (t : Table) (are : AreSessions a t) (legal : Legal a) whe
   refused_lines R L G key refusal.TheVariants.ClientsFull is refuses = absurd is
   refused_lines R L G key refusal.TheVariants.EpochFull is refuses = absurd is
   refused_lines R L G key refusal.TheVariants.NoMemory is refuses = absurd is
+  refused_lines R L G key (refusal.TheVariants.OtherVersion current) is refuses = absurd is
 
   -- ---- the last number
 
@@ -167,7 +173,7 @@ module _ (a : Account) (t : Table) (are : AreSessions a t) (legal : Legal a) whe
     where
       said : (c : ℕ) (o : Option Session) → IsSessionOf a c o → IsSome o → SaidHello a.entries c
       said c None is some = absurd (let no : ⊥ = cc in no)
-      said c (Some s) is some = (is.incarnation.0, s.incarnation, is.incarnation.1.hello)
+      said c (Some s) is some = (is.opened.h, s.incarnation, is.opened.last.version, is.opened.last.hello)
 
       has_session : (c : ℕ) (o : Option Session) → IsSessionOf a c o → SaidHello a.entries c → IsSome o
       has_session c None is hello = absurd (is hello)
@@ -175,7 +181,7 @@ module _ (a : Account) (t : Table) (are : AreSessions a t) (legal : Legal a) whe
 
   -- a client that has a session is not new
   pub not_new : (client : ℕ) (s : Session) → session_of t client ≡ Some s → (r : Refusal) → ClientsFullDue a client r → ⊥
-  not_new client s there r due = let has = (known a t client s are there).incarnation in due.is_new (has.0, s.incarnation, has.1.hello)
+  not_new client s there r due = let has = of_incarnation client s there in due.is_new (has.0, s.incarnation, has.1.version, has.1.hello)
 
   -- where there is room for a client, the clients are not full
   pub room_for_client : (client : ℕ) → session_count t < 1024 → (r : Refusal) → ClientsFullDue a client r → ⊥
@@ -189,10 +195,10 @@ module _ (a : Account) (t : Table) (are : AreSessions a t) (legal : Legal a) whe
 
   -- a client with no session said no hello
   pub none_lower : (client incarnation : ℕ) → session_of t client ≡ None → HasOnlyLower a.entries client incarnation
-  none_lower client incarnation none = λ r earlier hello. absurd (unknown a t client are none (r, earlier, hello))
+  none_lower client incarnation none = λ r earlier version hello. absurd (unknown a t client are none (r, earlier, version, hello))
 
   -- a newer hello is above all that the client said
   pub newer_lower : (client incarnation : ℕ) (s : Session) → session_of t client ≡ Some s → s.incarnation < incarnation → HasOnlyLower a.entries client incarnation
-  newer_lower client incarnation s there lower = λ r earlier hello.
-      let most : earlier ≤ s.incarnation = hellos_at_most a client s.incarnation r earlier legal (known a t client s are there).incarnation hello in
+  newer_lower client incarnation s there lower = λ r earlier version hello.
+      let most : earlier ≤ s.incarnation = hellos_at_most a client s.incarnation r earlier version legal (of_incarnation client s there) hello in
       omega arith

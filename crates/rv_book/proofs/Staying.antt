@@ -5,7 +5,7 @@ use Rattle.rv_account.specs.declared.entry.Act as act
 use Rattle.rv_session.specs.declared.kept.Kept as kept
 use Rattle.rv_book.specs.declared.verdict.Said as said
 use Rattle.rv_text.specs.declared.message.Message.TheVariants.{Cancel, Hello, Request}
-use Rattle.rv_account.specs.Account.{Account, Extends, act_at, call_in, key_in, partners_items}
+use Rattle.rv_account.specs.Account.{Account, Extends, act_at, call_in, key_at, key_in, partners_items}
 use Rattle.rv_book.proofs.Drains.{drains_on}
 use Rattle.rv_account.specs.declared.entry.Act.{Act}
 use Rattle.rv_book.specs.Steps.{Adds, Answers, EntersOrNoMemory, NextAt, Refuses, Replies, Ticks}
@@ -21,6 +21,7 @@ use Rattle.std.proofs.Common.{List, None, Option, Some, [], ap, append_assoc, ap
 use Rattle.rv_text.specs.declared.message.Message.{Message}
 use Rattle.rv_book.proofs.Growing.{act_read, call_read, reads_on, reads_within}
 use Rattle.rv_text.specs.declared.answer.Refusal.{Refusal}
+use Rattle.rv_book.proofs.Keys.{key_read}
 use Rattle.rv_book.proofs.Lines.{RefuseOr-elim, WhereElse-elim}
 use Rattle.rv_book.specs.Laws.{RepliesStay, StepsExtend}
 use Rattle.rv_text.specs.declared.answer.Reply.{Reply}
@@ -50,14 +51,15 @@ entered_extends a b moment does x G (inl refuses) = same_extends a b refuses.0
 entered_extends a b moment does x G (inr added) = added_extends a b moment does added.0
 
 step_extends : (a b : Account) (moment : ℕ) (m : Message) (x : Answer) → NextAt a moment m b x → Extends a b
-step_extends a b moment (Hello client incarnation) x next =
+step_extends a b moment (Hello client incarnation version) x next =
     let refused = λ (D : Refusal → Type 0) (refusal : Refusal) (due : D refusal) (refuses : Refuses a b x refusal). same_extends a b refuses.0 in
-    let entered = λ (h : EntersOrNoMemory a moment (act.TheVariants.Hello client incarnation) b x (x ≡ answer.TheVariants.Welcome a.epoch client incarnation)). entered_extends a b moment _ x _ h in
+    let entered = λ (h : EntersOrNoMemory a moment (act.TheVariants.Hello client incarnation version) b x (x ≡ answer.TheVariants.Welcome a.epoch client incarnation version)). entered_extends a b moment _ x _ h in
     RefuseOr-elim _ _ _ (Extends a b) (refused _)
+    (RefuseOr-elim _ _ _ (Extends a b) (refused _)
     (WhereElse-elim _ _ _ (Extends a b) (λ has again. same_extends a b again.0)
     (RefuseOr-elim _ _ _ (Extends a b) (refused _)
     (RefuseOr-elim _ _ _ (Extends a b) (refused _)
-    entered))) next
+    entered)))) next
 step_extends a b moment (Request key call) x next =
     let refused = λ (D : Refusal → Type 0) (refusal : Refusal) (due : D refusal) (refuses : Refuses a b x refusal). same_extends a b refuses.0 in
     let entered = λ (h : EntersOrNoMemory a moment (act.TheVariants.Arrive key call) b x (Answers b key x)). entered_extends a b moment _ x _ h in
@@ -124,10 +126,14 @@ kept_stays a b (kept.TheVariants.Drained place) r extends is =
     let items = mapped reply.TheVariants.Drained (partners_items a.entries place) r is in
     let there : partners_items b.entries place ≡ Some items.0 = subst (λ es. partners_items es place ≡ Some items.0) (sym extends.entries) (drains_on a.entries extends.more place items.0 items.1) in
     ap (option_map reply.TheVariants.Drained) (there ∙ sym items.1) ∙ is
+kept_stays a b (kept.TheVariants.ReceivedBy place) r extends is =
+    let key = mapped reply.TheVariants.ReceivedBy (key_at a.entries place) r is in
+    let there : key_at b.entries place ≡ Some key.0 = reading_on key_read refl a b place key.0 extends key.1 in
+    ap (option_map reply.TheVariants.ReceivedBy) (there ∙ sym key.1) ∙ is
 kept_stays a b k r extends is = is
 
 pub said_stays : (a b : Account) (s : Said) (x : Answer) → Extends a b → answer_of a.entries s ≡ Some x → answer_of b.entries s ≡ Some x
-said_stays a b (said.TheVariants.Welcome epoch client incarnation) x extends is = is
+said_stays a b (said.TheVariants.Welcome epoch client incarnation version) x extends is = is
 said_stays a b (said.TheVariants.Replied key k) x extends is =
     let r = mapped (answer.TheVariants.Replied key) (reply_of a.entries k) x is in
     ap (option_map (answer.TheVariants.Replied key)) (kept_stays a b k r.0 extends r.1 ∙ sym r.1) ∙ is

@@ -24,10 +24,11 @@ module _ (exchanger : ℕ) (item : List ℕ) (wait : Wait) where
     waits = refl;
     opposes = refl;
     single = refl;
-    alone_fits = timed_out_fits;
-    item_fits = swapped_fits;
+    alone_fits = λ epoch. (timed_out_fits, tt);
+    item_fits = λ epoch item fits. (swapped_fits item fits, tt);
     hands = λ giver is. exchanges_item giver exchanger is;
     kept_is = λ es place. refl;
+    same = λ v place. refl;
     settles = λ place. refl;
     from = λ es r told replies. replies;
     back = λ es r told replies. replies;
@@ -35,7 +36,7 @@ module _ (exchanger : ℕ) (item : List ℕ) (wait : Wait) where
 
   pub swap_unmet : (a : Account) → (GoesOn own None → ⊥) → WillReply a own None (kept_at_once wait kept.TheVariants.TimedOut)
   swap_unmet a = unmet_by (TellsItem reply.TheVariants.Swapped) own wait reply.TheVariants.TimedOut
-      (handed_by own wait reply.TheVariants.TimedOut (Exchanges exchanger) reply.TheVariants.Swapped kept.TheVariants.Swapped swap_handed) a kept.TheVariants.TimedOut (λ es. refl)
+      (handed_by own wait reply.TheVariants.TimedOut (Exchanges exchanger) reply.TheVariants.Swapped kept.TheVariants.Swapped swap_handed) a kept.TheVariants.TimedOut (λ es. refl) (λ v. refl)
 
   pub swap_replies : (a : Account) (place : ℕ) → WillReply a own (Some place) (kept.TheVariants.Swapped place)
   swap_replies = handed_replies own wait reply.TheVariants.TimedOut (Exchanges exchanger) reply.TheVariants.Swapped kept.TheVariants.Swapped swap_handed

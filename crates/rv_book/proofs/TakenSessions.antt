@@ -1,21 +1,24 @@
 -- The table of sessions while some of the requests that wait are taken out: at first, when one more is, and with the entry that closes
 -- those that were.
-use Rattle.std.proofs.Common.{◌≡◌, ℕ, ◌+◌, ◌≤◌, [], ◌∷◌, Option, Some, None, inl, inr, option_and_then, refl, sym, ap, subst, ◌∙◌, arith}
-use Rattle.std.proofs.lemmas.Option.{same_Some}
+use Rattle.std.proofs.Common.{◌≡◌, ℕ, ◌+◌, ◌≤◌, [], ◌∷◌, Option, Some, None, inl, inr, option_and_then, option_map, refl, sym, ap, subst, ◌∙◌, arith}
+use Rattle.std.proofs.lemmas.Option.{none-some, same_Some}
 use Rattle.rv_text.specs.declared.call.Call.{Call}
 use Rattle.rv_text.specs.declared.message.Key.{Key}
+use Rattle.rv_text.specs.declared.version.Version.{Version}
 use Rattle.rv_session.specs.declared.kept.Kept.{Kept}
+use Rattle.rv_session.specs.Kept.{told_in}
 use Rattle.rv_session.specs.declared.session.Session.{Session}
 use Rattle.rv_session.specs.declared.session.State.TheVariants as state
 use Rattle.rv_session.specs.declared.session.State.{State as StateOf}
-use Rattle.rv_session.specs.Table.{OnlySettles, Table, session_of, waiting_of, waiting_place}
+use Rattle.rv_session.specs.Table.{Table, session_of, version_in, waiting_of, waiting_place}
 use Rattle.rv_account.specs.declared.entry.Act.TheVariants.{Arrive}
 use Rattle.rv_account.specs.declared.entry.Entry.{Entry}
 use Rattle.rv_account.specs.Account.{Account, act_at, call_at, call_in, with_entry}
 use Rattle.rv_book.specs.Arriving.{IsKept}
 use Rattle.rv_book.specs.Legal.{Legal}
-use Rattle.rv_book.specs.Tables.{AreSessions, IsSession, IsSessionOf, IsSettledAt, IsWaitingAt, Stands, last_key}
+use Rattle.rv_book.specs.Tables.{AreSessions, IsSession, IsSessionOf, IsSettledAt, IsWaitingAt, SettlesAs, Stands, last_key}
 use Rattle.rv_book.specs.TakingOut.{AreSessionsLeft, IsSessionLeft, IsSessionLeftOf, IsToldAt, Left, StandsLeft}
+use Rattle.rv_book.specs.Sessions.{AskedIn, HasIncarnation, HasOpened}
 use Rattle.rv_book.specs.Waiting.{Waiting}
 use Rattle.rv_book.proofs.Growing.{act_read, reads_on}
 use Rattle.rv_book.proofs.Histories.{one_incarnation, one_last_number}
@@ -24,7 +27,8 @@ use Rattle.rv_book.proofs.Numbers.{same_or_not}
 use Rattle.rv_book.proofs.OnePartner.{arrives_once}
 use Rattle.rv_book.proofs.SessionTable.{CancelledFirst-on, Changes, IsApart, IsAt-on, SaidHello-back, other_apart, settled_on}
 use Rattle.rv_book.proofs.TakenTables.{OneMore}
-use Rattle.rv_book.proofs.WaitingTable.{same_parts, settled_not}
+use Rattle.rv_book.proofs.Versions.{asked_on, waiting_asked}
+use Rattle.rv_book.proofs.WaitingTable.{opened_as, same_parts, settled_not, version_told}
 use Rattle.rv_book.proofs.Waits.{arrival, waiting_is_last}
 
 -- ---- while nothing was taken out
@@ -38,7 +42,7 @@ module _ (a : Account) (taken : ℕ → Type 0) (told : Kept) (none : (r : ℕ) 
 
   session_at_first : (client : ℕ) (o : Option Session) → IsSessionOf a client o → IsSessionLeftOf a taken told client o
   session_at_first client None is = is
-  session_at_first client (Some s) is = record { incarnation = is.incarnation; number = is.number; stands = stands_at_first client s s.state is.stands }
+  session_at_first client (Some s) is = record { opened = is.opened; number = is.number; stands = stands_at_first client s s.state is.stands }
 
   pub sessions_at_first : (t : Table) → AreSessions a t → AreSessionsLeft a taken told t
   sessions_at_first t are = record { epoch = are.epoch; each = λ client. session_at_first client (session_of t client) (are.each client) }
@@ -49,13 +53,22 @@ module _ (a : Account) (taken : ℕ → Type 0) (told : Kept) (none : (r : ℕ) 
 pub left_known : (a : Account) (taken : ℕ → Type 0) (told : Kept) (t : Table) (client : ℕ) (s : Session) → AreSessionsLeft a taken told t → session_of t client ≡ Some s → IsSessionLeft a taken told client s
 left_known a taken told t client s are there = subst (IsSessionLeftOf a taken told client) there (are.each client)
 
+-- and its version
+pub opened_while_left : (a : Account) (taken : ℕ → Type 0) (told : Kept) (t : Table) (client incarnation : ℕ) (version : Version) → AreSessionsLeft a taken told t → HasIncarnation a.entries client incarnation
+    → version_in t client ≡ Some version → HasOpened a.entries client incarnation version
+opened_while_left a taken told t client incarnation version are has tells = by_session (session_of t client) (are.each client) tells
+  where
+    by_session : (o : Option Session) → IsSessionLeftOf a taken told client o → option_map (λ (s : Session). s.version) o ≡ Some version → HasOpened a.entries client incarnation version
+    by_session None is tells = absurd (none-some version tells)
+    by_session (Some s) is tells = opened_as a.entries client s.incarnation incarnation s.version version is.opened has (same_Some _ _ tells)
+
 module _ (a : Account) (taken : ℕ → Type 0) (told : Kept) (r : ℕ) (key : Key) (call : Call) (legal : Legal a) (w : Waiting a.entries r) (arrived : act_at a.entries r ≡ Some (Arrive key call)) where
   -- the session of a request that waits has its key
   same_key : (s : Session) → IsSessionLeft a taken told key.client s → last_key a key.client s ≡ key
   same_key s is =
       let last = waiting_is_last a r key call legal w arrived in
       let epoch : a.epoch ≡ key.epoch = sym last.epoch in
-      let incarnation : s.incarnation ≡ key.incarnation = one_incarnation a.entries key.client s.incarnation key.incarnation is.incarnation last.incarnation in
+      let incarnation : s.incarnation ≡ key.incarnation = one_incarnation a.entries key.client s.incarnation key.incarnation (is.opened.h, is.opened.last) last.incarnation in
       let number : s.last ≡ key.number = one_last_number a.entries key.client s.last key.number is.number last.number in
       same_parts _ _ _ _ _ _ key.client epoch incarnation number
 
@@ -75,7 +88,7 @@ module _ (a : Account) (taken : ℕ → Type 0) (told : Kept) (r : ℕ) (key : K
     by_state s (state.Settled None k) same positive is = absurd (is.0.not_arrived r call (arrived ∙ ap (λ x. Some (Arrive x call)) (sym same)))
 
     by_session : (o : Option Session) → IsSessionLeftOf a taken told key.client o → option_and_then (λ (s : Session). waiting_place s.state) o ≡ Some r
-    by_session None is = let last = waiting_is_last a r key call legal w arrived in absurd (is (last.incarnation.0, key.incarnation, last.incarnation.1.hello))
+    by_session None is = let last = waiting_is_last a r key call legal w arrived in absurd (is (last.incarnation.0, key.incarnation, last.incarnation.1.version, last.incarnation.1.hello))
     by_session (Some s) is =
         let same = same_key s is in
         let number : s.last ≡ key.number = ap (λ (k : Key). k.number) same in
@@ -101,7 +114,7 @@ module _ (a : Account) (taken more : ℕ → Type 0) (told : Kept) (place : ℕ)
 
   session_still : (client : ℕ) (o : Option Session) → ((s : Session) → IsWaitingAt a client s place → ⊥) → IsSessionLeftOf a taken told client o → IsSessionLeftOf a more told client o
   session_still client None other is = is
-  session_still client (Some s) other is = record { incarnation = is.incarnation; number = is.number; stands = stands_still client s s.state (other s) is.stands }
+  session_still client (Some s) other is = record { opened = is.opened; number = is.number; stands = stands_still client s s.state (other s) is.stands }
 
   -- a put was taken out: no session waited for it
   pub sessions_turn_put : (t : Table) → (Waiting a.entries place → ⊥) → AreSessionsLeft a taken told t → AreSessionsLeft a more told t
@@ -117,7 +130,7 @@ module _ (a : Account) (taken more : ℕ → Type 0) (told : Kept) (place : ℕ)
         let same : Arrive (last_key a client s) waiting.call ≡ Arrive key call = same_Some _ _ (sym waiting.arrived ∙ arrived) in
         apart (ap client_of same)
 
-    told_now : (s : Session) → IsSessionLeft a taken told key.client s → IsToldAt a more told key.client s place told
+    told_now : (s : Session) → IsSessionLeft a taken told key.client s → IsToldAt a more told key.client s place (told_in s.version told)
     told_now s is = record {
       waited = record {
         call = call;
@@ -128,56 +141,61 @@ module _ (a : Account) (taken more : ℕ → Type 0) (told : Kept) (place : ℕ)
       is = refl;
     }
 
-    pub sessions_turn : (t new : Table) → AreSessionsLeft a taken told t → OnlySettles t new key.client place told → AreSessionsLeft a more told new
+    pub sessions_turn : (t new : Table) → AreSessionsLeft a taken told t → SettlesAs t new key.client place told → AreSessionsLeft a more told new
     sessions_turn t new are settles =
-        let s = settles.session in
-        let is = left_known a taken told t key.client s are settles.there in
+        let s = settles.settles.session in
+        let is = left_known a taken told t key.client s are settles.settles.there in
+        let version = version_told t key.client s settles.version settles.settles.there settles.was in
         let now = told_now s is in
         record {
-          epoch = settles.sets.epoch ∙ are.epoch;
+          epoch = settles.settles.sets.epoch ∙ are.epoch;
           each = λ c. elim (same_or_not c key.client) [
             | inl same ↦ subst (λ n. IsSessionLeftOf a more told n (session_of new n)) (sym same)
-                (subst (IsSessionLeftOf a more told key.client) (sym settles.sets.own) (record {
-                  incarnation = is.incarnation;
+                (subst (IsSessionLeftOf a more told key.client) (sym settles.settles.sets.own) (record {
+                  opened = is.opened;
                   number = is.number;
-                  stands = inr (record { waited = record { call = now.waited.call; arrived = now.waited.arrived; waits = now.waited.waits }; was_taken = one.here; is = refl });
+                  stands = inr (record { waited = record { call = now.waited.call; arrived = now.waited.arrived; waits = now.waited.waits }; was_taken = one.here; is = ap (λ v. told_in v told) (sym version) });
                 }))
-            | inr apart ↦ subst (IsSessionLeftOf a more told c) (sym (settles.sets.others c apart)) (session_still c (session_of t c) (of_others c apart) (are.each c))
+            | inr apart ↦ subst (IsSessionLeftOf a more told c) (sym (settles.settles.sets.others c apart)) (session_still c (session_of t c) (of_others c apart) (are.each c))
           ];
         }
 
 -- ---- with the entry that closes those that were taken out
 
--- who was taken out is told this with the entry
+-- who was taken out is told this with the entry, as its session's version tells it
 abbrev pub Tells : Account → Entry → (ℕ → Type 0) → Kept → Type 0
-Tells a e taken told = (r : ℕ) (call : Call) → Waiting a.entries r → taken r → call_at a.entries r ≡ Some call → IsKept (with_entry a e).entries r call told
+Tells a e taken told = (r : ℕ) (call : Call) (version : Version) → Waiting a.entries r → taken r → call_at a.entries r ≡ Some call → AskedIn (with_entry a e).entries r version
+    → IsKept (with_entry a e).entries r call (told_in version told)
 
 module _ (a : Account) (e : Entry) (taken : ℕ → Type 0) (told : Kept) (after : Legal (with_entry a e)) (on : (r : ℕ) → Left taken (Waiting a.entries) r → Waiting (with_entry a e).entries r)
     (tells : Tells a e taken told) where
-  told_settled : (client : ℕ) (s : Session) (r : ℕ) (k : Kept) → IsToldAt a taken told client s r k → IsSettledAt (with_entry a e) client s r k
-  told_settled client s r k is = subst (IsSettledAt (with_entry a e) client s r) (sym is.is) (record {
-    call = is.waited.call;
-    arrived = reads_on act_read refl a.entries (e ∷ []) r _ is.waited.arrived;
-    kept_is = tells r is.waited.call is.waited.waits is.was_taken (ap (option_and_then call_in) is.waited.arrived);
-  })
+  told_settled : (client : ℕ) (s : Session) (r : ℕ) (k : Kept) → HasOpened a.entries client s.incarnation s.version → IsToldAt a taken told client s r k → IsSettledAt (with_entry a e) client s r k
+  told_settled client s r k opened is =
+      let asked = waiting_asked a r (last_key a client s) is.waited.call s.incarnation s.version is.waited.waits is.waited.arrived opened in
+      subst (IsSettledAt (with_entry a e) client s r) (sym is.is) (record {
+        call = is.waited.call;
+        arrived = reads_on act_read refl a.entries (e ∷ []) r _ is.waited.arrived;
+        kept_is = tells r is.waited.call s.version is.waited.waits is.was_taken (ap (option_and_then call_in) is.waited.arrived) (asked_on a.entries (e ∷ []) r s.version asked);
+      })
 
-  stands_at_last : (client : ℕ) (s : Session) (stands : StateOf) → IsApart e.act client → StandsLeft a taken told client s stands → Stands (with_entry a e) client s stands
-  stands_at_last client s state.Fresh apart is = is
-  stands_at_last client s (state.Waits r) apart is = record {
+  stands_at_last : (client : ℕ) (s : Session) (stands : StateOf) → IsApart e.act client → HasOpened a.entries client s.incarnation s.version → StandsLeft a taken told client s stands
+      → Stands (with_entry a e) client s stands
+  stands_at_last client s state.Fresh apart opened is = is
+  stands_at_last client s (state.Waits r) apart opened is = record {
     call = is.0.call;
     arrived = reads_on act_read refl a.entries (e ∷ []) r _ is.0.arrived;
     waits = on r (is.0.waits, is.1);
   }
-  stands_at_last client s (state.Settled (Some r) k) apart (inl is) = settled_on a e client s r k after is
-  stands_at_last client s (state.Settled (Some r) k) apart (inr is) = told_settled client s r k is
-  stands_at_last client s (state.Settled None k) apart is = (CancelledFirst-on a.entries e (last_key a client s) apart is.0, is.1)
+  stands_at_last client s (state.Settled (Some r) k) apart opened (inl is) = settled_on a e client s r k after is
+  stands_at_last client s (state.Settled (Some r) k) apart opened (inr is) = told_settled client s r k opened is
+  stands_at_last client s (state.Settled None k) apart opened is = (CancelledFirst-on a.entries e (last_key a client s) apart is.0, is.1)
 
   -- the session of a client other than the entry's
   session_at_last : (client : ℕ) (o : Option Session) → IsApart e.act client → IsSessionLeftOf a taken told client o → IsSessionOf (with_entry a e) client o
   session_at_last client None apart is = SaidHello-back a e client apart is
   session_at_last client (Some s) apart is =
-      let at = IsAt-on a.entries e client s.incarnation s.last apart (record { incarnation = is.incarnation; number = is.number }) in
-      record { incarnation = at.incarnation; number = at.number; stands = stands_at_last client s s.state apart is.stands }
+      let at = IsAt-on a.entries e client s.incarnation s.version s.last apart (record { opened = is.opened; number = is.number }) in
+      record { opened = at.opened; number = at.number; stands = stands_at_last client s s.state apart is.opened is.stands }
 
   -- the entry is of no client
   pub sessions_at_last : (t : Table) → ((client : ℕ) → IsApart e.act client) → AreSessionsLeft a taken told t → AreSessions (with_entry a e) t

@@ -24,10 +24,11 @@ module _ (queue : ℕ) (wait : Wait) where
     waits = refl;
     opposes = refl;
     single = refl;
-    alone_fits = empty_fits;
-    item_fits = λ item fits. fits;
+    alone_fits = λ epoch. (empty_fits, tt);
+    item_fits = λ epoch item fits. (fits, tt);
     hands = λ giver is. gives_item giver queue is;
     kept_is = λ es place. refl;
+    same = λ v place. refl;
     settles = λ place. refl;
     from = λ es r told replies. replies;
     back = λ es r told replies. replies;
@@ -35,7 +36,7 @@ module _ (queue : ℕ) (wait : Wait) where
 
   pub take_unmet : (a : Account) → (GoesOn own None → ⊥) → WillReply a own None (kept_at_once wait kept.TheVariants.Empty)
   take_unmet a = unmet_by (TellsItem reply.TheVariants.Item) own wait reply.TheVariants.Empty
-      (handed_by own wait reply.TheVariants.Empty (Gives queue) reply.TheVariants.Item kept.TheVariants.Item take_handed) a kept.TheVariants.Empty (λ es. refl)
+      (handed_by own wait reply.TheVariants.Empty (Gives queue) reply.TheVariants.Item kept.TheVariants.Item take_handed) a kept.TheVariants.Empty (λ es. refl) (λ v. refl)
 
   pub take_replies : (a : Account) (place : ℕ) → WillReply a own (Some place) (kept.TheVariants.Item place)
   take_replies = handed_replies own wait reply.TheVariants.Empty (Gives queue) reply.TheVariants.Item kept.TheVariants.Item take_handed

@@ -7,7 +7,7 @@ use Rattle.std.proofs.lemmas.Option.{none-some, same_Some}
 use Rattle.rv_text.specs.declared.call.Side.{Side}
 use Rattle.rv_text.specs.declared.message.Key.{Key}
 use Rattle.rv_session.specs.Owed.{Owed}
-use Rattle.rv_session.specs.Table.{OnlySettles, Table, waiting_of, waiting_place}
+use Rattle.rv_session.specs.Table.{Table, waiting_of, waiting_place}
 use Rattle.rv_session.specs.declared.session.Session.{Session}
 use Rattle.rv_session.specs.declared.kept.Kept.{Kept}
 use Rattle.rv_account.specs.declared.entry.Act.TheVariants.{Arrive}
@@ -19,7 +19,7 @@ use Rattle.rv_book.specs.Draining.{SameIdle}
 use Rattle.rv_book.specs.Elapsing.{AreDeadlinesOf, without_deadline, without_duty}
 use Rattle.rv_book.specs.Meeting.{LeavesFirst, ends_waiting}
 use Rattle.rv_book.specs.Parked.{IsLineOf, owed_at}
-use Rattle.rv_book.specs.Tables.{IsOwedIn, SettlesIf, account_of}
+use Rattle.rv_book.specs.Tables.{IsOwedIn, SettlesAs, SettlesIf, account_of}
 use Rattle.rv_book.specs.TakingOut.{AreSessionsLeft, IsLeft, Left}
 use Rattle.rv_book.specs.Views.{SameStations, Stations}
 use Rattle.rv_book.specs.Waiting.{OpenAt, Waiting, limit_at}
@@ -112,7 +112,7 @@ module _ (old : State) (taken : ℕ → Type 0) (told : Kept) (is : IsLeft old t
         let owed = item.front.duty_is a.entries is.stations_are.parked in
         let left = owed_left side duty place (first_left new.stations side (Some duty) place item.front) owed in
         let there = owed_there duty place left owed in
-        let settles = subst (λ (d : Owed). OnlySettles old.sessions new.sessions d.client d.place told) there.2 item.settles in
+        let settles = subst (λ (d : Owed). SettlesAs old.sessions new.sessions d.client d.place told) there.2 item.settles in
         let due = item.due ∙ ap (λ (d : Owed). without_deadline (limit_at a.entries d.place) d.place old.due) there.2 in
         let counted : old.waiting ≡ new.waiting + 1 = item.counted in
         record {
@@ -168,8 +168,8 @@ idle_on old mid new first second = record {
 pub idle_settled : (old new : Table) (duty : Option Owed) (told : Kept) → IfSome duty (IsOwedIn old) → SettlesIf old new duty told → SameIdle old new
 idle_settled old new None told owed same = subst (SameIdle old) (sym same) (record { epoch = refl; idle = λ client none. refl })
 idle_settled old new (Some duty) told owed settles = record {
-  epoch = settles.sets.epoch;
-  idle = λ client none. settles.sets.others client (λ same. none-some duty.place (sym none ∙ ap (waiting_of old) same ∙ owed));
+  epoch = settles.settles.sets.epoch;
+  idle = λ client none. settles.settles.sets.others client (λ same. none-some duty.place (sym none ∙ ap (waiting_of old) same ∙ owed));
 }
 
 -- ---- how many fewer wait

@@ -6,7 +6,6 @@ use Rattle.rv_text.specs.declared.message.Key.{Key}
 use Rattle.rv_text.specs.Calls.{side_of}
 use Rattle.rv_due.specs.Deadlines.{Deadlines}
 use Rattle.rv_session.specs.Owed.{Owed}
-use Rattle.rv_session.specs.Table.{OnlySettles}
 use Rattle.rv_session.specs.declared.kept.Kept.{Kept}
 use Rattle.rv_account.specs.declared.entry.Act.TheVariants.{Arrive}
 use Rattle.rv_account.specs.declared.entry.Entry.{Entry}
@@ -15,7 +14,7 @@ use Rattle.rv_account.specs.Account.{Account, Stored, act_at}
 use Rattle.rv_book.specs.Elapsing.{AreDeadlinesOf}
 use Rattle.rv_book.specs.Meeting.{StandsOn}
 use Rattle.rv_book.specs.Parked.{IsLineOf}
-use Rattle.rv_book.specs.Tables.{EndsAt, IsSound, MayEnd, account_of, with_due}
+use Rattle.rv_book.specs.Tables.{EndsAt, IsSound, MayEnd, SettlesAs, account_of, with_due}
 use Rattle.rv_book.specs.TakingOut.{IsLeft, Left}
 use Rattle.rv_book.specs.Views.{Stations, waiting_on}
 use Rattle.rv_book.specs.Waiting.{OpenAt, SideAt, Waiting, limit_at}
@@ -89,7 +88,7 @@ module _ (old : State) (taken : ℕ → Type 0) (told : Kept) (is : IsLeft old t
   left_ended more new one same ends =
       let owed = waiting_owed a.entries place request.0 waits.is_open.call waits request.1 in
       let client : ends.duty.client ≡ request.0.client = ap (λ (d : Owed). d.client) (same_Some _ _ (sym ends.owed ∙ owed)) in
-      let settles = subst (λ n. OnlySettles old.sessions new.sessions n place told) client ends.settles in
+      let settles = subst (λ n. SettlesAs old.sessions new.sessions n place told) client ends.settles in
       let of_side : SideAt a.entries (side_of ends.call) place = record { call = ends.call; arrived = ends.arrived; is = refl } in
       let spare : old.waiting ≤ old.account.room = is.spare in
       let counted : old.waiting ≡ new.waiting + 1 = ends.counted in

@@ -9,7 +9,7 @@ use Rattle.rv_session.specs.declared.kept.Kept.TheVariants as kept
 use Rattle.rv_book.specs.declared.state.State.{State}
 use Rattle.rv_account.specs.Account.{Among}
 use Rattle.rv_book.specs.Draining.{IsDraining, SameIdle, TookItem, items_in}
-use Rattle.rv_book.specs.Tables.{IsSound}
+use Rattle.rv_book.specs.Tables.{IsSound, account_of}
 use Rattle.rv_book.proofs.TakingItems.{idle_on}
 use Rattle.rv_book.proofs.TakingOut.{left_at_first}
 
@@ -24,7 +24,7 @@ pub record TookSome (first now : State) (queue max : ℕ) (places : Vec ℕ Glob
 
 pub took_none : (state : State) (queue max : ℕ) (places : Vec ℕ Global) → IsSound state → places.items ≡ [] → min max (length (items_in state queue)) ≤ vec_capacity places → TookSome state state queue max places
 took_none state queue max places sound empty room = record {
-  draining = left_at_first state (Among places.items) kept.Received (λ r there. none-some r (sym (ap (λ (l : List ℕ). slice_get l there.0) empty) ∙ there.1)) sound;
+  draining = left_at_first state (Among places.items) (kept.ReceivedBy (length (account_of state).entries)) (λ r there. none-some r (sym (ap (λ (l : List ℕ). slice_get l there.0) empty) ∙ there.1)) sound;
   account = refl;
   idle = record { epoch = refl; idle = λ client none. refl };
   line = ap (λ l. l ++ items_in state queue) (sym empty);

@@ -100,7 +100,7 @@ no_ticks a moment nothing = inr ((λ something. nothing something.0 something.1)
 -- a tick is apart from each client
 tick_apart : (client : ℕ) → IsApart Tick client
 tick_apart client = record {
-  no_hello = λ incarnation own. tick_no_hello client incarnation own;
+  no_hello = λ incarnation version own. tick_no_hello client incarnation version own;
   no_key = λ key names of_client. none-some key names;
 }
 
@@ -126,7 +126,7 @@ module _ (old mid : State) (moment : ℕ) (is : IsTime old moment) (ending : IsE
 
   -- who was taken out is told that its time is over
   tells : Tells before own_entry overdue kept.TimedOut
-  tells r call waits taken arrived = record {
+  tells r call version waits taken arrived asked = record {
     reply = TimedOut;
     is = refl;
     replies = timed_out_reply before.entries own_entry r call waits arrived refl refl (due_until before.entries moment r taken.is_due);
@@ -167,7 +167,7 @@ module _ (old mid : State) (moment : ℕ) (is : IsTime old moment) (ending : IsE
           stations_are = subst (AreStations (before.entries ++ own_entry ∷ [])) (sym stations) (stations_at_last before.entries own_entry overdue closes mid.stations ending.stations_are);
           waiting_is = subst (NumberOf (Waiting (before.entries ++ own_entry ∷ []))) (sym waiting) (number_at_last before.entries own_entry overdue closes mid.waiting ending.waiting_is);
           due_are = subst (AreDeadlines (before.entries ++ own_entry ∷ [])) (sym due) (due_at_last before.entries own_entry overdue closes mid.due ending.due_are);
-          clients = few_still before.entries own_entry (λ c i own. absurd (tick_no_hello c i own)) ending.fits.clients;
+          clients = few_still before.entries own_entry (λ c i v own. absurd (tick_no_hello c i v own)) ending.fits.clients;
           space = omega arith;
           spare = omega arith;
         });

@@ -9,12 +9,12 @@ use Rattle.rv_text.specs.declared.call.Call.{Call}
 use Rattle.rv_text.specs.declared.call.Wait.{Wait}
 use Rattle.rv_text.specs.declared.call.Wait.TheVariants.{Now, Millis, Forever}
 use Rattle.rv_text.specs.Calls.{wait_of}
-use Rattle.rv_text.specs.Limits.{FitsReply}
-use Rattle.rv_text.proofs.Kept.{cancelled_fits, timed_out_fits}
+use Rattle.rv_text.specs.declared.version.Version.{Version}
 use Rattle.rv_account.specs.declared.entry.Act.{Act}
 use Rattle.rv_account.specs.declared.entry.Act.TheVariants.{Hello, Arrive, Cancel, Tick}
 use Rattle.rv_account.specs.declared.entry.Entry.{Entry}
 use Rattle.rv_account.specs.Account.{Account, call_at}
+use Rattle.rv_session.specs.Kept.{told_in}
 use Rattle.rv_session.specs.declared.kept.Kept.{Kept}
 use Rattle.rv_book.specs.Arriving.{GoesOn}
 use Rattle.rv_book.specs.Tables.{kept_at_once}
@@ -137,22 +137,24 @@ one_unmet wait es r at_once x y first second = one_by_lasting (by_lasting wait e
     one_by_lasting (inr one) (inl two) = absurd (one.0 two.0)
     one_by_lasting (inr one) (inr two) = two.1 ∙ sym one.1
 
-told_by_fits : (does : Act) → FitsReply (told_by does)
-told_by_fits (Hello client incarnation) = cancelled_fits
-told_by_fits (Arrive key call) = cancelled_fits
-told_by_fits (Cancel key) = cancelled_fits
-told_by_fits Tick = timed_out_fits
+-- what holds of the replies that end a wait, and of that which is told at once, holds of what it is told
+module _ (P : Reply → Type 0) (cancelled : P reply.TheVariants.Cancelled) (timed_out : P reply.TheVariants.TimedOut) where
+  told_by_has : (does : Act) → P (told_by does)
+  told_by_has (Hello client incarnation version) = cancelled
+  told_by_has (Arrive key call) = cancelled
+  told_by_has (Cancel key) = cancelled
+  told_by_has Tick = timed_out
 
-at_once_fits : (wait : Wait) (at_once : Reply) → FitsReply at_once → FitsReply (told_at_once wait at_once)
-at_once_fits Now at_once fits = fits
-at_once_fits (Millis n) at_once fits = timed_out_fits
-at_once_fits Forever at_once fits = fits
+  at_once_has : (wait : Wait) (at_once : Reply) → P at_once → P (told_at_once wait at_once)
+  at_once_has Now at_once has = has
+  at_once_has (Millis n) at_once has = timed_out
+  at_once_has Forever at_once has = has
 
-pub unmet_fits : (wait : Wait) (es : List Entry) (r : ℕ) (at_once told : Reply) → FitsReply at_once → RepliesUnmet es r wait at_once told → FitsReply told
-unmet_fits wait es r at_once told fits replies = elim (by_lasting wait es r at_once told replies) [
-  | inl lasts ↦ subst FitsReply (sym lasts.1.is) (told_by_fits lasts.1.stop.stops.stopper.act)
-  | inr passes ↦ subst FitsReply (sym passes.1) (at_once_fits wait at_once fits)
-]
+  pub unmet_has : (wait : Wait) (es : List Entry) (r : ℕ) (at_once told : Reply) → P at_once → RepliesUnmet es r wait at_once told → P told
+  unmet_has wait es r at_once told has replies = elim (by_lasting wait es r at_once told replies) [
+    | inl lasts ↦ subst P (sym lasts.1.is) (told_by_has lasts.1.stop.stops.stopper.act)
+    | inr passes ↦ subst P (sym passes.1) (at_once_has wait at_once has)
+  ]
 
 -- who waits is told nothing
 pub unmet_waits_not : (wait : Wait) (es : List Entry) (r : ℕ) (call : Call) (at_once told : Reply) → call_at es r ≡ Some call → wait_of call ≡ Some wait → Waiting es r → RepliesUnmet es r wait at_once told → ⊥
@@ -186,6 +188,12 @@ pub kept_told : (wait : Wait) (es : List Entry) (kept : Kept) (at_once : Reply) 
 kept_told Now es kept at_once is = is
 kept_told (Millis n) es kept at_once is = refl
 kept_told Forever es kept at_once is = is
+
+-- each version is told it, where each is told what is kept
+pub same_at_once : (v : Version) (wait : Wait) (kept : Kept) → told_in v kept ≡ kept → told_in v (kept_at_once wait kept) ≡ kept_at_once wait kept
+same_at_once v Now kept same = same
+same_at_once v (Millis n) kept same = refl
+same_at_once v Forever kept same = same
 
 -- a wait that lasts goes on
 pub passes_by : (call : Call) (wait : Wait) → MayMeet call → wait_of call ≡ Some wait → (GoesOn call None → ⊥) → Lasts (Some wait) → ⊥

@@ -1,15 +1,17 @@
 -- The table of sessions knows each request that waits, and its place.
-use Rattle.std.proofs.Common.{◌≡◌, ℕ, ◌+◌, ◌≤◌, Option, Some, None, option_and_then, refl, sym, ap, subst, ◌∙◌, arith}
+use Rattle.std.proofs.Common.{◌≡◌, ℕ, ◌+◌, ◌≤◌, List, Option, Some, None, option_and_then, option_map, refl, sym, ap, subst, ◌∙◌, arith}
 use Rattle.std.proofs.lemmas.Option.{none-some, same_Some}
 use Rattle.rv_text.specs.declared.call.Call.{Call}
 use Rattle.rv_text.specs.declared.message.Key.{Key}
+use Rattle.rv_text.specs.declared.version.Version.{Version}
 use Rattle.rv_session.specs.declared.kept.Kept.{Kept}
 use Rattle.rv_session.specs.declared.session.Session.{Session}
 use Rattle.rv_session.specs.declared.session.State as state
 use Rattle.rv_session.specs.declared.session.State.{State as StateOf}
-use Rattle.rv_session.specs.Table.{Table, session_of, waiting_of, waiting_place}
+use Rattle.rv_session.specs.Table.{Table, session_of, version_in, waiting_of, waiting_place}
 use Rattle.rv_account.specs.declared.entry.Act.TheVariants.{Arrive}
 use Rattle.rv_account.specs.Account.{Account, act_at, call_in, key_in}
+use Rattle.rv_account.specs.declared.entry.Entry.{Entry}
 use Rattle.rv_book.specs.Legal.{HasWaiting, Legal}
 use Rattle.rv_book.specs.Tables.{AreSessions, IsSession, IsSessionOf, IsSettledAt, IsWaitingAt, Stands, last_key}
 use Rattle.rv_book.specs.Waiting.{Waiting}
@@ -17,7 +19,7 @@ use Rattle.rv_book.proofs.Histories.{one_incarnation, one_last_number}
 use Rattle.rv_book.proofs.Keys.{act_called}
 use Rattle.rv_book.proofs.OnePartner.{arrives_once}
 use Rattle.rv_book.proofs.Replying.{reply_laws}
-use Rattle.rv_book.specs.Sessions.{SaidHello}
+use Rattle.rv_book.specs.Sessions.{HasIncarnation, HasOpened, SaidHello}
 use Rattle.rv_book.proofs.Waits.{arrival, waiting_is_last}
 
 -- what the table says of a client
@@ -49,11 +51,11 @@ module _ (a : Account) (r : ℕ) (key : Key) (call : Call) (legal : Legal a) (w 
   by_state s (state.TheVariants.Settled None k) same positive is = absurd (is.0.not_arrived r call (arrived ∙ ap (λ x. Some (Arrive x call)) (sym same)))
 
   by_session : (o : Option Session) → IsSessionOf a key.client o → option_and_then (λ (s : Session). waiting_place s.state) o ≡ Some r
-  by_session None is = let last = waiting_is_last a r key call legal w arrived in absurd (is (last.incarnation.0, key.incarnation, last.incarnation.1.hello))
+  by_session None is = let last = waiting_is_last a r key call legal w arrived in absurd (is (last.incarnation.0, key.incarnation, last.incarnation.1.version, last.incarnation.1.hello))
   by_session (Some s) is =
       let last = waiting_is_last a r key call legal w arrived in
       let epoch : a.epoch ≡ key.epoch = sym last.epoch in
-      let incarnation : s.incarnation ≡ key.incarnation = one_incarnation a.entries key.client s.incarnation key.incarnation is.incarnation last.incarnation in
+      let incarnation : s.incarnation ≡ key.incarnation = one_incarnation a.entries key.client s.incarnation key.incarnation (is.opened.h, is.opened.last) last.incarnation in
       let number : s.last ≡ key.number = one_last_number a.entries key.client s.last key.number is.number last.number in
       let next = (arrival a r key call legal arrived).next in
       let one_more : key.number ≡ next.last + 1 = next.next in
@@ -73,6 +75,22 @@ none_waits a t client legal are none h =
     none-some h.place (sym none ∙ ap (waiting_of t) (sym of_client) ∙ there)
 
 -- ---- from the table to the account
+
+-- a session by other words for its incarnation and its version
+pub opened_as : (es : List Entry) (c i j : ℕ) (v w : Version) → HasOpened es c i v → HasIncarnation es c j → v ≡ w → HasOpened es c j w
+opened_as es c i j v w is has same = subst (λ n. HasOpened es c n w) (one_incarnation es c i j (is.h, is.last) has) (subst (HasOpened es c i) same is)
+
+-- the version that a table tells is its session's
+pub version_told : (t : Table) (client : ℕ) (s : Session) (version : Version) → session_of t client ≡ Some s → version_in t client ≡ Some version → s.version ≡ version
+version_told t client s version there told = same_Some _ _ (sym (ap (option_map (λ (x : Session). x.version)) there) ∙ told)
+
+-- the client's session has the version that the table tells
+pub opened_in_table : (a : Account) (t : Table) (client incarnation : ℕ) (version : Version) → AreSessions a t → HasIncarnation a.entries client incarnation → version_in t client ≡ Some version → HasOpened a.entries client incarnation version
+opened_in_table a t client incarnation version are has told = by_session (session_of t client) (are.each client) told
+  where
+    by_session : (o : Option Session) → IsSessionOf a client o → option_map (λ (s : Session). s.version) o ≡ Some version → HasOpened a.entries client incarnation version
+    by_session None is told = absurd (none-some version told)
+    by_session (Some s) is told = opened_as a.entries client s.incarnation incarnation s.version version is.opened has (same_Some _ _ told)
 
 -- the client has this session, whose last request waits at the place
 pub record WaitsThere (a : Account) (t : Table) (client r : ℕ) : Type 0 where

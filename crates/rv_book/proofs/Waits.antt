@@ -5,6 +5,7 @@ use Rattle.std.proofs.lemmas.Bool.{cases_order}
 use Rattle.std.proofs.lemmas.Option.{same_Some}
 use Rattle.rv_text.specs.declared.message.Key.{Key}
 use Rattle.rv_text.specs.declared.call.Call.{Call}
+use Rattle.rv_text.specs.declared.version.Version.{Version}
 use Rattle.rv_account.specs.declared.entry.Act.TheVariants.{Hello, Arrive, Cancel}
 use Rattle.rv_account.specs.Account.{Account, act_at, key_in, call_in}
 use Rattle.rv_account.specs.Calls.{IsPut}
@@ -50,12 +51,12 @@ key_of_waiting a r w = let named = act_called (act_at a.entries r) w.is_open.cal
 -- ---- what stands behind a request that waits
 
 -- no hello of its client, which would have stopped it
-pub no_hello_behind : (a : Account) (r h : ℕ) (key : Key) (call : Call) (incarnation : ℕ) → Waiting a.entries r → act_at a.entries r ≡ Some (Arrive key call)
-    → act_at a.entries h ≡ Some (Hello key.client incarnation) → r < h → ⊥
-no_hello_behind a r h key call incarnation w arrived hello later =
-    let at = read_there act_read refl (slice_get a.entries h) (Hello key.client incarnation) hello in
+pub no_hello_behind : (a : Account) (r h : ℕ) (key : Key) (call : Call) (incarnation : ℕ) (v : Version) → Waiting a.entries r → act_at a.entries r ≡ Some (Arrive key call)
+    → act_at a.entries h ≡ Some (Hello key.client incarnation v) → r < h → ⊥
+no_hello_behind a r h key call incarnation v w arrived hello later =
+    let at = read_there act_read refl (slice_get a.entries h) (Hello key.client incarnation v) hello in
     let same : w.is_open.call ≡ call = same_Some _ _ (sym w.is_open.arrived ∙ ap (option_and_then call_in) arrived) in
-    let says : Hello key.client incarnation ≡ at.0.act = sym (same_Some _ _ at.2) in
+    let says : Hello key.client incarnation v ≡ at.0.act = sym (same_Some _ _ at.2) in
     w.is_open.unstopped (
       h,
       record {
@@ -143,12 +144,13 @@ no_key_behind a r s client key other legal w names later_names later = elim (act
 still_last : (a : Account) (r h incarnation : ℕ) (key : Key) (call : Call) → Waiting a.entries r → act_at a.entries r ≡ Some (Arrive key call)
     → LastHello (take r a.entries) key.client incarnation h → LastHello a.entries key.client incarnation h
 still_last a r h incarnation key call w arrived last = record {
-  hello = (read_whole act_read refl a.entries r h (Hello key.client incarnation) last.hello).1;
-  last = λ s other behind hello. elim (cases_order s r) [
-    | inl is ↦ no_hello key call key.client other (sym arrived ∙ ap (act_at a.entries) (sym is) ∙ hello)
+  version = last.version;
+  hello = (read_whole act_read refl a.entries r h (Hello key.client incarnation last.version) last.hello).1;
+  last = λ s other v behind hello. elim (cases_order s r) [
+    | inl is ↦ no_hello key call key.client other v (sym arrived ∙ ap (act_at a.entries) (sym is) ∙ hello)
     | inr differ ↦ elim differ [
-      | inl less ↦ last.last s other behind (read_front act_read a.entries r s (Hello key.client other) less hello)
-      | inr more ↦ no_hello_behind a r s key call other w arrived hello more
+      | inl less ↦ last.last s other v behind (read_front act_read a.entries r s (Hello key.client other v) less hello)
+      | inr more ↦ no_hello_behind a r s key call other v w arrived hello more
     ]
   ];
 }
@@ -165,7 +167,7 @@ waiting_is_last a r key call legal w arrived =
     let at = arrival a r key call legal arrived in
     let is_last = at.next.is_last in
     let hello = is_last.hello in
-    let before_it : is_last.h < r = (read_whole act_read refl a.entries r is_last.h (Hello key.client is_last.incarnation) hello.hello).0 in
+    let before_it : is_last.h < r = (read_whole act_read refl a.entries r is_last.h (Hello key.client is_last.incarnation hello.version) hello.hello).0 in
     let number : key.number ≡ at.next.last + 1 = at.next.next in
     let names : NamesKey a.entries key.client r key = record { named = ap (option_and_then key_in) arrived; of_client = refl } in
     record {

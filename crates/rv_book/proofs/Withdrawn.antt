@@ -94,7 +94,7 @@ by_wait place key (Some wait) d is = ap (λ (o : Owed). o.place) (sym (same_Some
 
 by_act : (place : ℕ) (o : Option Act) (d : Owed) → option_and_then (owed_in place) o ≡ Some d → d.place ≡ place
 by_act place None d is = absurd (none-some d is)
-by_act place (Some (Hello client incarnation)) d is = absurd (none-some d is)
+by_act place (Some (Hello client incarnation version)) d is = absurd (none-some d is)
 by_act place (Some (Cancel key)) d is = absurd (none-some d is)
 by_act place (Some Tick) d is = absurd (none-some d is)
 by_act place (Some (Arrive key call)) d is = by_wait place key (wait_of call) d is

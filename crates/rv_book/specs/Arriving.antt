@@ -1,5 +1,6 @@
 -- What an arrival brings: whom it meets, and what is kept as its reply.
 use Rattle.std.specs.Prelude.{◌≡◌, ◌+◌, ℕ, List, length, Option, Some, None}
+use Rattle.rv_text.specs.declared.version.Version.{Version}
 use Rattle.rv_text.specs.declared.message.Key.{Key}
 use Rattle.rv_text.specs.declared.call.Side.{Side}
 use Rattle.rv_text.specs.declared.call.Call.{Call}
@@ -12,11 +13,12 @@ use Rattle.rv_book.specs.declared.verdict.Said as said
 use Rattle.rv_account.specs.declared.entry.Entry.{Entry}
 use Rattle.rv_account.specs.declared.entry.Act.TheVariants.{Arrive, Cancel}
 use Rattle.rv_session.specs.declared.kept.Kept.{Kept}
+use Rattle.rv_session.specs.Kept.{told_in}
 use Rattle.rv_account.specs.Account.{Account, just, with_entry}
 pub use Rattle.rv_account.specs.Account.{entry}
 use Rattle.rv_account.specs.Calls.{opposite, IsPut, Stays}
 use Rattle.rv_book.specs.Waiting.{IsOldest, OpenAt}
-use Rattle.rv_book.specs.Sessions.{HasIncarnation, LastNumber}
+use Rattle.rv_book.specs.Sessions.{AskedIn, HasIncarnation, LastNumber}
 use Rattle.rv_book.specs.Legal.{HasWaiting, Legal}
 use Rattle.rv_book.specs.Replies.{RepliesAt}
 use Rattle.rv_book.specs.Steps.{Adds, Answers, Replies}
@@ -48,11 +50,17 @@ pub record GoesOn (call : Call) (partner : Option ℕ) : Type 0 where
   pub stays : Stays call
   pub no_put : ¬ IsPut call
 
--- what is kept will be the reply, where the call arrives behind the account with this partner
+-- what is kept will be the reply, as a session of its version tells it, where the call arrives behind the
+-- account with these partners
+abbrev pub WillTell : Account → Call → List ℕ → Kept → Type 0
+WillTell a call partners kept = (moment : ℕ) (key : Key) (version : Version) → Legal a
+    → let b = with_entry a (entry moment (Arrive key call) partners) in
+    Legal b → AskedIn b.entries (length a.entries) version
+    → IsKept b.entries (length a.entries) call (told_in version kept)
+
+-- the same with this partner, if it meets one
 abbrev pub WillReply : Account → Call → Option ℕ → Kept → Type 0
-WillReply a call partner kept = (moment : ℕ) (key : Key) → Legal a
-    → let b = with_entry a (entry moment (Arrive key call) (just partner)) in
-    Legal b → IsKept b.entries (length a.entries) call kept
+WillReply a call partner kept = WillTell a call (just partner) kept
 
 -- what is said to a request: the reply that is kept for it, or that it waits
 abbrev pub said_of : Key → Option Kept → Said

@@ -14,10 +14,9 @@ use Rattle.rv_session.specs.Meanings.{HasNext}
 use Rattle.rv_session.specs.Standings.{standing_of}
 use Rattle.rv_session.specs.Table.{Table, session_of, waiting_of}
 use Rattle.rv_account.specs.declared.entry.Act.TheVariants.{Arrive}
-use Rattle.rv_account.specs.Account.{Account, Among, entry, with_entry}
+use Rattle.rv_account.specs.Account.{Among}
 use Rattle.rv_account.specs.Calls.{may_name}
-use Rattle.rv_book.specs.Arriving.{IsKept}
-use Rattle.rv_book.specs.Legal.{Legal}
+use Rattle.rv_book.specs.Arriving.{WillTell}
 use Rattle.rv_book.specs.Meeting.{HasRoomToName}
 use Rattle.rv_book.specs.Tables.{Comes, HasSpace, account_of}
 use Rattle.rv_book.specs.declared.state.State.{State}
@@ -32,9 +31,11 @@ IsTaker side = (queue : ℕ) × (side ≡ Takes queue)
 abbrev pub items_in : State → ℕ → List ℕ
 items_in state queue = waiting_on state.stations (Gives queue)
 
--- the tables are what the account says, but for what was taken out at these places and was received
+-- the tables are what the account says, but for what was taken out at these places and was received by the
+-- request that is recorded next
 abbrev pub IsDraining : State → List ℕ → Type 0
-IsDraining state places = IsLeft state (Among places) kept.Received
+IsDraining state places =
+    IsLeft state (Among places) (kept.ReceivedBy (length (account_of state).entries))
 
 -- the oldest item of the queue was taken out, and its place is listed behind the others
 pub record TookItem (old new : State) (queue : ℕ) (before after : List ℕ) : Type 0 where
@@ -46,12 +47,6 @@ pub record TookItem (old new : State) (queue : ℕ) (before after : List ℕ) : 
 pub record SameIdle (old new : Table) : Type 0 where
   pub epoch : new.epoch ≡ old.epoch
   pub idle : (client : ℕ) → waiting_of old client ≡ None → session_of new client ≡ session_of old client
-
--- what is kept will be the reply, where the call arrives behind the account with these partners
-abbrev pub WillTell : Account → Call → List ℕ → Kept → Type 0
-WillTell a call partners kept = (moment : ℕ) (key : Key) → Legal a
-    → let b = with_entry a (entry moment (Arrive key call) partners) in
-    Legal b → IsKept b.entries (length a.entries) call kept
 
 -- a request that has its session's next number, takes up to so many items of a queue at once and never waits
 -- comes to a sound state; all that it adds has room, and this will be its reply

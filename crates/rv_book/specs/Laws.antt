@@ -1,5 +1,6 @@
 -- The laws of accounts, replies and steps, over the definitions alone.
 use Rattle.std.specs.Prelude.{◌≡◌, ◌≢◌, ℕ}
+use Rattle.rv_text.specs.declared.version.Version.{Version}
 use Rattle.rv_text.specs.declared.message.Key.{Key}
 use Rattle.rv_text.specs.declared.call.Call.{Call}
 use Rattle.rv_text.specs.declared.message.Message.{Message}
@@ -47,10 +48,10 @@ RequestsCanEnter = (before a : Account) (now : ℕ) (key : Key) (call : Call) �
 -- after the time-outs of a step, where no refusal of a hello is due and it is no repeat, a legal account with
 -- its entry exists
 abbrev pub HellosCanEnter : Type 0
-HellosCanEnter = (before a : Account) (now client incarnation : ℕ) → Legal before
+HellosCanEnter = (before a : Account) (now client incarnation : ℕ) (version : Version) → Legal before
     → Ticks before (step_moment before now) a
-    → HelloLines a client incarnation (λ refusal. Unit {0}) (Unit {0})
-    ((b : Account) × Adds a (step_moment before now) (Hello client incarnation) b)
+    → HelloLines a client incarnation version (λ refusal. Unit {0}) (Unit {0})
+    ((b : Account) × Adds a (step_moment before now) (Hello client incarnation version) b)
 
 -- a legal account with the cancel's entry exists, and with it the reply of its request
 pub record CanCancel (a : Account) (moment : ℕ) (key : Key) : Type 0 where

@@ -1,6 +1,7 @@
 -- Which entry may stand behind which entries, and so which accounts are legal.
 use Rattle.std.specs.Prelude.{◌≡◌, ◌⊎◌, ◌<◌, ◌≤◌, ◌+◌, ℕ, List, length, take, Some, slice_get}
 use Rattle.std.specs.List.Sorted.{IsStrictlyIncreasing}
+use Rattle.rv_text.specs.declared.version.Version.{Version}
 use Rattle.rv_text.specs.declared.message.Key.{Key}
 use Rattle.rv_text.specs.declared.call.Call.{Call}
 use Rattle.rv_text.specs.declared.call.Side.{Side}
@@ -37,7 +38,7 @@ SomethingDue entries moment = (r : ℕ) × IsDueAt entries moment r
 
 -- at a tick something is due, and at any other act nothing is
 abbrev pub KeepsLimits : List Entry → ℕ → Act → Type 0
-KeepsLimits entries moment (Hello client incarnation) = NothingDue entries moment
+KeepsLimits entries moment (Hello client incarnation version) = NothingDue entries moment
 KeepsLimits entries moment (Arrive key call) = NothingDue entries moment
 KeepsLimits entries moment (Cancel key) = NothingDue entries moment
 KeepsLimits entries moment Tick = SomethingDue entries moment
@@ -51,7 +52,8 @@ pub record KeepsMoments (a : Account) (moment : ℕ) (does : Act) : Type 0 where
 
 -- of one client, each hello is of a greater incarnation than every one before it
 abbrev pub RaisesIncarnation : List Entry → Act → Type 0
-RaisesIncarnation entries does = (client incarnation : ℕ) → does ≡ Hello client incarnation
+RaisesIncarnation entries does = (client incarnation : ℕ) (version : Version)
+    → does ≡ Hello client incarnation version
     → HasOnlyLower entries client incarnation
 
 -- the key that an act names has the account's epoch and its client's incarnation

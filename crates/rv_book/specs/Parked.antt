@@ -23,7 +23,7 @@ owed_by place key None = None
 owed_by place key (Some wait) = Some (record { place = place; client = key.client })
 
 abbrev pub owed_in : ℕ → Act → Option Owed
-owed_in place (Hello client incarnation) = None
+owed_in place (Hello client incarnation version) = None
 owed_in place (Cancel key) = None
 owed_in place Tick = None
 owed_in place (Arrive key call) = owed_by place key (wait_of call)

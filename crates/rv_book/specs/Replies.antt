@@ -2,6 +2,7 @@
 -- `put`, `transfer`, `tryTransfer`, `take` and `poll`; `BlockingQueue`: `drainTo`; `Exchanger`: `exchange`).
 -- Counts and peeks are of the account before them.
 use Rattle.std.specs.Prelude.{◌≡◌, ◌⊎◌, ◌<◌, ℕ, zero, suc, List, Some, take}
+use Rattle.rv_text.specs.declared.version.Version.TheVariants.{Two}
 use Rattle.rv_text.specs.declared.message.Key.{Key}
 use Rattle.rv_text.specs.declared.call.Wait.{Wait}
 use Rattle.rv_text.specs.declared.call.Wait.TheVariants.{Now, Millis, Forever}
@@ -13,9 +14,10 @@ use Rattle.rv_text.specs.declared.answer.Reply.TheVariants as reply
 use Rattle.rv_account.specs.declared.entry.Entry.{Entry}
 use Rattle.rv_account.specs.declared.entry.Act.{Act}
 use Rattle.rv_account.specs.declared.entry.Act.TheVariants.{Hello, Arrive, Cancel, Tick}
-use Rattle.rv_account.specs.Account.{act_at, call_at, partners_items}
+use Rattle.rv_account.specs.Account.{act_at, call_at, key_at, partners_items}
 use Rattle.rv_text.specs.Calls.{item_of}
 use Rattle.rv_book.specs.Counting.{NumberOf}
+use Rattle.rv_book.specs.Sessions.{AskedIn}
 use Rattle.rv_book.specs.Waiting.{NamesPartner, Met, StoppedAt, OpenAt, IsOldest}
 
 -- the arrivals at r and at s are in one pair or swap
@@ -30,6 +32,19 @@ pub record Gets (entries : List Entry) (r : ℕ) (item : List ℕ) : Type 0 wher
   pub arrived : call_at entries giver ≡ Some call
   pub hands_over : item_of call ≡ Some item
 
+-- the arrival at r meets the request with this key
+pub record MeetsKey (entries : List Entry) (r : ℕ) (key : Key) : Type 0 where
+  pub place : ℕ
+  pub meet : Meet entries r place
+  pub named : key_at entries place ≡ Some key
+
+-- what the transfer at r that was met is told: in a session of version 2 the key of its consumer, else that
+-- its item was received
+abbrev pub RepliesMet : List Entry → ℕ → Reply → Type 0
+RepliesMet entries r told =
+    (AskedIn entries r Two × (taker : Key) × MeetsKey entries r taker × (told ≡ reply.ReceivedBy taker))
+    ⊎ ((¬ AskedIn entries r Two) × (told ≡ reply.Received))
+
 -- the first entry that stops the request that arrived at r is the one at s
 pub record FirstStop (entries : List Entry) (r s : ℕ) : Type 0 where
   pub stops : StoppedAt entries r s
@@ -37,7 +52,7 @@ pub record FirstStop (entries : List Entry) (r s : ℕ) : Type 0 where
 
 -- what a request is told that such an act stopped
 abbrev pub told_by : Act → Reply
-told_by (Hello client incarnation) = reply.Cancelled
+told_by (Hello client incarnation version) = reply.Cancelled
 told_by (Arrive key call) = reply.Cancelled
 told_by (Cancel key) = reply.Cancelled
 told_by Tick = reply.TimedOut
@@ -80,7 +95,7 @@ Drains entries r items = partners_items entries r ≡ Some items
 abbrev pub RepliesAt : List Entry → ℕ → Call → Reply → Type 0
 RepliesAt entries r (call.Put queue item) told = told ≡ reply.Done
 RepliesAt entries r (call.Transfer queue item wait) told =
-    (Met entries r × (told ≡ reply.Received))
+    (Met entries r × RepliesMet entries r told)
     ⊎ ((¬ Met entries r) × RepliesUnmet entries r wait reply.Nobody told)
 RepliesAt entries r (call.Take queue wait) told =
     ((item : List ℕ) × Gets entries r item × (told ≡ reply.Item item))

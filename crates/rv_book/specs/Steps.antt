@@ -1,6 +1,7 @@
 -- One step of the book: the answer to a message, and which accounts may stand after it.
 use Rattle.std.specs.Prelude.{◌≡◌, ◌≢◌, ◌⊎◌, ◌<◌, ◌≤◌, ◌+◌, ℕ, length, Some}
 use Rattle.std.specs.Prelude.{min, max}
+use Rattle.rv_text.specs.declared.version.Version.{Version}
 use Rattle.rv_text.specs.declared.message.Key.{Key}
 use Rattle.rv_text.specs.declared.call.Call.{Call}
 use Rattle.rv_text.specs.declared.message.Message.{Message}
@@ -10,7 +11,7 @@ use Rattle.rv_text.specs.declared.answer.Reply.{Reply}
 use Rattle.rv_text.specs.declared.answer.Refusal.{Refusal}
 use Rattle.rv_text.specs.declared.answer.Refusal.TheVariants.{OtherEpoch, NoSession, OldIncarnation}
 use Rattle.rv_text.specs.declared.answer.Refusal.TheVariants.{OldNumber, OtherCall, Busy, Gap, ClientsFull}
-use Rattle.rv_text.specs.declared.answer.Refusal.TheVariants.{EpochFull, NoMemory}
+use Rattle.rv_text.specs.declared.answer.Refusal.TheVariants.{EpochFull, NoMemory, OtherVersion}
 use Rattle.rv_text.specs.declared.answer.Answer.{Answer}
 use Rattle.rv_text.specs.declared.answer.Answer.TheVariants.{Welcome, Replied, Refused}
 use Rattle.rv_text.specs.declared.answer.Answer as answer
@@ -23,7 +24,7 @@ use Rattle.rv_account.specs.Calls.{need_of}
 pub use Rattle.rv_account.specs.Account.{own_moment}
 pub use Rattle.rv_account.specs.Limits.{max_moment}
 use Rattle.rv_book.specs.Counting.{NumberOf}
-use Rattle.rv_book.specs.Sessions.{HasIncarnation, HasOnlyLower, LastNumber, SaidHello}
+use Rattle.rv_book.specs.Sessions.{HasIncarnation, HasOnlyLower, HasOpened, LastNumber, SaidHello}
 use Rattle.rv_book.specs.Waiting.{Waiting}
 use Rattle.rv_book.specs.Legal.{HasWaiting, Legal, SomethingDue, WaitsUnder}
 use Rattle.rv_book.specs.Replies.{HasReply}
@@ -54,6 +55,14 @@ pub record OldIncarnationDue (a : Account) (client incarnation : ℕ) (refusal :
   pub has : HasIncarnation a.entries client current
   pub lower : incarnation < current
   pub is : refusal ≡ OldIncarnation current
+
+-- the session has this incarnation, and another version
+pub record OtherVersionDue (a : Account) (client incarnation : ℕ) (version : Version) (refusal : Refusal)
+    : Type 0 where
+  pub current : Version
+  pub has : HasOpened a.entries client incarnation current
+  pub other : current ≢ version
+  pub is : refusal ≡ OtherVersion current
 
 -- the number is below the session's last; 0, which no request has, counts as below
 pub record OldNumberDue (a : Account) (key : Key) (refusal : Refusal) : Type 0 where
@@ -151,13 +160,14 @@ CancelLines a key refuses ends repeats enters =
     enters)
 
 -- the lines for a hello: also what happens where it is a repeat
-abbrev pub HelloLines : Account → ℕ → ℕ → (Refusal → Type 0) → Type 0 → Type 0 → Type 0
-HelloLines a client incarnation refuses repeats enters =
+abbrev pub HelloLines : Account → ℕ → ℕ → Version → (Refusal → Type 0) → Type 0 → Type 0 → Type 0
+HelloLines a client incarnation version refuses repeats enters =
     RefuseOr (OldIncarnationDue a client incarnation) refuses
+    (RefuseOr (OtherVersionDue a client incarnation version) refuses
     (WhereElse (HasIncarnation a.entries client incarnation) repeats
     (RefuseOr (ClientsFullDue a client) refuses
     (RefuseOr (EpochFullDue a 1) refuses
-    enters)))
+    enters))))
 
 -- ---- the accounts after a step
 
@@ -197,11 +207,11 @@ EntersOrNoMemory a moment does b answer answers =
 
 -- the step of a message at a moment: the accounts before and after, and the answer
 abbrev pub NextAt : Account → ℕ → Message → Account → Answer → Type 0
-NextAt a moment (Hello client incarnation) b answer =
-    HelloLines a client incarnation (Refuses a b answer)
-    ((b ≡ a) × (answer ≡ Welcome a.epoch client incarnation))
-    (EntersOrNoMemory a moment (act.TheVariants.Hello client incarnation) b answer
-    (answer ≡ Welcome a.epoch client incarnation))
+NextAt a moment (Hello client incarnation version) b answer =
+    HelloLines a client incarnation version (Refuses a b answer)
+    ((b ≡ a) × (answer ≡ Welcome a.epoch client incarnation version))
+    (EntersOrNoMemory a moment (act.TheVariants.Hello client incarnation version) b answer
+    (answer ≡ Welcome a.epoch client incarnation version))
 NextAt a moment (Request key call) b answer =
     RequestLines a key call (Refuses a b answer)
     (Repeats a b key answer)

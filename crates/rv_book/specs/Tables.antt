@@ -1,7 +1,8 @@
 -- What the book's private tables say of its account.
-use Rattle.std.specs.Prelude.{◌≡◌, ◌⊎◌, ◌≤◌, ◌+◌, ℕ, length, Option, Some, None}
+use Rattle.std.specs.Prelude.{◌≡◌, ◌⊎◌, ◌≤◌, ◌+◌, ℕ, length, Option, Some, None, option_map}
 use Rattle.std.specs.Global.{Vec}
 use Rattle.rv_text.specs.declared.message.Key.{Key}
+use Rattle.rv_text.specs.declared.version.Version.{Version}
 use Rattle.rv_text.specs.declared.message.Message.{Message}
 use Rattle.rv_text.specs.declared.call.Side.{Side}
 use Rattle.rv_text.specs.declared.call.Wait.{Wait}
@@ -18,7 +19,8 @@ use Rattle.rv_session.specs.declared.session.State as state
 use Rattle.rv_session.specs.declared.session.State.{State as StateOf}
 use Rattle.rv_session.specs.Meanings.{HasNext}
 use Rattle.rv_session.specs.Standings.{standing_of}
-use Rattle.rv_session.specs.Table.{OnlySettles, Table, session_of, waiting_of}
+use Rattle.rv_session.specs.Kept.{told_in}
+use Rattle.rv_session.specs.Table.{OnlySettles, Table, session_of, version_in, waiting_of}
 use Rattle.rv_session.specs.declared.standing.Standing.TheVariants as standing
 use Rattle.rv_session.specs.declared.kept.Kept.TheVariants as kept
 use Rattle.rv_account.specs.declared.entry.Act.{Act}
@@ -37,7 +39,7 @@ use Rattle.rv_book.specs.Counting.{NumberOf}
 use Rattle.rv_book.specs.Meeting.{HasRoomOn, HasRoomToName, Leaves, StandsOn}
 use Rattle.rv_book.specs.Parked.{AreParked, AreStations, owed_at}
 use Rattle.rv_book.specs.Elapsing.{AreDeadlines, deadline_of, with_deadline, without_deadline}
-use Rattle.rv_book.specs.Sessions.{HasIncarnation, LastNumber, SaidHello}
+use Rattle.rv_book.specs.Sessions.{HasOpened, LastNumber, SaidHello}
 use Rattle.rv_book.specs.Steps.{EpochFullDue, NextAt, Ticks, max_entries, max_moment, step_moment}
 use Rattle.rv_book.specs.Verdicts.{answer_of}
 use Rattle.rv_book.specs.Views.{SameStations}
@@ -74,7 +76,7 @@ Stands a client s (state.TheVariants.Settled None told) =
 
 -- the session is what the account says of its client
 pub record IsSession (a : Account) (client : ℕ) (s : Session) : Type 0 where
-  pub incarnation : HasIncarnation a.entries client s.incarnation
+  pub opened : HasOpened a.entries client s.incarnation s.version
   pub number : LastNumber a.entries client s.last
   pub stands : Stands a client s s.state
 
@@ -195,17 +197,28 @@ Sees state call = ¬ MayMeet call → AreStations (account_of state).entries sta
 abbrev pub IsOwedIn : Table → Owed → Type 0
 IsOwedIn t duty = waiting_of t duty.client ≡ Some duty.place
 
+-- the client's session was settled with this, as its version tells it
+pub record SettlesAs (old new : Table) (client place : ℕ) (kept : Kept) : Type 0 where
+  pub version : Version
+  pub was : version_in old client ≡ Some version
+  pub settles : OnlySettles old new client place (told_in version kept)
+
 -- the request of the duty was settled with this, if there is one
 abbrev pub SettlesIf : Table → Table → Option Owed → Kept → Type 0
 SettlesIf old new None kept = new ≡ old
-SettlesIf old new (Some duty) kept = OnlySettles old new duty.client duty.place kept
+SettlesIf old new (Some duty) kept = SettlesAs old new duty.client duty.place kept
+
+-- what the session of the duty is told of this, if there is one
+abbrev pub told_to : Table → Option Owed → Kept → Option Kept
+told_to t None kept = None
+told_to t (Some duty) kept = option_map (λ version. told_in version kept) (version_in t duty.client)
 
 -- what is kept as the reply of the request that an arrival of the side, at the place, met: who gives or
 -- exchanges hands its own item over, and who takes received the other's
 abbrev pub partners_reply : Side → ℕ → Kept
 partners_reply (Gives queue) place = kept.Item place
-partners_reply (Takes queue) place = kept.Received
-partners_reply (Looks queue) place = kept.Received
+partners_reply (Takes queue) place = kept.ReceivedBy place
+partners_reply (Looks queue) place = kept.ReceivedBy place
 partners_reply (Exchanges exchanger) place = kept.Swapped place
 
 -- a request waits at the place, by the tables: on its side, with the duty to settle it, and in its session
@@ -235,7 +248,7 @@ pub record EndsAt (old new : State) (place : ℕ) (kept : Kept) : Type 0 where
   pub call : Call
   pub arrived : call_at (account_of old).entries place ≡ Some call
   pub leaves : Leaves old.stations new.stations (side_of call) duty (Some duty)
-  pub settles : OnlySettles old.sessions new.sessions duty.client place kept
+  pub settles : SettlesAs old.sessions new.sessions duty.client place kept
   pub counted : old.waiting ≡ new.waiting + 1
   pub due : new.due ≡ without_deadline (limit_at (account_of old).entries place) place old.due
 

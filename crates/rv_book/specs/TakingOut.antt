@@ -3,6 +3,7 @@
 use Rattle.std.specs.Prelude.{◌≡◌, ◌⊎◌, ◌≤◌, ℕ, List, Option, Some, None}
 use Rattle.rv_text.specs.declared.call.Side.{Side}
 use Rattle.rv_session.specs.declared.kept.Kept.{Kept}
+use Rattle.rv_session.specs.Kept.{told_in}
 use Rattle.rv_session.specs.declared.session.Session.{Session}
 use Rattle.rv_session.specs.declared.session.State.TheVariants as state
 use Rattle.rv_session.specs.declared.session.State.{State as StateOf}
@@ -15,7 +16,7 @@ use Rattle.rv_book.specs.Elapsing.{AreDeadlinesOf}
 use Rattle.rv_book.specs.Legal.{Legal}
 use Rattle.rv_book.specs.Limits.{FitsAccount}
 use Rattle.rv_book.specs.Parked.{AreParked, IsLineOf}
-use Rattle.rv_book.specs.Sessions.{HasIncarnation, LastNumber, SaidHello}
+use Rattle.rv_book.specs.Sessions.{HasOpened, LastNumber, SaidHello}
 use Rattle.rv_book.specs.Tables.{IsSettledAt, IsWaitingAt, Stands, account_of}
 use Rattle.rv_book.specs.Views.{Stations, waiting_on}
 use Rattle.rv_book.specs.Waiting.{OpenAt, Waiting}
@@ -31,12 +32,12 @@ pub record AreStationsLeft (entries : List Entry) (taken : ℕ → Type 0) (stat
   pub parked : AreParked entries stations
 
 -- the request of the session's last number waited at the place, was taken out there, and is told what all are
--- that were
+-- that were, as its session's version tells it
 pub record IsToldAt (a : Account) (taken : ℕ → Type 0) (told : Kept) (client : ℕ) (s : Session) (place : ℕ)
     (kept : Kept) : Type 0 where
   pub waited : IsWaitingAt a client s place
   pub was_taken : taken place
-  pub is : kept ≡ told
+  pub is : kept ≡ told_in s.version told
 
 -- what stands of the session's last number is what the account says of it, or it was taken out
 abbrev pub StandsLeft : Account → (ℕ → Type 0) → Kept → ℕ → Session → StateOf → Type 0
@@ -48,7 +49,7 @@ StandsLeft a taken told client s (state.Settled None kept) = Stands a client s (
 
 pub record IsSessionLeft (a : Account) (taken : ℕ → Type 0) (told : Kept) (client : ℕ) (s : Session)
     : Type 0 where
-  pub incarnation : HasIncarnation a.entries client s.incarnation
+  pub opened : HasOpened a.entries client s.incarnation s.version
   pub number : LastNumber a.entries client s.last
   pub stands : StandsLeft a taken told client s s.state
 

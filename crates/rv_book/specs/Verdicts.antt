@@ -11,12 +11,12 @@ use Rattle.rv_book.specs.declared.verdict.Said.{Said}
 use Rattle.rv_book.specs.declared.verdict.Said.TheVariants.{Welcome, Replied, Waiting, Refused}
 use Rattle.rv_account.specs.declared.entry.Entry.{Entry}
 use Rattle.rv_text.specs.declared.message.Message.{Message}
-use Rattle.rv_account.specs.Account.{Account, partners_items}
+use Rattle.rv_account.specs.Account.{Account, key_at, partners_items}
 pub use Rattle.rv_account.specs.Account.{item_at}
 use Rattle.rv_book.specs.Legal.{Legal, before}
 use Rattle.rv_book.specs.Steps.{Next}
 
--- the reply that is kept; none where no item arrived at its place
+-- the reply that is kept; none where no item, or no request, arrived at its place
 abbrev pub reply_of : List Entry → Kept → Option Reply
 reply_of entries kept.TheVariants.Done = Some reply.TheVariants.Done
 reply_of entries (kept.TheVariants.Item place) = option_map reply.TheVariants.Item (item_at entries place)
@@ -24,6 +24,8 @@ reply_of entries kept.TheVariants.Empty = Some reply.TheVariants.Empty
 reply_of entries (kept.TheVariants.Swapped place) =
     option_map reply.TheVariants.Swapped (item_at entries place)
 reply_of entries kept.TheVariants.Received = Some reply.TheVariants.Received
+reply_of entries (kept.TheVariants.ReceivedBy place) =
+    option_map reply.TheVariants.ReceivedBy (key_at entries place)
 reply_of entries kept.TheVariants.Nobody = Some reply.TheVariants.Nobody
 reply_of entries kept.TheVariants.Cancelled = Some reply.TheVariants.Cancelled
 reply_of entries kept.TheVariants.TimedOut = Some reply.TheVariants.TimedOut
@@ -35,8 +37,8 @@ reply_of entries (kept.TheVariants.Drained place) =
 
 -- the answer that stands for what is kept; none where its reply has none
 abbrev pub answer_of : List Entry → Said → Option Answer
-answer_of entries (Welcome epoch client incarnation) =
-    Some (answer.TheVariants.Welcome epoch client incarnation)
+answer_of entries (Welcome epoch client incarnation version) =
+    Some (answer.TheVariants.Welcome epoch client incarnation version)
 answer_of entries (Replied key kept) = option_map (answer.TheVariants.Replied key) (reply_of entries kept)
 answer_of entries (Waiting key) = Some (answer.TheVariants.Waiting key)
 answer_of entries (Refused refusal) = Some (answer.TheVariants.Refused refusal)

@@ -33,7 +33,7 @@ HasElapsed (Some limit) moment = limit ≤ moment
 
 -- an act of a moment ends the wait of the request with this key and this limit
 abbrev pub EndsWait : Act → ℕ → Key → Option ℕ → Type 0
-EndsWait (Hello client incarnation) moment key limit = client ≡ key.client
+EndsWait (Hello client incarnation version) moment key limit = client ≡ key.client
 EndsWait (Arrive other call) moment key limit = ⊥
 EndsWait (Cancel other) moment key limit = other ≡ key
 EndsWait Tick moment key limit = HasElapsed limit moment

@@ -2,7 +2,7 @@
 ghost use Rattle.std.specs.Prelude.{◌≡◌, ◌↔◌, None, Some, IsTrue};
 ghost use Rattle.rv_account.specs.Calls.{Lasts};
 
-use rv_session::{Duty, Kept, Place};
+use rv_session::{Duty, Place};
 use rv_text::Wait;
 
 /// What became of an arrival in its queue or at its exchanger. The duties in it are to be settled.
@@ -16,7 +16,7 @@ pub(crate) struct Arrived {
 }
 
 impl Arrived {
-    ghost use Rattle.std.specs.Prelude.{◌≤◌, ◌+◌, ◌^◌, option_map};
+    ghost use Rattle.std.specs.Prelude.{◌≤◌, ◌+◌, ◌^◌};
     ghost use Rattle.rv_book.specs.Meeting.{ends_waiting, starts_waiting};
 
     /// It met the earlier arrival at this place.
@@ -39,13 +39,6 @@ impl Arrived {
             own,
             other: None,
         }
-    }
-
-    /// What is told to it now: what is kept as its reply, or nothing where it waits.
-    pub(crate) fn told(&self, kept: Kept) -> Option<Kept>
-        ensures { result ≡ option_map (λ own. kept) self.now.own }
-    {
-        self.own.is_some().then_some(kept)
     }
 
     /// How many requests wait after it, where so many did before.

@@ -96,10 +96,11 @@ impl Book {
         ensures err { OnErr result (HasText verdict.now.said) }
     {
         match verdict.said {
-            Said::Welcome(epoch, client, incarnation) => Ok(Answer::Welcome {
+            Said::Welcome(epoch, client, incarnation, version) => Ok(Answer::Welcome {
                 epoch,
                 client,
                 incarnation,
+                version,
             }),
             Said::Replied { key, kept } => {
                 let reply = reply_of(alloc, self.state.account(), kept)?;
@@ -123,6 +124,7 @@ fn reply_of(alloc: Global, account: &Account, kept: Kept) -> Result<Reply, NoMem
         Kept::Empty => Ok(Reply::Empty),
         Kept::Swapped(place) => Ok(Reply::Swapped(account.item(place).copy(alloc)?)),
         Kept::Received => Ok(Reply::Received),
+        Kept::ReceivedBy(place) => Ok(Reply::ReceivedBy(account.key(place))),
         Kept::Nobody => Ok(Reply::Nobody),
         Kept::Cancelled => Ok(Reply::Cancelled),
         Kept::Counted { items, consumers } => Ok(Reply::Counted {

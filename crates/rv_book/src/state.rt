@@ -20,7 +20,7 @@ use crate::verdict::Said;
 use rv_account::{Account, Act, Partners, may_name};
 use rv_due::Due;
 use rv_session::{Duty, Greeting, Kept, Place, Sessions, Standing};
-use rv_text::{Call, Key, Message, NoMemory, Refusal, Side, Wait};
+use rv_text::{Call, Key, Message, NoMemory, Refusal, Side, Version, Wait};
 use std::alloc::Global;
 
 /// The most entries of an epoch.
@@ -77,8 +77,8 @@ fn reply_to_partner(side: Side, place: Place) -> Kept
 {
     match side {
         Side::Gives(_) => Kept::Item(place),
-        Side::Takes(_) => Kept::Received,
-        Side::Looks(_) => Kept::Received,
+        Side::Takes(_) => Kept::ReceivedBy(place),
+        Side::Looks(_) => Kept::ReceivedBy(place),
         Side::Exchanges(_) => Kept::Swapped(place),
     }
 }
@@ -123,7 +123,7 @@ impl State {
     ghost use Rattle.rv_book.specs.Tables.{Becomes, BecomesAfterTicks, Comes, EndsAt, EndsIf, HasSpace};
     ghost use Rattle.rv_book.specs.Tables.{IsOwedIn, IsPrepared, IsPushed, IsReady, IsTime, MayEnd, with_due};
     ghost use Rattle.rv_book.specs.Tables.{IsRefused, IsRepeat, IsSame, IsSound, MayRecord, NoEntryDue, Sees};
-    ghost use Rattle.rv_book.specs.Tables.{SameAccount, SettlesIf, account_of};
+    ghost use Rattle.rv_book.specs.Tables.{SameAccount, SettlesIf, account_of, told_to};
     ghost use Rattle.rv_session.specs.Meanings.{HasLast, HasNext, IsNewer};
     ghost use Rattle.rv_session.specs.declared.session.State.TheVariants as state;
     ghost use Rattle.rv_session.specs.Table.{session_of};
@@ -164,7 +164,7 @@ impl State {
         match call {
             Call::Put { .. } => Kept::Done,
             Call::Transfer { wait, .. } => match partner {
-                Some(_) => Kept::Received,
+                Some(place) => Kept::ReceivedBy(place),
                 None => reply_at_once(*wait, Kept::Nobody),
             },
             Call::Take { wait, .. } => match partner {
@@ -220,19 +220,26 @@ impl State {
         }
     }
 
-    // Settles the request that a duty is for, if there is one: it has this reply, and no deadline any more.
-    fn settle(&mut self, duty: Option<Duty>, kept: Kept)
+    // Settles the request that a duty is for, if there is one: it has this reply, as its session's version
+    // tells it, and no deadline any more. Gives that reply.
+    fn settle(&mut self, duty: Option<Duty>, kept: Kept) -> Option<Kept>
         requires waits { IfSome duty (IsOwedIn self.old.sessions) }
         requires fit { FitEntries (account_of self.old).entries }
+        ensures told { result ≡ told_to self.old.sessions duty kept }
         ensures sessions { SettlesIf self.old.sessions self.new.sessions duty kept }
         ensures due { self.new.due ≡ without_duty (account_of self.old).entries duty self.old.due }
         ensures account { self.new.account ≡ self.old.account }
         ensures stations { self.new.stations ≡ self.old.stations }
         ensures waiting { self.new.waiting ≡ self.old.waiting }
     {
-        if let Some(duty) = duty {
-            self.forget(duty.place());
-            self.sessions.settle(duty, kept);
+        match duty {
+            Some(duty) => {
+                self.forget(duty.place());
+                let told = kept.told_in(self.sessions.version(&duty));
+                self.sessions.settle(duty, told);
+                Some(told)
+            }
+            None => None,
         }
     }
 
@@ -275,7 +282,6 @@ impl State {
         let duty = self.sessions.begin(&key, place);
         let arrived = self.stations.arrive(&call, duty);
         let kept = self.reply_to(&call, arrived.partner);
-        let told = arrived.told(kept);
         self.waiting = arrived.count(self.waiting);
         let Arrived {
             partner,
@@ -286,8 +292,7 @@ impl State {
         self.account
             .push(moment, Act::Arrive { key, call }, partners);
         self.settle(other, others);
-        self.settle(own, kept);
-        told
+        self.settle(own, kept)
     }
 
     // The same, where there is room.
@@ -307,8 +312,7 @@ impl State {
         };
         let queue = taken_from(call.side());
         let kept = Kept::Drained(self.account.len());
-        self.drain(moment, key, call, queue, max as usize, places, kept);
-        Ok(Some(kept))
+        Ok(self.drain(moment, key, call, queue, max as usize, places, kept))
     }
 
     // Records an entry that names no partner, for which there is room.
@@ -378,7 +382,8 @@ impl State {
     }
 
     // Takes the oldest item out of a queue, if one waits there, and lists its place, for which there is room.
-    // Its giver, where it waits, is told that it was received. Tells whether there was one.
+    // Its giver, where it waits, is told that the request which is recorded next received it. Tells whether
+    // there was one.
     fn take_item(&mut self, queue: u64, listed: &mut Vec<Place>) -> bool
         requires fits { FitsQueue queue }
         requires draining { IsDraining self.old listed.old.items }
@@ -392,8 +397,9 @@ impl State {
     {
         match self.stations.take_front(queue) {
             Some((duty, place)) => {
+                let taker = self.account.len();
                 self.waiting -= usize::from(duty.is_some());
-                self.settle(duty, Kept::Received);
+                self.settle(duty, Kept::ReceivedBy(taker));
                 listed.push(place).unwrap();
                 true
             }
@@ -426,12 +432,11 @@ impl State {
         max: usize,
         mut places: Vec<Place>,
         kept: Kept,
-    )
+    ) -> Option<Kept>
         requires may { MayDrain self.old moment key call queue max places kept }
         requires fits { FitsQueue queue }
         ensures sound { IsSound self.new }
-        ensures recorded { IsRecorded (account_of self.old) (account_of self.new) moment key call
-            (Some kept) }
+        ensures recorded { IsRecorded (account_of self.old) (account_of self.new) moment key call result }
     {
         self.take_items(queue, max, &mut places);
         let duty = self.sessions.begin(&key, self.account.len());
@@ -440,7 +445,7 @@ impl State {
             Act::Arrive { key, call },
             Partners::from_vec(places),
         );
-        self.settle(Some(duty), kept);
+        self.settle(Some(duty), kept)
     }
 
     // Cancels a request before it comes: its session's next number is settled as cancelled.
@@ -496,22 +501,29 @@ impl State {
     }
 
     // Records the first hello of a client.
-    fn admit(&mut self, moment: u64, client: u64, incarnation: u64) -> Result<(), Refusal>
-        requires comes { Comes self.old moment (Hello client incarnation) }
-        requires enters { MayEnter self.old.sessions client incarnation }
+    fn admit(
+        &mut self,
+        moment: u64,
+        client: u64,
+        incarnation: u64,
+        version: Version,
+    ) -> Result<(), Refusal>
+        requires comes { Comes self.old moment (Hello client incarnation version) }
+        requires enters { MayEnter self.old.sessions client incarnation version }
         requires unknown { session_of self.old.sessions client ≡ None }
         ensures sound { IsSound self.new }
-        ensures ok { OnOk result (Adds (account_of self.old) moment (Hello client incarnation)
+        ensures ok { OnOk result (Adds (account_of self.old) moment (Hello client incarnation version)
             (account_of self.new)) }
         ensures space { OnOk result (HasSpace self.old 1) }
         ensures same { OnErr result (SameAccount self.old self.new) }
         ensures err { IfErr result (NoEntryDue (account_of self.old) 1) }
     {
         self.make_room(1, None)?;
-        self.sessions.enter(client, incarnation)?;
+        self.sessions.enter(client, incarnation, version)?;
         let hello = Act::Hello {
             client,
             incarnation,
+            version,
         };
         self.push(moment, hello);
         Ok(())
@@ -523,12 +535,13 @@ impl State {
         moment: u64,
         client: u64,
         incarnation: u64,
+        version: Version,
         waiting: Option<Place>,
     ) -> Result<(), Refusal>
-        requires comes { Comes self.old moment (Hello client incarnation) }
+        requires comes { Comes self.old moment (Hello client incarnation version) }
         requires newer { IsNewer self.old.sessions client incarnation waiting }
         ensures sound { IsSound self.new }
-        ensures ok { OnOk result (Adds (account_of self.old) moment (Hello client incarnation)
+        ensures ok { OnOk result (Adds (account_of self.old) moment (Hello client incarnation version)
             (account_of self.new)) }
         ensures space { OnOk result (HasSpace self.old 1) }
         ensures same { OnErr result (SameAccount self.old self.new) }
@@ -536,30 +549,46 @@ impl State {
     {
         self.make_room(1, None)?;
         self.end_if(waiting, Kept::Cancelled);
-        self.sessions.enter(client, incarnation).unwrap();
+        self.sessions.enter(client, incarnation, version).unwrap();
         let hello = Act::Hello {
             client,
             incarnation,
+            version,
         };
         self.push(moment, hello);
         Ok(())
     }
 
     // Answers a hello, and records it where it is no repeat and no refusal is due.
-    fn greet(&mut self, moment: u64, client: u64, incarnation: u64) -> Result<(), Refusal>
-        requires { Comes self.old moment (Hello client incarnation) }
+    fn greet(
+        &mut self,
+        moment: u64,
+        client: u64,
+        incarnation: u64,
+        version: Version,
+    ) -> Result<(), Refusal>
+        requires { Comes self.old moment (Hello client incarnation version) }
         ensures sound { IsSound self.new }
-        ensures ok { OnOk result (NextAt (account_of self.old) moment (message.Hello client incarnation)
-            (account_of self.new) (Welcome (account_of self.old).epoch client incarnation)) }
-        ensures err { IfErr result (IsRefused (account_of self.old) moment (message.Hello client incarnation)
+        ensures ok { OnOk result (NextAt (account_of self.old) moment
+            (message.Hello client incarnation version)
+            (account_of self.new) (Welcome (account_of self.old).epoch client incarnation version)) }
+        ensures err { IfErr result (IsRefused (account_of self.old) moment
+            (message.Hello client incarnation version)
             (account_of self.new)) }
     {
-        match self.sessions.greet(client, incarnation) {
+        match self.sessions.greet(client, incarnation, version) {
             Greeting::Again => Ok(()),
             Greeting::Older(current) => Err(Refusal::OldIncarnation(current)),
+            Greeting::OtherVersion(current) => Err(Refusal::OtherVersion(current)),
             Greeting::Full => Err(Refusal::ClientsFull),
-            Greeting::Unknown => self.admit(moment, client, incarnation),
-            Greeting::Newer { waiting } => self.renew(moment, client, incarnation, waiting),
+            Greeting::Unknown => self.admit(moment, client, incarnation, version),
+            Greeting::Newer { waiting } => self.renew(
+                moment,
+                client,
+                incarnation,
+                version,
+                waiting,
+            ),
         }
     }
 
@@ -640,8 +669,9 @@ impl State {
             Message::Hello {
                 client,
                 incarnation,
-            } => match self.greet(moment, client, incarnation) {
-                Ok(()) => Said::Welcome(epoch, client, incarnation),
+                version,
+            } => match self.greet(moment, client, incarnation, version) {
+                Ok(()) => Said::Welcome(epoch, client, incarnation, version),
                 Err(refusal) => Said::Refused(refusal),
             },
             Message::Request { key, call } => match self.request(moment, key, call) {

@@ -1,14 +1,14 @@
 //! What the book said to a message, in a form that takes no memory.
 use rv_account::Account;
 use rv_session::Kept;
-use rv_text::{Key, Message, Refusal};
+use rv_text::{Key, Message, Refusal, Version};
 use std::marker::Model;
 use std::snapshot::Snapshot;
 
 #[derive(Clone, Copy)]
 pub(crate) enum Said {
-    // The session of this epoch, client and incarnation is open.
-    Welcome(u64, u64, u64),
+    // The session of this epoch, client, incarnation and version is open.
+    Welcome(u64, u64, u64, Version),
     Replied { key: Key, kept: Kept },
     Waiting { key: Key },
     Refused(Refusal),

@@ -1,6 +1,7 @@
 -- The process of a client in the network world: what it may do next, and what becomes of it when an answer
 -- comes to it.
 use Rattle.std.specs.Prelude.{ℕ, ◌≡◌, ◌<◌, ◌+◌, Option, Some, None, if◌then◌else◌, nat_lt}
+use Rattle.rv_text.specs.declared.version.Version.{Version}
 use Rattle.rv_text.specs.declared.message.Key.{Key}
 use Rattle.rv_text.specs.declared.message.Message.{Message}
 use Rattle.rv_text.specs.declared.message.Message.TheVariants as messages
@@ -14,10 +15,11 @@ use Rattle.rv_text.specs.Members.{max_identifier}
 
 -- ---- a process
 
--- a client that started in an incarnation
+-- a client that started in an incarnation, and asks for a version
 pub record Starting : Type 0 where
   pub client : ℕ
   pub incarnation : ℕ
+  pub version : Version
 
 -- a request that was begun
 pub record Asking : Type 0 where
@@ -33,7 +35,7 @@ pub data Process : Type 0 where
 
 -- what a new process says
 abbrev pub hello_of : Starting → Message
-hello_of starting = messages.Hello starting.client starting.incarnation
+hello_of starting = messages.Hello starting.client starting.incarnation starting.version
 
 -- what an outstanding one says: its request, or the cancel of it
 abbrev pub request_of : Asking → Message
@@ -58,9 +60,10 @@ key_after key =
 
 -- ---- what an answer is to it
 
--- the client is welcome in its incarnation, in this epoch
+-- the client is welcome in its incarnation and with its version, in this epoch
 abbrev pub Welcomes : Starting → Answer → ℕ → Type 0
-Welcomes starting answer epoch = answer ≡ answers.Welcome epoch starting.client starting.incarnation
+Welcomes starting answer epoch =
+    answer ≡ answers.Welcome epoch starting.client starting.incarnation starting.version
 
 -- a reply of the request's own key
 abbrev pub Settles : Key → Answer → Reply → Type 0
@@ -76,7 +79,7 @@ abbrev pub Replaces : Key → Answer → ℕ → Type 0
 Replaces key answer current =
     (answer ≡ answers.Refused (refusals.OldIncarnation current)) × (key.incarnation < current)
 
--- neither a welcome of the client in its incarnation nor a refusal
+-- neither a welcome of the client in its incarnation and with its version nor a refusal
 pub record PassesBy (starting : Starting) (answer : Answer) : Type 0 where
   pub no_welcome : (epoch : ℕ) → ¬ Welcomes starting answer epoch
   pub no_refusal : (refusal : Refusal) → ¬ (answer ≡ answers.Refused refusal)

@@ -1,8 +1,12 @@
 -- Words name at most one command.
 use Rattle.std.proofs.Common.{ap, arith, refl, sym, ◌≡◌, ◌∙◌, ℕ, List, Option, Some, None}
 use Rattle.std.specs.Option.{IsSomeAnd}
+use Rattle.std.proofs.lemmas.Option.{same_Some}
 use Rattle.clap.specs.Words.{Row, Text, subcommand_of}
-use Rattle.rv_command.specs.Command.{GivesBetween, GivesIdentifier, Says, rv_app}
+use Rattle.rv_text.specs.Versions.{number_of_version, version_of}
+use Rattle.rv_text.specs.declared.version.Version.{Version}
+use Rattle.rv_text.specs.declared.version.Version.TheVariants.{One, Two}
+use Rattle.rv_command.specs.Command.{GivesBetween, GivesIdentifier, GivesVersion, Says, rv_app}
 use Rattle.rv_command.specs.Laws.{OneCommand, SameCommand}
 use Rattle.rv_command.proofs.Options.{first_letter, letter_of}
 use Rattle.rv_command.specs.declared.command.Command.{Command}
@@ -15,6 +19,17 @@ number_one (Some text) m n a b = a.0.1 ∙ sym b.0.1
 between_one : (least most : ℕ) (value : Option Text) (m n : ℕ) → GivesBetween least most value m → GivesBetween least most value n → m ≡ n
 between_one least most None m n a b = absurd a
 between_one least most (Some text) m n a b = a.0.1 ∙ sym b.0.1
+
+-- a version is found by its number, so no two have the same
+by_number : (v : Version) → version_of (number_of_version v) ≡ Some v
+by_number One = refl
+by_number Two = refl
+
+one_numbered : (v w : Version) → number_of_version v ≡ number_of_version w → v ≡ w
+one_numbered v w same = same_Some _ _ (sym (by_number v) ∙ ap version_of same ∙ by_number w)
+
+version_one : (value : Option Text) (v w : Version) → GivesVersion value v → GivesVersion value w → v ≡ w
+version_one value v w a b = one_numbered v w (between_one 1 2 value (number_of_version v) (number_of_version w) a b)
 
 text_one : (value : Option Text) (a b : Text) → value ≡ Some a → value ≡ Some b → a ≡ b
 text_one value a b first second = cc
@@ -37,13 +52,14 @@ says_one s (Serve listen epoch workers connections) (Serve other epoch' workers'
   between_one _ _ _ connections connections' a.1.for_connections b.1.for_connections,
 )
 says_one s (Serve listen epoch workers connections) d a b = let same : 115 ≡ letter_of d = one_letter s (Serve listen epoch workers connections) d a b in absurd (omega (arith, same))
-says_one s (Call connect client incarnation tries) (Call other client' incarnation' tries') a b = (
+says_one s (Call connect client incarnation tries speak) (Call other client' incarnation' tries' speak') a b = (
   text_one _ connect.now other.now a.1.to_connect b.1.to_connect,
   number_one _ client client' a.1.of_client b.1.of_client,
   number_one _ incarnation incarnation' a.1.in_incarnation b.1.in_incarnation,
   between_one _ _ _ tries tries' a.1.with_tries b.1.with_tries,
+  version_one _ speak speak' a.1.to_speak b.1.to_speak,
 )
-says_one s (Call connect client incarnation tries) d a b = let same : 99 ≡ letter_of d = one_letter s (Call connect client incarnation tries) d a b in absurd (omega (arith, same))
+says_one s (Call connect client incarnation tries speak) d a b = let same : 99 ≡ letter_of d = one_letter s (Call connect client incarnation tries speak) d a b in absurd (omega (arith, same))
 
 said_one : (subcommand : Option (Text × List Row)) (c d : Command) → IsSomeAnd subcommand (λ s. Says s c) → IsSomeAnd subcommand (λ s. Says s d) → SameCommand c d
 said_one None c d a b = absurd a

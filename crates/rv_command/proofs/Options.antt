@@ -3,6 +3,7 @@ use Rattle.std.proofs.Common.{◌≡◌, ◌∙◌, ap, arith, Bor, codes, get_o
 use Rattle.clap.proofs.WalkLemmas.{first_value-rows}
 use Rattle.clap.specs.Words.{Row, Text, first_of, first_value, rows_of}
 use Rattle.clap.specs.declared.parser.matches.Found.{Found}
+use Rattle.rv_text.specs.declared.version.Version.{Version}
 use Rattle.rv_command.specs.Command.{GivesIdentifier, Says, SaysCall, SaysServe}
 use Rattle.rv_command.specs.declared.command.Command.{Command}
 use Rattle.rv_command.specs.declared.command.Command.TheVariants.{Audit, Book, Call, Play, Serve}
@@ -26,14 +27,14 @@ letter_of (Book epoch) = 98
 letter_of Play = 112
 letter_of Audit = 97
 letter_of (Serve listen epoch workers connections) = 115
-letter_of (Call connect client incarnation tries) = 99
+letter_of (Call connect client incarnation tries speak) = 99
 
 pub first_letter : (name : Text) (options : List Row) (command : Command) → Says (name, options) command → get_or name 0 0 ≡ letter_of command
 first_letter name options (Book epoch) said = ap (λ (letters : List ℕ). get_or letters 0 0) said.0
 first_letter name options Play said = ap (λ (letters : List ℕ). get_or letters 0 0) said
 first_letter name options Audit said = ap (λ (letters : List ℕ). get_or letters 0 0) said
 first_letter name options (Serve listen epoch workers connections) said = ap (λ (letters : List ℕ). get_or letters 0 0) said.0
-first_letter name options (Call connect client incarnation tries) said = ap (λ (letters : List ℕ). get_or letters 0 0) said.0
+first_letter name options (Call connect client incarnation tries speak) said = ap (λ (letters : List ℕ). get_or letters 0 0) said.0
 
 -- the subcommand `book` is no other command
 pub book_alone : (options : List Row) (command : Command) → Says (codes "book", options) command
@@ -49,6 +50,6 @@ serve_alone options command said = let same : 115 ≡ letter_of command = first_
 
 -- nor is `call`
 pub call_alone : (options : List Row) (command : Command) → Says (codes "call", options) command
-    → (connect : Text) × (client : ℕ) × (incarnation : ℕ) × (tries : ℕ) × SaysCall options connect client incarnation tries
-call_alone options (Call connect client incarnation tries) said = (connect.now, client, incarnation, tries, said.1)
+    → (connect : Text) × (client : ℕ) × (incarnation : ℕ) × (tries : ℕ) × (speak : Version) × SaysCall options connect client incarnation tries speak
+call_alone options (Call connect client incarnation tries speak) said = (connect.now, client, incarnation, tries, speak, said.1)
 call_alone options command said = let same : 99 ≡ letter_of command = first_letter (codes "call") options command said in absurd (omega (arith, same))

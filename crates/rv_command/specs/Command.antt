@@ -4,6 +4,8 @@ use Rattle.std.specs.Option.{IsSomeAnd}
 use Rattle.clap.specs.Words.{App, Row, Rule, Text, fault_of, first_of, new_app, new_rule}
 use Rattle.clap.specs.Words.{subcommand_of, with_rule, with_subcommand}
 use Rattle.clap.specs.declared.builder.ArgAction.TheVariants.{Set}
+use Rattle.rv_text.specs.declared.version.Version.{Version}
+use Rattle.rv_text.specs.Versions.{number_of_version}
 use Rattle.rv_text.specs.Limits.{FitsIdentifier}
 use Rattle.rv_lines.specs.Number.{WritesBetween, WritesIdentifier}
 use Rattle.rv_command.specs.declared.command.Command.{Command}
@@ -34,13 +36,18 @@ serve_app =
     let staffed = with_rule numbered (required_option (codes "workers")) in
     with_rule staffed (required_option (codes "connections"))
 
--- `rv call --connect ADDR --client C --incarnation I --tries T`
-abbrev pub call_app : App
-call_app =
+-- what of `rv call` says who calls, and where
+abbrev pub caller_app : App
+caller_app =
     let connects = with_rule (new_app (codes "call")) (required_option (codes "connect")) in
     let named = with_rule connects (required_option (codes "client")) in
-    let started = with_rule named (required_option (codes "incarnation")) in
-    with_rule started (required_option (codes "tries"))
+    with_rule named (required_option (codes "incarnation"))
+
+-- `rv call --connect ADDR --client C --incarnation I --tries T --speak V`
+abbrev pub call_app : App
+call_app =
+    let patient = with_rule caller_app (required_option (codes "tries")) in
+    with_rule patient (required_option (codes "speak"))
 
 -- the subcommands that use no socket
 abbrev pub local_app : App
@@ -60,6 +67,10 @@ GivesIdentifier value n = IsSomeAnd value (λ text. WritesIdentifier text n)
 abbrev pub GivesBetween : ℕ → ℕ → Option Text → ℕ → Type 0
 GivesBetween least most value n = IsSomeAnd value (λ text. WritesBetween least most text n)
 
+-- it is there, and is the digits of the version's number
+abbrev pub GivesVersion : Option Text → Version → Type 0
+GivesVersion value version = GivesBetween 1 2 value (number_of_version version)
+
 -- the most of what is only counted: each `u32` is one
 abbrev pub max_count : ℕ
 max_count = 4294967295
@@ -72,11 +83,13 @@ pub record SaysServe (rows : List Row) (listen : Text) (epoch workers connection
   pub for_connections : GivesBetween 0 max_count (first_of (codes "connections") rows) connections
 
 -- the options of `rv call` have these values
-pub record SaysCall (rows : List Row) (connect : Text) (client incarnation tries : ℕ) : Type 0 where
+pub record SaysCall (rows : List Row) (connect : Text) (client incarnation tries : ℕ) (speak : Version)
+    : Type 0 where
   pub to_connect : first_of (codes "connect") rows ≡ Some connect
   pub of_client : GivesIdentifier (first_of (codes "client") rows) client
   pub in_incarnation : GivesIdentifier (first_of (codes "incarnation") rows) incarnation
   pub with_tries : GivesBetween 0 max_count (first_of (codes "tries") rows) tries
+  pub to_speak : GivesVersion (first_of (codes "speak") rows) speak
 
 -- a subcommand, by its name and its options, is the command
 abbrev pub Says : Text × List Row → Command → Type 0
@@ -86,8 +99,8 @@ Says subcommand Play = subcommand.0 ≡ codes "play"
 Says subcommand Audit = subcommand.0 ≡ codes "audit"
 Says subcommand (Serve listen epoch workers connections) = (subcommand.0 ≡ codes "serve")
     × SaysServe subcommand.1 listen.now epoch workers connections
-Says subcommand (Call connect client incarnation tries) = (subcommand.0 ≡ codes "call")
-    × SaysCall subcommand.1 connect.now client incarnation tries
+Says subcommand (Call connect client incarnation tries speak) = (subcommand.0 ≡ codes "call")
+    × SaysCall subcommand.1 connect.now client incarnation tries speak
 
 -- the words, the program's name first, name the command: `clap` finds no fault in them, and the
 -- subcommand that it finds is the command
@@ -106,5 +119,5 @@ FitsCommand Play = Unit {0}
 FitsCommand Audit = Unit {0}
 FitsCommand (Serve listen epoch workers connections) =
     FitsIdentifier epoch × (1 ≤ workers) × (workers ≤ 64)
-FitsCommand (Call connect client incarnation tries) =
+FitsCommand (Call connect client incarnation tries speak) =
     FitsIdentifier client × FitsIdentifier incarnation

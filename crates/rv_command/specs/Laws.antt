@@ -10,9 +10,11 @@ abbrev pub SameCommand : Command → Command → Type 0
 SameCommand (Serve listen epoch workers connections) (Serve other epoch' workers' connections') =
     (listen.now ≡ other.now) × (epoch ≡ epoch') × (workers ≡ workers') × (connections ≡ connections')
 SameCommand (Serve listen epoch workers connections) d = ⊥
-SameCommand (Call connect client incarnation tries) (Call other client' incarnation' tries') =
+SameCommand (Call connect client incarnation tries speak)
+    (Call other client' incarnation' tries' speak') =
     (connect.now ≡ other.now) × (client ≡ client') × (incarnation ≡ incarnation') × (tries ≡ tries')
-SameCommand (Call connect client incarnation tries) d = ⊥
+    × (speak ≡ speak')
+SameCommand (Call connect client incarnation tries speak) d = ⊥
 SameCommand (Book epoch) d = Book epoch ≡ d
 SameCommand Play d = Play ≡ d
 SameCommand Audit d = Audit ≡ d

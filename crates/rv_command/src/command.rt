@@ -6,15 +6,17 @@ ghost use Rattle.clap.specs.Words.{app_of, fault_of, first_of, found_of, kind_of
 ghost use Rattle.clap.specs.Words.{shape_of, subcommand_of, subcommand_rows_of};
 ghost use Rattle.clap.specs.declared.Command.TheViews.{out-Command};
 ghost use Rattle.clap.specs.Walk.{texts};
-ghost use Rattle.rv_command.specs.Command.{FitsCommand, GivesBetween, GivesIdentifier, Names, NamesNone};
-ghost use Rattle.rv_command.specs.Command.{Says, audit_app, book_app, call_app, local_app, play_app};
-ghost use Rattle.rv_command.specs.Command.{required_option, rv_app, serve_app};
+ghost use Rattle.rv_command.specs.Command.{FitsCommand, GivesBetween, GivesIdentifier, GivesVersion};
+ghost use Rattle.rv_command.specs.Command.{Names, NamesNone};
+ghost use Rattle.rv_command.specs.Command.{Says, audit_app, book_app, call_app, caller_app, local_app};
+ghost use Rattle.rv_command.specs.Command.{play_app, required_option, rv_app, serve_app};
 ghost use Rattle.rv_command.specs.declared.command.CommandFault.TheVariants.{Bad, NoMemory};
 ghost use Rattle.clap.specs.declared.error.ErrorKind.TheVariants.{OutOfMemory};
 
 use clap::error::ErrorKind;
 use clap::{Arg, ArgAction, ArgMatches};
 use rv_lines::{read_between, read_identifier};
+use rv_text::Version;
 use std::alloc::{AllocError, Global};
 use thiserror::Error;
 
@@ -45,7 +47,7 @@ pub enum Command<'a> {
         /// How many connections are accepted before the server ends.
         connections: u32,
     },
-    /// `rv call --connect ADDR --client C --incarnation I --tries T`: make the calls of standard
+    /// `rv call --connect ADDR --client C --incarnation I --tries T --speak V`: make the calls of standard
     /// input.
     Call {
         /// The address of the server, as it was written.
@@ -56,6 +58,8 @@ pub enum Command<'a> {
         incarnation: u64,
         /// How often hello is said, and each request asked, at most.
         tries: u32,
+        /// The version that its hello asks for, 1 or 2.
+        speak: Version,
     },
 }
 
@@ -158,11 +162,13 @@ fn call_of<'a>(options: &ArgMatches<'a>) -> Option<Command<'a>>
     let client = identifier_of(options, "client")?;
     let incarnation = identifier_of(options, "incarnation")?;
     let tries = number_of(options, "tries", 0, MAX_COUNT)?;
+    let speak = version_of(options, "speak")?;
     Some(Command::Call {
         connect,
         client,
         incarnation,
         tries: tries as u32,
+        speak,
     })
 }
 
@@ -174,6 +180,16 @@ fn identifier_of(options: &ArgMatches, name: &str) -> Option<u64>
         → ¬ GivesIdentifier (first_of name.now (rows_of (found_of options.now))) n }
 {
     read_identifier(text_of(options, name)?.as_bytes())
+}
+
+// The version whose number an option's value writes.
+fn version_of(options: &ArgMatches, name: &str) -> Option<Version>
+    ensures some { IfSome result
+        (GivesVersion (first_of name.now (rows_of (found_of options.now)))) }
+    ensures none { result ≡ None → (version : Version)
+        → ¬ GivesVersion (first_of name.now (rows_of (found_of options.now))) version }
+{
+    Version::of_number(number_of(options, name, 1, 2)?)
 }
 
 // The number from `least` to `most` that an option's value writes.
@@ -259,16 +275,25 @@ fn serve<'a>(alloc: Global) -> Result<clap::Command<'a>, AllocError>
         .arg(required_option(alloc, "connections"))
 }
 
-// `call --connect ADDR --client C --incarnation I --tries T`, as clap reads it.
+// `call --connect ADDR --client C --incarnation I --tries T --speak V`, as clap reads it.
 fn call<'a>(alloc: Global) -> Result<clap::Command<'a>, AllocError>
     ensures shape { IfOk result (λ c. shape_of c ≡ call_app.top) }
+    ensures local { IfOk result (λ c. (out-Command c).has_globals ≡ false) }
+{
+    caller(alloc)?
+        .arg(required_option(alloc, "tries"))?
+        .arg(required_option(alloc, "speak"))
+}
+
+// Those of its options that say who calls, and where.
+fn caller<'a>(alloc: Global) -> Result<clap::Command<'a>, AllocError>
+    ensures shape { IfOk result (λ c. shape_of c ≡ caller_app.top) }
     ensures local { IfOk result (λ c. (out-Command c).has_globals ≡ false) }
 {
     clap::Command::new(alloc, "call")
         .arg(required_option(alloc, "connect"))?
         .arg(required_option(alloc, "client"))?
-        .arg(required_option(alloc, "incarnation"))?
-        .arg(required_option(alloc, "tries"))
+        .arg(required_option(alloc, "incarnation"))
 }
 
 // An option `--name VALUE` that has to be given.

@@ -29,7 +29,7 @@ few_named call fits = few_by call (drains_of call) fits refl
 
 fits_call : (does : Act) (call : Call) → call_in does ≡ Some call → FitsAct does → FitsCall call
 fits_call (act.Arrive key own) call is fits = subst FitsCall (same_Some own call is) fits.1
-fits_call (act.Hello client incarnation) call is fits = absurd (none-some call is)
+fits_call (act.Hello client incarnation version) call is fits = absurd (none-some call is)
 fits_call (act.Cancel key) call is fits = absurd (none-some call is)
 fits_call act.Tick call is fits = absurd (none-some call is)
 

@@ -38,13 +38,13 @@ message_one field (Some m) (Some n) a b = ap Some (at_most_one _ messages messag
 -- the act that records a message, and a tick for none
 act_of : Option Message → Act
 act_of None = act.Tick
-act_of (Some (message.Hello client incarnation)) = act.Hello client incarnation
+act_of (Some (message.Hello client incarnation version)) = act.Hello client incarnation version
 act_of (Some (message.Request key call)) = act.Arrive key call
 act_of (Some (message.Cancel key)) = act.Cancel key
 
 act_again : (a : Act) → act_of (message_in a) ≡ a
 unfolding act_of
-act_again (act.Hello client incarnation) = refl
+act_again (act.Hello client incarnation version) = refl
 act_again (act.Arrive key call) = refl
 act_again (act.Cancel key) = refl
 act_again act.Tick = refl

@@ -176,7 +176,7 @@ said_in_line None fits = word_in_line (codes "tick") refl
 said_in_line (Some m) fits = message_in_one_line m fits
 
 pub message_fits : (act : Act) → FitsAct act → IfSome (message_in act) FitsMessage
-message_fits (act.Hello client incarnation) fits = fits
+message_fits (act.Hello client incarnation version) fits = fits
 message_fits (act.Arrive key call) fits = fits
 message_fits (act.Cancel key) fits = fits
 message_fits act.Tick fits = tt

@@ -15,7 +15,7 @@ use Rattle.rv_book.specs.Steps.{max_entries, max_moment}
 
 -- the message that an act records; a tick is none
 abbrev pub message_in : Act → Option Message
-message_in (act.Hello client incarnation) = Some (message.Hello client incarnation)
+message_in (act.Hello client incarnation version) = Some (message.Hello client incarnation version)
 message_in (act.Arrive key call) = Some (message.Request key call)
 message_in (act.Cancel key) = Some (message.Cancel key)
 message_in act.Tick = None

@@ -110,9 +110,11 @@ fn act_of(message: Message) -> Act
         Message::Hello {
             client,
             incarnation,
+            version,
         } => Act::Hello {
             client,
             incarnation,
+            version,
         },
         Message::Request { key, call } => Act::Arrive { key, call },
         Message::Cancel { key } => Act::Cancel { key },

@@ -81,9 +81,11 @@ fn message_of(alloc: Global, act: &Act) -> Result<Option<Message>, NoMemory>
         Act::Hello {
             client,
             incarnation,
+            version,
         } => Ok(Some(Message::Hello {
             client: *client,
             incarnation: *incarnation,
+            version: *version,
         })),
         Act::Arrive { key, call } => Ok(Some(Message::Request {
             key: *key,

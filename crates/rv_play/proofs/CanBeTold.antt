@@ -55,7 +55,7 @@ delivery_told w v packet sent None shows there comes = can_tell v (event.ToClien
 delivery_told w v packet sent (Some process) shows there comes = outcome_told w v packet sent comes.outcome shows there comes.becomes
 
 pub step_told : (w v : World) (e : Event) (shows : Seen) → Steps w e v shows → CanTell v e shows
-step_told w v (event.Start client incarnation) shows steps = can_tell v (event.Start client incarnation) shows (sees.Sent (length w.to_server)) steps.shown tt
+step_told w v (event.Start client incarnation version) shows steps = can_tell v (event.Start client incarnation version) shows (sees.Sent (length w.to_server)) steps.shown tt
 step_told w v (event.Begin client call) shows steps = can_tell v (event.Begin client call) shows (sees.Sent (length w.to_server)) steps.shown tt
 step_told w v (event.Resend client) shows steps = can_tell v (event.Resend client) shows (sees.Sent (length w.to_server)) steps.shown tt
 step_told w v (event.CancelSent client) shows steps = can_tell v (event.CancelSent client) shows (sees.Sent (length w.to_server)) steps.shown tt

@@ -3,9 +3,12 @@ use Rattle.std.proofs.Common.{◌≡◌, ℕ, List, [], ◌∷◌, ◌++◌, Res
 use Rattle.std.specs.Prelude.{nat_eq}
 use Rattle.std.proofs.lemmas.Bool.{false≢true}
 use Rattle.rv_text.specs.declared.call.Call.{Call}
+use Rattle.rv_text.specs.declared.version.Version.{Version}
+use Rattle.rv_text.specs.declared.version.Version.TheVariants.{One, Two}
 use Rattle.rv_text.specs.declared.fault.TextFault.{TextFault}
 use Rattle.rv_text.specs.declared.fault.TextFault.TheVariants as text
 use Rattle.rv_text.specs.Bodies.{Decodes, IsCallBody}
+use Rattle.rv_text.specs.Limits.{FitsIdentifier}
 use Rattle.rv_lines.specs.Faults.{line_fault}
 use Rattle.rv_lines.specs.declared.fault.LineFault.TheVariants as line
 use Rattle.rv_lines.specs.Number.{Writes, WritesIdentifier}
@@ -15,11 +18,16 @@ use Rattle.rv_world.specs.Limits.{FitsEvent}
 use Rattle.rv_lines.proofs.Cutting.{Lacks, cut_once, digits_lack_space, not_lacking}
 use Rattle.rv_lines.proofs.OneLine.{greater_lack}
 use Rattle.rv_play.specs.Parts.{SaysAtMostBegin, SaysParts}
-use Rattle.rv_play.specs.Reading.{SayRest, SayTwo, SaysEvent, SaysNoEvent, word_of}
+use Rattle.rv_play.specs.Reading.{SayRest, SayTwo, SaysEvent, SaysNoEvent, SaysSession, word_of}
 
 -- what is said keeps its limits
+session_fits : (fields : List ℕ) (incarnation : ℕ) (version : Version) → SaysSession fields incarnation version → FitsIdentifier incarnation
+session_fits fields incarnation One says = says.1
+session_fits fields incarnation Two says = says.says_first.1
+
 pub said_fits : (line : List ℕ) (e : Event) → SaysEvent line e → FitsEvent e
-said_fits line (event.Start client incarnation) says = (says.rest.says_first.1, says.rest.says_second.1)
+said_fits line (event.Start client incarnation version) says =
+    (says.rest.says_first.1, session_fits says.rest.second incarnation version says.rest.says_second)
 said_fits line (event.Begin client call) says = (says.rest.says_first.1, says.rest.says_second.2)
 said_fits line (event.Resend client) says = says.rest.1
 said_fits line (event.CancelSent client) says = says.rest.1
@@ -31,7 +39,7 @@ said_fits line (event.NewEpoch epoch) says = says.rest.1
 -- ---- one cut
 
 word_lacks_space : (e : Event) → Lacks 32 (word_of e)
-word_lacks_space (event.Start client incarnation) = greater_lack 32 (codes "start") refl
+word_lacks_space (event.Start client incarnation version) = greater_lack 32 (codes "start") refl
 word_lacks_space (event.Begin client call) = greater_lack 32 (codes "begin") refl
 word_lacks_space (event.Resend client) = greater_lack 32 (codes "resend") refl
 word_lacks_space (event.CancelSent client) = greater_lack 32 (codes "cancel") refl
@@ -69,6 +77,21 @@ identifier_lacks n f writes = digits_lack_space f writes.0.0.are_digits
 pub number_lacks : (n : ℕ) (f : List ℕ) → Writes f n → Lacks 32 f
 number_lacks n f writes = digits_lack_space f writes.0.are_digits
 
+-- ---- the session of a start
+
+-- without a space it is an incarnation alone
+pub no_session : (fields : List ℕ) → Lacks 32 fields → ((n : ℕ) → ¬ WritesIdentifier fields n) → (incarnation : ℕ) (version : Version) → ¬ SaysSession fields incarnation version
+no_session fields lacks none incarnation One says = none incarnation says
+no_session fields lacks none incarnation Two says = not_two _ _ fields lacks says
+
+-- with one it is an incarnation and the number of version 2
+pub no_session_of_two : (fields first second : List ℕ) → fields ≡ first ++ 32 ∷ second → Lacks 32 first → ((n : ℕ) → WritesIdentifier first n → ¬ (second ≡ codes "2")) → (incarnation : ℕ) (version : Version)
+    → ¬ SaysSession fields incarnation version
+no_session_of_two fields first second is lacks none incarnation One says = not_lacking 32 first second (subst (Lacks 32) is (identifier_lacks incarnation fields says))
+no_session_of_two fields first second is lacks none incarnation Two says =
+    let two = two_fields _ _ fields first second (identifier_lacks incarnation) is lacks says in
+    none incarnation two.0 two.1
+
 -- what is refused for another cause than memory is no call
 pub no_call : (bytes : List ℕ) (decoded : Result Call TextFault) (fault : TextFault) → Decodes Call IsCallBody bytes decoded → decoded ≡ Err fault → line_fault fault ≡ line.Bad → (call : Call) → ¬ IsCallBody bytes call
 no_call bytes decoded text.NoMemory decodes was bad call body = absurd (cc)
@@ -89,7 +112,7 @@ only_begin word fields is none _ says =
 
 pub other_word : (word fields : List ℕ) → ¬ (word ≡ codes "start") → ¬ (word ≡ codes "resend") → ¬ (word ≡ codes "cancel") → ¬ (word ≡ codes "crash") → ¬ (word ≡ codes "server") → ¬ (word ≡ codes "client") → ¬ (word ≡ codes "epoch") → SaysAtMostBegin word fields
 other_word word fields start resend cancel crash server client epoch (event.Begin x y) begin says = begin refl
-other_word word fields start resend cancel crash server client epoch (event.Start x y) begin says = start says.0
+other_word word fields start resend cancel crash server client epoch (event.Start x y z) begin says = start says.0
 other_word word fields start resend cancel crash server client epoch (event.Resend x) begin says = resend says.0
 other_word word fields start resend cancel crash server client epoch (event.CancelSent x) begin says = cancel says.0
 other_word word fields start resend cancel crash server client epoch (event.Crash x) begin says = crash says.0

@@ -1,5 +1,7 @@
 -- Which line of a play says which event.
 use Rattle.std.specs.Prelude.{ℕ, List, codes, ◌∷◌, ◌++◌, ◌≡◌}
+use Rattle.rv_text.specs.declared.version.Version.{Version}
+use Rattle.rv_text.specs.declared.version.Version.TheVariants.{One, Two}
 use Rattle.rv_text.specs.Bodies.{IsCallBody}
 use Rattle.rv_lines.specs.Number.{Writes, WritesIdentifier}
 use Rattle.rv_world.specs.declared.event.Event.{Event}
@@ -7,7 +9,7 @@ use Rattle.rv_world.specs.declared.event.Event.TheVariants as event
 
 -- the word that the line of an event begins with
 abbrev pub word_of : Event → List ℕ
-word_of (event.Start client incarnation) = codes "start"
+word_of (event.Start client incarnation version) = codes "start"
 word_of (event.Begin client call) = codes "begin"
 word_of (event.Resend client) = codes "resend"
 word_of (event.CancelSent client) = codes "cancel"
@@ -24,10 +26,16 @@ pub record SayTwo (First Second : List ℕ → Type 0) (fields : List ℕ) : Typ
   pub says_first : First first
   pub says_second : Second second
 
+-- an incarnation alone is one of version 1; of version 2 one space and that number stand behind it
+abbrev pub SaysSession : List ℕ → ℕ → Version → Type 0
+SaysSession fields incarnation One = WritesIdentifier fields incarnation
+SaysSession fields incarnation Two =
+    SayTwo (λ f. WritesIdentifier f incarnation) (λ f. f ≡ codes "2") fields
+
 -- the fields behind the word say the event; a call is said by any text of it
 abbrev pub SayRest : List ℕ → Event → Type 0
-SayRest fields (event.Start client incarnation) =
-    SayTwo (λ f. WritesIdentifier f client) (λ f. WritesIdentifier f incarnation) fields
+SayRest fields (event.Start client incarnation version) =
+    SayTwo (λ f. WritesIdentifier f client) (λ f. SaysSession f incarnation version) fields
 SayRest fields (event.Begin client call) =
     SayTwo (λ f. WritesIdentifier f client) (λ f. IsCallBody f call) fields
 SayRest fields (event.Resend client) = WritesIdentifier fields client

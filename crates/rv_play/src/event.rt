@@ -4,10 +4,11 @@ ghost use Rattle.rv_lines.specs.Number.{Writes};
 ghost use Rattle.rv_text.specs.declared.call.Call as calls;
 ghost use Rattle.rv_world.specs.declared.event.Event.TheVariants as event;
 ghost use Rattle.rv_play.specs.Parts.{SaysAtMostBegin, SaysParts};
-ghost use Rattle.rv_play.specs.Reading.{SayRest, SaysEvent, SaysNoEvent};
+ghost use Rattle.rv_play.specs.Reading.{SayRest, SaysEvent, SaysNoEvent, SaysSession};
+ghost use Rattle.rv_text.specs.declared.version.Version.{Version};
 
 use rv_lines::{LineFault, cut_at, read_identifier, read_number};
-use rv_text::decode_call;
+use rv_text::{Version, decode_call};
 use rv_world::Event;
 use std::alloc::Global;
 
@@ -59,14 +60,30 @@ fn is_word(bytes: &[u8], word: &[u8]) -> bool
     bytes == word
 }
 
-// The fields of `start`: a client and an incarnation.
+// The fields of `start`: a client, an incarnation and, where it is 2, the version.
 fn start(fields: &[u8]) -> Option<Event>
     ensures says { IfSome result (SaysParts (codes "start") fields.now) }
-    ensures none { result ≡ None → (client incarnation : ℕ)
-        → ¬ SayRest fields.now (event.Start client incarnation) }
+    ensures none { result ≡ None → (client incarnation : ℕ) (version : Version)
+        → ¬ SayRest fields.now (event.Start client incarnation version) }
 {
-    let (client, incarnation) = cut_at(b' ', fields)?;
-    Some(Event::Start(read_identifier(client)?, read_identifier(incarnation)?))
+    let (client, session) = cut_at(b' ', fields)?;
+    let (incarnation, version) = read_session(session)?;
+    Some(Event::Start(read_identifier(client)?, incarnation, version))
+}
+
+// An incarnation of version 1, or one with the version 2 behind it.
+fn read_session(fields: &[u8]) -> Option<(u64, Version)>
+    ensures says { IfSome result (λ session. SaysSession fields.now session.0 session.1) }
+    ensures none { result ≡ None → (incarnation : ℕ) (version : Version)
+        → ¬ SaysSession fields.now incarnation version }
+{
+    match cut_at(b' ', fields) {
+        None => Some((read_identifier(fields)?, Version::One)),
+        Some((incarnation, version)) if is_word(version, b"2") => {
+            Some((read_identifier(incarnation)?, Version::Two))
+        }
+        Some(_) => None,
+    }
 }
 
 // The fields of `begin`: a client and the text of a call.

@@ -8,7 +8,7 @@ use crate::talks::{GIVES, TAKES, Talk};
 use rv_book::Book;
 use rv_frame::testing::{TestReader, TestWriter};
 use rv_server::{Item, Seat, Shared, serve_message};
-use rv_text::Message;
+use rv_text::{Message, Version};
 use std::alloc::AllocGlobal;
 use std::io::{Read, Write};
 use std::marker::Brand;
@@ -161,6 +161,7 @@ fn asks_for_all_seats<L: Ledger, R: Wait + Abort + AllocGlobal>(
     let hello = Message::Hello {
         client: 1,
         incarnation: 1,
+        version: Version::One,
     };
     let _stamp = serve_message(&mut *shared.lock(rt), &mut seats[0], 7, hello);
     all_are_asked_for(rt, shared, seats, [7].as_slice())

@@ -1,4 +1,5 @@
 pub mod Owed
+pub mod Kept
 pub mod Table
 pub mod Standings
 pub mod Meanings

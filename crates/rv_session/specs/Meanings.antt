@@ -1,5 +1,6 @@
 -- What each greeting and each standing says of the table: what a caller learns from the one that it got.
 use Rattle.std.specs.Prelude.{◌≡◌, ◌≢◌, ◌⊎◌, ◌+◌, ◌<◌, ◌≤◌, ℕ, Option, Some, None}
+use Rattle.rv_text.specs.declared.version.Version.{Version}
 use Rattle.rv_text.specs.declared.message.Key.{Key}
 use Rattle.rv_text.specs.declared.answer.Refusal.{Refusal}
 use Rattle.rv_text.specs.declared.answer.Refusal as refusal
@@ -8,6 +9,7 @@ use Rattle.rv_session.specs.declared.session.State.{State}
 use Rattle.rv_session.specs.declared.session.State as state
 use Rattle.rv_session.specs.declared.standing.Greeting.{Greeting}
 use Rattle.rv_session.specs.declared.standing.Greeting.TheVariants.{Again, Unknown, Full, Newer, Older}
+use Rattle.rv_session.specs.declared.standing.Greeting.TheVariants.{OtherVersion}
 use Rattle.rv_session.specs.declared.standing.Standing.{Standing}
 use Rattle.rv_session.specs.declared.standing.Standing.TheVariants.{Refused, Waits, Settled, Next}
 use Rattle.rv_session.specs.Table.{Table, session_of, session_count, waiting_of}
@@ -15,11 +17,17 @@ use Rattle.rv_session.specs.Standings.{max_clients}
 
 -- ---- a hello
 
--- the client has a session of this incarnation
-pub record HasIncarnation (t : Table) (client incarnation : ℕ) : Type 0 where
+-- the client has a session of this incarnation and this version
+pub record HasOpened (t : Table) (client incarnation : ℕ) (version : Version) : Type 0 where
   pub session : Session
   pub there : session_of t client ≡ Some session
   pub same : session.incarnation ≡ incarnation
+  pub version_is : session.version ≡ version
+
+-- the client has a session of this incarnation and another version, which is this one
+pub record HasOther (t : Table) (client incarnation : ℕ) (version current : Version) : Type 0 where
+  pub opened : HasOpened t client incarnation current
+  pub other : version ≢ current
 
 -- the client has a session of a lower incarnation, and this is where its last request waits
 pub record IsNewer (t : Table) (client incarnation : ℕ) (waiting : Option ℕ) : Type 0 where
@@ -35,12 +43,16 @@ pub record IsOlder (t : Table) (client incarnation current : ℕ) : Type 0 where
   pub current_is : current ≡ session.incarnation
   pub greater : incarnation < current
 
-abbrev pub GreetingMeans : Table → ℕ → ℕ → Greeting → Type 0
-GreetingMeans t client incarnation Again = HasIncarnation t client incarnation
-GreetingMeans t client incarnation Unknown = (session_of t client ≡ None) × (session_count t < max_clients)
-GreetingMeans t client incarnation Full = (session_of t client ≡ None) × (max_clients ≤ session_count t)
-GreetingMeans t client incarnation (Newer waiting) = IsNewer t client incarnation waiting
-GreetingMeans t client incarnation (Older current) = IsOlder t client incarnation current
+abbrev pub GreetingMeans : Table → ℕ → ℕ → Version → Greeting → Type 0
+GreetingMeans t client incarnation version Again = HasOpened t client incarnation version
+GreetingMeans t client incarnation version Unknown =
+    (session_of t client ≡ None) × (session_count t < max_clients)
+GreetingMeans t client incarnation version Full =
+    (session_of t client ≡ None) × (max_clients ≤ session_count t)
+GreetingMeans t client incarnation version (Newer waiting) = IsNewer t client incarnation waiting
+GreetingMeans t client incarnation version (Older current) = IsOlder t client incarnation current
+GreetingMeans t client incarnation version (OtherVersion current) =
+    HasOther t client incarnation version current
 
 -- ---- a key
 
@@ -119,6 +131,7 @@ RefusalMeans t key refusal.TheVariants.OtherCall = ⊥
 RefusalMeans t key refusal.TheVariants.ClientsFull = ⊥
 RefusalMeans t key refusal.TheVariants.EpochFull = ⊥
 RefusalMeans t key refusal.TheVariants.NoMemory = ⊥
+RefusalMeans t key (refusal.TheVariants.OtherVersion current) = ⊥
 
 abbrev pub StandingMeans : Table → Key → Standing → Type 0
 StandingMeans t key (Refused refusal) = RefusalMeans t key refusal

@@ -1,6 +1,7 @@
 -- What a table says to a hello and to a key, as functions of the map.
 use Rattle.std.specs.Prelude.{◌≡◌, ◌⊎◌, ◌+◌, ◌==◌, ℕ, Bool, List, [], ◌∷◌, Option, Some, None}
 use Rattle.std.specs.Prelude.{if◌then◌else◌, is_some, nat_lt}
+use Rattle.rv_text.specs.declared.version.Version.{Version}
 use Rattle.rv_text.specs.declared.message.Key.{Key}
 use Rattle.rv_text.specs.declared.answer.Refusal.TheVariants.{OtherEpoch, NoSession, OldIncarnation}
 use Rattle.rv_text.specs.declared.answer.Refusal.TheVariants.{OldNumber, Busy, Gap}
@@ -9,9 +10,11 @@ use Rattle.rv_session.specs.declared.session.State.{State}
 use Rattle.rv_session.specs.declared.session.State as state
 use Rattle.rv_session.specs.declared.standing.Greeting.{Greeting}
 use Rattle.rv_session.specs.declared.standing.Greeting.TheVariants.{Again, Unknown, Full, Newer, Older}
+use Rattle.rv_session.specs.declared.standing.Greeting.TheVariants.{OtherVersion}
 use Rattle.rv_session.specs.declared.standing.Standing.{Standing}
 use Rattle.rv_session.specs.declared.standing.Standing.TheVariants.{Refused, Waits, Settled, Next}
 use Rattle.rv_session.specs.Table.{Table, session_of, session_count, waiting_place}
+use Rattle.rv_text.specs.Versions.{number_of_version}
 
 -- the most clients of an epoch
 abbrev pub max_clients : ℕ
@@ -25,29 +28,33 @@ first_line (line ∷ lines) otherwise = if line.0 then line.1 else first_line li
 -- ---- a hello
 
 -- where the client has a session
-abbrev pub greeting_in : Session → ℕ → Greeting
-greeting_in session incarnation = first_line
+abbrev pub greeting_in : Session → ℕ → Version → Greeting
+greeting_in session incarnation version = first_line
     ((nat_lt incarnation session.incarnation, Older session.incarnation)
-    ∷ (incarnation == session.incarnation, Again)
-    ∷ []) (Newer (waiting_place session.state))
+    ∷ (nat_lt session.incarnation incarnation, Newer (waiting_place session.state))
+    ∷ (number_of_version version == number_of_version session.version, Again)
+    ∷ []) (OtherVersion session.version)
 
 -- where it has none, by how many clients have one
 abbrev pub greeting_new : ℕ → Greeting
 greeting_new count = if nat_lt count max_clients then Unknown else Full
 
-abbrev pub greeting_for : Option Session → ℕ → ℕ → Greeting
-greeting_for None count incarnation = greeting_new count
-greeting_for (Some session) count incarnation = greeting_in session incarnation
+abbrev pub greeting_for : Option Session → ℕ → ℕ → Version → Greeting
+greeting_for None count incarnation version = greeting_new count
+greeting_for (Some session) count incarnation version = greeting_in session incarnation version
 
--- what the hello of an incarnation of the client is to the table
-abbrev pub greeting_of : Table → ℕ → ℕ → Greeting
-greeting_of t client incarnation = greeting_for (session_of t client) (session_count t) incarnation
+-- what the hello of an incarnation and a version of the client is to the table
+abbrev pub greeting_of : Table → ℕ → ℕ → Version → Greeting
+greeting_of t client incarnation version =
+    greeting_for (session_of t client) (session_count t) incarnation version
 
 -- the hello opens a session: of a new client, where there is room, or of a greater incarnation, where
 -- nothing waits
-abbrev pub MayEnter : Table → ℕ → ℕ → Type 0
-MayEnter t client incarnation =
-    (greeting_of t client incarnation ≡ Unknown) ⊎ (greeting_of t client incarnation ≡ Newer None)
+abbrev pub Enters : Greeting → Type 0
+Enters greeting = (greeting ≡ Unknown) ⊎ (greeting ≡ Newer None)
+
+abbrev pub MayEnter : Table → ℕ → ℕ → Version → Type 0
+MayEnter t client incarnation version = Enters (greeting_of t client incarnation version)
 
 -- ---- a key
 

@@ -1,9 +1,11 @@
 -- A table of sessions: the epoch, and a map from clients to their sessions.
-use Rattle.std.specs.Prelude.{◌≡◌, ◌≢◌, ◌+◌, ℕ, Option, Some, None, IsSome, option_and_then, refl}
+use Rattle.std.specs.Prelude.{◌≡◌, ◌≢◌, ◌+◌, ℕ, Option, Some, None, IsSome, option_and_then, option_map, refl}
 use Rattle.std.specs.Ordering.{nat_cmp}
 use Rattle.std.specs.Coded.{Coded, code_by, coded×, coded_ℕ}
 use Rattle.std.specs.FinMap.{FinMap}
 use Rattle.std.specs.FinMap as map
+use Rattle.rv_text.specs.declared.message.Key.{Key}
+use Rattle.rv_text.specs.declared.version.Version.{Version}
 use Rattle.rv_session.specs.declared.kept.Kept.{Kept}
 use Rattle.rv_session.specs.declared.session.Session.{Session}
 use Rattle.rv_session.specs.declared.session.State.{State}
@@ -36,19 +38,28 @@ waiting_place (Settled place kept) = None
 abbrev pub waiting_of : Table → ℕ → Option ℕ
 waiting_of t client = option_and_then (λ session. waiting_place session.state) (session_of t client)
 
+-- the version of the client's session, if it has one
+abbrev pub version_in : Table → ℕ → Option Version
+version_in t client = option_map (λ session. session.version) (session_of t client)
+
 -- a session in which nothing was asked yet
-abbrev pub fresh : ℕ → Session
-fresh incarnation = record { incarnation = incarnation; last = 0; state = Fresh }
+abbrev pub fresh : ℕ → Version → Session
+fresh incarnation version =
+    record { incarnation = incarnation; version = version; last = 0; state = Fresh }
 
--- the session of a request that waits at a place
-abbrev pub waiting_session : ℕ → ℕ → ℕ → Session
-waiting_session incarnation last place =
-    record { incarnation = incarnation; last = last; state = Waits place }
+-- the session of this version with the key's number as its last, of which this stands
+abbrev pub session_for : Key → Version → State → Session
+session_for key version stands =
+    record { incarnation = key.incarnation; version = version; last = key.number; state = stands }
 
--- the session whose last number was settled
-abbrev pub settled_session : ℕ → ℕ → Option ℕ → Kept → Session
-settled_session incarnation last place kept =
-    record { incarnation = incarnation; last = last; state = Settled place kept }
+-- the session with its last number settled
+abbrev pub settled_session : Session → Option ℕ → Kept → Session
+settled_session session place kept = record {
+  incarnation = session.incarnation;
+  version = session.version;
+  last = session.last;
+  state = Settled place kept;
+}
 
 -- the new table has this session of the client, and else it is the old one
 pub record OnlySets (old new : Table) (client : ℕ) (session : Session) : Type 0 where
@@ -58,8 +69,15 @@ pub record OnlySets (old new : Table) (client : ℕ) (session : Session) : Type 
   pub known : IsSome (session_of old client) → session_count new ≡ session_count old
   pub unknown : session_of old client ≡ None → session_count new ≡ session_count old + 1
 
--- the client's session is settled with this, its incarnation and its last number stay, and so does all else
+-- the key's number is the last of its session, and of it stands this; the session's version stays, and so
+-- does all else
+pub record OnlyAdvances (old new : Table) (key : Key) (stands : State) : Type 0 where
+  pub version : Version
+  pub was : version_in old key.client ≡ Some version
+  pub sets : OnlySets old new key.client (session_for key version stands)
+
+-- the client's session is settled with this, all else of it stays, and so do the other sessions
 pub record OnlySettles (old new : Table) (client place : ℕ) (kept : Kept) : Type 0 where
   pub session : Session
   pub there : session_of old client ≡ Some session
-  pub sets : OnlySets old new client (settled_session session.incarnation session.last (Some place) kept)
+  pub sets : OnlySets old new client (settled_session session (Some place) kept)

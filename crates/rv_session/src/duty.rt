@@ -51,6 +51,13 @@ impl Duty {
         self.place
     }
 
+    // The client whose session waits.
+    pub(crate) fn client(&self) -> u64
+        ensures { result ≡ self.now.client }
+    {
+        self.client
+    }
+
     /// Lays the duty aside, with its place and its session.
     pub fn park(self) -> Parked
         ensures { result ≡ self }

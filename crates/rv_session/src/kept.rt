@@ -1,16 +1,23 @@
-//! Replies as they are kept: with places of the account where a reply has a text.
+//! Replies as they are kept: with places of the account where a reply has a text or a key.
+ghost use Rattle.std.specs.Prelude.{◌≡◌};
+ghost use Rattle.rv_session.specs.Kept.{told_in};
+
+use rv_text::Version;
 
 /// An entry's index in the account.
 pub type Place = usize;
 
 /// The reply that is kept for a session's last request. It takes no memory: a text is named by the place
-/// of the arrival that brought it, and the texts of a drain by the drain's own place.
+/// of the arrival that brought it, the texts of a drain by the drain's own place, and a consumer's key by the
+/// place where it arrived.
 #[derive(Clone, Copy, Debug, PartialEq, Eq)]
 pub enum Kept {
     /// A put was accepted.
     Done,
     /// A transfer's item was assigned to a consumer.
     Received,
+    /// A transfer's item was assigned to the consumer that arrived at this place.
+    ReceivedBy(Place),
     /// A transfer that doesn't wait found no consumer.
     Nobody,
     /// A take got the item that arrived at this place.
@@ -29,4 +36,16 @@ pub enum Kept {
     Peeked(Place),
     /// A drain took items in one step. The place is its own: whose items they are, its entry there says.
     Drained(Place),
+}
+
+impl Kept {
+    /// What a session of this version is told of it: in the first, that an item was received, not by whom.
+    pub fn told_in(self, version: Version) -> Kept
+        ensures { result ≡ told_in version self }
+    {
+        match (self, version) {
+            (Kept::ReceivedBy(_), Version::One) => Kept::Received,
+            _ => self,
+        }
+    }
 }

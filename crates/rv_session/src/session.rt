@@ -1,11 +1,11 @@
 //! A client's session: its incarnation, its last number and what stands of it.
 ghost use Rattle.std.specs.Prelude.{◌≡◌};
-ghost use Rattle.rv_session.specs.Table.{fresh, settled_session, waiting_place};
+ghost use Rattle.rv_session.specs.Table.{fresh, session_for, settled_session, waiting_place};
 ghost use Rattle.rv_session.specs.Standings.{greeting_in, standing_in, standing_last};
 
 use crate::kept::{Kept, Place};
 use crate::standing::{Greeting, Standing};
-use rv_text::{Key, Refusal};
+use rv_text::{Key, Refusal, Version};
 
 /// What stands of a session's last number.
 #[derive(Clone, Copy, Debug, PartialEq, Eq)]
@@ -23,6 +23,8 @@ pub enum State {
 pub struct Session {
     /// The incarnation of the client's last hello.
     pub incarnation: u64,
+    /// The version of that hello.
+    pub version: Version,
     /// The last number; 0 before the first.
     pub last: u64,
     /// What stands of the last number.
@@ -58,23 +60,24 @@ impl State {
 
 impl Session {
     // A session in which nothing was asked yet.
-    pub(crate) fn fresh(incarnation: u64) -> Session
-        ensures { result ≡ fresh incarnation }
+    pub(crate) fn fresh(incarnation: u64, version: Version) -> Session
+        ensures { result ≡ fresh incarnation version }
     {
         Session {
             incarnation,
+            version,
             last: 0,
             state: State::Fresh,
         }
     }
 
     // The session of a key whose number is the last from now on, with what stands of it.
-    pub(crate) fn of(key: &Key, state: State) -> Session
-        ensures { result
-            ≡ record { incarnation = key.now.incarnation; last = key.now.number; state = state } }
+    pub(crate) fn of(key: &Key, version: Version, state: State) -> Session
+        ensures { result ≡ session_for key.now version state }
     {
         Session {
             incarnation: key.incarnation,
+            version,
             last: key.number,
             state,
         }
@@ -82,28 +85,32 @@ impl Session {
 
     // The session with its last number settled.
     pub(crate) fn settled(&self, place: Option<Place>, kept: Kept) -> Session
-        ensures { result ≡ settled_session self.now.incarnation self.now.last place kept }
+        ensures { result ≡ settled_session self.now place kept }
     {
         Session {
             incarnation: self.incarnation,
+            version: self.version,
             last: self.last,
             state: State::Settled { place, kept },
         }
     }
 
-    // What a hello of an incarnation is to the session.
-    pub(crate) fn greeting(&self, incarnation: u64) -> Greeting
-        ensures { result ≡ greeting_in self.now incarnation }
+    // What a hello of an incarnation and a version is to the session.
+    pub(crate) fn greeting(&self, incarnation: u64, version: Version) -> Greeting
+        ensures { result ≡ greeting_in self.now incarnation version }
     {
         if incarnation < self.incarnation {
             return Greeting::Older(self.incarnation);
         }
-        if incarnation == self.incarnation {
-            return Greeting::Again;
+        if incarnation > self.incarnation {
+            return Greeting::Newer {
+                waiting: self.state.waiting(),
+            };
         }
-        Greeting::Newer {
-            waiting: self.state.waiting(),
+        if version != self.version {
+            return Greeting::OtherVersion(self.version);
         }
+        Greeting::Again
     }
 
     // What stands of a key of the client.

@@ -1,4 +1,4 @@
-//! The table of sessions: for each client its incarnation, its last number and what stands of it.
+//! The table of sessions: for each client its incarnation, version, last number and what stands of it.
 ghost use Rattle.std.specs.Prelude.{◌≡◌, ◌<◌, Some, None, IsSome, OnOk, OnErr};
 ghost use Rattle.rv_session.specs.Table.{fresh};
 
@@ -7,7 +7,7 @@ use crate::kept::{Kept, Place};
 use crate::session::{Session, State};
 use crate::standing::{Greeting, Standing};
 use indexmap::IndexMap;
-use rv_text::{Key, NoMemory, Refusal};
+use rv_text::{Key, NoMemory, Refusal, Version};
 use std::alloc::Global;
 use std::marker::Model;
 
@@ -42,11 +42,11 @@ impl Model for Sessions {
 impl Sessions {
     ghost use Rattle.std.specs.Prelude.{IsOk, ◌≤◌};
     ghost use Rattle.std.specs.FinMap.{empty};
-    ghost use Rattle.rv_session.specs.declared.session.State.TheVariants.{Waits};
+    ghost use Rattle.rv_session.specs.declared.session.State.TheVariants.{Settled, Waits};
     ghost use Rattle.rv_session.specs.declared.kept.Kept.TheVariants.{Cancelled};
     ghost use Rattle.rv_session.specs.declared.standing.Standing.TheVariants.{Next};
-    ghost use Rattle.rv_session.specs.Table.{OnlySets, OnlySettles, settled_session, waiting_session};
-    ghost use Rattle.rv_session.specs.Table.{session_of, session_count, waiting_of};
+    ghost use Rattle.rv_session.specs.Table.{OnlyAdvances, OnlySets, OnlySettles};
+    ghost use Rattle.rv_session.specs.Table.{session_of, session_count, version_in, waiting_of};
     ghost use Rattle.rv_session.specs.Meanings.{GreetingMeans, StandingMeans};
     ghost use Rattle.rv_session.specs.Standings.{MayEnter, greeting_of, max_clients, standing_of};
 
@@ -87,31 +87,31 @@ impl Sessions {
         }
     }
 
-    /// What the hello of an incarnation of a client is to the table.
-    pub fn greet(&self, client: u64, incarnation: u64) -> Greeting
-        ensures greeting { result ≡ greeting_of self.now client incarnation }
-        ensures means { GreetingMeans self.now client incarnation result }
+    /// What the hello of an incarnation and a version of a client is to the table.
+    pub fn greet(&self, client: u64, incarnation: u64, version: Version) -> Greeting
+        ensures greeting { result ≡ greeting_of self.now client incarnation version }
+        ensures means { GreetingMeans self.now client incarnation version result }
         ensures bounded { session_count self.now ≤ max_clients }
     {
         let has_room = self.sessions.len() < MAX_CLIENTS;
         match self.session_of(client) {
-            Some(session) => session.greeting(incarnation),
+            Some(session) => session.greeting(incarnation, version),
             None if has_room => Greeting::Unknown,
             None => Greeting::Full,
         }
     }
 
-    /// Opens the session of an incarnation of a client, in which nothing was asked yet. It is asked where
-    /// [`greet`](Sessions::greet) gives `Unknown` or `Newer` with nothing that waits. For a client that
-    /// has a session it takes no memory and succeeds; for another it fails only where memory was refused,
-    /// and then nothing changes.
-    pub fn enter(&mut self, client: u64, incarnation: u64) -> Result<(), NoMemory>
-        requires { MayEnter self.old client incarnation }
-        ensures ok { OnOk result (OnlySets self.old self.new client (fresh incarnation)) }
+    /// Opens the session of an incarnation and a version of a client, in which nothing was asked yet. It is
+    /// asked where [`greet`](Sessions::greet) gives `Unknown` or `Newer` with nothing that waits. For a
+    /// client that has a session it takes no memory and succeeds; for another it fails only where memory was
+    /// refused, and then nothing changes.
+    pub fn enter(&mut self, client: u64, incarnation: u64, version: Version) -> Result<(), NoMemory>
+        requires { MayEnter self.old client incarnation version }
+        ensures ok { OnOk result (OnlySets self.old self.new client (fresh incarnation version)) }
         ensures err { OnErr result (self.new ≡ self.old) }
         ensures known { IsSome (session_of self.old client) → IsOk result }
     {
-        self.put(client, Session::fresh(incarnation))
+        self.put(client, Session::fresh(incarnation, version))
     }
 
     /// What stands of a key: why it is refused, what stands of its session's last number, or that it is
@@ -130,16 +130,33 @@ impl Sessions {
         }
     }
 
+    // Makes a next number its session's last, of which this stands.
+    fn advance(&mut self, key: &Key, state: State)
+        requires { standing_of self.old key.now ≡ Next }
+        ensures { OnlyAdvances self.old self.new key.now state }
+    {
+        if let Some(session) = self.session_of(key.client) {
+            self.set(key.client, Session::of(key, session.version, state));
+        }
+    }
+
     /// Makes a next number its session's last, whose request arrived at a place and waits there, and gives
     /// the one duty to settle it.
     pub fn begin(&mut self, key: &Key, place: Place) -> Duty
         requires { standing_of self.old key.now ≡ Next }
         ensures duty { result ≡ record { place = place; client = key.now.client } }
-        ensures waits { OnlySets self.old self.new key.now.client
-            (waiting_session key.now.incarnation key.now.number place) }
+        ensures waits { OnlyAdvances self.old self.new key.now (Waits place) }
     {
-        self.set(key.client, Session::of(key, State::Waits(place)));
+        self.advance(key, State::Waits(place));
         Duty::new(place, key.client)
+    }
+
+    /// The version of the session that a duty is for.
+    pub fn version(&self, duty: &Duty) -> Version
+        requires { waiting_of self.now duty.now.client ≡ Some duty.now.place }
+        ensures { version_in self.now duty.now.client ≡ Some result }
+    {
+        self.session_of(duty.client()).unwrap().version
     }
 
     /// Settles the request that a duty is for: from now on the reply that is kept for it stands. It is
@@ -157,13 +174,12 @@ impl Sessions {
     /// Makes a next number its session's last, and settles it as cancelled: no request arrived with it.
     pub fn bury(&mut self, key: &Key)
         requires { standing_of self.old key.now ≡ Next }
-        ensures { OnlySets self.old self.new key.now.client
-            (settled_session key.now.incarnation key.now.number None Cancelled) }
+        ensures { OnlyAdvances self.old self.new key.now (Settled None Cancelled) }
     {
         let cancelled = State::Settled {
             place: None,
             kept: Kept::Cancelled,
         };
-        self.set(key.client, Session::of(key, cancelled));
+        self.advance(key, cancelled);
     }
 }

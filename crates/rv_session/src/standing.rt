@@ -1,11 +1,11 @@
 //! What a table of sessions says to a hello and to a key.
 use crate::kept::{Kept, Place};
-use rv_text::Refusal;
+use rv_text::{Refusal, Version};
 
-/// What a hello of an incarnation is to the table.
+/// What a hello of an incarnation and a version is to the table.
 #[derive(Clone, Copy, Debug, PartialEq, Eq)]
 pub enum Greeting {
-    /// The client's session has this incarnation already.
+    /// The client's session has this incarnation and this version already.
     Again,
     /// The client has no session, and there is room for one.
     Unknown,
@@ -15,6 +15,8 @@ pub enum Greeting {
     Newer { waiting: Option<Place> },
     /// The client's session has a greater incarnation, which is given.
     Older(u64),
+    /// The client's session has this incarnation, and another version, which is given.
+    OtherVersion(Version),
 }
 
 /// What stands of a key.

@@ -5,7 +5,7 @@ ghost use Rattle.rv_text.specs.Limits.{FitsCall, FitsMessage};
 use rv_client::{Called, Greeted, Heard, Idle, LinkFault, New, ask, call, laws};
 use rv_frame::testing::{Stop, TestReader, TestWriter};
 use rv_frame::{Sink, Source};
-use rv_text::{Answer, Call, Item, Key, Message, Refusal, Reply, Wait};
+use rv_text::{Answer, Call, Item, Key, Message, Refusal, Reply, Version, Wait};
 use std::alloc::{AllocError, Global};
 use std::io::{ErrorKind, Read, Write};
 use std::process::Abort;
@@ -64,8 +64,9 @@ fn idle() -> Result<Idle, Fail>
         epoch: 1,
         client: 2,
         incarnation: 1,
+        version: Version::One,
     };
-    match New::start(2, 1).welcome(&welcome) {
+    match New::start(2, 1, Version::One).welcome(&welcome) {
         Greeted::Idle(idle) => Ok(idle),
         _ => Err(Fail::new("it isn't welcome")),
     }
@@ -209,7 +210,7 @@ fn an_answer_is_read_to_its_last_byte_and_no_further(rt: HostRuntime) -> Result<
     }
     let mut bytes = frames(alloc, [body.as_slice()].as_slice())?;
     bytes.push(0)?;
-    let hello = New::start(1, 1).message();
+    let hello = New::start(1, 1, Version::One).message();
     let request = frames(alloc, [HELLO].as_slice())?;
     let waiting = Ok(Answer::Waiting { key: key(2, 1, 1) });
     for (count, want) in [(65_538, waiting), (65_536, Err(LinkFault::Closed))] {
@@ -278,7 +279,7 @@ fn the_longest_items_are_sent_and_heard(rt: HostRuntime) -> Result<(), Fail> {
 fn a_read_that_fails(rt: HostRuntime) -> Result<(), Fail> {
     let alloc = rt.alloc();
     let bytes = frames(alloc, [REPLY].as_slice())?;
-    let hello = New::start(1, 1).message();
+    let hello = New::start(1, 1, Version::One).message();
     for fault in 1..93 {
         let mut reader = TestReader::new(&bytes, 1).failing_at(fault, ErrorKind::Interrupted);
         let mut source = Source::new(&mut reader);
@@ -297,7 +298,7 @@ fn a_read_that_fails(rt: HostRuntime) -> Result<(), Fail> {
 fn a_write_that_fails(rt: HostRuntime) -> Result<(), Fail> {
     let alloc = rt.alloc();
     let bytes = frames(alloc, [REPLY].as_slice())?;
-    let hello = New::start(1, 1).message();
+    let hello = New::start(1, 1, Version::One).message();
     for room in 0..45 {
         for stop in [Stop::TakesNothing, Stop::Error(ErrorKind::Other)] {
             let mut reader = TestReader::new(&bytes, 1);
@@ -382,7 +383,7 @@ fn converse<R: Read, W: Write>(
     sink: &mut Sink<W>,
 ) -> Result<(Reply, Reply), Fail> {
     laws::keys_fit();
-    let new = New::start(2, 1);
+    let new = New::start(2, 1, Version::One);
     let answer = ask(alloc, source, sink, &new.message())?;
     let Greeted::Idle(idle) = new.welcome(&answer) else {
         return Err(Fail::new("it isn't welcome"));

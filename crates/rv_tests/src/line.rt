@@ -1,6 +1,6 @@
 //! A short way to write messages and entries by hand.
 use rv_book::{Act, Book, Entry, Partners, Place};
-use rv_text::{Answer, Call, Item, Key, Message, NoMemory, Wait};
+use rv_text::{Answer, Call, Item, Key, Message, NoMemory, Version, Wait};
 use std::alloc::{AllocGlobal, Global};
 use std::process::Abort;
 
@@ -12,18 +12,20 @@ enum Does {
     Put(&'static str),
     Transfer(&'static str),
     Take,
+    Drain(u64),
     Count,
     Peek,
 }
 
-/// A message to a book, or an entry of an account. It is of epoch 1, incarnation 1 and queue 3, at
-/// moment 0, without a wait and without partners, unless changed.
+/// A message to a book, or an entry of an account. It is of epoch 1, incarnation 1, version 1 and queue 3,
+/// at moment 0, without a wait and without partners, unless changed.
 #[derive(Clone, Copy)]
 pub(crate) struct Line {
     moment: u64,
     key: Key,
     queue: u64,
     does: Does,
+    version: Version,
     wait: Wait,
     partners: &'static [Place],
 }
@@ -42,6 +44,10 @@ pub(crate) fn transfer(client: u64, number: u64, text: &'static str) -> Line {
 
 pub(crate) fn take(client: u64, number: u64) -> Line {
     Line::of(client, number, Does::Take)
+}
+
+pub(crate) fn drain(client: u64, number: u64, max: u64) -> Line {
+    Line::of(client, number, Does::Drain(max))
 }
 
 pub(crate) fn count(client: u64, number: u64) -> Line {
@@ -78,6 +84,7 @@ impl Line {
             key,
             queue: 3,
             does,
+            version: Version::One,
             wait: Wait::Now,
             partners: &[],
         }
@@ -113,6 +120,12 @@ impl Line {
         self
     }
 
+    /// The same hello, for version 2.
+    pub(crate) fn for_keys(mut self) -> Line {
+        self.version = Version::Two;
+        self
+    }
+
     /// The same line of another epoch.
     pub(crate) fn in_epoch(mut self, epoch: u64) -> Line {
         self.key.epoch = epoch;
@@ -129,6 +142,7 @@ impl Line {
         let Line {
             key,
             queue,
+            version,
             wait,
             ..
         } = *self;
@@ -137,6 +151,7 @@ impl Line {
                 return Ok(Act::Hello {
                     client: key.client,
                     incarnation: key.incarnation,
+                    version,
                 });
             }
             Does::Cancel => return Ok(Act::Cancel { key }),
@@ -151,6 +166,7 @@ impl Line {
                 wait,
             },
             Does::Take => Call::Take { queue, wait },
+            Does::Drain(max) => Call::Drain { queue, max },
             Does::Count => Call::Count { queue },
             Does::Peek => Call::Peek { queue },
         };
@@ -163,9 +179,11 @@ impl Line {
             Act::Hello {
                 client,
                 incarnation,
+                version,
             } => Some(Message::Hello {
                 client,
                 incarnation,
+                version,
             }),
             Act::Arrive { key, call } => Some(Message::Request { key, call }),
             Act::Cancel { key } => Some(Message::Cancel { key }),

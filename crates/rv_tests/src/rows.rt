@@ -1,6 +1,6 @@
 //! Worked rows, and the entries that a book has after each, also where a growth is refused. With ample memory
 //! none is; under `rt try --test --fail-alloc N` the Nth is, and what it stopped is asked again.
-use crate::line::{Line, cancel, count, hello, peek, put, take, tick, transfer};
+use crate::line::{Line, cancel, count, drain, hello, peek, put, take, tick, transfer};
 use rv_book::{Account, Act, Book};
 use rv_text::{Answer, NoMemory, Refusal};
 use std::alloc::AllocGlobal;
@@ -215,5 +215,37 @@ fn moments_never_fall(rt: HostRuntime) -> Result<(), Fail> {
     let last = empty.at(4_611_686_018_427_387_904);
     let entries = [one.at(4), two.at(8), a.at(8), got.meeting(&[2]), last];
     records(&rt, 4, &sent, &entries)?;
+    Ok(())
+}
+
+#[test]
+fn a_hello_of_another_version_is_not_recorded(rt: HostRuntime) -> Result<(), Fail> {
+    let [one, two, anew] = [hello(1, 1).for_keys(), hello(2, 1), hello(1, 2).at(4)];
+    let [a, got] = [transfer(1, 1, "a").waits(), take(2, 1).at(1)];
+    let b = transfer(2, 2, "b").waits().on(4).at(2);
+    let drained = drain(1, 2, 16).on(4).at(2);
+    let sent = [
+        one,
+        two,
+        hello(1, 1),
+        a,
+        got,
+        a.at(1),
+        b,
+        drained,
+        b.at(3),
+        hello(2, 1).for_keys().at(3),
+        anew,
+    ];
+    let entries = [
+        one,
+        two,
+        a,
+        got.meeting(&[2]),
+        b,
+        drained.meeting(&[4]),
+        anew,
+    ];
+    records(&rt, 0, &sent, &entries)?;
     Ok(())
 }

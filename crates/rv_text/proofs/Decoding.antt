@@ -33,7 +33,7 @@ module _ (A : Type 0) (shape : Shape A) (reader : IsReader A shape) where
   IsAlone-members_of x fits =
       let distinct = (reader.sound x).distinct in
       record {
-        found = reader.finds (members_of (shape.row x)) x (found-with_fields (fields_of x) distinct);
+        found = reader.finds (members_of (shape.row x)) x fits (found-with_fields (fields_of x) distinct) (reader.lacks x);
         whole = members_len-with_fields (fields_of x) distinct ∙ length-map (shape.row x) field_of;
         fits = fits;
       }

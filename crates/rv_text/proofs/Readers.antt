@@ -1,6 +1,7 @@
 -- A call or a message is found exactly where the members of its row are.
-use Rattle.std.proofs.Common.{◌≡◌, ℕ, List, codes}
-use Rattle.std.proofs.Common.{Option, Some, None, refl}
+use Rattle.std.proofs.Common.{◌≡◌, ◌==◌, ℕ, List, [], ◌∷◌, codes, Bool, true, false, if◌then◌else◌}
+use Rattle.std.proofs.Common.{Option, Some, None, refl, subst}
+use Rattle.std.proofs.lemmas.Bool.Decides.{Decides-eqb}
 use Rattle.serde_json.specs.Data.{unsigned, number, string, Members}
 use Rattle.rv_text.specs.declared.message.Key.{Key}
 use Rattle.rv_text.specs.declared.message.Message.{Message}
@@ -9,13 +10,26 @@ use Rattle.rv_text.specs.declared.call.Wait.{Wait}
 use Rattle.rv_text.specs.declared.call.Wait.TheVariants as wait
 use Rattle.rv_text.specs.declared.call.Call.{Call}
 use Rattle.rv_text.specs.declared.call.Call.TheVariants as call
-use Rattle.rv_text.specs.Members.{wait_value}
-use Rattle.rv_text.specs.Rows.{key_row, call_row, message_row}
+use Rattle.rv_text.specs.declared.version.Version.{Version}
+use Rattle.rv_text.specs.declared.version.Version.TheVariants.{One, Two}
+use Rattle.rv_text.specs.Members.{wait_value, members_of}
+use Rattle.rv_text.specs.Rows.{key_row, call_row, version_row, message_row}
+use Rattle.rv_text.specs.Limits.{FitsMessage}
 use Rattle.rv_text.specs.Reading.{◌>>=◌, whole_among, queue_among, item_among, wait_lines, wait_word_among, by_number, wait_among}
 use Rattle.rv_text.specs.Reading.{key_among, hello_among, request_among, cancel_among, call_lines, call_among, message_lines, message_among}
-use Rattle.rv_text.specs.Reading.{messages, calls}
+use Rattle.rv_text.specs.Reading.{version_told, version_among, messages, calls}
 use Rattle.rv_text.proofs.Sound.{call_sound, message_sound}
-use Rattle.rv_text.proofs.Steps.{step_found, last_found, Has, HasRow, whole_found, text_found, among_found, IsReader}
+use Rattle.rv_text.proofs.Steps.{step_found, last_found, Has, HasRow, whole_found, text_found, among_found, Lacks, IsReader}
+
+-- version 1 is told by no member
+abbrev pub without_version : Version → List (List ℕ)
+without_version One = codes "version" ∷ []
+without_version Two = []
+
+abbrev without_message : Message → List (List ℕ)
+without_message (message.Hello client incarnation version) = without_version version
+without_message (message.Request key call) = []
+without_message (message.Cancel key) = []
 
 module _ (ms : Members) where
   -- ---- keys and calls
@@ -113,12 +127,29 @@ module _ (ms : Members) where
   abbrev HasMessage : Message → Type 0
   HasMessage message = HasRow ms (message_row message)
 
+  chosen_version : (n : ℕ) (is_two : Bool) → (is_two ≡ true → n ≡ 2) → Has ms (codes "version", number (unsigned n))
+      → HasRow ms (version_row (if is_two then Two else One))
+  chosen_version n true two has = (subst (λ (k : ℕ). Has ms (codes "version", number (unsigned k))) (two refl) has, tt)
+  chosen_version n false two has = tt
+
+  version_told_there : (told : Option ℕ) → whole_among (codes "version") ms ≡ told → HasRow ms (version_row (version_told told))
+  version_told_there None is = tt
+  version_told_there (Some n) is = chosen_version n (n == 2) (Decides-eqb n 2).0 (whole_found ms (codes "version") n is)
+
+  -- the version that is found is told there
+  pub version_found : HasRow ms (version_row (version_among ms))
+  version_found = version_told_there (whole_among (codes "version") ms) refl
+
+  pub find_version : (version : Version) → HasRow ms (version_row version) → Lacks (without_version version) ms → version_among ms ≡ version
+  find_version One has lacks = rw lacks.0 refl
+  find_version Two has lacks = rw has.0 refl
+
   hello_found : Has ms (codes "kind", string (codes "hello")) → (message : Message) → hello_among ms ≡ Some message → HasMessage message
   hello_found word =
       step_found HasMessage (whole_among (codes "client") ms) _ (λ client c.
       step_found HasMessage (whole_among (codes "incarnation") ms) _ (λ incarnation i.
-      last_found HasMessage (message.Hello client incarnation)
-      (word, (whole_found ms (codes "client") client c, (whole_found ms (codes "incarnation") incarnation i, tt)))))
+      last_found HasMessage (message.Hello client incarnation (version_among ms))
+      (word, (whole_found ms (codes "client") client c, (whole_found ms (codes "incarnation") incarnation i, version_found)))))
 
   request_found : Has ms (codes "kind", string (codes "request")) → (message : Message) → request_among ms ≡ Some message → HasMessage message
   request_found word =
@@ -134,15 +165,34 @@ module _ (ms : Members) where
   message_found : (message : Message) → message_among ms ≡ Some message → HasMessage message
   message_found = among_found ms HasMessage (codes "kind") message_lines (hello_found, (request_found, (cancel_found, tt)))
 
-  find_message : (message : Message) → HasMessage message → message_among ms ≡ Some message
-  find_message (message.Hello client incarnation) has = rw (has.0, has.1.0, has.1.1.0) refl
-  find_message (message.Request key call) has =
+  find_message : (message : Message) → FitsMessage message → HasMessage message → Lacks (without_message message) ms → message_among ms ≡ Some message
+  find_message (message.Hello client incarnation version) fits has lacks =
+      rw (has.0, has.1.0, has.1.1.0, find_version version has.1.1.1 lacks) refl
+  find_message (message.Request key call) fits has lacks =
       let of_key = find_key key (has.1.0, (has.1.1.0, (has.1.1.1.0, (has.1.1.1.1.0, tt)))) in
       rw (has.0, of_key, find_call call has.1.1.1.1.1) refl
-  find_message (message.Cancel key) has = rw (has.0, find_key key has.1) refl
+  find_message (message.Cancel key) fits has lacks = rw (has.0, find_key key has.1) refl
+
+message_lacks : (message : Message) → Lacks (without_message message) (members_of (message_row message))
+message_lacks (message.Hello client incarnation One) = (refl, tt)
+message_lacks (message.Hello client incarnation Two) = tt
+message_lacks (message.Request key call) = tt
+message_lacks (message.Cancel key) = tt
 
 pub message_reader : IsReader Message messages
-message_reader = record { sound = message_sound; has = message_found; finds = find_message }
+message_reader = record {
+  sound = message_sound;
+  has = message_found;
+  without = without_message;
+  lacks = message_lacks;
+  finds = find_message;
+}
 
 pub call_reader : IsReader Call calls
-call_reader = record { sound = call_sound; has = call_found; finds = find_call }
+call_reader = record {
+  sound = call_sound;
+  has = call_found;
+  without = λ call. [];
+  lacks = λ call. tt;
+  finds = λ ms call fits has lacks. find_call ms call has;
+}

@@ -1,5 +1,7 @@
 -- What holds of the row of each message, call and answer: no name stands twice, all is plain, and there is room for it.
 use Rattle.std.proofs.Common.{◌≡◌, ℕ, ◌≤◌, List, [], ◌∷◌, ◌++◌, map, codes, true, Option, Some, None, IfSome, IsUtf8, refl, arith}
+use Rattle.rv_text.specs.declared.version.Version.{Version}
+use Rattle.rv_text.specs.declared.version.Version.TheVariants.{One, Two}
 use Rattle.rv_text.specs.declared.message.Key.{Key}
 use Rattle.rv_text.specs.declared.message.Message.{Message}
 use Rattle.rv_text.specs.declared.message.Message.TheVariants as message
@@ -16,7 +18,7 @@ use Rattle.rv_text.specs.declared.answer.Answer.{Answer}
 use Rattle.rv_text.specs.declared.answer.Answer.TheVariants as answer
 use Rattle.rv_text.specs.Calls.{Nature, nature_of, item_of}
 use Rattle.rv_text.specs.Members.{Member, word, field_of, members_of, Keeps, code_numbers, IsWithin}
-use Rattle.rv_text.specs.Rows.{key_row, side_row, wait_row, max_or_wait_row, item_row, nature_row, call_row, message_row, reply_row, code_of, detail_row, answer_row}
+use Rattle.rv_text.specs.Rows.{version_row, key_row, side_row, wait_row, max_or_wait_row, item_row, nature_row, call_row, message_row, reply_row, code_of, detail_row, answer_row}
 use Rattle.rv_text.specs.Limits.{FitsKey, FitsMessage, FitsAnswer}
 use Rattle.rv_text.specs.Bodies.{HasUtf8, ReplyHasUtf8, AnswerHasUtf8}
 use Rattle.rv_text.proofs.Objects.{are_distinct}
@@ -79,7 +81,8 @@ call_sound call =
     call_parts_sound nature.word nature.side nature.wait nature.drains nature.item (call_word call)
 
 pub message_sound : (message : Message) → IsSound (message_row message)
-message_sound (message.Hello client incarnation) = record { distinct = refl; plain = refl; room = omega arith; in_order = refl }
+message_sound (message.Hello client incarnation One) = record { distinct = refl; plain = refl; room = omega arith; in_order = refl }
+message_sound (message.Hello client incarnation Two) = record { distinct = refl; plain = refl; room = omega arith; in_order = refl }
 message_sound (message.Request key call) =
     let nature = nature_of call in
     request_sound key nature.word nature.side nature.wait nature.drains nature.item (call_word call)
@@ -88,8 +91,12 @@ message_sound (message.Cancel key) = record { distinct = refl; plain = refl; roo
 key_within : (key : Key) (row : List Member) → FitsKey key → Each IsWithin row → Each IsWithin (key_row key ++ row)
 key_within key row fits rest = (fits.0, (fits.1, (fits.2, (fits.3, rest))))
 
+version_within : (version : Version) → Each IsWithin (version_row version)
+version_within One = tt
+version_within Two = ((omega arith, omega arith), tt)
+
 pub message_within : (message : Message) → FitsMessage message → Each IsWithin (message_row message)
-message_within (message.Hello client incarnation) fits = (tt, (fits.0, (fits.1, tt)))
+message_within (message.Hello client incarnation version) fits = (tt, (fits.0, (fits.1, version_within version)))
 message_within (message.Request key call) fits = (tt, key_within key (call_row call) fits.0 (each_within (call_row call) fits.1.0))
 message_within (message.Cancel key) fits = (tt, key_within key [] fits tt)
 
@@ -116,8 +123,12 @@ call_text call utf8 =
     let rest = Each-append IsText max_or_wait (item_row n.item) (max_or_wait_text n.drains n.wait) (item_is_text n.item utf8) in
     (tt, Each-append IsText (side_row n.side) (max_or_wait ++ item_row n.item) (side_text n.side) rest)
 
+version_text : (version : Version) → Each IsText (version_row version)
+version_text One = tt
+version_text Two = (tt, tt)
+
 pub message_has_text : (message : Message) → HasUtf8 message → Each IsText (message_row message)
-message_has_text (message.Hello client incarnation) utf8 = (tt, (tt, (tt, tt)))
+message_has_text (message.Hello client incarnation version) utf8 = (tt, (tt, (tt, version_text version)))
 message_has_text (message.Request key call) utf8 = (tt, (tt, (tt, (tt, (tt, call_text call utf8)))))
 message_has_text (message.Cancel key) utf8 = (tt, (tt, (tt, (tt, (tt, tt)))))
 
@@ -132,7 +143,8 @@ refusal_sound refusal.BadText = record { distinct = refl; plain = refl; room = o
 refusal_sound _ = record { distinct = refl; plain = refl; room = omega arith; in_order = refl }
 
 pub answer_sound : (answer : Answer) → IsSound (answer_row answer)
-answer_sound (answer.Welcome epoch client incarnation) = record { distinct = refl; plain = refl; room = omega arith; in_order = refl }
+answer_sound (answer.Welcome epoch client incarnation One) = record { distinct = refl; plain = refl; room = omega arith; in_order = refl }
+answer_sound (answer.Welcome epoch client incarnation Two) = record { distinct = refl; plain = refl; room = omega arith; in_order = refl }
 answer_sound (answer.Replied key reply) = reply_sound key reply
 answer_sound (answer.Waiting key) = record { distinct = refl; plain = refl; room = omega arith; in_order = refl }
 answer_sound (answer.Refused refusal) = refusal_sound refusal
@@ -142,7 +154,7 @@ code_within refusal.BadText = (omega arith, omega arith)
 code_within _ = (omega arith, omega arith)
 
 pub answer_within : (answer : Answer) → FitsAnswer answer → Each IsWithin (answer_row answer)
-answer_within (answer.Welcome epoch client incarnation) fits = (tt, (fits.0, (fits.1, (fits.2, tt))))
+answer_within (answer.Welcome epoch client incarnation version) fits = (tt, (fits.0, (fits.1, (fits.2, version_within version))))
 answer_within (answer.Replied key reply) fits = (tt, key_within key (reply_row reply) fits.0 (each_within (reply_row reply) fits.1))
 answer_within (answer.Waiting key) fits = (tt, key_within key [] fits tt)
 answer_within (answer.Refused refusal) fits = (tt, (code_within refusal, each_within (detail_row refusal) fits))
@@ -153,6 +165,7 @@ reply_text (reply.Swapped item) utf8 = (tt, (utf8, tt))
 reply_text (reply.Peeked item) utf8 = (tt, (utf8, tt))
 reply_text (reply.Drained items) utf8 = (tt, (utf8, tt))
 reply_text (reply.Counted items consumers) utf8 = (tt, (tt, (tt, tt)))
+reply_text (reply.ReceivedBy taker) utf8 = (tt, (tt, (tt, (tt, tt))))
 reply_text _ utf8 = (tt, tt)
 
 detail_text : (refusal : Refusal) → Each IsText (detail_row refusal)
@@ -161,10 +174,11 @@ detail_text (refusal.OldIncarnation current) = (tt, tt)
 detail_text (refusal.OldNumber last) = (tt, tt)
 detail_text (refusal.Busy waiting) = (tt, tt)
 detail_text (refusal.Gap last) = (tt, tt)
+detail_text (refusal.OtherVersion current) = (tt, tt)
 detail_text _ = tt
 
 pub answer_has_text : (answer : Answer) → AnswerHasUtf8 answer → Each IsText (answer_row answer)
-answer_has_text (answer.Welcome epoch client incarnation) utf8 = (tt, (tt, (tt, (tt, tt))))
+answer_has_text (answer.Welcome epoch client incarnation version) utf8 = (tt, (tt, (tt, (tt, version_text version))))
 answer_has_text (answer.Replied key reply) utf8 = (tt, (tt, (tt, (tt, (tt, reply_text reply utf8)))))
 answer_has_text (answer.Waiting key) utf8 = (tt, (tt, (tt, (tt, (tt, tt)))))
 answer_has_text (answer.Refused refusal) utf8 = (tt, (tt, detail_text refusal))

@@ -11,7 +11,7 @@ use Rattle.serde_json.specs.declared.value.Value.{Value}
 use Rattle.serde_json.proofs.Views.{members_len-members_view}
 use Rattle.serde_json.specs.Events.{members_len}
 use Rattle.serde_json.specs.Find.{get_member, as_number, as_u64, as_str, as_array}
-use Rattle.rv_text.specs.Members.{Member, Field, field_of, texts_value}
+use Rattle.rv_text.specs.Members.{Member, Field, field_of, members_of, texts_value}
 use Rattle.rv_text.specs.Reading.{◌>>=◌, Line, under, among, numbered_among, whole_among, text_among, texts_of, texts_among}
 use Rattle.rv_text.specs.Reading.{Shape}
 use Rattle.rv_text.proofs.Objects.{HasFields}
@@ -144,11 +144,19 @@ module _ (ms : Members) where
       step_found P (whole_among name ms) _ (λ n read.
       line_found nat_eq (λ a b. (Decides-eqb a b).0) P (λ n. Has (name, number (unsigned n))) lines are n (whole_found name n read))
 
--- what is found is what the row says
+-- no member has one of these names
+abbrev pub Lacks : List (List ℕ) → Members → Type 0
+Lacks [] ms = Unit {0}
+Lacks (name ∷ names) ms = (get_member name ms ≡ None) × Lacks names ms
+
+-- what is found is what the row says; what is told by a member that isn't there is found where it lacks
 pub record IsReader (A : Type 0) (shape : Shape A) : Type 0 where
   pub sound : (x : A) → IsSound (shape.row x)
   pub has : (ms : Members) (x : A) → shape.found ms ≡ Some x → HasFields (map field_of (shape.row x)) ms
-  pub finds : (ms : Members) (x : A) → HasFields (map field_of (shape.row x)) ms → shape.found ms ≡ Some x
+  pub without : A → List (List ℕ)
+  pub lacks : (x : A) → Lacks (without x) (members_of (shape.row x))
+  pub finds : (ms : Members) (x : A) → shape.Fits x → HasFields (map field_of (shape.row x)) ms
+      → Lacks (without x) ms → shape.found ms ≡ Some x
 
 -- as many members as the map has entries
 pub members_counted : (es : List (String Global × Value)) → members_len (members_view es) ≡ length es

@@ -62,7 +62,7 @@ pub record Decodes (A : Type 0) (IsBodyOf : List ℕ → A → Type 0)
 
 -- the item is text; every `Item` is, and a variable of a law ranges over all lists of numbers
 abbrev pub HasUtf8 : Message → Type 0
-HasUtf8 (message.Hello client incarnation) = Unit {0}
+HasUtf8 (message.Hello client incarnation version) = Unit {0}
 HasUtf8 (message.Request key call) = IfSome (item_of call) IsUtf8
 HasUtf8 (message.Cancel key) = Unit {0}
 
@@ -75,7 +75,7 @@ ReplyHasUtf8 (reply.Drained items) = All IsUtf8 items
 ReplyHasUtf8 _ = Unit {0}
 
 abbrev pub AnswerHasUtf8 : Answer → Type 0
-AnswerHasUtf8 (answer.Welcome epoch client incarnation) = Unit {0}
+AnswerHasUtf8 (answer.Welcome epoch client incarnation version) = Unit {0}
 AnswerHasUtf8 (answer.Replied key reply) = ReplyHasUtf8 reply
 AnswerHasUtf8 (answer.Waiting key) = Unit {0}
 AnswerHasUtf8 (answer.Refused refusal) = Unit {0}

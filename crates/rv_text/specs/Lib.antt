@@ -1,5 +1,6 @@
 -- What a reader must agree with, all that public contracts and laws cite, in the order of reading:
 pub mod Calls
+pub mod Versions
 pub mod Members
 pub mod Rows
 pub mod Limits

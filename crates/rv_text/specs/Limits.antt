@@ -1,11 +1,12 @@
 -- When the numbers and items of a value are within their limits: where the members of its row are.
-use Rattle.std.specs.Prelude.{ℕ}
+use Rattle.std.specs.Prelude.{◌≡◌, ℕ}
 use Rattle.rv_text.specs.declared.message.Key.{Key}
 use Rattle.rv_text.specs.declared.message.Message.{Message}
 use Rattle.rv_text.specs.declared.message.Message.TheVariants as message
 use Rattle.rv_text.specs.declared.call.Side.{Side}
 use Rattle.rv_text.specs.declared.call.Call.{Call}
 use Rattle.rv_text.specs.declared.answer.Reply.{Reply}
+use Rattle.rv_text.specs.declared.answer.Reply.TheVariants as reply
 use Rattle.rv_text.specs.declared.answer.Refusal.{Refusal}
 use Rattle.rv_text.specs.declared.answer.Answer.{Answer}
 use Rattle.rv_text.specs.declared.answer.Answer.TheVariants as answer
@@ -42,7 +43,7 @@ abbrev pub FitsCall : Call → Type 0
 FitsCall call = members.AllWithin (call_row call) × MayWait (side_of call) (wait_of call)
 
 abbrev pub FitsMessage : Message → Type 0
-FitsMessage (message.Hello client incarnation) =
+FitsMessage (message.Hello client incarnation version) =
     FitsIdentifier client × FitsIdentifier incarnation
 FitsMessage (message.Request key call) = FitsKey key × FitsCall call
 FitsMessage (message.Cancel key) = FitsKey key
@@ -50,12 +51,17 @@ FitsMessage (message.Cancel key) = FitsKey key
 abbrev pub FitsReply : Reply → Type 0
 FitsReply reply = members.AllWithin (reply_row reply)
 
+-- the consumer that a reply names is of this epoch
+abbrev pub IsOfEpoch : ℕ → Reply → Type 0
+IsOfEpoch epoch (reply.ReceivedBy taker) = taker.epoch ≡ epoch
+IsOfEpoch epoch _ = Unit {0}
+
 abbrev pub FitsRefusal : Refusal → Type 0
 FitsRefusal refusal = members.AllWithin (detail_row refusal)
 
 abbrev pub FitsAnswer : Answer → Type 0
-FitsAnswer (answer.Welcome epoch client incarnation) =
+FitsAnswer (answer.Welcome epoch client incarnation version) =
     FitsIdentifier epoch × FitsIdentifier client × FitsIdentifier incarnation
-FitsAnswer (answer.Replied key reply) = FitsKey key × FitsReply reply
+FitsAnswer (answer.Replied key reply) = FitsKey key × FitsReply reply × IsOfEpoch key.epoch reply
 FitsAnswer (answer.Waiting key) = FitsKey key
 FitsAnswer (answer.Refused refusal) = FitsRefusal refusal

@@ -1,8 +1,8 @@
 -- The kinds of members that a body is made of: the JSON value and the limit of each kind.
-use Rattle.std.specs.Prelude.{ℕ, ◌≤◌, List, [], ◌∷◌, length, map, codes}
-use Rattle.std.specs.List.{All}
+use Rattle.std.specs.Prelude.{ℕ, ◌≤◌, List, [], ◌∷◌, map, codes}
 use Rattle.serde_json.specs.Data.{Data, number, unsigned, string, array, object, Members, no_members, put}
 use Rattle.serde_json.specs.View.{items_of}
+pub use Rattle.rv_item.specs.Limits.{FitsItem, FitsItems}
 use Rattle.rv_text.specs.declared.call.Wait.{Wait}
 use Rattle.rv_text.specs.declared.call.Wait.TheVariants as wait
 
@@ -56,15 +56,11 @@ counted_numbers = up_to 100000
 
 -- a refusal's code
 abbrev pub code_numbers : Limit
-code_numbers = from_one_to 11
+code_numbers = from_one_to 12
 
--- an item's bytes: at most 512
-abbrev pub FitsItem : List ℕ → Type 0
-FitsItem item = length item ≤ 512
-
--- what a drain took: at most 16 items
-abbrev pub FitsItems : List (List ℕ) → Type 0
-FitsItems items = (length items ≤ 16) × All FitsItem items
+-- a version's number
+abbrev pub version_numbers : Limit
+version_numbers = from_one_to 2
 
 -- ---- kinds
 

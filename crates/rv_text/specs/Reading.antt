@@ -1,6 +1,6 @@
 -- For private clauses: what the decoder looks for among the members of an object, each by its name, and what
 -- the encoder puts there.
-use Rattle.std.specs.Prelude.{◌≡◌, ℕ, Bool, List, [], ◌∷◌, length, map, codes, if◌then◌else◌}
+use Rattle.std.specs.Prelude.{◌≡◌, ◌==◌, ℕ, Bool, List, [], ◌∷◌, length, map, codes, if◌then◌else◌}
 use Rattle.std.specs.Prelude.{Option, Some, None, option_and_then, nat_eq, Result, Ok, Err}
 use Rattle.std.specs.Prelude.{String, string_cmp}
 use Rattle.std.specs.declared.alloc.Global.{Global}
@@ -14,6 +14,8 @@ use Rattle.serde_json.specs.declared.value.Value.{Value}
 use Rattle.serde_json.specs.Find.{get_member, as_number, as_u64, as_str, as_array}
 use Rattle.rv_text.specs.declared.fault.TextFault.{TextFault}
 use Rattle.rv_text.specs.declared.fault.TextFault.TheVariants as fault
+use Rattle.rv_text.specs.declared.version.Version.{Version}
+use Rattle.rv_text.specs.declared.version.Version.TheVariants.{One, Two}
 use Rattle.rv_text.specs.declared.message.Key.{Key}
 use Rattle.rv_text.specs.declared.message.Message.{Message}
 use Rattle.rv_text.specs.declared.message.Message.TheVariants as message
@@ -27,6 +29,7 @@ use Rattle.rv_text.specs.declared.answer.Refusal.{Refusal}
 use Rattle.rv_text.specs.declared.answer.Refusal.TheVariants as refusal
 use Rattle.rv_text.specs.declared.answer.Answer.{Answer}
 use Rattle.rv_text.specs.declared.answer.Answer.TheVariants as answer
+use Rattle.rv_text.specs.Versions.{version_of}
 use Rattle.rv_text.specs.Members.{Member, Field, field_of, with_fields}
 use Rattle.rv_text.specs.Bodies.{HasBodyLength, Reads, IsNotJson}
 use Rattle.rv_text.specs.Rows.{message_row, answer_row, call_row}
@@ -176,11 +179,19 @@ call_lines =
 abbrev pub call_among : Members → Option Call
 call_among members = among (codes "call") call_lines members
 
+-- version 2 where its member says so, and else version 1: of another value the member is one too many
+abbrev pub version_told : Option ℕ → Version
+version_told None = One
+version_told (Some n) = if n == 2 then Two else One
+
+abbrev pub version_among : Members → Version
+version_among members = version_told (whole_among (codes "version") members)
+
 abbrev pub hello_among : Members → Option Message
 hello_among members = do
   client ← whole_among (codes "client") members
   incarnation ← whole_among (codes "incarnation") members
-  Some (message.Hello client incarnation)
+  Some (message.Hello client incarnation (version_among members))
 
 abbrev pub request_among : Members → Option Message
 request_among members = do
@@ -206,10 +217,27 @@ counted_among members = do
   consumers ← whole_among (codes "consumers") members
   Some (reply.Counted items consumers)
 
-abbrev pub reply_lines : List (Line (List ℕ) Reply)
-reply_lines =
+-- the consumer of this epoch and client
+abbrev pub taker_among : ℕ → ℕ → Members → Option Reply
+taker_among epoch client members = do
+  incarnation ← whole_among (codes "by_incarnation") members
+  number ← whole_among (codes "by_number") members
+  Some (reply.ReceivedBy
+      (record { epoch = epoch; client = client; incarnation = incarnation; number = number }))
+
+-- who received it, where a member names the client, and else that it was received
+abbrev pub received_by : ℕ → Option ℕ → Members → Option Reply
+received_by epoch None _ = Some reply.Received
+received_by epoch (Some client) members = taker_among epoch client members
+
+abbrev pub received_among : ℕ → Members → Option Reply
+received_among epoch members = received_by epoch (whole_among (codes "by_client") members) members
+
+-- a reply in an answer of this epoch
+abbrev pub reply_lines : ℕ → List (Line (List ℕ) Reply)
+reply_lines epoch =
     (codes "done", λ ms. Some reply.Done) ∷
-    (codes "received", λ ms. Some reply.Received) ∷
+    (codes "received", received_among epoch) ∷
     (codes "nobody", λ ms. Some reply.Nobody) ∷
     (codes "item", λ ms. item_among ms >>= λ item. Some (reply.Item item)) ∷
     (codes "empty", λ ms. Some reply.Empty) ∷
@@ -221,14 +249,24 @@ reply_lines =
     (codes "drained", λ ms. texts_among ms >>= λ texts. Some (reply.Drained texts)) ∷
     []
 
-abbrev pub reply_among : Members → Option Reply
-reply_among members = among (codes "reply") reply_lines members
+abbrev pub reply_among : ℕ → Members → Option Reply
+reply_among epoch members = among (codes "reply") (reply_lines epoch) members
 
 -- a refusal that tells the number of this name
 abbrev pub telling : List ℕ → (ℕ → Refusal) → Members → Option Refusal
 telling name refuses members = do
   number ← whole_among name members
   Some (refuses number)
+
+abbrev pub current_version_among : Members → Option Version
+current_version_among members = do
+  number ← whole_among (codes "current") members
+  version_of number
+
+abbrev pub telling_version : Members → Option Refusal
+telling_version members = do
+  current ← current_version_among members
+  Some (refusal.OtherVersion current)
 
 abbrev pub refusal_lines : List (Line ℕ Refusal)
 refusal_lines =
@@ -243,6 +281,7 @@ refusal_lines =
     (9, λ ms. Some refusal.ClientsFull) ∷
     (10, λ ms. Some refusal.EpochFull) ∷
     (11, λ ms. Some refusal.NoMemory) ∷
+    (12, telling_version) ∷
     []
 
 abbrev pub refusal_among : Members → Option Refusal
@@ -253,12 +292,12 @@ welcome_among members = do
   epoch ← whole_among (codes "epoch") members
   client ← whole_among (codes "client") members
   incarnation ← whole_among (codes "incarnation") members
-  Some (answer.Welcome epoch client incarnation)
+  Some (answer.Welcome epoch client incarnation (version_among members))
 
 abbrev pub replied_among : Members → Option Answer
 replied_among members = do
   key ← key_among members
-  reply ← reply_among members
+  reply ← reply_among key.epoch members
   Some (answer.Replied key reply)
 
 abbrev pub waiting_among : Members → Option Answer

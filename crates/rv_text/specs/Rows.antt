@@ -1,6 +1,8 @@
 -- The members of each body: one short row for each kind of value.
 use Rattle.std.specs.Prelude.{ℕ, List, [], ◌∷◌, ◌++◌, codes, Option, Some, None}
 use Rattle.rv_text.specs.declared.message.Key.{Key}
+use Rattle.rv_text.specs.declared.version.Version.{Version}
+use Rattle.rv_text.specs.declared.version.Version.TheVariants.{One, Two}
 use Rattle.rv_text.specs.declared.message.Message.{Message}
 use Rattle.rv_text.specs.declared.message.Message.TheVariants as message
 use Rattle.rv_text.specs.declared.call.Wait.{Wait}
@@ -14,6 +16,7 @@ use Rattle.rv_text.specs.declared.answer.Refusal.TheVariants as refusal
 use Rattle.rv_text.specs.declared.answer.Answer.{Answer}
 use Rattle.rv_text.specs.declared.answer.Answer.TheVariants as answer
 use Rattle.rv_text.specs.Calls.{Nature, nature_of}
+use Rattle.rv_text.specs.Versions.{number_of_version}
 use Rattle.rv_text.specs.Members.{Member, word, whole, item_text, item_texts, wait_time}
 use Rattle.rv_text.specs.Members as members
 
@@ -72,12 +75,17 @@ nature_row nature =
 abbrev pub call_row : Call → List Member
 call_row call = nature_row (nature_of call)
 
+-- version 1 goes without saying
+abbrev pub version_row : Version → List Member
+version_row One = []
+version_row Two = whole (codes "version") members.version_numbers (number_of_version Two) ∷ []
+
 abbrev pub message_row : Message → List Member
-message_row (message.Hello client incarnation) =
+message_row (message.Hello client incarnation version) =
     word (codes "kind") (codes "hello") ∷
     identifier (codes "client") client ∷
     identifier (codes "incarnation") incarnation ∷
-    []
+    version_row version
 message_row (message.Request key call) =
     word (codes "kind") (codes "request") ∷ (key_row key ++ call_row call)
 message_row (message.Cancel key) = word (codes "kind") (codes "cancel") ∷ key_row key
@@ -87,9 +95,18 @@ message_row (message.Cancel key) = word (codes "kind") (codes "cancel") ∷ key_
 abbrev pub texts_row : List (List ℕ) → List Member
 texts_row items = item_texts (codes "texts") items ∷ []
 
+-- the key of a consumer, whose epoch is the answer's
+abbrev pub taker_row : Key → List Member
+taker_row taker =
+    identifier (codes "by_client") taker.client ∷
+    identifier (codes "by_incarnation") taker.incarnation ∷
+    identifier (codes "by_number") taker.number ∷
+    []
+
 abbrev pub reply_row : Reply → List Member
 reply_row reply.Done = word (codes "reply") (codes "done") ∷ []
 reply_row reply.Received = word (codes "reply") (codes "received") ∷ []
+reply_row (reply.ReceivedBy taker) = word (codes "reply") (codes "received") ∷ taker_row taker
 reply_row reply.Nobody = word (codes "reply") (codes "nobody") ∷ []
 reply_row (reply.Item bytes) = word (codes "reply") (codes "item") ∷ item bytes ∷ []
 reply_row reply.Empty = word (codes "reply") (codes "empty") ∷ []
@@ -104,7 +121,7 @@ reply_row (reply.Counted items consumers) =
 reply_row (reply.Peeked bytes) = word (codes "reply") (codes "peeked") ∷ item bytes ∷ []
 reply_row (reply.Drained items) = word (codes "reply") (codes "drained") ∷ texts_row items
 
--- the refusals in the order in which a message is checked
+-- the refusals by their numbers, which but for 12 are in the order in which a message is checked
 abbrev pub code_of : Refusal → ℕ
 code_of refusal.BadText = 1
 code_of (refusal.OtherEpoch current) = 2
@@ -117,6 +134,7 @@ code_of (refusal.Gap number) = 8
 code_of refusal.ClientsFull = 9
 code_of refusal.EpochFull = 10
 code_of refusal.NoMemory = 11
+code_of (refusal.OtherVersion current) = 12
 
 -- what a refusal says beside its code
 abbrev pub detail_row : Refusal → List Member
@@ -131,14 +149,16 @@ detail_row (refusal.Gap number) = last number ∷ []
 detail_row refusal.ClientsFull = []
 detail_row refusal.EpochFull = []
 detail_row refusal.NoMemory = []
+detail_row (refusal.OtherVersion current) =
+    whole (codes "current") members.version_numbers (number_of_version current) ∷ []
 
 abbrev pub answer_row : Answer → List Member
-answer_row (answer.Welcome epoch client incarnation) =
+answer_row (answer.Welcome epoch client incarnation version) =
     word (codes "kind") (codes "welcome") ∷
     identifier (codes "epoch") epoch ∷
     identifier (codes "client") client ∷
     identifier (codes "incarnation") incarnation ∷
-    []
+    version_row version
 answer_row (answer.Replied key reply) =
     word (codes "kind") (codes "reply") ∷ (key_row key ++ reply_row reply)
 answer_row (answer.Waiting key) = word (codes "kind") (codes "waiting") ∷ key_row key

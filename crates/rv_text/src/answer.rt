@@ -2,9 +2,9 @@
 ghost use Rattle.std.specs.Prelude.{◌≡◌, ◌↔◌, IsTrue, length};
 
 use crate::fault::NoMemory;
-use crate::item::Item;
-use crate::items::Items;
 use crate::message::{Key, MAX_IDENTIFIER, fits_identifier};
+use crate::version::Version;
+use rv_item::{Item, Items};
 use thiserror::Error;
 
 /// The greatest number that a count tells: as many items or consumers as an epoch can have.
@@ -17,6 +17,9 @@ pub enum Reply {
     Done,
     /// A transfer's item was given to a consumer.
     Received,
+    /// The same in a session of version 2: the item was given to the request of this key, whose epoch is
+    /// the answer's.
+    ReceivedBy(Key),
     /// A transfer that does not wait found no consumer.
     Nobody,
     /// A take got this item.
@@ -74,11 +77,15 @@ pub enum Refusal {
     /// 11: a growth of memory was refused.
     #[error("out of memory")]
     NoMemory,
+    /// 12: a hello of the session's incarnation asks for another version than the session's, which is
+    /// given. It is looked at behind 4, and before a welcome and 9.
+    #[error("the session's version is {}", .0.number())]
+    OtherVersion(Version),
 }
 
 impl Reply {
     ghost use Rattle.rv_text.specs.Rows.{reply_row};
-    ghost use Rattle.rv_text.specs.Limits.{FitsReply};
+    ghost use Rattle.rv_text.specs.Limits.{FitsReply, IsOfEpoch};
 
     // How many members the reply has in a body: its word, and its item, its items or its numbers.
     pub(crate) fn member_count(&self) -> usize
@@ -86,6 +93,7 @@ impl Reply {
     {
         match self {
             Reply::Counted { .. } => 3,
+            Reply::ReceivedBy(_) => 4,
             Reply::Item(_) => 2,
             Reply::Swapped(_) => 2,
             Reply::Peeked(_) => 2,
@@ -94,7 +102,8 @@ impl Reply {
         }
     }
 
-    /// Whether its items are at most 16 and have at most 512 bytes each, and its numbers are at most 100,000.
+    /// Whether its items are at most 16 and have at most 512 bytes each, the numbers that it counts are at
+    /// most 100,000, and a consumer's client, incarnation and number are 1 to 2^53 - 1.
     pub fn fits(&self) -> bool
         ensures { IsTrue result ↔ FitsReply self.now }
     {
@@ -103,9 +112,24 @@ impl Reply {
             Reply::Swapped(item) => item.fits(),
             Reply::Peeked(item) => item.fits(),
             Reply::Drained(items) => items.fits(),
+            Reply::ReceivedBy(taker) => {
+                fits_identifier(taker.client)
+                    && fits_identifier(taker.incarnation)
+                    && fits_identifier(taker.number)
+            }
             Reply::Counted { items, consumers } => {
                 *items <= MAX_COUNTED && *consumers <= MAX_COUNTED
             }
+            _ => true,
+        }
+    }
+
+    // Whether the consumer that it names, if it names one, is of this epoch.
+    fn is_of_epoch(&self, epoch: u64) -> bool
+        ensures { IsTrue result ↔ IsOfEpoch epoch self.now }
+    {
+        match self {
+            Reply::ReceivedBy(taker) => taker.epoch == epoch,
             _ => true,
         }
     }
@@ -125,6 +149,7 @@ impl Refusal {
             Refusal::OldNumber(_) => 1,
             Refusal::Busy(_) => 1,
             Refusal::Gap(_) => 1,
+            Refusal::OtherVersion(_) => 1,
             _ => 0,
         }
     }
@@ -144,7 +169,7 @@ impl Refusal {
         }
     }
 
-    /// The refusal's number, 1 to 11: the place of its test among those that a message meets.
+    /// The refusal's number, 1 to 12.
     pub fn code(&self) -> u64
         ensures { result ≡ code_of self.now }
     {
@@ -160,6 +185,7 @@ impl Refusal {
             Refusal::ClientsFull => 9,
             Refusal::EpochFull => 10,
             Refusal::NoMemory => 11,
+            Refusal::OtherVersion(_) => 12,
         }
     }
 }
@@ -167,11 +193,12 @@ impl Refusal {
 /// What the server sends back for a message.
 #[derive(Debug, PartialEq, Eq, Drop)]
 pub enum Answer {
-    /// A hello was accepted: the client's session has this incarnation in this epoch.
+    /// A hello was accepted: the client's session has this incarnation and this version in this epoch.
     Welcome {
         epoch: u64,
         client: u64,
         incarnation: u64,
+        version: Version,
     },
     /// The request of this key has this reply.
     Replied {
@@ -189,7 +216,8 @@ pub enum Answer {
 impl Answer {
     ghost use Rattle.rv_text.specs.Limits.{FitsAnswer};
 
-    /// Whether every number and item, and how many items there are, are within their limits.
+    /// Whether every number and item, and how many items there are, are within their limits, and a consumer
+    /// that is named has the answer's epoch.
     pub fn fits(&self) -> bool
         ensures { IsTrue result ↔ FitsAnswer self.now }
     {
@@ -198,10 +226,13 @@ impl Answer {
                 epoch,
                 client,
                 incarnation,
+                ..
             } => {
                 fits_identifier(*epoch) && fits_identifier(*client) && fits_identifier(*incarnation)
             }
-            Answer::Replied { key, reply } => key.fits() && reply.fits(),
+            Answer::Replied { key, reply } => {
+                key.fits() && reply.fits() && reply.is_of_epoch(key.epoch)
+            }
             Answer::Waiting { key } => key.fits(),
             Answer::Refused(refusal) => refusal.fits(),
         }

@@ -3,7 +3,7 @@ ghost use Rattle.std.specs.Prelude.{◌≡◌, ◌↔◌, IfOk, IsTrue, option_m
 ghost use Rattle.rv_text.specs.Limits.{FitsMax};
 
 use crate::fault::NoMemory;
-use crate::item::Item;
+use rv_item::{Item, MAX_DRAIN};
 use std::alloc::Global;
 
 /// The greatest number of a queue; the least is 0.
@@ -11,9 +11,6 @@ pub const MAX_QUEUE: u64 = 63;
 
 /// The greatest number of an exchanger; the least is 0.
 pub const MAX_EXCHANGER: u64 = 63;
-
-/// The most items that a drain takes; the least is 1.
-pub const MAX_DRAIN: u64 = 16;
 
 /// The most milliseconds that a wait may have: a day.
 pub const MAX_WAIT: u64 = 86_400_000;

@@ -11,7 +11,7 @@ use crate::body::{Body, decode};
 use crate::call::Call;
 use crate::fault::TextFault;
 use crate::members::{
-    Members, read_call, read_key, read_refusal, read_reply, read_text, read_whole,
+    Members, read_call, read_key, read_refusal, read_reply, read_text, read_version, read_whole,
 };
 use crate::message::Message;
 use std::alloc::Global;
@@ -51,6 +51,7 @@ impl Body for Message {
             "hello" => Ok(Message::Hello {
                 client: read_whole(members, "client")?,
                 incarnation: read_whole(members, "incarnation")?,
+                version: read_version(members),
             }),
             "request" => Ok(Message::Request {
                 key: read_key(members)?,
@@ -65,7 +66,7 @@ impl Body for Message {
 
     fn member_count(&self) -> usize {
         match self {
-            Message::Hello { .. } => 3,
+            Message::Hello { version, .. } => 3 + version.member_count(),
             Message::Request { call, .. } => 5 + call.member_count(),
             Message::Cancel { .. } => 5,
         }
@@ -85,11 +86,13 @@ impl Body for Answer {
                 epoch: read_whole(members, "epoch")?,
                 client: read_whole(members, "client")?,
                 incarnation: read_whole(members, "incarnation")?,
+                version: read_version(members),
             }),
-            "reply" => Ok(Answer::Replied {
-                key: read_key(members)?,
-                reply: read_reply(alloc, members)?,
-            }),
+            "reply" => {
+                let key = read_key(members)?;
+                let reply = read_reply(alloc, members, key.epoch)?;
+                Ok(Answer::Replied { key, reply })
+            }
             "waiting" => Ok(Answer::Waiting {
                 key: read_key(members)?,
             }),
@@ -100,7 +103,7 @@ impl Body for Answer {
 
     fn member_count(&self) -> usize {
         match self {
-            Answer::Welcome { .. } => 4,
+            Answer::Welcome { version, .. } => 4 + version.member_count(),
             Answer::Replied { reply, .. } => 5 + reply.member_count(),
             Answer::Waiting { .. } => 5,
             Answer::Refused(refusal) => 2 + refusal.detail_count(),

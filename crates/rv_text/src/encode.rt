@@ -4,6 +4,7 @@ ghost use Rattle.serde_json.specs.Data.{string, number, unsigned};
 ghost use Rattle.serde_json.specs.View.{view};
 ghost use Rattle.rv_text.specs.Members.{texts_value};
 ghost use Rattle.rv_text.specs.Rows.{key_row, side_row, wait_row, max_or_wait_row, item_row, call_row};
+ghost use Rattle.rv_text.specs.Rows.{version_row, taker_row};
 ghost use Rattle.rv_text.specs.Rows.{message_row, texts_row, reply_row, detail_row, answer_row};
 ghost use Rattle.rv_text.specs.Calls.{drains_of, wait_of};
 ghost use Rattle.rv_text.specs.Reading.{Puts, PutsRow};
@@ -13,11 +14,11 @@ ghost use Rattle.rv_text.specs.Limits.{FitsMessage, FitsAnswer};
 use crate::answer::{Answer, Refusal, Reply};
 use crate::call::{Call, Side, Wait};
 use crate::fault::NoMemory;
-use crate::item::Item;
-use crate::items::Items;
 use crate::laws::body_constants;
 use crate::members::Members;
 use crate::message::{Key, Message};
+use crate::version::Version;
+use rv_item::{Item, Items};
 use serde_json::{Map, Value};
 use std::alloc::Global;
 
@@ -76,10 +77,12 @@ fn put_message(members: &mut Members, alloc: Global, message: &Message) -> Resul
         Message::Hello {
             client,
             incarnation,
+            version,
         } => {
             put_text(members, alloc, "kind", "hello")?;
             put_whole(members, alloc, "client", *client)?;
-            put_whole(members, alloc, "incarnation", *incarnation)
+            put_whole(members, alloc, "incarnation", *incarnation)?;
+            put_version(members, alloc, *version)
         }
         Message::Request { key, call } => {
             put_text(members, alloc, "kind", "request")?;
@@ -90,6 +93,16 @@ fn put_message(members: &mut Members, alloc: Global, message: &Message) -> Resul
             put_text(members, alloc, "kind", "cancel")?;
             put_key(members, alloc, key)
         }
+    }
+}
+
+// The member of a version but the first, which goes without saying.
+fn put_version(members: &mut Members, alloc: Global, version: Version) -> Result<(), NoMemory>
+    ensures { OnOk result (PutsRow (version_row version) members.old members.new) }
+{
+    match version {
+        Version::One => Ok(()),
+        Version::Two => put_whole(members, alloc, "version", version.number()),
     }
 }
 
@@ -152,11 +165,13 @@ fn put_answer(members: &mut Members, alloc: Global, answer: &Answer) -> Result<(
             epoch,
             client,
             incarnation,
+            version,
         } => {
             put_text(members, alloc, "kind", "welcome")?;
             put_whole(members, alloc, "epoch", *epoch)?;
             put_whole(members, alloc, "client", *client)?;
-            put_whole(members, alloc, "incarnation", *incarnation)
+            put_whole(members, alloc, "incarnation", *incarnation)?;
+            put_version(members, alloc, *version)
         }
         Answer::Replied { key, reply } => {
             put_text(members, alloc, "kind", "reply")?;
@@ -190,6 +205,10 @@ fn put_reply(members: &mut Members, alloc: Global, reply: &Reply) -> Result<(), 
     match reply {
         Reply::Done => put_text(members, alloc, "reply", "done"),
         Reply::Received => put_text(members, alloc, "reply", "received"),
+        Reply::ReceivedBy(taker) => {
+            put_text(members, alloc, "reply", "received")?;
+            put_taker(members, alloc, taker)
+        }
         Reply::Nobody => put_text(members, alloc, "reply", "nobody"),
         Reply::Item(item) => {
             put_text(members, alloc, "reply", "item")?;
@@ -218,6 +237,15 @@ fn put_reply(members: &mut Members, alloc: Global, reply: &Reply) -> Result<(), 
     }
 }
 
+// The key of a consumer, whose epoch is the answer's.
+fn put_taker(members: &mut Members, alloc: Global, taker: &Key) -> Result<(), NoMemory>
+    ensures { OnOk result (PutsRow (taker_row taker.now) members.old members.new) }
+{
+    put_whole(members, alloc, "by_client", taker.client)?;
+    put_whole(members, alloc, "by_incarnation", taker.incarnation)?;
+    put_whole(members, alloc, "by_number", taker.number)
+}
+
 // What a refusal says beside its code.
 fn put_detail(members: &mut Members, alloc: Global, refusal: Refusal) -> Result<(), NoMemory>
     ensures { OnOk result (PutsRow (detail_row refusal) members.old members.new) }
@@ -228,6 +256,7 @@ fn put_detail(members: &mut Members, alloc: Global, refusal: Refusal) -> Result<
         Refusal::OldNumber(last) => put_whole(members, alloc, "last", last),
         Refusal::Gap(last) => put_whole(members, alloc, "last", last),
         Refusal::Busy(number) => put_whole(members, alloc, "open", number),
+        Refusal::OtherVersion(version) => { put_whole(members, alloc, "current", version.number()) }
         _ => Ok(()),
     }
 }

@@ -5,14 +5,15 @@ ghost use Rattle.serde_json.specs.View.{view, items_view, members_view};
 ghost use Rattle.rv_text.specs.Reading.{Finds, FindsAmong, FindsSeenAmong, whole_among, text_among};
 ghost use Rattle.rv_text.specs.Reading.{texts_of, texts_among};
 ghost use Rattle.rv_text.specs.Reading.{item_among, wait_among, wait_word_among, key_among, call_among};
-ghost use Rattle.rv_text.specs.Reading.{reply_among, refusal_among};
+ghost use Rattle.rv_text.specs.Reading.{version_among, received_among, reply_among, refusal_among};
+ghost use Rattle.rv_text.specs.Reading.{current_version_among};
 
 use crate::answer::{Refusal, Reply};
 use crate::call::{Call, Wait};
 use crate::fault::TextFault;
-use crate::item::Item;
-use crate::items::Items;
 use crate::message::Key;
+use crate::version::Version;
+use rv_item::{Item, Items};
 use serde_json::{Map, Value};
 use std::alloc::Global;
 
@@ -148,12 +149,38 @@ pub(crate) fn read_call(alloc: Global, members: &Members) -> Result<Call, TextFa
     }
 }
 
-pub(crate) fn read_reply(alloc: Global, members: &Members) -> Result<Reply, TextFault>
-    ensures { FindsAmong members.now result reply_among }
+// The version that a hello or a welcome names, or else the first.
+pub(crate) fn read_version(members: &Members) -> Version
+    ensures { result ≡ version_among (members_view members.now.entries) }
+{
+    match whole(members, "version") {
+        Some(2) => Version::Two,
+        _ => Version::One,
+    }
+}
+
+// That a transfer was received, and by whom, where that is told; the consumer is of this epoch.
+fn read_received(members: &Members, epoch: u64) -> Result<Reply, TextFault>
+    ensures { FindsAmong members.now result (received_among epoch) }
+{
+    match whole(members, "by_client") {
+        None => Ok(Reply::Received),
+        Some(client) => Ok(Reply::ReceivedBy(Key {
+            epoch,
+            client,
+            incarnation: read_whole(members, "by_incarnation")?,
+            number: read_whole(members, "by_number")?,
+        })),
+    }
+}
+
+// The reply in an answer of this epoch.
+pub(crate) fn read_reply(alloc: Global, members: &Members, epoch: u64) -> Result<Reply, TextFault>
+    ensures { FindsAmong members.now result (reply_among epoch) }
 {
     match read_text(members, "reply")? {
         "done" => Ok(Reply::Done),
-        "received" => Ok(Reply::Received),
+        "received" => read_received(members, epoch),
         "nobody" => Ok(Reply::Nobody),
         "item" => Ok(Reply::Item(read_item(alloc, members)?)),
         "empty" => Ok(Reply::Empty),
@@ -168,6 +195,13 @@ pub(crate) fn read_reply(alloc: Global, members: &Members) -> Result<Reply, Text
         "drained" => Ok(Reply::Drained(read_texts(alloc, members)?)),
         _ => Err(TextFault::NotMessage),
     }
+}
+
+// The version of a session that a hello asked for another one.
+fn read_current_version(members: &Members) -> Result<Version, TextFault>
+    ensures { FindsAmong members.now result current_version_among }
+{
+    Version::of_number(read_whole(members, "current")?).ok_or(TextFault::NotMessage)
 }
 
 pub(crate) fn read_refusal(members: &Members) -> Result<Refusal, TextFault>
@@ -185,6 +219,7 @@ pub(crate) fn read_refusal(members: &Members) -> Result<Refusal, TextFault>
         9 => Ok(Refusal::ClientsFull),
         10 => Ok(Refusal::EpochFull),
         11 => Ok(Refusal::NoMemory),
+        12 => Ok(Refusal::OtherVersion(read_current_version(members)?)),
         _ => Err(TextFault::NotMessage),
     }
 }

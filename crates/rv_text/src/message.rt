@@ -3,6 +3,7 @@ ghost use Rattle.std.specs.Prelude.{IsTrue, ◌↔◌};
 ghost use Rattle.rv_text.specs.Limits.{FitsIdentifier};
 
 use crate::call::Call;
+use crate::version::Version;
 
 /// The greatest epoch, client, incarnation and request number: 2^53 - 1.
 pub const MAX_IDENTIFIER: u64 = 9_007_199_254_740_991;
@@ -23,12 +24,21 @@ pub struct Key {
 /// What a client sends.
 #[derive(Debug, PartialEq, Eq, Drop)]
 pub enum Message {
-    /// Opens a session, or ends that of a lower incarnation.
-    Hello { client: u64, incarnation: u64 },
+    /// Opens a session of this version, or ends that of a lower incarnation.
+    Hello {
+        client: u64,
+        incarnation: u64,
+        version: Version,
+    },
     /// Asks for a call; the same key with the same call is a repeat.
-    Request { key: Key, call: Call },
+    Request {
+        key: Key,
+        call: Call,
+    },
     /// Ends the request of this key where it waits; it may also come before its request.
-    Cancel { key: Key },
+    Cancel {
+        key: Key,
+    },
 }
 
 impl Key {
@@ -55,6 +65,7 @@ impl Message {
             Message::Hello {
                 client,
                 incarnation,
+                ..
             } => { fits_identifier(*client) && fits_identifier(*incarnation) }
             Message::Request { key, call } => key.fits() && call.fits(),
             Message::Cancel { key } => key.fits(),

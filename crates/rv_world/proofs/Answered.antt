@@ -1,6 +1,7 @@
 -- What a step of the book leaves and tells: at most the message's own entry is new, and a reply is that of the message's own request.
 use Rattle.std.proofs.Common.{◌≡◌, ◌⊎◌, inl, inr, ℕ, Some, None, refl, sym, ap, subst, ◌∙◌}
 use Rattle.std.proofs.lemmas.Option.{none-some, same_Some}
+use Rattle.rv_text.specs.declared.version.Version.{Version}
 use Rattle.rv_text.specs.declared.message.Key.{Key}
 use Rattle.rv_text.specs.declared.message.Message.{Message}
 use Rattle.rv_text.specs.declared.message.Message.TheVariants.{Cancel, Hello, Request}
@@ -29,12 +30,12 @@ use Rattle.rv_book.proofs.ToldCancelled.{waiting_replies}
 
 -- the entry that a message may get
 abbrev pub act_of : Message → Act
-act_of (Hello client incarnation) = act.Hello client incarnation
+act_of (Hello client incarnation version) = act.Hello client incarnation version
 act_of (Request key call) = act.Arrive key call
 act_of (Cancel key) = act.Cancel key
 
 arrival_of : (m : Message) (key : Key) (call : Call) → act_of m ≡ act.Arrive key call → m ≡ Request key call
-arrival_of (Hello client incarnation) key call is = absurd (let no : ⊥ = cc in no)
+arrival_of (Hello client incarnation version) key call is = absurd (let no : ⊥ = cc in no)
 arrival_of (Request other own) key call is = cc
 arrival_of (Cancel other) key call is = absurd (let no : ⊥ = cc in no)
 
@@ -69,7 +70,7 @@ HasRoom a need = (refusal : Refusal) → ¬ EpochFullDue a need refusal
 
 -- for all that the message may come to need, and for the client of a hello; the cancel of a request that waits needs nothing further
 abbrev pub HasRoomFor : Account → Message → Type 0
-HasRoomFor a (Hello client incarnation) = HasRoom a 1 × ((refusal : Refusal) → ¬ ClientsFullDue a client refusal)
+HasRoomFor a (Hello client incarnation version) = HasRoom a 1 × ((refusal : Refusal) → ¬ ClientsFullDue a client refusal)
 HasRoomFor a (Request key call) = HasRoom a (need_of call)
 HasRoomFor a (Cancel key) = WaitsUnder a.entries key ⊎ HasRoom a 1
 
@@ -101,11 +102,11 @@ waiting_no_reply own key told is = cc
 refused_no_reply : (refusal : Refusal) (key : Key) (told : Reply) → ◌≡◌ {A = Answer} (Refused refusal) (Replied key told) → ⊥
 refused_no_reply refusal key told is = cc
 
-welcome_no_reply : (epoch client incarnation : ℕ) (key : Key) (told : Reply) → ◌≡◌ {A = Answer} (Welcome epoch client incarnation) (Replied key told) → ⊥
-welcome_no_reply epoch client incarnation key told is = cc
+welcome_no_reply : (epoch client incarnation : ℕ) (version : Version) (key : Key) (told : Reply) → ◌≡◌ {A = Answer} (Welcome epoch client incarnation version) (Replied key told) → ⊥
+welcome_no_reply epoch client incarnation version key told is = cc
 
-welcome_tells : (m : Message) (b : Account) (epoch client incarnation : ℕ) (x : Answer) → x ≡ Welcome epoch client incarnation → (key : Key) (told : Reply) → x ≡ Replied key told → IsTold m b key told
-welcome_tells m b epoch client incarnation x is key told says = absurd (welcome_no_reply epoch client incarnation key told (sym is ∙ says))
+welcome_tells : (m : Message) (b : Account) (epoch client incarnation : ℕ) (version : Version) (x : Answer) → x ≡ Welcome epoch client incarnation version → (key : Key) (told : Reply) → x ≡ Replied key told → IsTold m b key told
+welcome_tells m b epoch client incarnation version x is key told says = absurd (welcome_no_reply epoch client incarnation version key told (sym is ∙ says))
 
 answers_tell : (m : Message) (b : Account) (own key : Key) (x : Answer) (told : Reply) → AsksFor m own → own.epoch ≡ b.epoch → Answers b own x → x ≡ Replied key told → IsTold m b key told
 answers_tell m b own key x told asks epoch (inl replies) is = replies_tell m b own key x told asks epoch replies is
@@ -169,20 +170,21 @@ ended_tells a b moment key added waits =
     subst (λ (c : Account). Replies c key (Replied key reply.Cancelled)) (sym added.follows) (waiting_replies a e key says alone waits)
 
 -- where there is room for the client of a hello
-hello_became : (a b : Account) (moment client incarnation : ℕ) (x : Answer)
-    → RefuseOr (ClientsFullDue a client) (Refuses a b x) (RefuseOr (EpochFullDue a 1) (Refuses a b x) (EntersOrNoMemory a moment (act.Hello client incarnation) b x (x ≡ Welcome a.epoch client incarnation)))
-    → Became a moment (Hello client incarnation) b x
-hello_became a b moment client incarnation x (inl refused) = refused_became a b moment (Hello client incarnation) x refused.refusal refused.refuses_it
-hello_became a b moment client incarnation x (inr enters) =
-    let m : Message = Hello client incarnation in
-    room_became a b moment m x _ 1 (λ room. (room, enters.0)) (λ added. welcome_tells m b a.epoch client incarnation x) enters.1
+hello_became : (a b : Account) (moment client incarnation : ℕ) (version : Version) (x : Answer)
+    → RefuseOr (ClientsFullDue a client) (Refuses a b x) (RefuseOr (EpochFullDue a 1) (Refuses a b x) (EntersOrNoMemory a moment (act.Hello client incarnation version) b x (x ≡ Welcome a.epoch client incarnation version)))
+    → Became a moment (Hello client incarnation version) b x
+hello_became a b moment client incarnation version x (inl refused) = refused_became a b moment (Hello client incarnation version) x refused.refusal refused.refuses_it
+hello_became a b moment client incarnation version x (inr enters) =
+    let m : Message = Hello client incarnation version in
+    room_became a b moment m x _ 1 (λ room. (room, enters.0)) (λ added. welcome_tells m b a.epoch client incarnation version x) enters.1
 
 pub became_at : (a b : Account) (moment : ℕ) (m : Message) (x : Answer) → NextAt a moment m b x → Became a moment m b x
-became_at a b moment (Hello client incarnation) x next =
-    let m : Message = Hello client incarnation in
+became_at a b moment (Hello client incarnation version) x next =
+    let m : Message = Hello client incarnation version in
     RefuseOr-elim _ _ _ (Became a moment m b x) (λ refusal due. refused_became a b moment m x refusal)
-    (WhereElse-elim _ _ _ (Became a moment m b x) (λ has again. stays_became a b moment m x again.0 (welcome_tells m a a.epoch client incarnation x again.1))
-    (hello_became a b moment client incarnation x)) next
+    (RefuseOr-elim _ _ _ (Became a moment m b x) (λ refusal due. refused_became a b moment m x refusal)
+    (WhereElse-elim _ _ _ (Became a moment m b x) (λ has again. stays_became a b moment m x again.0 (welcome_tells m a a.epoch client incarnation version x again.1))
+    (hello_became a b moment client incarnation version x))) next
 became_at a b moment (Request key call) x next =
     let m : Message = Request key call in
     let asks : AsksFor m key = inl (call, refl) in

@@ -6,6 +6,7 @@ use Rattle.std.specs.Map.{lookup}
 use Rattle.std.proofs.lemmas.Bool.{cases_eq}
 use Rattle.std.proofs.lemmas.List.Elements.{Contains-push}
 use Rattle.std.proofs.lemmas.Option.{none-some, same_Some}
+use Rattle.rv_text.specs.declared.version.Version.{Version}
 use Rattle.rv_text.specs.declared.message.Key.{Key}
 use Rattle.rv_text.specs.declared.message.Message.{Message}
 use Rattle.rv_text.specs.declared.call.Call.{Call}
@@ -85,9 +86,9 @@ kept_same w clients base u v kept agree one other =
 -- ---- the clients' events
 
 module _ (w : World) (clients : Clients) (agree : Agree w (listed w clients)) (u v : World) (s t : Seen) where
-  both_start : (client incarnation : ℕ) → Starts w client incarnation u s → Starts (listed w clients) client incarnation v t → Same u v s t
-  both_start client incarnation one other =
-      let base : World = sends (record w { started = w.started ++ (client, incarnation) ∷ [] }) (hello_of (starting client incarnation)) in
+  both_start : (client incarnation : ℕ) (version : Version) → Starts w client incarnation version u s → Starts (listed w clients) client incarnation version v t → Same u v s t
+  both_start client incarnation version one other =
+      let base : World = sends (record w { started = w.started ++ (client, incarnation) ∷ [] }) (hello_of (starting client incarnation version)) in
       (turned_same w clients base u v client _ agree one.turns other.turns one.rest other.rest, one.shown ∙ sym other.shown)
 
   same_key : (key same : Key) (client : ℕ) → process_of w client ≡ Some (Idle (Some key)) → process_of (listed w clients) client ≡ Some (Idle (Some same)) → key ≡ same
@@ -205,7 +206,7 @@ both_reach_server w clients packet moment u v s t agree one other ample enough =
 
 both_step : (w : World) (clients : Clients) (e : Event) (u v : World) (s t : Seen) → Agree w (listed w clients) → Steps w e u s → Steps (listed w clients) e v t
     → ¬ SentNoMemory w u → ¬ SentNoMemory (listed w clients) v → Same u v s t
-both_step w clients (event.Start client incarnation) u v s t agree one other ample enough = both_start w clients agree u v s t client incarnation one other
+both_step w clients (event.Start client incarnation version) u v s t agree one other ample enough = both_start w clients agree u v s t client incarnation version one other
 both_step w clients (event.Begin client call) u v s t agree one other ample enough = both_begin w clients agree u v s t client call one other
 both_step w clients (event.Resend client) u v s t agree one other ample enough = both_say w clients agree u v s t client request_of one other
 both_step w clients (event.CancelSent client) u v s t agree one other ample enough = both_say w clients agree u v s t client cancel_of one other
@@ -236,7 +237,7 @@ module _ (w x : World) (agree : Agree w x) where
       absurd (but.0.is_not (subst Is (same_Some _ _ (sym runs ∙ agree client ∙ but.0.runs)) such))
 
 one_due : (w : World) (clients : Clients) (e : Event) (p q : WorldRefusal) → Agree w (listed w clients) → Due w e p → Due (listed w clients) e q → p ≡ q
-one_due w clients (event.Start client incarnation) p q agree one other = one.1 ∙ sym other.1
+one_due w clients (event.Start client incarnation version) p q agree one other = one.1 ∙ sym other.1
 one_due w clients (event.Begin client call) p q agree one other = none_or_other w (listed w clients) agree client IsReady _ p q one other
 one_due w clients (event.Resend client) p q agree one other = none_or_other w (listed w clients) agree client IsAsking _ p q one other
 one_due w clients (event.CancelSent client) p q agree one other = none_or_other w (listed w clients) agree client IsAsking _ p q one other
@@ -248,8 +249,8 @@ one_due w clients (event.NewEpoch epoch) p q agree one other = one.1 ∙ sym oth
 -- where a step is, no refusal is due
 step_due : (w x : World) (e : Event) (u : World) (s : Seen) (q : WorldRefusal) → Agree w x → x.started ≡ w.started → x.to_server ≡ w.to_server → x.to_client ≡ w.to_client
     → x.present.epoch ≡ w.present.epoch → Steps w e u s → Due x e q → ⊥
-step_due w x (event.Start client incarnation) u s q agree started sent answered epoch one due =
-    start_due w client incarnation one.newest q (record { other = due.0.other; there = subst (λ (l : List (ℕ × ℕ)). Contains l (client, due.0.other)) started due.0.there; reaches = due.0.reaches }, due.1)
+step_due w x (event.Start client incarnation version) u s q agree started sent answered epoch one due =
+    start_due w client incarnation version one.newest q (record { other = due.0.other; there = subst (λ (l : List (ℕ × ℕ)). Contains l (client, due.0.other)) started due.0.there; reaches = due.0.reaches }, due.1)
 step_due w x (event.Begin client call) u s q agree started sent answered epoch one due =
     runs_such w x agree client IsReady _ q _ one.idle (one.key, refl) due
 step_due w x (event.Resend client) u s q agree started sent answered epoch one due =

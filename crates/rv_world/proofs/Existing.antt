@@ -1,10 +1,12 @@
 -- A step is there wherever no refusal is due.
-use Rattle.std.proofs.Common.{◌≡◌, ◌≢◌, inl, inr, ℕ, ◌+◌, ◌<◌, List, [], ◌∷◌, ◌++◌, Option, Some, None, Bool, true, cond, nat_eq, length, refl, sym, ap, ◌∙◌, arith}
+use Rattle.std.proofs.Common.{◌≡◌, ◌≢◌, ◌⊎◌, inl, inr, ℕ, ◌+◌, ◌<◌, List, [], ◌∷◌, ◌++◌, Option, Some, None, Bool, true, cond, nat_eq, length, refl, sym, ap, ◌∙◌, arith}
 use Rattle.std.specs.Prelude.{option_and_then, slice_get}
 use Rattle.std.specs.Map.{lookup}
 use Rattle.std.proofs.lemmas.Bool.{cases_lt}
 use Rattle.std.proofs.lemmas.Bool.Decides.{nat_tests}
 use Rattle.std.proofs.lemmas.List.{append_cancel_left, length-append}
+use Rattle.rv_text.specs.declared.version.Version.{Version}
+use Rattle.rv_text.specs.declared.version.Version.TheVariants.{One, Two}
 use Rattle.rv_text.specs.declared.message.Key.{Key}
 use Rattle.rv_text.specs.declared.message.Message.{Message}
 use Rattle.rv_text.specs.declared.message.Message.TheVariants as message
@@ -15,13 +17,14 @@ use Rattle.rv_text.specs.declared.answer.Refusal.{Refusal}
 use Rattle.rv_text.specs.declared.answer.Refusal.TheVariants as refusals
 use Rattle.rv_text.specs.declared.answer.Reply.{Reply}
 use Rattle.rv_text.specs.declared.answer.Reply.TheVariants as reply
+use Rattle.rv_account.specs.declared.entry.Act.{Act}
 use Rattle.rv_account.specs.declared.entry.Act.TheVariants as act
 use Rattle.rv_account.specs.Account.{Account}
 use Rattle.rv_account.specs.Calls.{need_of}
 use Rattle.rv_book.specs.Laws.{CanCancel, CanEnter}
 use Rattle.rv_book.specs.Legal.{Legal, WaitsUnder}
 use Rattle.rv_book.specs.Sessions.{HasIncarnation, LastNumber}
-use Rattle.rv_book.specs.Steps.{Adds, Answers, BusyDue, ClientsFullDue, EntersOrNoMemory, EpochFullDue, GapDue, KeyLines, Next, NextAt, NoSessionDue, OldIncarnationDue, OldNumberDue, OtherCallDue, OtherEpochDue, RefuseOr, Refuses, Repeats, Replies, Ticks, WhereElse, HelloLines, step_moment}
+use Rattle.rv_book.specs.Steps.{Adds, Answers, BusyDue, ClientsFullDue, EntersOrNoMemory, EpochFullDue, GapDue, KeyLines, Next, NextAt, NoSessionDue, OldIncarnationDue, OldNumberDue, OtherCallDue, OtherEpochDue, OtherVersionDue, RefuseOr, Refuses, Repeats, Replies, Ticks, WhereElse, HelloLines, step_moment}
 use Rattle.rv_book.proofs.Deciding.{key_or_other}
 use Rattle.rv_book.proofs.Entering.{cancels_can_enter, hellos_can_enter, requests_can_enter, ticks_can_enter}
 use Rattle.rv_book.proofs.Numbers.{same_or_not}
@@ -81,6 +84,9 @@ no_session a key p due none = let is = due.1 in cc
 old_incarnation : (a : Account) (client incarnation : ℕ) (p : Refusal) → OldIncarnationDue a client incarnation p → p ≢ refusals.NoMemory
 old_incarnation a client incarnation p due none = let is = due.is in cc
 
+other_version : (a : Account) (client incarnation : ℕ) (version : Version) (p : Refusal) → OtherVersionDue a client incarnation version p → p ≢ refusals.NoMemory
+other_version a client incarnation version p due none = let is = due.is in cc
+
 old_number : (a : Account) (key : Key) (p : Refusal) → OldNumberDue a key p → p ≢ refusals.NoMemory
 old_number a key p due none = let is = due.is in cc
 
@@ -105,8 +111,8 @@ replied_ample key told x is none = cc
 waits_ample : (key : Key) (x : Answer) → x ≡ answers.Waiting key → x ≢ answers.Refused refusals.NoMemory
 waits_ample key x is none = cc
 
-welcome_ample : (epoch client incarnation : ℕ) → answers.Welcome epoch client incarnation ≢ answers.Refused refusals.NoMemory
-welcome_ample epoch client incarnation none = cc
+welcome_ample : (epoch client incarnation : ℕ) (version : Version) → answers.Welcome epoch client incarnation version ≢ answers.Refused refusals.NoMemory
+welcome_ample epoch client incarnation version none = cc
 
 answer_ample : (a : Account) (key : Key) (x : Answer) → Answers a key x → x ≢ answers.Refused refusals.NoMemory
 answer_ample a key x (inl replies) = replied_ample key replies.reply x replies.is
@@ -165,23 +171,25 @@ cancel_lines before a now key legal lines =
     (λ can. record { after = can.after; said = answers.Replied key reply.Cancelled; is = inr (can.adds, can.replies); ample = replied_ample key reply.Cancelled _ refl })
     lines
 
-hello_lines : (a : Account) (moment client incarnation : ℕ)
-    → HelloLines a client incarnation (λ refusal. Unit {0}) (Unit {0}) ((b : Account) × Adds a moment (act.Hello client incarnation) b)
-    → Chosen (λ b x. NextAt a moment (message.Hello client incarnation) b x)
-hello_lines a moment client incarnation lines =
-    let welcome : Answer = answers.Welcome a.epoch client incarnation in
-    let ample = welcome_ample a.epoch client incarnation in
+hello_lines : (a : Account) (moment client incarnation : ℕ) (version : Version)
+    → HelloLines a client incarnation version (λ refusal. Unit {0}) (Unit {0}) ((b : Account) × Adds a moment (act.Hello client incarnation version) b)
+    → Chosen (λ b x. NextAt a moment (message.Hello client incarnation version) b x)
+hello_lines a moment client incarnation version lines =
+    let welcome : Answer = answers.Welcome a.epoch client incarnation version in
+    let ample = welcome_ample a.epoch client incarnation version in
+    let says : Act = act.Hello client incarnation version in
     refuse_or _ _ _ a (old_incarnation a client incarnation)
+    (refuse_or _ _ _ a (other_version a client incarnation version)
     (where_else (HasIncarnation a.entries client incarnation) (Unit {0}) _ (λ b x. (b ≡ a) × (x ≡ welcome)) _
     (λ again. record { after = a; said = welcome; is = (refl, refl); ample = ample })
     (refuse_or _ _ _ a (clients_full a client)
-    (refuse_or _ ((b : Account) × Adds a moment (act.Hello client incarnation) b) (λ b x. EntersOrNoMemory a moment (act.Hello client incarnation) b x (x ≡ welcome)) a (epoch_full a 1)
-    (λ can. record { after = can.0; said = welcome; is = inr (can.1, refl); ample = ample }))))
+    (refuse_or _ ((b : Account) × Adds a moment says b) (λ b x. EntersOrNoMemory a moment says b x (x ≡ welcome)) a (epoch_full a 1)
+    (λ can. record { after = can.0; said = welcome; is = inr (can.1, refl); ample = ample })))))
     lines
 
 -- each message leads on, whatever its moment
 chosen : (before a : Account) (now : ℕ) (m : Message) → Legal before → Ticks before (step_moment before now) a → Legal a → Chosen (λ b x. NextAt a (step_moment before now) m b x)
-chosen before a now (message.Hello client incarnation) legal ticks then = hello_lines a (step_moment before now) client incarnation (hellos_can_enter before a now client incarnation legal ticks)
+chosen before a now (message.Hello client incarnation version) legal ticks then = hello_lines a (step_moment before now) client incarnation version (hellos_can_enter before a now client incarnation version legal ticks)
 chosen before a now (message.Request key call) legal ticks then = request_lines before a now key call then (requests_can_enter before a now key call legal ticks)
 chosen before a now (message.Cancel key) legal ticks then = cancel_lines before a now key then (cancels_can_enter before a now key legal ticks)
 
@@ -197,27 +205,46 @@ record CanHear (process : Process) (answer : Answer) : Type 0 where
   outcome : Outcome
   hears : Hears process answer outcome
 
-no_welcome : (s : Starting) (epoch client incarnation : ℕ) → (client ≡ s.client → incarnation ≡ s.incarnation → ⊥)
-    → (e : ℕ) → answers.Welcome epoch client incarnation ≢ answers.Welcome e s.client s.incarnation
-no_welcome s epoch client incarnation apart e is = apart (same_client is) (same_incarnation is)
+same_version : (v w : Version) → (v ≡ w) ⊎ (v ≢ w)
+same_version One One = inl refl
+same_version Two Two = inl refl
+same_version One Two = inr (λ is. cc)
+same_version Two One = inr (λ is. cc)
+
+-- a welcome that is not for it
+passes_welcome : (s : Starting) (epoch client incarnation : ℕ) (version : Version) → (client ≡ s.client → incarnation ≡ s.incarnation → version ≡ s.version → ⊥)
+    → CanHear (New s) (answers.Welcome epoch client incarnation version)
+passes_welcome s epoch client incarnation version apart = record {
+  outcome = Ignored (New s);
+  hears = (record { no_welcome = λ e is. apart (same_client e is) (same_incarnation e is) (versions e is); no_refusal = λ refusal is. cc }, refl);
+}
   where
-    same_client : answers.Welcome epoch client incarnation ≡ answers.Welcome e s.client s.incarnation → client ≡ s.client
-    same_client is = cc
+    same_client : (e : ℕ) → answers.Welcome epoch client incarnation version ≡ answers.Welcome e s.client s.incarnation s.version → client ≡ s.client
+    same_client e is = cc
 
-    same_incarnation : answers.Welcome epoch client incarnation ≡ answers.Welcome e s.client s.incarnation → incarnation ≡ s.incarnation
-    same_incarnation is = cc
+    same_incarnation : (e : ℕ) → answers.Welcome epoch client incarnation version ≡ answers.Welcome e s.client s.incarnation s.version → incarnation ≡ s.incarnation
+    same_incarnation e is = cc
 
-passes_by : (s : Starting) (answer : Answer) → ((e : ℕ) → answer ≢ answers.Welcome e s.client s.incarnation) → ((refusal : Refusal) → answer ≢ answers.Refused refusal) → CanHear (New s) answer
+    versions : (e : ℕ) → answers.Welcome epoch client incarnation version ≡ answers.Welcome e s.client s.incarnation s.version → version ≡ s.version
+    versions e is = cc
+
+welcome_heard : (s : Starting) (epoch client incarnation : ℕ) (version : Version) → CanHear (New s) (answers.Welcome epoch client incarnation version)
+welcome_heard s epoch client incarnation version = elim (same_or_not client s.client) [
+  | inr apart ↦ passes_welcome s epoch client incarnation version (λ one other third. apart one)
+  | inl one ↦ elim (same_or_not incarnation s.incarnation) [
+    | inr apart ↦ passes_welcome s epoch client incarnation version (λ one other third. apart other)
+    | inl other ↦ elim (same_version version s.version) [
+      | inr apart ↦ passes_welcome s epoch client incarnation version (λ one other third. apart third)
+      | inl third ↦ record { outcome = Welcomed (Some (first_key s epoch)); hears = (epoch, cc, refl) }
+    ]
+  ]
+]
+
+passes_by : (s : Starting) (answer : Answer) → ((e : ℕ) → answer ≢ answers.Welcome e s.client s.incarnation s.version) → ((refusal : Refusal) → answer ≢ answers.Refused refusal) → CanHear (New s) answer
 passes_by s answer no_welcome no_refusal = record { outcome = Ignored (New s); hears = (record { no_welcome = no_welcome; no_refusal = no_refusal }, refl) }
 
 new_hears : (s : Starting) (answer : Answer) → CanHear (New s) answer
-new_hears s (answers.Welcome epoch client incarnation) = elim (same_or_not client s.client) [
-  | inr apart ↦ passes_by s (answers.Welcome epoch client incarnation) (no_welcome s epoch client incarnation (λ one other. apart one)) (λ refusal is. cc)
-  | inl one ↦ elim (same_or_not incarnation s.incarnation) [
-    | inr apart ↦ passes_by s (answers.Welcome epoch client incarnation) (no_welcome s epoch client incarnation (λ one other. apart other)) (λ refusal is. cc)
-    | inl other ↦ record { outcome = Welcomed (Some (first_key s epoch)); hears = (epoch, cc, refl) }
-  ]
-]
+new_hears s (answers.Welcome epoch client incarnation version) = welcome_heard s epoch client incarnation version
 new_hears s (answers.Replied key told) = passes_by s (answers.Replied key told) (λ e is. cc) (λ refusal is. cc)
 new_hears s (answers.Waiting key) = passes_by s (answers.Waiting key) (λ e is. cc) (λ refusal is. cc)
 new_hears s (answers.Refused refusal) = record { outcome = TurnedAway s refusal; hears = (refl, refl) }
@@ -260,7 +287,7 @@ refused_hears asking (refusals.OldIncarnation current) = elim (cases_lt asking.k
 refused_hears asking refusal = no_reply asking (answers.Refused refusal) (λ key told is. cc) (λ n is. cc) (λ n is. cc)
 
 asking_hears : (asking : Asking) (answer : Answer) → CanHear (Outstanding asking) answer
-asking_hears asking (answers.Welcome epoch client incarnation) = no_reply asking (answers.Welcome epoch client incarnation) (λ key told is. cc) (λ n is. cc) (λ n is. cc)
+asking_hears asking (answers.Welcome epoch client incarnation version) = no_reply asking (answers.Welcome epoch client incarnation version) (λ key told is. cc) (λ n is. cc) (λ n is. cc)
 asking_hears asking (answers.Waiting key) = no_reply asking (answers.Waiting key) (λ key told is. cc) (λ n is. cc) (λ n is. cc)
 asking_hears asking (answers.Refused refusal) = refused_hears asking refusal
 asking_hears asking (answers.Replied key told) = elim (key_or_other key asking.key) [
@@ -364,12 +391,12 @@ can_come (Some process) w packet =
 abbrev NothingDue : World → Event → Type 0
 NothingDue w e = (refusal : WorldRefusal) → ¬ Due w e refusal
 
-can_start : (w : World) (client incarnation : ℕ) → NothingDue w (event.Start client incarnation) → CanStep w (event.Start client incarnation)
-can_start w client incarnation nothing =
+can_start : (w : World) (client incarnation : ℕ) (version : Version) → NothingDue w (event.Start client incarnation version) → CanStep w (event.Start client incarnation version)
+can_start w client incarnation version nothing =
     let v : World = sends (record w {
-      clients = (client, Some (New (starting client incarnation))) ∷ w.clients;
+      clients = (client, Some (New (starting client incarnation version))) ∷ w.clients;
       started = w.started ++ (client, incarnation) ∷ [];
-    }) (hello_of (starting client incarnation)) in
+    }) (hello_of (starting client incarnation version)) in
     record {
       after = v;
       shows = next_message w;
@@ -471,7 +498,7 @@ can_open w epoch nothing =
     }
 
 pub steps_exist : StepsExist
-steps_exist w (event.Start client incarnation) legal nothing = can_start w client incarnation nothing
+steps_exist w (event.Start client incarnation version) legal nothing = can_start w client incarnation version nothing
 steps_exist w (event.Begin client call) legal nothing = can_begin w client call nothing (process_of w client) refl
 steps_exist w (event.Resend client) legal nothing =
     can_ask w client (event.Resend client) nothing (λ p none. inl none) (λ but. inr (but, refl)) request_of (λ v s says. says) (process_of w client) refl

@@ -71,7 +71,7 @@ turns_fit w client process v fits turns turned =
 module _ (w : World) (client : ℕ) (answer : Answer) (v : World) (shows : Seen) (fits : AllFits w) (answer_fits : FitsAnswer answer) where
   heard_fits : (process : Process) (outcome : Outcome) → process_of w client ≡ Some process → Hears process answer outcome → Becomes w client answer outcome v shows → AllFits v
   heard_fits (New starting) (Welcomed next) there hears becomes =
-      let welcome : FitsAnswer (answers.Welcome hears.0 starting.client starting.incarnation) = subst FitsAnswer hears.1 answer_fits in
+      let welcome : FitsAnswer (answers.Welcome hears.0 starting.client starting.incarnation starting.version) = subst FitsAnswer hears.1 answer_fits in
       let own = first_key_fits starting hears.0 (fits.processes client (New starting) there) welcome.0 in
       turns_fit w client _ v fits becomes.0 (λ p is. subst FitsProcess (same_Some _ _ is) (subst (λ o. FitsProcess (Idle o)) (sym hears.2) own))
   heard_fits (New starting) (TurnedAway same refusal) there hears becomes =
@@ -144,9 +144,9 @@ says_fit w v said fits said_fits sent same answered processes = record {
 }
 
 pub step_fits : (w : World) (e : Event) (v : World) (shows : Seen) → Legal w.present → AllFits w → FitsEvent e → Steps w e v shows → AllFits v
-step_fits w (event.Start client incarnation) v shows legal fits event_fits is =
+step_fits w (event.Start client incarnation version) v shows legal fits event_fits is =
     let processes = turned_fit w v client _ fits.processes is.turns (λ p same. subst FitsProcess (same_Some _ _ same) event_fits) in
-    subst (λ (u : World). ProcessesFit u → AllFits u) (sym is.rest) (says_fit w _ (hello_of (starting client incarnation)) fits event_fits refl refl refl) processes
+    subst (λ (u : World). ProcessesFit u → AllFits u) (sym is.rest) (says_fit w _ (hello_of (starting client incarnation version)) fits event_fits refl refl refl) processes
 step_fits w (event.Begin client call) v shows legal fits event_fits is =
     let asking : FitsMessage (request_of (record { key = is.key; call = call })) = (fits.processes client (Idle (Some is.key)) is.idle, event_fits.1) in
     let processes = turned_fit w v client _ fits.processes is.turns (λ p same. subst FitsProcess (same_Some _ _ same) asking) in

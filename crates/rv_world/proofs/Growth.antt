@@ -118,7 +118,7 @@ reaches_server_grows w packet moment v shows is =
     })
 
 pub step_grows : (w : World) (e : Event) (v : World) (shows : Seen) → Steps w e v shows → OnlyGrows w v
-step_grows w (event.Start client incarnation) v shows is =
+step_grows w (event.Start client incarnation version) v shows is =
     subst (OnlyGrows w) (sym is.rest) (same_accounts w _ (goes_on_itself w.asked) (goes_on_itself w.held) (goes_on_itself w.to_client) refl)
 step_grows w (event.Begin client call) v shows is =
     subst (OnlyGrows w) (sym is.rest) (same_accounts w _ (goes_on w.asked ((is.key, call) ∷ [])) (goes_on_itself w.held) (goes_on_itself w.to_client) refl)

@@ -1,13 +1,16 @@
 -- What a process makes of an answer, and what the world then is.
-use Rattle.std.proofs.Common.{◌≡◌, ℕ, List, [], ◌∷◌, ◌++◌, Option, Some, None, option_map, sym, ap, ◌∙◌}
+use Rattle.std.proofs.Common.{◌≡◌, ℕ, Bool, false, List, [], ◌∷◌, ◌++◌, Option, Some, None, option_map, sym, ap, subst, ◌∙◌}
+use Rattle.std.specs.Prelude.{is_some, not}
 use Rattle.rv_text.specs.declared.message.Key.{Key}
 use Rattle.rv_text.specs.declared.answer.Answer.{Answer}
 use Rattle.rv_text.specs.declared.answer.Reply.{Reply}
 use Rattle.rv_client.specs.Process.{Process, New, Idle, Outstanding, Hears}
 use Rattle.rv_client.specs.Process.{Outcome, Welcomed, TurnedAway, Settled, EpochEnded, Replaced, Ignored}
+use Rattle.rv_world.specs.declared.packet.Packet.{Packet}
 use Rattle.rv_world.specs.declared.process.Told.{Told}
-use Rattle.rv_world.specs.World.{World}
-use Rattle.rv_world.specs.Events.{OnlyTurns, Turns, Becomes, IsHeard}
+use Rattle.rv_world.specs.declared.seen.Seen.{Seen}
+use Rattle.rv_world.specs.World.{World, process_of}
+use Rattle.rv_world.specs.Events.{OnlyTurns, Turns, Becomes, ComesTo, IsHeard}
 use Rattle.rv_world.specs.Processes.{process_in, LeavesBy, HearsAs}
 use Rattle.rv_world.specs.Table.{Table, running_of, with_process}
 use Rattle.rv_world.proofs.TableWrites.{only_turns, runs_stands, turned_back}
@@ -59,3 +62,21 @@ module _ (w v : World) (old new : Table) (client : ℕ) (answer : Answer) (told 
 
   pub heard : HearsAs process answer told → IsHeard w process (record { client = client; answer = answer }) v told.seen
   heard hears = record { outcome = hears.outcome; hears = hears.hears; becomes = becomes hears.outcome hears.hears hears.leaves }
+
+-- ---- an answer that comes to a process that runs
+
+runs_some : {X : Type 0} (read : X → Process) (found : Option X) (runs : Option Process) (is_none : Bool) → option_map read found ≡ runs → is_some found ≡ not is_none → is_none ≡ false
+    → (running : Process) × (runs ≡ Some running)
+runs_some read None runs is_none is some runs_so = absurd (let none : ⊥ = cc in none)
+runs_some read (Some x) runs is_none is some runs_so = (read x, sym is)
+
+-- what was sent comes to it by a copy of the answer, with room for one more that is held
+pub comes_heard : {X : Type 0} (read : X → Process) (w : World) (kept : List (Key × Reply)) (sent : Packet) (answer : Answer) (v : World) (shows : Seen) (found : Option X) (is_none : Bool)
+    → option_map read found ≡ process_of w sent.client → is_some found ≡ not is_none → is_none ≡ false → kept ≡ w.held → answer ≡ sent.answer
+    → ((running : Process) → process_of w sent.client ≡ Some running → IsHeard (record w { held = kept }) running (record { client = sent.client; answer = answer }) v shows)
+    → ComesTo (process_of w sent.client) w sent v shows
+comes_heard read w kept sent answer v shows found is_none is some runs_so held copied hears =
+    let runs = runs_some read found (process_of w sent.client) is_none is some runs_so in
+    let by_copy = subst (λ (l : List (Key × Reply)). IsHeard (record w { held = l }) runs.0 (record { client = sent.client; answer = answer }) v shows) held (hears runs.0 runs.1) in
+    subst (λ (o : Option Process). ComesTo o w sent v shows) (sym runs.1)
+    (subst (λ (x : Answer). IsHeard w runs.0 (record { client = sent.client; answer = x }) v shows) copied by_copy)

@@ -14,16 +14,17 @@ use Rattle.rv_text.specs.Calls.{item_of, side_of}
 use Rattle.rv_account.specs.declared.entry.Act.{Act}
 use Rattle.rv_account.specs.declared.entry.Act.TheVariants.{Arrive, Cancel, Hello, Tick}
 use Rattle.rv_account.specs.declared.entry.Entry.{Entry}
-use Rattle.rv_account.specs.Account.{Account, call_at, call_in, key_in}
+use Rattle.rv_account.specs.Account.{Account, call_at, call_in, key_at, key_in}
 use Rattle.rv_account.specs.Calls.{may_name, opposite}
 use Rattle.rv_book.specs.Legal.{Legal}
-use Rattle.rv_book.specs.Replies.{Drains, Gets, HasReply, Meet, RepliesAt, RepliesUnmet, ToldStopped, told_by}
+use Rattle.rv_book.specs.Replies.{Drains, Gets, HasReply, Meet, RepliesAt, RepliesMet, RepliesUnmet, ToldStopped, told_by}
 use Rattle.rv_book.specs.Waiting.{Met, NamesPartner}
 use Rattle.rv_book.proofs.Fronts.{read_whole}
 use Rattle.rv_book.proofs.Growing.{act_read, call_read, read_there}
 use Rattle.rv_book.proofs.Opposites.{opposite_back}
 use Rattle.rv_book.proofs.OnePartner.{arrives_once, meets_one, partner_open}
-use Rattle.rv_world.specs.Headline.{ArrivesAt, IsNo, IsPair, IsToldItem}
+use Rattle.rv_book.proofs.Receipts.{one_taker}
+use Rattle.rv_world.specs.Headline.{ArrivesAt, IsNo, IsPair, IsReceipt, IsToldItem, NamesTaker}
 use Rattle.rv_world.proofs.Drained.{told_among}
 
 -- ---- partners
@@ -117,7 +118,7 @@ says_no told (inr (inr (inl is))) = subst SaysNo (sym is) tt
 says_no told (inr (inr (inr is))) = subst SaysNo (sym is) tt
 
 stopper_says_no : (act : Act) → SaysNo (told_by act)
-stopper_says_no (Hello client incarnation) = tt
+stopper_says_no (Hello client incarnation version) = tt
 stopper_says_no (Arrive key own) = tt
 stopper_says_no (Cancel key) = tt
 stopper_says_no Tick = tt
@@ -131,9 +132,19 @@ unmet_says_no (Millis zero) es r at_once told says is = subst SaysNo (sym is) tt
 unmet_says_no (Millis (suc n)) es r at_once told says stopped = stopped_says_no es r told stopped
 unmet_says_no Forever es r at_once told says stopped = stopped_says_no es r told stopped
 
+-- what a transfer that was met is told is a receipt, and a receipt says no no
+met_receipt : (es : List Entry) (r : ℕ) (told : Reply) → RepliesMet es r told → IsReceipt told
+met_receipt es r told (inl two) = subst IsReceipt (sym two.3) tt
+met_receipt es r told (inr other) = subst IsReceipt (sym other.1) tt
+
+no_receipt : (told : Reply) → SaysNo told → IsReceipt told → ⊥
+no_receipt reply.Received says receipt = says
+no_receipt (reply.ReceivedBy taker) says receipt = says
+no_receipt _ says receipt = receipt
+
 no_unmet : (a : Account) (r : ℕ) (own : Call) (told : Reply) → Legal a → call_at a.entries r ≡ Some own → RepliesAt a.entries r own told → SaysNo told → Met a.entries r → ⊥
 no_unmet a r (call.Put queue item) told legal arrived is says met = subst SaysNo is says
-no_unmet a r (call.Transfer queue item wait) told legal arrived (inl got) says met = subst SaysNo got.1 says
+no_unmet a r (call.Transfer queue item wait) told legal arrived (inl got) says met = no_receipt told says (met_receipt a.entries r told got.1)
 no_unmet a r (call.Transfer queue item wait) told legal arrived (inr unmet) says met = unmet.0 met
 no_unmet a r (call.Take queue wait) told legal arrived (inl got) says met = subst SaysNo got.2 says
 no_unmet a r (call.Take queue wait) told legal arrived (inr unmet) says met = unmet.0 met
@@ -150,24 +161,31 @@ no_means_unmet a key told legal (inl has) says r own arrived met =
     no_unmet a has.place has.call told legal (ap (option_and_then call_in) has.arrived) has.replies (says_no told says) (subst (Met a.entries) place met)
 no_means_unmet a key told legal (inr first) says r own arrived met = first.0.not_arrived r own arrived
 
--- who received met a taker
-pub received_met : (es : List Entry) (r : ℕ) (own : Call) → RepliesAt es r own reply.Received → Met es r × ((queue : ℕ) × (side_of own ≡ Gives queue))
-received_met es r (call.Put queue item) is = absurd (let no : ⊥ = cc in no)
-received_met es r (call.Transfer queue item wait) (inl got) = (got.0, (queue, refl))
-received_met es r (call.Transfer queue item wait) (inr unmet) = absurd (unmet_says_no wait es r reply.Nobody reply.Received tt unmet.1)
-received_met es r (call.Take queue wait) (inl got) = absurd (let is = got.2 in let no : ⊥ = cc in no)
-received_met es r (call.Take queue wait) (inr unmet) = absurd (unmet_says_no wait es r reply.Empty reply.Received tt unmet.1)
-received_met es r (call.Swap exchanger item wait) (inl got) = absurd (let is = got.2 in let no : ⊥ = cc in no)
-received_met es r (call.Swap exchanger item wait) (inr unmet) = absurd (unmet_says_no wait es r reply.TimedOut reply.Received tt unmet.1)
-received_met es r (call.Count queue) got = absurd (let is = got.3 in let no : ⊥ = cc in no)
-received_met es r (call.Peek queue) (inl got) = absurd (let is = got.2 in let no : ⊥ = cc in no)
-received_met es r (call.Peek queue) (inr none) = absurd (let is = none.1 in let no : ⊥ = cc in no)
-received_met es r (call.Drain queue max) got = absurd (let is = got.2 in let no : ⊥ = cc in no)
+-- who is told a receipt is a transfer that met a taker
+pub received_met : (es : List Entry) (r : ℕ) (own : Call) (told : Reply) → IsReceipt told → RepliesAt es r own told → Met es r × ((queue : ℕ) × (side_of own ≡ Gives queue)) × RepliesMet es r told
+received_met es r (call.Put queue item) told receipt is = absurd (subst IsReceipt is receipt)
+received_met es r (call.Transfer queue item wait) told receipt (inl got) = (got.0, (queue, refl), got.1)
+received_met es r (call.Transfer queue item wait) told receipt (inr unmet) = absurd (no_receipt told (unmet_says_no wait es r reply.Nobody told tt unmet.1) receipt)
+received_met es r (call.Take queue wait) told receipt (inl got) = absurd (subst IsReceipt got.2 receipt)
+received_met es r (call.Take queue wait) told receipt (inr unmet) = absurd (no_receipt told (unmet_says_no wait es r reply.Empty told tt unmet.1) receipt)
+received_met es r (call.Swap exchanger item wait) told receipt (inl got) = absurd (subst IsReceipt got.2 receipt)
+received_met es r (call.Swap exchanger item wait) told receipt (inr unmet) = absurd (no_receipt told (unmet_says_no wait es r reply.TimedOut told tt unmet.1) receipt)
+received_met es r (call.Count queue) told receipt got = absurd (subst IsReceipt got.3 receipt)
+received_met es r (call.Peek queue) told receipt (inl got) = absurd (subst IsReceipt got.2 receipt)
+received_met es r (call.Peek queue) told receipt (inr none) = absurd (subst IsReceipt none.1 receipt)
+received_met es r (call.Drain queue max) told receipt got = absurd (subst IsReceipt got.2 receipt)
+
+-- whom its receipt names, if it names one, is the taker that it met
+pub names_taker : (a : Account) (r place : ℕ) (own : Call) (told : Reply) (key : Key) → Legal a → call_at a.entries r ≡ Some own → may_name own ≡ 1 → RepliesMet a.entries r told → Meet a.entries r place
+    → key_at a.entries place ≡ Some key → NamesTaker told key
+names_taker a r place own told key legal arrived single (inl two) meet named =
+    subst (λ t. NamesTaker t key) (sym two.3) (one_taker a r own two.1 key legal arrived single two.2 (record { place = place; meet = meet; named = named }))
+names_taker a r place own told key legal arrived single (inr other) meet named = subst (λ t. NamesTaker t key) (sym other.1) tt
 
 -- who is told an item got it from whom it met, and may name one
 pub item_got : (es : List Entry) (r : ℕ) (own : Call) (item : List ℕ) → RepliesAt es r own (reply.Item item) → Gets es r item × ((queue : ℕ) × (side_of own ≡ Takes queue)) × (may_name own ≡ 1)
 item_got es r (call.Put queue bytes) item is = absurd (let no : ⊥ = cc in no)
-item_got es r (call.Transfer queue bytes wait) item (inl got) = absurd (let is = got.1 in let no : ⊥ = cc in no)
+item_got es r (call.Transfer queue bytes wait) item (inl got) = absurd (met_receipt es r (reply.Item item) got.1)
 item_got es r (call.Transfer queue bytes wait) item (inr unmet) = absurd (unmet_says_no wait es r reply.Nobody (reply.Item item) tt unmet.1)
 item_got es r (call.Take queue wait) item (inl got) = let same : got.0 ≡ item = let is = got.2 in cc in (subst (Gets es r) same got.1, (queue, refl), refl)
 item_got es r (call.Take queue wait) item (inr unmet) = absurd (unmet_says_no wait es r reply.Empty (reply.Item item) tt unmet.1)
@@ -181,7 +199,7 @@ item_got es r (call.Drain queue max) item got = absurd (let is = got.2 in let no
 -- and who is told that it swapped
 pub swapped_got : (es : List Entry) (r : ℕ) (own : Call) (item : List ℕ) → RepliesAt es r own (reply.Swapped item) → Gets es r item × ((exchanger : ℕ) × (side_of own ≡ Exchanges exchanger))
 swapped_got es r (call.Put queue bytes) item is = absurd (let no : ⊥ = cc in no)
-swapped_got es r (call.Transfer queue bytes wait) item (inl got) = absurd (let is = got.1 in let no : ⊥ = cc in no)
+swapped_got es r (call.Transfer queue bytes wait) item (inl got) = absurd (met_receipt es r (reply.Swapped item) got.1)
 swapped_got es r (call.Transfer queue bytes wait) item (inr unmet) = absurd (unmet_says_no wait es r reply.Nobody (reply.Swapped item) tt unmet.1)
 swapped_got es r (call.Take queue wait) item (inl got) = absurd (let is = got.2 in let no : ⊥ = cc in no)
 swapped_got es r (call.Take queue wait) item (inr unmet) = absurd (unmet_says_no wait es r reply.Empty (reply.Swapped item) tt unmet.1)
@@ -195,7 +213,7 @@ swapped_got es r (call.Drain queue max) item got = absurd (let is = got.2 in let
 -- and who is told a list drains
 pub drained_got : (es : List Entry) (r : ℕ) (own : Call) (items : List (List ℕ)) → RepliesAt es r own (reply.Drained items) → (queue max : ℕ) × (own ≡ call.Drain queue max) × Drains es r items
 drained_got es r (call.Put queue bytes) items is = absurd (let no : ⊥ = cc in no)
-drained_got es r (call.Transfer queue bytes wait) items (inl got) = absurd (let is = got.1 in let no : ⊥ = cc in no)
+drained_got es r (call.Transfer queue bytes wait) items (inl got) = absurd (met_receipt es r (reply.Drained items) got.1)
 drained_got es r (call.Transfer queue bytes wait) items (inr unmet) = absurd (unmet_says_no wait es r reply.Nobody (reply.Drained items) tt unmet.1)
 drained_got es r (call.Take queue wait) items (inl got) = absurd (let is = got.2 in let no : ⊥ = cc in no)
 drained_got es r (call.Take queue wait) items (inr unmet) = absurd (unmet_says_no wait es r reply.Empty (reply.Drained items) tt unmet.1)

@@ -1,5 +1,6 @@
 -- Events that are refused for want of memory.
 use Rattle.std.proofs.Common.{◌≡◌, inr, ℕ, Result, Ok, Err, IsErrAnd, arith}
+use Rattle.rv_text.specs.declared.version.Version.{Version}
 use Rattle.rv_world.specs.declared.event.Event.{Event}
 use Rattle.rv_world.specs.declared.event.Event.TheVariants as event
 use Rattle.rv_world.specs.declared.seen.Seen.{Seen}
@@ -15,8 +16,8 @@ lacks_memory w v e (Ok shows) nothing needs refused same = absurd refused
 lacks_memory w v e (Err refusal) nothing needs refused same = (inr (record { nothing_due = nothing; needs = needs; is = refused }), same)
 
 -- a newest incarnation is not due to be refused
-pub start_due : (w : World) (client incarnation : ℕ) → IsNewest w client incarnation → (other : WorldRefusal) → ¬ Due w (event.Start client incarnation) other
-start_due w client incarnation newest other due =
+pub start_due : (w : World) (client incarnation : ℕ) (version : Version) → IsNewest w client incarnation → (other : WorldRefusal) → ¬ Due w (event.Start client incarnation version) other
+start_due w client incarnation version newest other due =
     let reaches = due.0.reaches in
     let below = newest due.0.other due.0.there in
     omega (arith, reaches, below)

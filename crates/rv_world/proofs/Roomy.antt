@@ -141,18 +141,18 @@ arrival_room a e call legal says room m after =
 
 message_room : (a : Account) (e : Entry) (m : Message) → FitsAccount a → Legal (with_entry a e) → e.act ≡ act_of m → HasRoomFor a m
     → (n : ℕ) → NumberOf (Waiting (a.entries ++ e ∷ [])) n → length a.entries + 1 + n ≤ 100000
-message_room a e (Hello client incarnation) fits legal says room = calm_room a e legal (ap call_in says) room.0
+message_room a e (Hello client incarnation version) fits legal says room = calm_room a e legal (ap call_in says) room.0
 message_room a e (Request key call) fits legal says room = arrival_room a e call legal (ap call_in says) room
 message_room a e (Cancel key) fits legal says (inl waits) = stop_room a e fits legal (ap call_in says) waits.place waits.waits (cancel_stops a.entries e key waits.place says (is_under a.entries key waits))
 message_room a e (Cancel key) fits legal says (inr room) = calm_room a e legal (ap call_in says) room
 
 message_few : (a : Account) (e : Entry) (m : Message) → FitsAccount a → e.act ≡ act_of m → HasRoomFor a m → FewClients (a.entries ++ e ∷ [])
-message_few a e (Hello client incarnation) fits says room = few_with a e client incarnation (ap Some says) room.1 fits.clients
-message_few a e (Request key call) fits says room = few_still a.entries e (λ c i own. absurd (no_hello key call c i (ap Some (sym says) ∙ own))) fits.clients
-message_few a e (Cancel key) fits says room = few_still a.entries e (λ c i own. absurd (cancel_no_hello key c i (ap Some (sym says) ∙ own))) fits.clients
+message_few a e (Hello client incarnation version) fits says room = few_with a e client incarnation version (ap Some says) room.1 fits.clients
+message_few a e (Request key call) fits says room = few_still a.entries e (λ c i v own. absurd (no_hello key call c i v (ap Some (sym says) ∙ own))) fits.clients
+message_few a e (Cancel key) fits says room = few_still a.entries e (λ c i v own. absurd (cancel_no_hello key c i v (ap Some (sym says) ∙ own))) fits.clients
 
 act_fits : (m : Message) → FitsMessage m → FitsAct (act_of m)
-act_fits (Hello client incarnation) fits = fits
+act_fits (Hello client incarnation version) fits = fits
 act_fits (Request key call) fits = fits
 act_fits (Cancel key) fits = fits
 
@@ -179,7 +179,7 @@ ticked_fits a t moment fits moment_fits (inl ticks) =
     let e = added.entry in
     let due = ticks.0 in
     let until = subst (λ n. IsRequestUntil a.entries n due.0) (sym added.moment_is) (due_until a.entries moment due.0 due.1) in
-    added_fits a t moment act.Tick added fits moment_fits tt (few_still a.entries e (λ c i own. absurd (tick_no_hello c i (ap Some (sym added.act_is) ∙ own))) fits.clients)
+    added_fits a t moment act.Tick added fits moment_fits tt (few_still a.entries e (λ c i v own. absurd (tick_no_hello c i v (ap Some (sym added.act_is) ∙ own))) fits.clients)
     (stop_room a e fits (subst Legal added.follows added.legal) (ap call_in added.act_is) due.0 due.1.waits (tick_stops a.entries e due.0 added.act_is until))
 
 -- the account and the answer are within the limits

@@ -4,6 +4,7 @@ use Rattle.std.specs.Prelude.{◌≢◌, if◌then◌else◌, nat_lt, slice_get}
 use Rattle.std.specs.List.{Contains}
 use Rattle.std.proofs.lemmas.List.Elements.{Contains-append_left, Contains-push, Contains-push_cases}
 use Rattle.std.proofs.lemmas.Option.{none-some, same_Some}
+use Rattle.rv_text.specs.declared.version.Version.{Version}
 use Rattle.rv_text.specs.declared.message.Key.{Key}
 use Rattle.rv_text.specs.declared.message.Message.{Message}
 use Rattle.rv_text.specs.declared.message.Message.TheVariants as message
@@ -38,7 +39,7 @@ use Rattle.rv_world.proofs.Turning.{AreOwn, SameFor, all_own, same_for, still_ow
 -- ---- what was asked for stays so
 
 still_asked_for : (w v : World) (m : Message) → OnlyGrows w v → IsAskedFor w m → IsAskedFor v m
-still_asked_for w v (message.Hello client incarnation) grows asked = tt
+still_asked_for w v (message.Hello client incarnation version) grows asked = tt
 still_asked_for w v (message.Request key call) grows asked = still_asked w v key call grows asked
 still_asked_for w v (message.Cancel key) grows asked = (asked.0, still_asked w v key asked.0 grows asked.1)
 
@@ -96,11 +97,11 @@ says_sound w v said sound after grows asked =
 
 -- ---- a start
 
-started_sound : (w : World) (client incarnation : ℕ) (clients : List (ℕ × Option Process)) → IsSound w → IsNewest w client incarnation
-    → let u : World = sends (record w { clients = clients; started = w.started ++ (client, incarnation) ∷ [] }) (hello_of (starting client incarnation)) in
-    OnlyTurns w u client (Some (New (starting client incarnation))) → OnlyGrows w u → IsSound u
-started_sound w client incarnation clients sound newest only grows =
-    let u : World = sends (record w { clients = clients; started = w.started ++ (client, incarnation) ∷ [] }) (hello_of (starting client incarnation)) in
+started_sound : (w : World) (client incarnation : ℕ) (version : Version) (clients : List (ℕ × Option Process)) → IsSound w → IsNewest w client incarnation
+    → let u : World = sends (record w { clients = clients; started = w.started ++ (client, incarnation) ∷ [] }) (hello_of (starting client incarnation version)) in
+    OnlyTurns w u client (Some (New (starting client incarnation version))) → OnlyGrows w u → IsSound u
+started_sound w client incarnation version clients sound newest only grows =
+    let u : World = sends (record w { clients = clients; started = w.started ++ (client, incarnation) ∷ [] }) (hello_of (starting client incarnation version)) in
     let others : (other : ℕ) → other ≢ client → SameFor w u other = λ other differ. record {
       started_on = λ n there. Contains-append_left w.started ((client, incarnation) ∷ []) (other, n) there;
       started_back = λ n there. elim (Contains-push_cases w.started (client, incarnation) (other, n) there) [ inl before ↦ before | inr new ↦ absurd (differ (sym (ap (λ p. p.0) new))) ];
@@ -108,7 +109,7 @@ started_sound w client incarnation clients sound newest only grows =
       asked_back = λ key call own there. there;
       held_back = λ key told own there. there;
     } in
-    let own : IsProcessOf u client (New (starting client incarnation)) = record {
+    let own : IsProcessOf u client (New (starting client incarnation version)) = record {
       client_is = refl;
       last_start = record {
         there = Contains-push w.started (client, incarnation);
@@ -124,7 +125,7 @@ started_sound w client incarnation clients sound newest only grows =
     } in
     quiet_sound w u sound grows refl refl sound.no_two_replies.asked_once sound.no_two_replies.held_once (λ key told held. inl held)
     (turned_own w u client _ sound.processes only others (λ p is. subst (IsProcessOf u client) (same_Some _ _ is) own))
-    (all_asked_for w u (hello_of (starting client incarnation)) sound grows tt)
+    (all_asked_for w u (hello_of (starting client incarnation version)) sound grows tt)
     (λ key call asked. Contains-append_left w.started ((client, incarnation) ∷ []) (key.client, key.incarnation) (sound.accounted.starts key call asked))
 
 -- ---- a call
@@ -361,9 +362,9 @@ first_sound epoch =
     }
 
 pub step_sound : (w : World) (e : Event) (v : World) (shows : Seen) → IsSound w → Steps w e v shows → IsSound v
-step_sound w (event.Start client incarnation) v shows sound is =
-    subst (λ (u : World). OnlyTurns w u client (Some (New (starting client incarnation))) → OnlyGrows w u → IsSound u) (sym is.rest)
-    (started_sound w client incarnation v.clients sound is.newest) is.turns (step_grows w (event.Start client incarnation) v shows is)
+step_sound w (event.Start client incarnation version) v shows sound is =
+    subst (λ (u : World). OnlyTurns w u client (Some (New (starting client incarnation version))) → OnlyGrows w u → IsSound u) (sym is.rest)
+    (started_sound w client incarnation version v.clients sound is.newest) is.turns (step_grows w (event.Start client incarnation version) v shows is)
 step_sound w (event.Begin client call) v shows sound is =
     subst (λ (u : World). OnlyTurns w u client (Some (Outstanding (record { key = is.key; call = call }))) → OnlyGrows w u → IsSound u) (sym is.rest)
     (begun_sound w client is.key call v.clients sound is.idle) is.turns (step_grows w (event.Begin client call) v shows is)

@@ -9,22 +9,22 @@ use Rattle.rv_text.specs.declared.call.Side.TheVariants.{Gives, Takes, Exchanges
 use Rattle.rv_text.specs.declared.answer.Reply.{Reply}
 use Rattle.rv_text.specs.declared.answer.Reply.TheVariants as reply
 use Rattle.rv_text.specs.Calls.{side_of}
-use Rattle.rv_account.specs.Account.{Account, act_at, call_at, call_in}
+use Rattle.rv_account.specs.Account.{Account, act_at, call_at, call_in, key_in}
 use Rattle.rv_account.specs.Calls.{may_name, opposite}
 use Rattle.rv_book.specs.Legal.{Legal}
-use Rattle.rv_book.specs.Replies.{Gets, HasReply, Meet, RepliesAt}
+use Rattle.rv_book.specs.Replies.{Gets, HasReply, Meet, RepliesAt, RepliesMet}
 use Rattle.rv_book.proofs.CallKinds.{exchanges_item, gives_item}
 use Rattle.rv_book.proofs.Keys.{act_called}
 use Rattle.rv_book.proofs.Leaving.{items_leave_in_order}
 use Rattle.rv_book.proofs.OnePartner.{arrives_once}
 use Rattle.rv_world.specs.World.{World, IsAccountOf, WasAsked, first_world}
-use Rattle.rv_world.specs.Headline.{ArrivesAt, Headline, IsExchanged, IsAnswered, IsAssigned, IsDrained, IsGiven, IsReplyOf, NeverHandedOver, OrderOfArrival, ReceivedMeansAssigned, TrueExchange}
+use Rattle.rv_world.specs.Headline.{ArrivesAt, Headline, IsExchanged, IsAnswered, IsAssigned, IsDrained, IsGiven, IsReceipt, IsReplyOf, NeverHandedOver, OrderOfArrival, ReceivedMeansAssigned, TrueExchange}
 use Rattle.rv_world.specs.Laws.{HeadlineHolds}
 use Rattle.rv_world.specs.Sound.{IsSound}
 use Rattle.rv_world.proofs.Drained.{TakesItems, as_many, hands_over_at, meets_named, names_met, partners_rise, takes_items}
 use Rattle.rv_world.proofs.Growth.{runs_grow}
 use Rattle.rv_world.proofs.OneReply.{still_answered}
-use Rattle.rv_world.proofs.Partners.{Partner, arrival_epoch, drained_got, exchanger_told, item_got, meet_back, meet_opposes, no_means_unmet, one_met, pair_meets, pair_of, partner_of, received_met, single_exchanger, single_giver, swapped_got, taker_told}
+use Rattle.rv_world.proofs.Partners.{Partner, arrival_epoch, drained_got, exchanger_told, item_got, meet_back, meet_opposes, names_taker, no_means_unmet, one_met, pair_meets, pair_of, partner_of, received_met, single_exchanger, single_giver, swapped_got, taker_told}
 use Rattle.rv_world.proofs.Soundness.{first_sound, runs_sound}
 
 -- ---- a reply that is answered, as its account tells it
@@ -67,13 +67,13 @@ module _ (w : World) (key : Key) (sound : IsSound w) (a : Account) (r : ℕ) (ow
   gets_opposes : (item : List ℕ) → (gets : Gets a.entries r item) → opposite (side_of own) ≡ Some (side_of gets.call)
   gets_opposes item gets = meet_opposes a r gets.giver own gets.call legal called gets.arrived (meet_back a.entries gets.giver r gets.meet)
 
-  received_assigned : RepliesAt a.entries r own reply.Received → IsAssigned w key
-  received_assigned replies =
-      let met = received_met a.entries r own replies in
-      assigned met.1.0 met.1.1 (partner_of a r own legal called met.0)
+  received_assigned : (told : Reply) → IsReceipt told → RepliesAt a.entries r own told → IsAssigned w key told
+  received_assigned told receipt replies =
+      let met = received_met a.entries r own told receipt replies in
+      assigned met.1.0 met.1.1 met.2 (partner_of a r own legal called met.0)
     where
-      assigned : (queue : ℕ) → side_of own ≡ Gives queue → Partner a.entries r own → IsAssigned w key
-      assigned queue gives partner =
+      assigned : (queue : ℕ) → side_of own ≡ Gives queue → RepliesMet a.entries r told → Partner a.entries r own → IsAssigned w key told
+      assigned queue gives is partner =
           let takes = takes_of (side_of own) (side_of partner.other) queue gives partner.opposes in
           let item = gives_item own queue gives in
           let taker = act_called (act_at a.entries partner.place) partner.other partner.arrived in
@@ -92,6 +92,7 @@ module _ (w : World) (key : Key) (sound : IsSound w) (a : Account) (r : ℕ) (ow
             taker_key = taker.0;
             taker_call = partner.other;
             taker_arrived = taker.1;
+            named = names_taker a r partner.place own told taker.0 legal called single is partner.meet (ap (option_and_then key_in) taker.1);
             taker_told = taker_told a r partner.place own partner.other item.0 taker.0 queue legal called item.1 taker.1 takes partner.meet;
             only = λ g t again pair also.
                 let place : g ≡ r = arrived_there g again also in
@@ -186,7 +187,8 @@ module _ (w : World) (key : Key) (sound : IsSound w) (a : Account) (r : ℕ) (ow
 
 pub received_means_assigned : (w : World) → IsSound w → ReceivedMeansAssigned w
 received_means_assigned w sound = record {
-  received = λ key answered. told_leads w key reply.Received (IsAssigned w key) sound answered (λ is. let no : ⊥ = cc in no) (received_assigned w key sound);
+  received = λ key told answered receipt. told_leads w key told (IsAssigned w key told) sound answered (λ is. subst IsReceipt is receipt)
+      (λ a r own is_of legal arrived. received_assigned w key sound a r own is_of legal arrived told receipt);
   items = λ key item answered. told_leads w key (reply.Item item) (IsGiven w key item) sound answered (λ is. let no : ⊥ = cc in no)
       (λ a r own is_of legal arrived. item_given w key sound a r own is_of legal arrived item);
   drained = λ key items answered. told_leads w key (reply.Drained items) (IsDrained w key items) sound answered (λ is. let no : ⊥ = cc in no)

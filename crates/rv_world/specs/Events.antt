@@ -2,6 +2,7 @@
 use Rattle.std.specs.Prelude.{◌≡◌, ◌≢◌, ◌⊎◌, ◌<◌, ◌≤◌, ◌++◌, ◌∷◌, [], ℕ, Option, Some, None, Result, Ok, Err}
 use Rattle.std.specs.Prelude.{length, slice_get}
 use Rattle.std.specs.List.{Contains}
+use Rattle.rv_text.specs.declared.version.Version.{Version}
 use Rattle.rv_text.specs.declared.message.Key.{Key}
 use Rattle.rv_text.specs.declared.message.Message.{Message}
 use Rattle.rv_text.specs.declared.message.Message.TheVariants as message
@@ -49,22 +50,24 @@ next_answer w = sees.Answered (length w.to_client)
 
 -- ---- the clients' events
 
--- a start in this incarnation
-abbrev pub starting : ℕ → ℕ → Starting
-starting client incarnation = record { client = client; incarnation = incarnation }
+-- a start in this incarnation, with this version
+abbrev pub starting : ℕ → ℕ → Version → Starting
+starting client incarnation version =
+    record { client = client; incarnation = incarnation; version = version }
 
 -- the incarnation is greater than every one that the client was started in
 abbrev pub IsNewest : World → ℕ → ℕ → Type 0
 IsNewest w client incarnation = (earlier : ℕ) → Contains w.started (client, earlier) → earlier < incarnation
 
 -- the client's process, if one runs, ends; a new one runs, and its hello is sent
-pub record Starts (w : World) (client incarnation : ℕ) (v : World) (shows : Seen) : Type 0 where
+pub record Starts (w : World) (client incarnation : ℕ) (version : Version) (v : World) (shows : Seen)
+    : Type 0 where
   pub newest : IsNewest w client incarnation
-  pub turns : OnlyTurns w v client (Some (New (starting client incarnation)))
+  pub turns : OnlyTurns w v client (Some (New (starting client incarnation version)))
   pub rest : v ≡ sends (record w {
     clients = v.clients;
     started = w.started ++ (client, incarnation) ∷ [];
-  }) (hello_of (starting client incarnation))
+  }) (hello_of (starting client incarnation version))
   pub shown : shows ≡ next_message w
 
 -- an idle process begins the call with its next key, and its request is sent
@@ -96,7 +99,7 @@ pub record Crashes (w : World) (client : ℕ) (v : World) (shows : Seen) : Type 
 
 -- the client that a message comes from
 abbrev pub sender : Message → ℕ
-sender (message.Hello client incarnation) = client
+sender (message.Hello client incarnation version) = client
 sender (message.Request key call) = key.client
 sender (message.Cancel key) = key.client
 
@@ -172,7 +175,7 @@ pub record Opens (w : World) (epoch : ℕ) (v : World) (shows : Seen) : Type 0 w
 
 -- the event leads from the one world to the other, and this is seen of it
 abbrev pub Steps : World → Event → World → Seen → Type 0
-Steps w (event.Start client incarnation) v shows = Starts w client incarnation v shows
+Steps w (event.Start client incarnation version) v shows = Starts w client incarnation version v shows
 Steps w (event.Begin client call) v shows = Begins w client call v shows
 Steps w (event.Resend client) v shows = Says w client request_of v shows
 Steps w (event.CancelSent client) v shows = Says w client cancel_of v shows
@@ -208,7 +211,7 @@ RunsNone w client refusal = (process_of w client ≡ None) × (refusal ≡ refus
 
 -- for what an event is refused
 abbrev pub Due : World → Event → WorldRefusal → Type 0
-Due w (event.Start client incarnation) refusal =
+Due w (event.Start client incarnation version) refusal =
     WasStarted w client incarnation × (refusal ≡ refuses.IncarnationNotGreater)
 Due w (event.Begin client call) refusal =
     RunsNone w client refusal ⊎ (RunsBut w client IsReady × (refusal ≡ refuses.NotIdle))

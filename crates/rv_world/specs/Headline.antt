@@ -82,9 +82,20 @@ pub record IsToldAmong (entries : List Entry) (key : Key) (g t : ℕ) (item : Li
 abbrev pub IsToldItem : List Entry → Key → ℕ → ℕ → List ℕ → Type 0
 IsToldItem entries key g t item = HasReply entries key (reply.Item item) ⊎ IsToldAmong entries key g t item
 
--- of the account of its epoch exactly one pair has the arrival of this key as its giver; its taker's reply
--- is the item that was asked under the key, or a list with that item in its place
-pub record IsAssigned (w : World) (key : Key) : Type 0 where
+-- the reply is that an item was received: in version 1 without a name, in version 2 with a consumer's
+abbrev pub IsReceipt : Reply → Type 0
+IsReceipt reply.Received = Unit {0}
+IsReceipt (reply.ReceivedBy taker) = Unit {0}
+IsReceipt _ = ⊥
+
+-- the consumer that the reply names, if it names one, is this
+abbrev pub NamesTaker : Reply → Key → Type 0
+NamesTaker (reply.ReceivedBy named) taker = named ≡ taker
+NamesTaker _ taker = Unit {0}
+
+-- of the account of its epoch exactly one pair has the arrival of this key as its giver; its taker, which the
+-- reply names if it names one, is told the item that was asked under the key, or a list with it in its place
+pub record IsAssigned (w : World) (key : Key) (told : Reply) : Type 0 where
   pub account : Account
   pub is_of : IsAccountOf w key.epoch account
   pub giver : ℕ
@@ -98,6 +109,7 @@ pub record IsAssigned (w : World) (key : Key) : Type 0 where
   pub taker_key : Key
   pub taker_call : Call
   pub taker_arrived : ArrivesAt account.entries taker_key taker taker_call
+  pub named : NamesTaker told taker_key
   pub taker_told : IsToldItem account.entries taker_key giver taker item
   pub only : (g t : ℕ) (other : Call) → IsPair account.entries g t → ArrivesAt account.entries key g other
       → (g ≡ giver) × (t ≡ taker)
@@ -144,10 +156,10 @@ pub record IsDrained (w : World) (key : Key) (items : List (List ℕ)) : Type 0 
   pub only : (g t : ℕ) (other : Call) → IsPair account.entries g t → ArrivesAt account.entries key t other
       → Among givers g × (t ≡ taker)
 
--- what is answered received was assigned to one taker; what is answered an item has one giver, and what is
--- answered drained has one giver for each item
+-- what is answered received was assigned to one taker, which the answer names if it names one; what is
+-- answered an item has one giver, and what is answered drained has one giver for each item
 pub record ReceivedMeansAssigned (w : World) : Type 0 where
-  pub received : (key : Key) → IsAnswered w key reply.Received → IsAssigned w key
+  pub received : (key : Key) (told : Reply) → IsAnswered w key told → IsReceipt told → IsAssigned w key told
   pub items : (key : Key) (item : List ℕ) → IsAnswered w key (reply.Item item) → IsGiven w key item
   pub drained : (key : Key) (items : List (List ℕ)) → IsAnswered w key (reply.Drained items)
       → IsDrained w key items

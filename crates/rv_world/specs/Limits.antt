@@ -5,7 +5,7 @@ use Rattle.rv_world.specs.declared.event.Event.TheVariants as event
 
 -- clients, incarnations, epochs and calls are those of messages; packets and moments are any
 abbrev pub FitsEvent : Event → Type 0
-FitsEvent (event.Start client incarnation) = FitsIdentifier client × FitsIdentifier incarnation
+FitsEvent (event.Start client incarnation version) = FitsIdentifier client × FitsIdentifier incarnation
 FitsEvent (event.Begin client call) = FitsIdentifier client × FitsCall call
 FitsEvent (event.Resend client) = FitsIdentifier client
 FitsEvent (event.CancelSent client) = FitsIdentifier client

@@ -11,7 +11,7 @@ use Rattle.rv_world.specs.Table.{AreNewest}
 
 -- the client and incarnation of a hello: each start sends one, and nothing else does
 abbrev pub hello_in : Message → Option (ℕ × ℕ)
-hello_in (message.Hello client incarnation) = Some (client, incarnation)
+hello_in (message.Hello client incarnation version) = Some (client, incarnation)
 hello_in (message.Request key call) = None
 hello_in (message.Cancel key) = None
 

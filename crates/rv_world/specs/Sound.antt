@@ -94,7 +94,7 @@ IsProcessOf w client (Outstanding asking) = IsOwed w client asking
 
 -- what a message asks for was asked
 abbrev pub IsAskedFor : World → Message → Type 0
-IsAskedFor w (message.Hello client incarnation) = Unit {0}
+IsAskedFor w (message.Hello client incarnation version) = Unit {0}
 IsAskedFor w (message.Request key call) = WasAsked w key call
 IsAskedFor w (message.Cancel key) = (call : Call) × WasAsked w key call
 

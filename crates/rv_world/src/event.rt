@@ -3,14 +3,14 @@ ghost use Rattle.std.specs.Prelude.{◌↔◌, IsTrue};
 ghost use Rattle.rv_text.specs.Limits.{FitsIdentifier};
 ghost use Rattle.rv_world.specs.Limits.{FitsEvent};
 
-use rv_text::{Call, MAX_IDENTIFIER};
+use rv_text::{Call, MAX_IDENTIFIER, Version};
 
 /// One event. Packets of each direction are numbered from 0, and may be delivered never, once, or again and
 /// again, in any order.
 #[derive(Debug, PartialEq, Eq, Drop)]
 pub enum Event {
-    /// A client starts in an incarnation. Its running process, if it has one, ends.
-    Start(u64, u64),
+    /// A client starts in an incarnation, and asks for a version. Its running process, if it has one, ends.
+    Start(u64, u64, Version),
     /// A client begins a call.
     Begin(u64, Call),
     /// A client sends its request again.
@@ -33,7 +33,7 @@ impl Event {
         ensures { IsTrue result ↔ FitsEvent self.now }
     {
         match self {
-            Event::Start(client, incarnation) => {
+            Event::Start(client, incarnation, _) => {
                 fits_identifier(*client) && fits_identifier(*incarnation)
             }
             Event::Begin(client, call) => fits_identifier(*client) && call.fits(),

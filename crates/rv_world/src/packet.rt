@@ -33,9 +33,11 @@ pub(crate) fn copy_message(alloc: Global, message: &Message) -> Result<Message, 
         Message::Hello {
             client,
             incarnation,
+            version,
         } => Ok(Message::Hello {
             client: *client,
             incarnation: *incarnation,
+            version: *version,
         }),
         Message::Request { key, call } => Ok(Message::Request {
             key: *key,
@@ -52,6 +54,7 @@ fn copy_reply(alloc: Global, reply: &Reply) -> Result<Reply, NoMemory>
     match reply {
         Reply::Done => Ok(Reply::Done),
         Reply::Received => Ok(Reply::Received),
+        Reply::ReceivedBy(taker) => Ok(Reply::ReceivedBy(*taker)),
         Reply::Nobody => Ok(Reply::Nobody),
         Reply::Item(item) => Ok(Reply::Item(item.copy(alloc)?)),
         Reply::Empty => Ok(Reply::Empty),
@@ -76,10 +79,12 @@ pub(crate) fn copy_answer(alloc: Global, answer: &Answer) -> Result<Answer, NoMe
             epoch,
             client,
             incarnation,
+            version,
         } => Ok(Answer::Welcome {
             epoch: *epoch,
             client: *client,
             incarnation: *incarnation,
+            version: *version,
         }),
         Answer::Replied { key, reply } => Ok(Answer::Replied {
             key: *key,

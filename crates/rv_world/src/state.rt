@@ -10,7 +10,7 @@ use crate::process::{Running, Told};
 use crate::seen::{Seen, WorldRefusal};
 use rv_book::Book;
 use rv_client::New;
-use rv_text::{Answer, Call, Key, Message, NoMemory, Refusal, Reply};
+use rv_text::{Answer, Call, Key, Message, NoMemory, Refusal, Reply, Version};
 use std::alloc::Global;
 use std::mem;
 
@@ -86,7 +86,9 @@ impl State {
         ensures newest { KnowsNewest self.new }
     {
         match event {
-            Event::Start(client, incarnation) => self.start(*client, *incarnation),
+            Event::Start(client, incarnation, version) => {
+                self.start(*client, *incarnation, *version)
+            }
             Event::Begin(client, call) => self.begin(alloc, *client, call),
             Event::Resend(client) => self.resend(alloc, *client),
             Event::CancelSent(client) => self.send_cancel(*client),
@@ -97,18 +99,23 @@ impl State {
         }
     }
 
-    // A client starts in an incarnation.
-    fn start(&mut self, client: u64, incarnation: u64) -> Result<Seen, WorldRefusal>
+    // A client starts in an incarnation, and asks for a version.
+    fn start(
+        &mut self,
+        client: u64,
+        incarnation: u64,
+        version: Version,
+    ) -> Result<Seen, WorldRefusal>
         requires sound { IsSoundState self.old }
         requires client { FitsIdentifier client }
         requires incarnation { FitsIdentifier incarnation }
-        ensures comes { Comes (world_of self.old) (event.Start client incarnation)
+        ensures comes { Comes (world_of self.old) (event.Start client incarnation version)
             (world_of self.new) result }
         ensures newest { KnowsNewest self.new }
     {
         self.must_be_newest(client, incarnation)?;
         self.to_server.reserve(1)?;
-        let new = New::start(client, incarnation);
+        let new = New::start(client, incarnation, version);
         let hello = new.message();
         self.clients.enter(client, incarnation, Running::New(new))?;
         Ok(send(&mut self.to_server, hello))

@@ -19,6 +19,7 @@ import java.util.Collections;
 import java.util.HashSet;
 import java.util.List;
 import java.util.Map;
+import java.util.Optional;
 import java.util.Set;
 import java.util.stream.StreamSupport;
 
@@ -35,8 +36,11 @@ final class Bodies {
 
     static final int GREATEST_ITEM = 512;
     static final int GREATEST_DRAIN = 16;
+    static final int GREATEST_VERSION = 2;
     private static final int GREATEST_COUNT = 100_000;
     private static final List<String> KEY = List.of("client", "epoch", "incarnation", "number");
+    /** The consumer's key in a receipt, whose epoch is the answer's. */
+    private static final List<String> BY = List.of("by_client", "by_incarnation", "by_number");
     private static final Map<String, List<String>> REPLIES = Map.ofEntries(
         Map.entry("done", List.of()), Map.entry("item", List.of("item")), Map.entry("empty", List.of()),
         Map.entry("received", List.of()), Map.entry("nobody", List.of()), Map.entry("swapped", List.of("item")),
@@ -44,7 +48,7 @@ final class Bodies {
         Map.entry("counted", List.of("consumers", "items")), Map.entry("peeked", List.of("item")),
         Map.entry("drained", List.of("texts")));
     private static final Map<Long, String> DETAILS =
-        Map.of(2L, "current", 4L, "current", 5L, "last", 7L, "open", 8L, "last");
+        Map.of(2L, "current", 4L, "current", 5L, "last", 7L, "open", 8L, "last", 12L, "current");
     private static final Gson GSON = new GsonBuilder().disableHtmlEscaping().create();
     private static final TypeAdapter<JsonElement> ANY = GSON.getAdapter(JsonElement.class);
 
@@ -70,7 +74,7 @@ final class Bodies {
         Set<String> names = new HashSet<>(furtherMembers(answer));
         names.add("kind");
         boolean good = answer.keySet().equals(names)
-            && names.stream().allMatch(name -> keepsLimit(name, answer.get(name)));
+            && names.stream().allMatch(name -> keepsLimit(name, answer));
         if (!good) {
             throw new NoAnswer("no answer's members: " + answer);
         }
@@ -95,13 +99,14 @@ final class Bodies {
     private static List<String> furtherMembers(JsonObject answer) throws NoAnswer {
         switch (word(answer, "kind")) {
             case "welcome":
-                return KEY.subList(0, 3);
+                return answer.has("version") ? List.of("client", "epoch", "incarnation", "version") : KEY.subList(0, 3);
             case "waiting":
                 return KEY;
             case "reply":
-                return joined(KEY, "reply", REPLIES.get(word(answer, "reply")));
+                boolean names = word(answer, "reply").equals("received") && answer.has(BY.get(0));
+                return joined(KEY, "reply", names ? BY : REPLIES.get(word(answer, "reply")));
             case "refused":
-                String detail = isWhole(answer.get("code"), 1, 11) ? DETAILS.get(number(answer, "code")) : null;
+                String detail = isWhole(answer.get("code"), 1, 12) ? DETAILS.get(number(answer, "code")) : null;
                 return joined(List.of(), "code", detail == null ? List.of() : List.of(detail));
             default:
                 throw new NoAnswer("an answer of no kind");
@@ -118,7 +123,8 @@ final class Bodies {
         return all;
     }
 
-    private static boolean keepsLimit(String name, JsonElement value) {
+    private static boolean keepsLimit(String name, JsonObject answer) {
+        JsonElement value = answer.get(name);
         switch (name) {
             case "kind":
             case "reply":
@@ -131,7 +137,11 @@ final class Bodies {
             case "consumers":
                 return isWhole(value, 0, GREATEST_COUNT);
             case "code":
-                return isWhole(value, 1, 11);
+                return isWhole(value, 1, 12);
+            case "version":
+                return isWhole(value, 2, GREATEST_VERSION);
+            case "current":
+                return isWhole(value, 1, number(answer, "code") == 12 ? GREATEST_VERSION : Key.GREATEST);
             default:
                 return isWhole(value, name.equals("last") ? 0 : 1, Key.GREATEST);
         }
@@ -174,6 +184,18 @@ final class Bodies {
             reply.getAsJsonArray("texts").forEach(text -> items.add(text.getAsString()));
         }
         return Collections.unmodifiableList(items);
+    }
+
+    /** The receipt of a transfer's reply; none where that is not that it was received. */
+    static Optional<Receipt> receiptOf(JsonObject reply) {
+        return word(reply, "reply").equals("received")
+            ? Optional.of(new Receipt(keyOf(reply), consumerOf(reply))) : Optional.empty();
+    }
+
+    /** The key of the consumer that a reply names. */
+    private static Optional<Key> consumerOf(JsonObject reply) {
+        return reply.has(BY.get(0)) ? Optional.of(new Key(number(reply, "epoch"), number(reply, "by_client"),
+            number(reply, "by_incarnation"), number(reply, "by_number"))) : Optional.empty();
     }
 
     /** The number of a member that has one. */

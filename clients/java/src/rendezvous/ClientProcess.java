@@ -12,18 +12,20 @@ final class ClientProcess {
 
     private final long client;
     private final long incarnation;
+    private final int version;
     private State state = State.NEW;
     private Key key;
     private JsonObject call;
 
-    ClientProcess(long client, long incarnation) {
+    ClientProcess(long client, long incarnation, int version) {
         this.client = client;
         this.incarnation = incarnation;
+        this.version = version;
     }
 
     /** A process of any state, for tests. */
-    ClientProcess(State state, long client, long incarnation, Key key, JsonObject call) {
-        this(client, incarnation);
+    ClientProcess(State state, long client, long incarnation, int version, Key key, JsonObject call) {
+        this(client, incarnation, version);
         this.state = state;
         this.key = key;
         this.call = call;
@@ -43,12 +45,15 @@ final class ClientProcess {
         return call;
     }
 
-    /** The message of a client that has no session yet. */
+    /** The message of a client that has no session yet. It names a version above the first. */
     JsonObject hello() {
         JsonObject message = new JsonObject();
         message.addProperty("client", client);
         message.addProperty("incarnation", incarnation);
         message.addProperty("kind", "hello");
+        if (version > 1) {
+            message.addProperty("version", version);
+        }
         return message;
     }
 
@@ -101,14 +106,19 @@ final class ClientProcess {
         if (kind.equals("refused")) {
             return Outcome.TURNED_AWAY;
         }
-        boolean own = kind.equals("welcome") && Bodies.number(answer, "client") == client
-            && Bodies.number(answer, "incarnation") == incarnation;
-        if (!own) {
+        if (!kind.equals("welcome") || !isOwn(answer)) {
             return Outcome.IGNORED;
         }
         state = State.IDLE;
         key = new Key(Bodies.number(answer, "epoch"), client, incarnation, 1);
         return Outcome.WELCOMED;
+    }
+
+    /** Whether a welcome is of its client, its incarnation and its version. */
+    private boolean isOwn(JsonObject welcome) {
+        long named = welcome.has("version") ? Bodies.number(welcome, "version") : 1;
+        return Bodies.number(welcome, "client") == client && Bodies.number(welcome, "incarnation") == incarnation
+            && named == version;
     }
 
     private Outcome told(JsonObject answer) {

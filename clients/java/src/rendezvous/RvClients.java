@@ -16,11 +16,13 @@ public final class RvClients implements AutoCloseable {
     private final int most;
     private final long incarnation;
     private final Duration patience;
+    private final int version;
     private final Map<Thread, RvSession> sessions = new HashMap<>();
     private int made;
 
     /**
-     * Sessions that lose their patience after half a minute without any answer.
+     * Sessions of version 2, whose receipts name the consumer, that lose their patience after half a minute without
+     * any answer.
      *
      * @param host the server's host
      * @param port the server's port
@@ -34,14 +36,23 @@ public final class RvClients implements AutoCloseable {
 
     /** The same, with a patience of one's own. */
     public RvClients(String host, int port, long first, int most, long incarnation, Duration patience) {
+        this(host, port, first, most, incarnation, patience, RvSession.VERSION);
+    }
+
+    /** The same, with a version of one's own: 1 for a server that knows no other. */
+    public RvClients(String host, int port, long first, int most, long incarnation, Duration patience, int version) {
         if (first < 1 || most < 1 || first + most - 1 > Key.GREATEST || incarnation < 1 || incarnation > Key.GREATEST) {
             throw new IllegalArgumentException("clients and incarnations are 1 to " + Key.GREATEST);
+        }
+        if (version < 1 || version > Bodies.GREATEST_VERSION) {
+            throw new IllegalArgumentException("a version is 1 to " + Bodies.GREATEST_VERSION);
         }
         this.address = new InetSocketAddress(host, port);
         this.first = first;
         this.most = most;
         this.incarnation = incarnation;
         this.patience = patience;
+        this.version = version;
     }
 
     /** The session of the thread that asks. */
@@ -68,7 +79,7 @@ public final class RvClients implements AutoCloseable {
             throw new IllegalStateException("more threads than the " + most + " clients");
         }
         made++;
-        return new RvSession(address, first + made - 1, incarnation, patience, Duration.ofSeconds(5));
+        return new RvSession(address, first + made - 1, incarnation, patience, Duration.ofSeconds(5), version);
     }
 
     /** Closes all connections. */

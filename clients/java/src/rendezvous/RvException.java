@@ -68,12 +68,19 @@ public class RvException extends RuntimeException {
             Map.entry(1, "bad text"), Map.entry(2, "other epoch"), Map.entry(3, "no session"),
             Map.entry(4, "old incarnation"), Map.entry(5, "old number"), Map.entry(6, "other call"),
             Map.entry(7, "busy"), Map.entry(8, "gap"), Map.entry(9, "clients full"), Map.entry(10, "epoch full"),
-            Map.entry(11, "no memory"));
+            Map.entry(11, "no memory"), Map.entry(12, "other version"));
         private final int number;
+        private final int current;
 
-        Refused(Key key, int number) {
-            super(key, "refused " + number + ", " + NAMES.get(number));
+        Refused(Key key, int number, int current, String why) {
+            super(key, "refused " + number + ", " + NAMES.get(number) + why);
             this.number = number;
+            this.current = current;
+        }
+
+        /** The refusal of a version, where the session speaks this one. */
+        static Refused otherVersion(Key key, int current) {
+            return new Refused(key, 12, current, ": the client's session in this incarnation speaks " + current);
         }
 
         /** The refusal's number. */
@@ -84,6 +91,11 @@ public class RvException extends RuntimeException {
         /** The refusal's name. */
         public String refusal() {
             return NAMES.get(number);
+        }
+
+        /** The version that the session speaks, where that was refused (12); and else 0. */
+        public int current() {
+            return current;
         }
     }
 }

@@ -5,6 +5,7 @@ import java.io.IOException;
 import java.net.InetSocketAddress;
 import java.time.Duration;
 import java.util.List;
+import java.util.Optional;
 import java.util.concurrent.locks.LockSupport;
 
 /**
@@ -14,6 +15,8 @@ import java.util.concurrent.locks.LockSupport;
 public final class RvSession implements AutoCloseable {
     private static final long LEAST_PAUSE = Duration.ofMillis(5).toNanos();
     private static final long GREATEST_PAUSE = Duration.ofMillis(500).toNanos();
+    /** What a session speaks where no version is chosen: receipts name the consumer. */
+    static final int VERSION = Bodies.GREATEST_VERSION;
 
     private final InetSocketAddress address;
     private final long patience;
@@ -28,6 +31,11 @@ public final class RvSession implements AutoCloseable {
     private Tries tries;
     private JsonObject lastReply;
 
+    /** A session of version 2 that says hello with its first call. */
+    public RvSession(InetSocketAddress address, long client, long incarnation, Duration patience, Duration answerTime) {
+        this(address, client, incarnation, patience, answerTime, VERSION);
+    }
+
     /**
      * A session that says hello with its first call.
      *
@@ -36,12 +44,18 @@ public final class RvSession implements AutoCloseable {
      * @param incarnation one above each that this client was started with
      * @param patience for how long a call goes on while nothing at all is heard
      * @param answerTime for how long it waits for one answer; the server itself takes up to about a second
+     * @param version what the session speaks: in version 2 a receipt names the consumer; in version 1, which each
+     *     server knows, it does not
      */
-    public RvSession(InetSocketAddress address, long client, long incarnation, Duration patience, Duration answerTime) {
+    public RvSession(InetSocketAddress address, long client, long incarnation, Duration patience, Duration answerTime,
+            int version) {
+        if (version < 1 || version > Bodies.GREATEST_VERSION) {
+            throw new IllegalArgumentException("a version is 1 to " + Bodies.GREATEST_VERSION);
+        }
         this.address = address;
         this.patience = patience.toNanos();
         this.answerTime = answerTime.toNanos();
-        this.process = new ClientProcess(client, incarnation);
+        this.process = new ClientProcess(client, incarnation, version);
     }
 
     /** Since when nothing was heard, how long to pause, and whether a hello is to be said again. */
@@ -70,7 +84,8 @@ public final class RvSession implements AutoCloseable {
     /**
      * Goes on with the request that an exception left unsettled, and gives the word of its reply: {@code done},
      * {@code received}, {@code item} and so on; with {@code item} and {@code swapped} stands the text behind a space.
-     * The items of a {@code drained} are in {@link #items()}.
+     * The items of a {@code drained} are in {@link #items()}, and the receipt of a {@code received} is in
+     * {@link #receipt()}.
      */
     public String again() {
         if (!isUnsettled()) {
@@ -94,6 +109,11 @@ public final class RvSession implements AutoCloseable {
      */
     public List<String> items() {
         return lastReply == null ? List.of() : Bodies.itemsOf(lastReply);
+    }
+
+    /** The receipt of the request before, where that was a transfer that was received. */
+    public Optional<Receipt> receipt() {
+        return lastReply == null ? Optional.empty() : Bodies.receiptOf(lastReply);
     }
 
     /** The reply to the request before; null where there was none. */
@@ -196,7 +216,7 @@ public final class RvSession implements AutoCloseable {
     private void goOn(Key key, JsonObject message, JsonObject answer) {
         String kind = Bodies.word(answer, "kind");
         if (kind.equals("refused")) {
-            refused(key, answer);
+            refused(key, message, answer);
         } else if (kind.equals("waiting") && Bodies.keyOf(answer).equals(key)) {
             tries.heard();
         } else if (!kind.equals("welcome") || !Bodies.word(message, "kind").equals("hello")) {
@@ -206,12 +226,12 @@ public final class RvSession implements AutoCloseable {
     }
 
     /** Goes on behind a refusal that a repeat may change, and throws all others. */
-    private void refused(Key key, JsonObject refusal) {
+    private void refused(Key key, JsonObject message, JsonObject refusal) {
         int code = (int) Bodies.number(refusal, "code");
         boolean another = code == 5 && Bodies.number(refusal, "last") > key.number();
-        boolean lasting = code == 1 || code == 6 || code == 7 || code == 8 || code == 10;
+        boolean lasting = code == 1 || code == 6 || code == 7 || code == 8 || code == 10 || code == 12;
         if (lasting || another || code == 3 && tries.greeted) {
-            throw new RvException.Refused(key, code);
+            throw refusedAs(key, message, refusal);
         }
         if (code == 3) {
             tries.greeted = true;
@@ -228,8 +248,8 @@ public final class RvSession implements AutoCloseable {
         try {
             while (process.state() == ClientProcess.State.NEW) {
                 JsonObject answer = exchange(process.hello());
-                if (answer != null && process.hear(answer) == ClientProcess.Outcome.TURNED_AWAY) {
-                    turnedAway(answer);
+                if (answer != null) {
+                    greeted(answer);
                 }
             }
         } finally {
@@ -237,16 +257,40 @@ public final class RvSession implements AutoCloseable {
         }
     }
 
-    /** A refused hello is said again only for want of memory. */
+    /** Takes in an answer to the hello. */
+    private void greeted(JsonObject answer) {
+        ClientProcess.Outcome outcome = process.hear(answer);
+        if (outcome == ClientProcess.Outcome.TURNED_AWAY) {
+            turnedAway(answer);
+        } else if (outcome == ClientProcess.Outcome.IGNORED) {
+            hangUp();
+            pause(null, "answers to other messages came");
+        }
+    }
+
+    /** A refused hello is said again only for want of memory; all else ends the connection too. */
     private void turnedAway(JsonObject refusal) {
-        int code = (int) Bodies.number(refusal, "code");
+        long code = Bodies.number(refusal, "code");
+        if (code == 11) {
+            pause(null, "refused 11");
+            return;
+        }
+        hangUp();
         if (code == 4) {
             throw new RvException.Replaced(null, Bodies.number(refusal, "current"));
         }
-        if (code != 11) {
-            throw new RvException.Refused(null, code);
+        throw refusedAs(null, process.hello(), refusal);
+    }
+
+    /** The exception of a refusal, which says what it means where it is about the version. */
+    private static RvException.Refused refusedAs(Key key, JsonObject message, JsonObject refusal) {
+        int code = (int) Bodies.number(refusal, "code");
+        if (code == 12) {
+            return RvException.Refused.otherVersion(key, (int) Bodies.number(refusal, "current"));
         }
-        pause(null, "refused 11");
+        boolean named = code == 1 && message.has("version");
+        String why = named ? ": a server that knows version 1 alone refuses this hello" : "";
+        return new RvException.Refused(key, code, 0, why);
     }
 
     /** One message and its answer; null where the connection had to be thrown away. */

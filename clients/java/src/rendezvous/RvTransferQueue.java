@@ -6,6 +6,7 @@ import java.util.Collection;
 import java.util.Iterator;
 import java.util.List;
 import java.util.Objects;
+import java.util.Optional;
 import java.util.concurrent.CancellationException;
 import java.util.concurrent.TimeUnit;
 import java.util.concurrent.TransferQueue;
@@ -23,6 +24,8 @@ import java.util.concurrent.TransferQueue;
  * <li>Each call has a definite outcome also after a lost connection: it repeats its request until it has its one reply.
  *     What is not known is an {@link RvException}, with which the request's key can be asked again
  *     ({@link RvSession#again}); the server's epoch that ended, a newer incarnation and refusals are such exceptions.
+ * <li>{@link #transferReceipt} and {@link #tryTransferReceipt(String)} are {@link #transfer} and {@link #tryTransfer}
+ *     with a {@link Receipt}, which names the request that was assigned the item.
  * <li>An interrupt cancels {@link #transfer}, {@link #take} and the timed calls. Where the request was met before the
  *     cancel came, the call gives its result, and the thread stays interrupted. The other calls go on through an
  *     interrupt, and set it again.
@@ -57,10 +60,6 @@ public final class RvTransferQueue extends AbstractQueue<String> implements Tran
         return reply.has("item") ? Bodies.word(reply, "item") : null;
     }
 
-    private static boolean isReceived(JsonObject reply) {
-        return Bodies.word(reply, "reply").equals("received");
-    }
-
     /** The item goes to the tail; nobody is waited for. */
     @Override
     public void put(String item) {
@@ -78,19 +77,35 @@ public final class RvTransferQueue extends AbstractQueue<String> implements Tran
     /** Waits until a consumer was assigned the item. */
     @Override
     public void transfer(String item) throws InterruptedException {
-        clients.session().askInterruptibly(Calls.waiting(transferOf(item), "forever"));
+        transferReceipt(item);
+    }
+
+    /** As {@link #transfer}, and gives the receipt, which names the consumer where the session is of version 2. */
+    public Receipt transferReceipt(String item) throws InterruptedException {
+        JsonObject reply = clients.session().askInterruptibly(Calls.waiting(transferOf(item), "forever"));
+        return Bodies.receiptOf(settled(reply)).orElseThrow();
     }
 
     /** Hands the item over if a consumer waits; else nobody gets it. */
     @Override
     public boolean tryTransfer(String item) {
-        return isReceived(clients.session().ask(Calls.waiting(transferOf(item), "now")));
+        return tryTransferReceipt(item).isPresent();
+    }
+
+    /** As {@link #tryTransfer(String)}, and gives the receipt; none where nobody gets the item. */
+    public Optional<Receipt> tryTransferReceipt(String item) {
+        return Bodies.receiptOf(clients.session().ask(Calls.waiting(transferOf(item), "now")));
     }
 
     /** Hands the item over if a consumer comes in time; else nobody gets it. */
     @Override
     public boolean tryTransfer(String item, long timeout, TimeUnit unit) throws InterruptedException {
-        return isReceived(clients.session().askInterruptibly(Calls.waiting(transferOf(item), timeout, unit)));
+        return tryTransferReceipt(item, timeout, unit).isPresent();
+    }
+
+    /** As {@link #tryTransfer(String, long, TimeUnit)}, and gives the receipt; none where nobody gets the item. */
+    public Optional<Receipt> tryTransferReceipt(String item, long timeout, TimeUnit unit) throws InterruptedException {
+        return Bodies.receiptOf(clients.session().askInterruptibly(Calls.waiting(transferOf(item), timeout, unit)));
     }
 
     /** The oldest item, waiting for one if need be. */

@@ -39,7 +39,8 @@ final class CaseTable {
         long incarnation = whose.has("incarnation") ? Bodies.number(whose, "incarnation") : 1;
         ClientProcess.State state =
             ClientProcess.State.valueOf(Bodies.word(members, "state").toUpperCase(Locale.ROOT));
-        return new ClientProcess(state, client, incarnation, key(key), members.getAsJsonObject("call"));
+        int version = members.has("version") ? (int) Bodies.number(members, "version") : 1;
+        return new ClientProcess(state, client, incarnation, version, key(key), members.getAsJsonObject("call"));
     }
 
     private static JsonObject members(ClientProcess process, JsonObject before) {
@@ -48,6 +49,7 @@ final class CaseTable {
         if (process.state() == ClientProcess.State.NEW) {
             made.add("client", before.get("client"));
             made.add("incarnation", before.get("incarnation"));
+            made.add("version", before.get("version"));
         } else if (process.state() != ClientProcess.State.ENDED) {
             made.add("key", process.key() == null ? JsonNull.INSTANCE : keyMembers(process.key()));
         }
@@ -90,7 +92,11 @@ final class CaseTable {
             if (does.equals("begin")) {
                 process.begin(one.getAsJsonObject("call"));
             }
-            said = does.equals("cancel") ? process.cancel() : process.request();
+            said = switch (does) {
+                case "start" -> process.hello();
+                case "cancel" -> process.cancel();
+                default -> process.request();
+            };
         } catch (IllegalStateException nothing) {
             // it has nothing to say
         }

@@ -1,6 +1,7 @@
 package rendezvous;
 
 import com.google.gson.JsonObject;
+import java.time.Duration;
 import java.util.ArrayList;
 import java.util.List;
 import java.util.Random;
@@ -9,8 +10,8 @@ import java.util.concurrent.TimeoutException;
 import java.util.concurrent.locks.LockSupport;
 
 /**
- * Threads that ask random calls for so many seconds, and print a line of JSON for each: its call and its reply. Words:
- * port, first client, how many, seconds, seed.
+ * Threads that ask random calls for so many seconds, and print a line of JSON for each: its call and its reply. Their
+ * sessions are of version 1 and 2 in turn. Words: port, first client, how many, seconds, seed.
  */
 final class Crowd {
     private static final long[] MILLIS = {0, 1, 3, 10, 30, 100};
@@ -31,10 +32,10 @@ final class Crowd {
     public static void main(String[] words) throws InterruptedException {
         int count = Integer.parseInt(words[2]);
         long ends = System.nanoTime() + TimeUnit.MILLISECONDS.toNanos((long) (1000 * Double.parseDouble(words[3])));
-        RvClients clients =
-            new RvClients("127.0.0.1", Integer.parseInt(words[0]), Long.parseLong(words[1]), count, 1);
         List<Thread> threads = new ArrayList<>();
         for (int each = 0; each < count; each++) {
+            RvClients clients = new RvClients("127.0.0.1", Integer.parseInt(words[0]),
+                Long.parseLong(words[1]) + each, 1, 1, Duration.ofSeconds(30), 1 + each % 2);
             Crowd one = new Crowd(clients, Long.parseLong(words[4]) * 1000 + each);
             threads.add(new Thread(() -> one.run(ends)));
         }

@@ -7,6 +7,7 @@ import java.nio.charset.StandardCharsets;
 import java.time.Duration;
 import java.util.ArrayList;
 import java.util.List;
+import java.util.Optional;
 import java.util.Set;
 import java.util.concurrent.ArrayBlockingQueue;
 import java.util.concurrent.TimeUnit;
@@ -19,6 +20,8 @@ final class Driver {
     private RvClients clients;
     private RvTransferQueue queue;
     private final List<String> drained = new ArrayList<>();
+    /** What the last exception of the server's said. */
+    private String words;
 
     private Driver() {}
 
@@ -30,11 +33,12 @@ final class Driver {
         }
     }
 
-    private String told(String[] words) {
+    private String told(String[] line) {
         String told;
         try {
-            told = "result " + does(words[0], List.of(words).subList(1, words.length));
+            told = "result " + does(line[0], List.of(line).subList(1, line.length));
         } catch (RvException fault) {
+            words = fault.getMessage();
             told = "threw " + fault.getClass().getSimpleName() + " " + fault.key() + detail(fault);
         } catch (Exception fault) {
             told = "threw " + fault.getClass().getSimpleName();
@@ -44,7 +48,8 @@ final class Driver {
 
     private static String detail(RvException fault) {
         if (fault instanceof RvException.Refused refused) {
-            return " " + refused.number() + " " + refused.refusal();
+            String current = refused.current() > 0 ? " " + refused.current() : "";
+            return " " + refused.number() + " " + refused.refusal() + current;
         }
         if (fault instanceof RvException.EpochEnded ended) {
             return " " + ended.current();
@@ -56,7 +61,7 @@ final class Driver {
         switch (word) {
             case "open":
                 clients = new RvClients("127.0.0.1", number(given, 0), number(given, 1), 1, 1,
-                    Duration.ofMillis(number(given, 2)));
+                    Duration.ofMillis(number(given, 2)), given.size() > 3 ? number(given, 3) : RvSession.VERSION);
                 queue = new RvTransferQueue(clients, 3);
                 return "open";
             case "interrupt":
@@ -75,6 +80,10 @@ final class Driver {
                 return all;
             case "items":
                 return clients.session().items();
+            case "words":
+                return words;
+            case "receipt":
+                return clients.session().receipt().map(Driver::keysOf);
             case "left-out":
                 return leftOut();
             case "bad":
@@ -92,6 +101,10 @@ final class Driver {
             case "transfer":
                 queue.transfer(given.get(0));
                 return "received";
+            case "transfer-receipt":
+                return keysOf(queue.transferReceipt(given.get(0)));
+            case "try-receipt":
+                return tryReceipt(given).map(Driver::keysOf);
             case "try":
                 return given.size() == 1 ? queue.tryTransfer(given.get(0))
                     : queue.tryTransfer(given.get(0), number(given, 1), TimeUnit.MICROSECONDS);
@@ -112,6 +125,16 @@ final class Driver {
             default:
                 throw new IllegalArgumentException(word);
         }
+    }
+
+    private Optional<Receipt> tryReceipt(List<String> given) throws InterruptedException {
+        return given.size() == 1 ? queue.tryTransferReceipt(given.get(0))
+            : queue.tryTransferReceipt(given.get(0), number(given, 1), TimeUnit.MICROSECONDS);
+    }
+
+    /** A receipt's two keys. */
+    private static String keysOf(Receipt receipt) {
+        return receipt.key() + " by " + receipt.by().map(Key::toString).orElse("nobody named");
     }
 
     private static int number(List<String> given, int at) {

@@ -11,7 +11,7 @@ use Rattle.rv_app.proofs.calls.call_run.Goals as goal
 
 pub returns-in-Ok : goal.returns-in-Ok
 returns-in-Ok g c =
-    let starting : Starting = record { client = c.args.client; incarnation = c.args.incarnation } in
+    let starting : Starting = record { client = c.args.client; incarnation = c.args.incarnation; version = c.args.version } in
     let before = link c.args.from.now c.args.to.now in
     let after = link c.call_lines.new.from c.call_lines.new.to in
     let items = c.in_ok-input.input.items in
@@ -30,7 +30,7 @@ returns-in-Ok g c =
 
 pub returns : goal.returns
 returns g c =
-    let starting : Starting = record { client = c.args.client; incarnation = c.args.incarnation } in
+    let starting : Starting = record { client = c.args.client; incarnation = c.args.incarnation; version = c.args.version } in
     let before = link c.args.from.now c.args.to.now in
     let after = link c.say_hello.new.from c.say_hello.new.to in
     let items = c.in_ok-input.input.items in

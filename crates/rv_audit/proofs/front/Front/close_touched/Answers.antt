@@ -17,7 +17,7 @@ returns-in-Arrive c = takes_partners c.args.self.now c.close_each.new.self c.arg
 
 pub returns-in-Hello : goal.returns-in-Hello
 returns-in-Hello c = takes_stopped c.args.self.now c.close_if.new.self c.args.entry.now c.waiting-waiting.result
-    (hello_touches (passed c.args.self.now) c.args.entry.now c.requires.front.legal c.requires.follows _ _ c.waiting-waiting.result c.in-Hello.is c.waiting-waiting.ensures.some c.waiting-waiting.ensures.none)
+    (hello_touches (passed c.args.self.now) c.args.entry.now c.requires.front.legal c.requires.follows _ _ _ c.waiting-waiting.result c.in-Hello.is c.waiting-waiting.ensures.some c.waiting-waiting.ensures.none)
     c.close_if.ensures.rest c.close_if.ensures.tables
 
 pub returns-in-Cancel : goal.returns-in-Cancel

@@ -38,21 +38,21 @@ returns-clause-sound c =
     let ready = c.make_room.new.self in
     let new = c.push.new.self in
     let prepared = c.in_ok-make_room.ensures.ok in
-    let comes = comes_ready old ready c.args.moment (Hello c.args.client c.args.incarnation) 1 _ c.requires.comes prepared in
+    let comes = comes_ready old ready c.args.moment (Hello c.args.client c.args.incarnation c.args.version) 1 _ c.requires.comes prepared in
     let unknown = ap (λ t. session_of t c.args.client) prepared.same.sessions ∙ c.requires.unknown in
     let lower = none_lower (account_of ready) ready.sessions comes.sound.sessions_are comes.sound.legal c.args.client c.args.incarnation unknown in
-    let entering = subst (λ t. MayEnter t c.args.client c.args.incarnation) (sym prepared.same.sessions) c.requires.enters in
-    let count = may_new ready.sessions c.args.client c.args.incarnation unknown entering in
+    let entering = subst (λ t. MayEnter t c.args.client c.args.incarnation c.args.version) (sym prepared.same.sessions) c.requires.enters in
+    let count = may_new ready.sessions c.args.client c.args.incarnation c.args.version unknown entering in
     let room = room_for_client (account_of ready) ready.sessions comes.sound.sessions_are comes.sound.legal c.args.client count in
-    let entered = set_changes ready.sessions c.enter.new.self c.args.client (fresh c.args.incarnation) c.in_ok-enter.ensures.ok in
-    sound_idle ready c.args.moment c.args.client c.args.incarnation comes lower room (space_ready old ready 1 _ prepared) new c.push.ensures.entry
-    (subst (λ t. Changes ready.sessions t c.args.client (fresh c.args.incarnation)) (sym c.push.ensures.sessions) entered)
+    let entered = set_changes ready.sessions c.enter.new.self c.args.client (fresh c.args.incarnation c.args.version) c.in_ok-enter.ensures.ok in
+    sound_idle ready c.args.moment c.args.client c.args.incarnation c.args.version comes lower room (space_ready old ready 1 _ prepared) new c.push.ensures.entry
+    (subst (λ t. Changes ready.sessions t c.args.client (fresh c.args.incarnation c.args.version)) (sym c.push.ensures.sessions) entered)
     (ap (option_and_then (λ (s : _). waiting_place s.state)) unknown) c.push.ensures.stations c.push.ensures.waiting c.push.ensures.due
     (omega (arith, c.push.ensures.room, prepared.room, prepared.same.waiting))
 
 pub returns-clause-ok : goal.returns-clause-ok
 returns-clause-ok c =
-    let e = entry c.args.moment (Hello c.args.client c.args.incarnation) [] in
+    let e = entry c.args.moment (Hello c.args.client c.args.incarnation c.args.version) [] in
     record {
       entry = e;
       moment_is = refl;

@@ -7,7 +7,8 @@ use Rattle.rv_session.specs.Standings.{standing_of}
 use Rattle.rv_account.specs.Account.{Account}
 use Rattle.rv_book.specs.Elapsing.{deadline_of, with_deadline}
 use Rattle.rv_book.specs.Legal.{KeepsTime, NothingDue}
-use Rattle.rv_book.specs.Draining.{WillTell, items_in}
+use Rattle.rv_book.specs.Arriving.{WillTell}
+use Rattle.rv_book.specs.Draining.{items_in}
 use Rattle.rv_book.specs.Tables.{account_of, with_due}
 use Rattle.rv_book.proofs.Draining.{may_drain}
 use Rattle.rv_book.proofs.Drains.{drain_is, will_drain}

@@ -1,7 +1,8 @@
 -- A cancel before its request comes leaves a sound state, in which the request is cancelled.
 use Rattle.std.proofs.Common.{None, [], sym, subst, arith}
 use Rattle.rv_session.specs.Meanings.{HasNext}
-use Rattle.rv_session.specs.Table.{OnlySets, settled_session}
+use Rattle.rv_session.specs.Table.{OnlyAdvances}
+use Rattle.rv_session.specs.declared.session.State.TheVariants.{Settled}
 use Rattle.rv_session.specs.declared.kept.Kept.TheVariants as kept
 use Rattle.rv_book.specs.Arriving.{IsCancelled, entry}
 use Rattle.rv_account.specs.declared.entry.Act.TheVariants.{Cancel}
@@ -22,8 +23,8 @@ returns-clause-sound c =
     let pushed = c.push.ensures in
     let comes = comes_ready old ready c.args.moment (Cancel c.args.key) 1 _ c.requires.comes prepared in
     let has = subst (λ t. HasNext t c.args.key) (sym prepared.same.sessions) c.requires.next in
-    let sets = subst (λ t. OnlySets ready.sessions t c.args.key.client (settled_session c.args.key.incarnation c.args.key.number None kept.Cancelled)) (sym pushed.sessions) c.bury.ensures in
-    buried_sound ready c.args.moment c.args.key comes has c.push.new.self pushed.entry sets pushed.stations pushed.waiting pushed.due (space_ready old ready 1 _ prepared)
+    let advances = subst (λ t. OnlyAdvances ready.sessions t c.args.key (Settled None kept.Cancelled)) (sym pushed.sessions) c.bury.ensures in
+    buried_sound ready c.args.moment c.args.key comes has c.push.new.self pushed.entry advances pushed.stations pushed.waiting pushed.due (space_ready old ready 1 _ prepared)
     (omega (arith, pushed.room, prepared.room, prepared.same.waiting))
 
 pub returns-clause-ok : goal.returns-clause-ok

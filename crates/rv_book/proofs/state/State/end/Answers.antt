@@ -2,12 +2,11 @@
 use Rattle.std.proofs.Common.{◌≡◌, ◌≤◌, Option, Some, IfSome, option_map, sym, subst, ap, ◌∙◌, arith}
 use Rattle.std.proofs.lemmas.Option.{same_Some}
 use Rattle.rv_session.specs.Owed.{Owed}
-use Rattle.rv_session.specs.Table.{OnlySettles}
 use Rattle.rv_text.specs.declared.call.Side.{Side}
 use Rattle.rv_text.specs.Calls.{side_of}
 use Rattle.rv_book.specs.Elapsing.{without_deadline, without_duty}
 use Rattle.rv_book.specs.Meeting.{Leaves, StandsOn}
-use Rattle.rv_book.specs.Tables.{IsOwedIn, SettlesIf, account_of}
+use Rattle.rv_book.specs.Tables.{IsOwedIn, SettlesAs, SettlesIf, account_of}
 use Rattle.rv_book.specs.Waiting.{limit_at}
 use Rattle.rv_book.proofs.state.State.end.Goals as goal
 use Rattle.rv_book.specs.Views.{Stations}
@@ -41,7 +40,7 @@ returns-clause-ended c =
       arrived = may.arrived;
       leaves = subst (λ (q : Stations). Leaves old.stations q (side_of may.call) may.duty (Some may.duty)) (sym c.settle.ensures.stations)
           (subst (λ (o : Option Owed). Leaves old.stations c.withdraw-duty.new.self (side_of may.call) may.duty o) leaves.is left);
-      settles = subst (λ n. OnlySettles old.sessions c.settle.new.self.sessions may.duty.client n c.args.kept) may.is_at settled;
+      settles = subst (λ n. SettlesAs old.sessions c.settle.new.self.sessions may.duty.client n c.args.kept) may.is_at settled;
       counted = omega (arith, c.settle.ensures.waiting);
       due = c.settle.ensures.due ∙ ap (λ o. without_duty es o old.due) leaves.is ∙ ap (λ n. without_deadline (limit_at es n) n old.due) may.is_at;
     }

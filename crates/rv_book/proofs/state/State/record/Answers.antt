@@ -1,15 +1,16 @@
 -- After a request that was recorded the account and its tables are sound, and it is told its reply or that it waits.
-use Rattle.std.proofs.Common.{◌∙◌, ◌≤◌, ◌+◌, Option, length, option_map, refl, sym, ap, subst}
+use Rattle.std.proofs.Common.{◌∙◌, ◌≤◌, ◌+◌, Option, length, refl, sym, ap, subst}
 use Rattle.rv_text.specs.Calls.{side_of, wait_of}
 use Rattle.rv_session.specs.Owed.{Owed}
-use Rattle.rv_session.specs.Table.{OnlySets, waiting_session}
+use Rattle.rv_session.specs.Table.{OnlyAdvances}
+use Rattle.rv_session.specs.declared.session.State.TheVariants.{Waits}
 use Rattle.rv_session.specs.declared.kept.Kept.{Kept}
 use Rattle.rv_account.specs.Account.{Account, just, with_entry}
 use Rattle.rv_book.specs.Arriving.{IsRecorded, entry}
 use Rattle.rv_book.specs.Elapsing.{without_duty}
 use Rattle.rv_book.specs.Limits.{FitEntries}
 use Rattle.rv_book.specs.Meeting.{ArrivedOn, ends_waiting}
-use Rattle.rv_book.specs.Tables.{account_of, partners_reply}
+use Rattle.rv_book.specs.Tables.{account_of, partners_reply, told_to}
 use Rattle.rv_account.specs.declared.entry.Act.TheVariants.{Arrive}
 use Rattle.rv_book.specs.Views.{AreBelow}
 use Rattle.rv_book.proofs.Recording.{Arrives, fit_after, least, meets, named_entry, next, room_named, sees, sound_after, told}
@@ -49,7 +50,7 @@ settle-requires-clause-waits c =
     let is : Arrives old c.args.moment key call c.arrive-arrived.new.self arrived = record { places = c.args.places; may = c.requires; on = on } in
     let sound = c.requires.comes.sound in
     partner_due a old.sessions c.begin-duty.new.self key call arrived.partner _ arrived.other sound.legal sound.sessions_are (next old c.args.moment key call c.arrive-arrived.new.self arrived is)
-    (meets old c.args.moment key call c.arrive-arrived.new.self arrived is) c.begin-duty.ensures.waits (on.other a.entries sound.stations_are.parked)
+    (meets old c.args.moment key call c.arrive-arrived.new.self arrived is) c.begin-duty.ensures.waits.sets (on.other a.entries sound.stations_are.parked)
 
 pub settle-requires-clause-fit : goal.settle-requires-clause-fit
 settle-requires-clause-fit c =
@@ -69,7 +70,7 @@ settle-requires-2-clause-waits c =
     let duty = c.begin-duty.ensures.duty ∙ ap (λ n. record { place = n; client = key.client }) c.len-place.ensures in
     let on = subst (λ (d : Owed). ArrivedOn old.stations c.arrive-arrived.new.self (side_of call) (wait_of call) d arrived) duty c.arrive-arrived.ensures in
     let is : Arrives old c.args.moment key call c.arrive-arrived.new.self arrived = record { places = c.args.places; may = c.requires; on = on } in
-    let begins = subst (λ n. OnlySets old.sessions c.begin-duty.new.self key.client (waiting_session key.incarnation key.number n)) c.len-place.ensures c.begin-duty.ensures.waits in
+    let begins = subst (λ n. OnlyAdvances old.sessions c.begin-duty.new.self key (Waits n)) c.len-place.ensures c.begin-duty.ensures.waits in
     own_due a old.sessions c.begin-duty.new.self c.settle.new.self.sessions key call arrived.partner (length a.entries) arrived.other arrived.own c.reply_to_partner-others.result
     (next old c.args.moment key call c.arrive-arrived.new.self arrived is) (meets old c.args.moment key call c.arrive-arrived.new.self arrived is) begins c.settle.ensures.sessions
     (on.other a.entries c.requires.comes.sound.stations_are.parked) on.own
@@ -93,7 +94,7 @@ returns-clause-sound c =
     let duty = c.begin-duty.ensures.duty ∙ ap (λ n. record { place = n; client = key.client }) c.len-place.ensures in
     let on = subst (λ (d : Owed). ArrivedOn old.stations stations (side_of call) (wait_of call) d arrived) duty c.arrive-arrived.ensures in
     let is : Arrives old c.args.moment key call stations arrived = record { places = c.args.places; may = c.requires; on = on } in
-    let begins = subst (λ n. OnlySets old.sessions c.begin-duty.new.self key.client (waiting_session key.incarnation key.number n)) c.len-place.ensures c.begin-duty.ensures.waits in
+    let begins = subst (λ n. OnlyAdvances old.sessions c.begin-duty.new.self key (Waits n)) c.len-place.ensures c.begin-duty.ensures.waits in
     let others = c.reply_to_partner-others.ensures ∙ ap (λ side. partners_reply side c.len-place.result) c.side.ensures ∙ ap (partners_reply (side_of call)) c.len-place.ensures in
     let will = c.reply_to-kept.ensures (sees old c.args.moment key call stations arrived is) in
     let entries = ap (λ (b : Account). b.entries) (named_entry (account_of c.args.self.now) _ c.args.moment (Arrive c.args.key c.args.call) _ c.arrive-arrived.result.partner c.push.ensures.entry c.named-partners.ensures) in
@@ -118,10 +119,10 @@ returns-clause-recorded c =
     let duty = c.begin-duty.ensures.duty ∙ ap (λ n. record { place = n; client = key.client }) c.len-place.ensures in
     let on = subst (λ (d : Owed). ArrivedOn old.stations stations (side_of call) (wait_of call) d arrived) duty c.arrive-arrived.ensures in
     let is : Arrives old c.args.moment key call stations arrived = record { places = c.args.places; may = c.requires; on = on } in
-    let begins = subst (λ n. OnlySets old.sessions c.begin-duty.new.self key.client (waiting_session key.incarnation key.number n)) c.len-place.ensures c.begin-duty.ensures.waits in
+    let begins = subst (λ n. OnlyAdvances old.sessions c.begin-duty.new.self key (Waits n)) c.len-place.ensures c.begin-duty.ensures.waits in
     let others = c.reply_to_partner-others.ensures ∙ ap (λ side. partners_reply side c.len-place.result) c.side.ensures ∙ ap (partners_reply (side_of call)) c.len-place.ensures in
     let will = c.reply_to-kept.ensures (sees old c.args.moment key call stations arrived is) in
-    let done = told old c.args.moment key call stations arrived is c.reply_to-kept.result c.reply_to_partner-others.result will c.begin-duty.new.self begins others in
+    let done = told old c.args.moment key call stations arrived is c.reply_to-kept.result c.reply_to_partner-others.result will c.begin-duty.new.self begins others c.settle.new.self.sessions c.settle.ensures.sessions in
     let pushed = ap (λ (stored : _). stored.account) (c.settle-2.ensures.account ∙ c.settle.ensures.account) ∙ (named_entry (account_of c.args.self.now) _ c.args.moment (Arrive c.args.key c.args.call) _ c.arrive-arrived.result.partner c.push.ensures.entry c.named-partners.ensures) in
-    subst (λ (result : Option Kept). IsRecorded a (account_of c.settle-2.new.self) c.args.moment key call result) (sym c.told-told.ensures)
-    (subst (λ b. IsRecorded a b c.args.moment key call (option_map (λ d. c.reply_to-kept.result) arrived.own)) (sym pushed) done)
+    subst (λ (result : Option Kept). IsRecorded a (account_of c.settle-2.new.self) c.args.moment key call result) (sym c.settle-2.ensures.told)
+    (subst (λ b. IsRecorded a b c.args.moment key call (told_to c.settle.new.self.sessions arrived.own c.reply_to-kept.result)) (sym pushed) done)

@@ -26,20 +26,21 @@ returns-clause-sound c =
     let new = c.push.new.self in
     let client = c.args.client in
     let incarnation = c.args.incarnation in
+    let version = c.args.version in
     let prepared = c.in_ok-make_room.ensures.ok in
     let newer = c.requires.newer in
-    let comes = comes_ready old ready c.args.moment (Hello client incarnation) 1 _ c.requires.comes prepared in
+    let comes = comes_ready old ready c.args.moment (Hello client incarnation version) 1 _ c.requires.comes prepared in
     let there = ap (λ t. session_of t client) prepared.same.sessions ∙ newer.there in
     let lower = newer_lower (account_of ready) ready.sessions comes.sound.sessions_are comes.sound.legal client incarnation newer.session there newer.lower in
     let room = not_new (account_of ready) ready.sessions comes.sound.sessions_are comes.sound.legal client newer.session there in
     let waits = newer.waits ∙ sym (ap (λ t. waiting_of t client) prepared.same.sessions) in
-    let sets = subst (λ t. OnlySets mid.sessions t client (fresh incarnation)) (sym c.push.ensures.sessions) (ok_gives c.enter.result _ (c.enter.ensures.known (still_known ready mid c.args.waiting Cancelled client newer.session c.end_if.ensures.ended there)) c.enter.ensures.ok) in
-    sound_renewed ready c.args.moment client incarnation comes lower room (space_ready old ready 1 _ prepared) c.args.waiting mid new Cancelled waits c.end_if.ensures.ended c.end_if.ensures.account
+    let sets = subst (λ t. OnlySets mid.sessions t client (fresh incarnation version)) (sym c.push.ensures.sessions) (ok_gives c.enter.result _ (c.enter.ensures.known (still_known ready mid c.args.waiting Cancelled client newer.session c.end_if.ensures.ended there)) c.enter.ensures.ok) in
+    sound_renewed ready c.args.moment client incarnation version comes lower room (space_ready old ready 1 _ prepared) c.args.waiting mid new Cancelled waits c.end_if.ensures.ended c.end_if.ensures.account
     c.push.ensures.entry sets c.push.ensures.stations c.push.ensures.waiting c.push.ensures.due (omega (arith, c.push.ensures.room, prepared.room, prepared.same.waiting, ap (λ stored. stored.room) c.end_if.ensures.account))
 
 pub returns-clause-ok : goal.returns-clause-ok
 returns-clause-ok c =
-    let e = entry c.args.moment (Hello c.args.client c.args.incarnation) [] in
+    let e = entry c.args.moment (Hello c.args.client c.args.incarnation c.args.version) [] in
     record {
       entry = e;
       moment_is = refl;

@@ -26,9 +26,10 @@ returns-in-Put c = λ sees ends.
 pub returns-in-Some : goal.returns-in-Some
 returns-in-Some c = λ sees ends.
     let a = account_of c.args.self.now in
-    subst (λ (call : Call). WillReply a call c.args.partner kept.TheVariants.Received) (sym c.in-Transfer.is)
-    (subst (λ (partner : Option _). WillReply a (Transfer c.in-Transfer.queue c.in-Transfer.item c.in-Transfer.wait) partner kept.TheVariants.Received) (sym c.in-Some.is)
-    (received_replies c.in-Transfer.queue c.in-Transfer.item c.in-Transfer.wait a c.in-Some.field-0))
+    let place = c.in-Some.place in
+    subst (λ (call : Call). WillReply a call c.args.partner (kept.TheVariants.ReceivedBy place)) (sym c.in-Transfer.is)
+    (subst (λ (partner : Option _). WillReply a (Transfer c.in-Transfer.queue c.in-Transfer.item c.in-Transfer.wait) partner (kept.TheVariants.ReceivedBy place)) (sym c.in-Some.is)
+    (received_replies c.in-Transfer.queue c.in-Transfer.item c.in-Transfer.wait a place))
 
 pub returns-in-None : goal.returns-in-None
 returns-in-None c = λ sees ends.

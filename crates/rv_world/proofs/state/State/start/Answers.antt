@@ -15,23 +15,23 @@ use Rattle.rv_world.proofs.state.State.start.Goals as goal
 pub returns-in_err-reserve-clause-comes : goal.returns-in_err-reserve-clause-comes
 returns-in_err-reserve-clause-comes c =
     let items = c.in_err-reserve.ensures.items in
-    lacks_memory (world_of c.args.self.now) (world_of (record c.args.self.now { to_server = c.reserve.new.self })) (event.Start c.args.client c.args.incarnation) _
-    (start_due _ c.args.client c.args.incarnation c.in_ok-must_be_newest.ensures.ok) tt c.from_residual-in_err-reserve.ensures.1
+    lacks_memory (world_of c.args.self.now) (world_of (record c.args.self.now { to_server = c.reserve.new.self })) (event.Start c.args.client c.args.incarnation c.args.version) _
+    (start_due _ c.args.client c.args.incarnation c.args.version c.in_ok-must_be_newest.ensures.ok) tt c.from_residual-in_err-reserve.ensures.1
     (same_world _ _ refl refl (ap (λ (l : List Message). started_by l) items) refl refl refl items refl)
 
 pub returns-in_err-enter-clause-comes : goal.returns-in_err-enter-clause-comes
 returns-in_err-enter-clause-comes c =
     let items = c.in_ok-reserve.ensures.items in
     lacks_memory (world_of c.args.self.now) (world_of (record c.args.self.now { clients = c.enter.new.self; to_server = c.reserve.new.self }))
-    (event.Start c.args.client c.args.incarnation) _
-    (start_due _ c.args.client c.args.incarnation c.in_ok-must_be_newest.ensures.ok) tt c.from_residual-in_err-enter.ensures.1
+    (event.Start c.args.client c.args.incarnation c.args.version) _
+    (start_due _ c.args.client c.args.incarnation c.args.version c.in_ok-must_be_newest.ensures.ok) tt c.from_residual-in_err-enter.ensures.1
     (same_world _ _ refl refl (ap (λ (l : List Message). started_by l) items) (ap (λ (t : Table). t.processes) c.in_err-enter.ensures.err) refl refl items refl)
 
 pub returns-clause-comes : goal.returns-clause-comes
 returns-clause-comes c =
     let items = c.in_ok-reserve.ensures.items in
     let enters = c.in_ok-enter.ensures.ok in
-    let says = starting c.args.client c.args.incarnation in
+    let says = starting c.args.client c.args.incarnation c.args.version in
     let sent = sent_after Message _ _ _ _ (hello_of says) c.send.ensures.sent items (c.message-hello.ensures ∙ ap (λ s. hello_of s) c.start-new.ensures) in
     record {
       newest = c.in_ok-must_be_newest.ensures.ok;
@@ -44,7 +44,7 @@ returns-clause-comes c =
 
 pub returns-clause-newest : goal.returns-clause-newest
 returns-clause-newest c =
-    let says = starting c.args.client c.args.incarnation in
+    let says = starting c.args.client c.args.incarnation c.args.version in
     let sent = sent_after Message _ _ _ _ (hello_of says) c.send.ensures.sent c.in_ok-reserve.ensures.items (c.message-hello.ensures ∙ ap (λ s. hello_of s) c.start-new.ensures) in
     subst (λ (l : List (ℕ × ℕ)). AreNewest c.enter.new.self.newest l)
     (sym (ap (λ (l : List Message). started_by l) sent ∙ sent_hello c.args.self.now.to_server.items (hello_of says) (c.args.client, c.args.incarnation) refl))

@@ -1,0 +1,76 @@
+//! The text that a producer hands over.
+ghost use Rattle.std.specs.Prelude.{◌≡◌, IsTrue, IfOk, IsUtf8, ◌↔◌, string_bytes};
+ghost use Rattle.std.specs.Prelude.{nat_eq};
+ghost use Rattle.std.specs.Cmp.{partial_equiv_from_equiv};
+ghost use Rattle.std.specs.Cmp.Lexicographic.{nat_list_eq_equiv, pointwise};
+ghost use Rattle.rv_item.specs.Limits.{FitsItem};
+
+use crate::NoMemory;
+use std::alloc::Global;
+use std::marker::Model;
+
+/// The most bytes of UTF-8 that an item has.
+pub const MAX_ITEM_BYTES: usize = 512;
+
+/// What a producer hands over: a text, which contracts see as the list of its bytes.
+///
+/// An item that is read from a body has at most 512 bytes. One that a program makes may be longer,
+/// and then [`Item::fits`] tells.
+#[derive(Debug, Drop)]
+pub struct Item {
+    text: String,
+}
+
+impl Model for Item {
+    ghost use Rattle.std.specs.Prelude.{List, ℕ, string_bytes};
+
+    ghost Value = { List ℕ };
+
+    ghost view = { λ i. string_bytes i.text };
+}
+
+impl Item {
+    /// The item of this text, which it takes over without memory.
+    pub fn from_text(text: String) -> Item
+        ensures { result ≡ string_bytes text }
+    {
+        Item { text }
+    }
+
+    /// The item's text.
+    pub fn as_str(&self) -> &str
+        ensures text { result.now ≡ self.now }
+        ensures utf8 { IsUtf8 self.now }
+    {
+        self.text.as_str()
+    }
+
+    /// A copy of the item. It fails only where memory was refused.
+    pub fn copy(&self, alloc: Global) -> Result<Item, NoMemory>
+        ensures same { IfOk result (λ i. i ≡ self.now) }
+    {
+        let text = String::from_str(alloc, self.text.as_str())?;
+        Ok(Item { text })
+    }
+
+    /// Whether the item has at most 512 bytes.
+    pub fn fits(&self) -> bool
+        ensures { IsTrue result ↔ FitsItem self.now }
+    {
+        self.text.len() <= MAX_ITEM_BYTES
+    }
+}
+
+impl PartialEq for Item {
+    ghost eq = { λ a b. pointwise nat_eq a b };
+
+    ghost laws = { partial_equiv_from_equiv nat_list_eq_equiv };
+
+    fn eq(&self, other: &Item) -> bool {
+        self.as_str() == other.as_str()
+    }
+}
+
+impl Eq for Item {
+    ghost laws = { nat_list_eq_equiv };
+}
