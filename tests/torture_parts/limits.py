@@ -42,8 +42,11 @@ def a_full_disk(program):
 
 
 def a_disk_that_fills(program):
-    """So many bytes of the account have room: they are its front, and their whole lines agree with what was told."""
-    with Server(program, workers=1, connections=1) as server:
+    """So many bytes of the account have room: they are its front, and their whole lines agree with what was told. The
+    clock can't be read, so each moment is 0, and each run's account has as many bytes."""
+    system = System()
+    system.be(clock=1)
+    with HostileServer(program, system, workers=1, connections=1) as server:
         with server.greeted(1) as peer:
             asked, told = a_talk(peer, 1, PUTS)
         server.judged(asked, told)
@@ -54,7 +57,8 @@ def a_disk_that_fills(program):
                 signal.signal(signal.SIGXFSZ, signal.SIG_IGN)
                 resource.setrlimit(resource.RLIMIT_FSIZE, (room, room))
 
-            with Server(program, 1, 1, stdout=disk, preexec_fn=fills, restore_signals=False) as server:
+            more = {"stdout": disk, "preexec_fn": fills, "restore_signals": False}
+            with HostileServer(program, system, workers=1, connections=1, **more) as server:
                 with server.greeted(1) as peer:
                     asked, told = a_talk(peer, 1, PUTS)
                 ends_with(server, NO_ROOM if room < size else (0, b""))

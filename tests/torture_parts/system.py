@@ -74,9 +74,9 @@ class HostileServer(Server):
 
     peer = LossyPeer
 
-    def __init__(self, program, system, workers, connections=CONNECTIONS, epoch=1):
+    def __init__(self, program, system, workers, connections=CONNECTIONS, epoch=1, **more):
         self.system = system
-        super().__init__(program, workers, connections, epoch, env=system.env)
+        super().__init__(program, workers, connections, epoch, env=system.env, **more)
 
     def no_more(self):
         """No connection can be accepted from now on, so the server ends once those that are open did."""
