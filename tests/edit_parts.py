@@ -56,7 +56,7 @@ class Edit:
 
 def function_at(text, old, path, last=False):
     """A pattern of the prover's name of the function of this file in which a text stands: its first place, or its last."""
-    module = "::".join(part for part in pathlib.Path(path).with_suffix("").parts[1:] if part not in ("lib", "main"))
+    modules = [part for part in pathlib.Path(path).with_suffix("").parts[1:] if part not in ("lib", "main")]
     # from the end of the text on: it may hold the function's name
     start = text.rindex(old) if last else text.index(old)
     lines = text[:start + len(old)].split("\n")
@@ -73,7 +73,9 @@ def function_at(text, old, path, last=False):
         elif name is not None and (found := re.match(r"(?:pub )?trait (\w+)", line)):
             owner = rf"\w*{found[1]}::"
             break
-    return re.compile(rf"\w+::{module + '::' if module else ''}{owner}{name}") if name else None
+    # the prover names a method by the module of its type, which may be one above this file's
+    above = "".join(f"(?:{part}::)?" if owner and index else f"{part}::" for index, part in enumerate(modules))
+    return re.compile(rf"\w+::{above}{owner}{name}") if name else None
 
 
 def public_functions(folder):

@@ -4,7 +4,8 @@
 
    How often stands in the file HOSTILE, a row of 32-bit numbers that who started the program may change at any time.
    Of the odds, 0 is never, and n is once in n at random, with the seed SEED; so 1 is always. A read and a write fail once
-   in so many bytes. Behind them stand how many times each of these was done. */
+   in so many bytes. Behind them stand how many times each of these was done, and how many reads and writes of sockets were
+   asked for. */
 #define _GNU_SOURCE
 #include <dlfcn.h>
 #include <errno.h>
@@ -20,12 +21,13 @@
 #include <unistd.h>
 
 enum { GROWTH, CUT_READ, FAILED_READ, CUT_WRITE, FAILED_WRITE, ACCEPT, THREAD, CLOCK, SLEEP, ODDS };
+enum { READS, WRITES, WAYS };
 
 /* `most` bytes are read at a time, or written, where it is not 0. `growth_at` and `read_at` count down to the growth that
    is refused and the read that fails, and `room` is one more than the bytes that may be written before a write fails;
    with 0 none is. The odds of growths hold behind the first `calm` ones. */
 struct page {
-    uint32_t odds[ODDS], most, growth_at, read_at, room, calm, made[ODDS];
+    uint32_t odds[ODDS], most, growth_at, read_at, room, calm, made[ODDS], asked[WAYS];
 };
 
 static volatile struct page *page;
@@ -94,10 +96,8 @@ static ssize_t no_write(void) {
     return chance() % 6 ? any_of(errors, 5) : 0;
 }
 
-enum { READS, WRITES };
-
 /* One more than the bytes that pass before the next read or write fails; 0 is not known yet. */
-static __thread uint32_t left[2];
+static __thread uint32_t left[WAYS];
 
 static int is_failed(int way, int failed) {
     uint32_t odds = page->odds[failed];
@@ -116,6 +116,7 @@ static size_t least(size_t count, size_t most) { return count < most ? count : m
 
 /* How many bytes of a read or write go through; none where it fails. */
 static size_t passes(int way, int cut, int failed, size_t count) {
+    __sync_fetch_and_add(&page->asked[way], 1);
     if (is_failed(way, failed))
         return 0;
     if (page->odds[failed])

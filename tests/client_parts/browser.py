@@ -33,7 +33,7 @@ def shown(page):
     with tempfile.TemporaryDirectory(prefix="rv-browser-") as profile:
         words = [found(), "--headless", "--no-sandbox", "--disable-gpu", "--enable-logging=stderr",
                  f"--user-data-dir={profile}", "--dump-dom", page.as_uri()]
-        ran = subprocess.run(words, capture_output=True, text=True, timeout=120)
+        ran = subprocess.run(words, capture_output=True, text=True, timeout=600)
     demand(ran.returncode == 0, f"{page.name}: the browser ended by {ran.returncode}: {ran.stderr}")
     return ran.stdout, [line for line in ran.stderr.splitlines() if ":CONSOLE" in line]
 

@@ -14,12 +14,14 @@ from client_parts.proxy import Proxy
 from model_parts.account import Cancel, Hello, Key, Tick, reply, stays
 from serve_parts.accounts import account_fault
 from serve_parts.programs import Server
-from serve_parts.wire import demand, reply_of, together
+from serve_parts.wire import PATIENCE, demand, reply_of, together
 
 PYTHONS, JAVAS, WORKERS = 6, 4, 48
 # Connections that a crowd may make a second, and at all events: what is given up takes a new one.
 CONNECTIONS, AT_ALL_EVENTS = 600, 2_000
 MILLIS = (0, 1, 3, 10, 30, 100)
+# So many seconds longer a crowd asks at most, where the machine is slow.
+LONGER = 600
 # So many keys of an account are looked at by the plain model too.
 SAMPLE = 60
 
@@ -42,12 +44,12 @@ class Client:
     """A Python client that asks random calls, and gives up some that wait."""
 
     def __init__(self, address, number, chance, told):
-        self.session = rv.Session(address, number, 1, version=1 + number % 2, patience=20, answer=2)
+        self.session = rv.Session(address, number, 1, version=1 + number % 2, patience=PATIENCE, answer=2)
         self.chance, self.told, self.number, self.items = chance, told, number, 0
 
-    def run(self, ends):
-        """Asks until a moment."""
-        while time.monotonic() < ends:
+    def run(self, goes_on):
+        """Asks for as long as that holds."""
+        while goes_on():
             call, ask = self.call()
             over = threading.Event()
             if call.get("wait") == "forever":
@@ -95,7 +97,7 @@ class Client:
 def java_crowd(port, seconds, seed, told):
     """Java's clients, for so many seconds."""
     words = java.command("rendezvous.Crowd", port, 100, JAVAS, seconds, seed)
-    ran = subprocess.run(words, capture_output=True, text=True, timeout=seconds + 120)
+    ran = subprocess.run(words, capture_output=True, text=True, timeout=seconds + LONGER)
     demand((ran.returncode, ran.stderr) == (0, ""), f"Java says {ran.stderr[:2000]}")
     for line in ran.stdout.splitlines():
         members = json.loads(line)
@@ -103,31 +105,54 @@ def java_crowd(port, seconds, seed, told):
     return len(ran.stdout.splitlines())
 
 
+def receipts_of(told):
+    """How many receipts name the consumer, and how many there are."""
+    with told.lock:
+        replies = list(told.replies.values())
+    return (sum("by_client" in members for members in replies),
+            sum(members["reply"] == "received" for members in replies))
+
+
+def lacking(told, proxy, seconds):
+    """What has not happened yet of what must in so many seconds, if something: a slow machine takes longer."""
+    if len(told.asked) <= 10 * seconds:
+        return f"only {len(told.asked)} calls were made"
+    if seconds < 10:
+        return None
+    if min(proxy.met.values()) == 0:
+        return f"the link did too little: {proxy.met}"
+    with told.lock:
+        several = any(len(members.get("texts", "")) > 1 for members in told.replies.values())
+    named, received = receipts_of(told)
+    if not several:
+        return "no drain took several items"
+    return None if 0 < named < received else f"{named} of {received} receipts name the consumer"
+
+
 def a_crowd(program, seed, seconds):
     """Python's and Java's clients at once; then what they were told is looked up in the account."""
     told, chance = Told(), random.Random(seed)
-    ends, connections = time.monotonic() + seconds, AT_ALL_EVENTS + int(CONNECTIONS * seconds)
+    began, connections = time.monotonic(), AT_ALL_EVENTS + int(CONNECTIONS * seconds)
     with Server(program, WORKERS, connections) as server:
         with Proxy(server, seed, connections * 3 // 4) as proxy:
             address = ("127.0.0.1", proxy.port)
-            parts = [lambda one=Client(address, number, random.Random(chance.random()), told): one.run(ends)
+
+            def goes_on():
+                took = time.monotonic() - began
+                return took < seconds or took < seconds + LONGER and lacking(told, proxy, seconds) is not None
+
+            parts = [lambda one=Client(address, number, random.Random(chance.random()), told): one.run(goes_on)
                      for number in range(1, PYTHONS + 1)]
             if not java.missing():
                 parts.append(lambda: java_crowd(proxy.port, seconds, seed, told))
-            together(*parts, limit=seconds + 150)
-            time.sleep(1)
+            together(*parts, limit=seconds + 2 * LONGER)
         server.use_up()
         account = server.ended()
         if account is not None:
             judge(account, told)
             server.audited()
-    demand(len(told.asked) > 10 * seconds, f"only {len(told.asked)} calls were made")
-    demand(seconds < 10 or min(proxy.met.values()) > 0, f"the link did too little: {proxy.met}")
-    several = sum(len(members.get("texts", "")) > 1 for members in told.replies.values())
-    demand(seconds < 10 or several > 0, "no drain took several items")
-    named = sum("by_client" in members for members in told.replies.values())
-    received = sum(members["reply"] == "received" for members in told.replies.values())
-    demand(seconds < 10 or 0 < named < received, f"{named} of {received} receipts name the consumer")
+    demand(not lacking(told, proxy, seconds), lacking(told, proxy, seconds))
+    named, received = receipts_of(told)
     return f"{len(told.asked)} calls, {received} receipts, of which {named} name the consumer"
 
 
@@ -247,6 +272,6 @@ def beside_the_jdk(program, seed, scripts):
     with Server(program, 8, 20_000) as server:
         server.connect().close()
         words = java.command("rendezvous.BesideJdk", server.port, scripts, seed)
-        ran = subprocess.run(words, capture_output=True, text=True, timeout=120)
+        ran = subprocess.run(words, capture_output=True, text=True, timeout=900)
         wanted = f"{scripts} scripts, the same outcomes\n"
         demand((ran.stdout, ran.stderr) == (wanted, ""), f"{ran.stdout[:2000]} {ran.stderr[:2000]}")

@@ -44,7 +44,7 @@ def the_longest_answer(program):
 def in_java(port):
     """The 20 items that are left, in two steps."""
     with java.driver() as driver:
-        driver.expect(f"open {port} 2 5000", "result open")
+        driver.expect(f"open {port} 2 120000", "result open")
         driver.expect("drain 18", "result 18")
         driver.expect("drain", "result 2")
         driver.expect("drained", f"result [{', '.join([LONGEST] * 20)}]")

@@ -54,7 +54,7 @@ def run_script(typed, folder, environment):
     """The blocks, in one shell, must print what is shown behind each, and say nothing on standard error."""
     script = "".join(f"{text}echo '{END}'\n" for text, _ in typed)
     ran = subprocess.run(["bash", "-c", script], cwd=folder, env=environment, capture_output=True, text=True,
-                         timeout=240)
+                         timeout=1_200)
     for (text, shown), printed in zip(typed, ran.stdout.split(f"{END}\n")):
         demand(printed == shown, f"{text}\nprinted\n{printed}\nand not\n{shown}\n{ran.stderr}")
     demand(ran.stdout.count(END) == len(typed) and not ran.stderr, f"the script said {ran.stderr}")
@@ -65,7 +65,7 @@ def the_pictures(_):
     for name, (words, given) in PICTURES.items():
         source = (ROOT / given).read_bytes() if given else b""
         ran = subprocess.run([ROOT / "tools/draw", *words], cwd=ROOT, input=source, capture_output=True,
-                             timeout=60)
+                             timeout=300)
         kept = (ROOT / f"docs/pictures/{name}.svg").read_bytes()
         demand((ran.stdout, ran.stderr) == (kept, b""),
                f"{name}.svg is not what tools/draw makes: {ran.stderr!r}")
@@ -78,7 +78,7 @@ def a_marked_fault(_):
     wrong = lines[:lines.rindex("1 2 ")] + "1 3 " + lines[lines.rindex("1 2 ") + 4:]
     for partner in (wrong, wrong.replace("1 3 ", "1 0 "), wrong.replace("1 3 ", "1 99 ")):
         ran = subprocess.run([ROOT / "tools/draw", "account", "--mark", "4"], input=partner.encode(),
-                             capture_output=True, timeout=60)
+                             capture_output=True, timeout=300)
         demand(ran.returncode == 0 and b"#c0392b" in ran.stdout, f"{ran.stderr!r}")
         xml.dom.minidom.parseString(ran.stdout)
 
@@ -92,10 +92,10 @@ def a_receipt_in_pictures(_):
         for file in files:
             file.write_text("".join(case[file.name] + "\n" for case in story))
         shown = subprocess.run([ROOT / "tools/draw", "play", *files], capture_output=True, text=True,
-                               timeout=60)
+                               timeout=300)
     account = (ROOT / "examples/received.account").read_text()
     drawn = subprocess.run([ROOT / "tools/draw", "account"], input=account, capture_output=True, text=True,
-                           timeout=60)
+                           timeout=300)
     for ran, words in [(shown, ["hello 1/1 v2", "received by 2/1/1"]), (drawn, ["hello 1 v2", "hello 2"])]:
         demand(not ran.stderr and all(f">{each}<" in ran.stdout for each in words), f"{words}: {ran.stderr}")
         xml.dom.minidom.parseString(ran.stdout)

@@ -13,7 +13,7 @@ from serve_parts.wire import demand
 
 ROOT = pathlib.Path(__file__).resolve().parent.parent.parent
 SOURCES = ROOT / "clients/python"
-PATIENCE = 120
+PATIENCE = 600
 # What is run by the interpreter of that environment; it is told the server's port.
 ONCE = """
 import json, rendezvous, sys

@@ -12,12 +12,12 @@ import time
 
 from client_parts.scripted import (
     BY, HANG_UP, SILENCE, Scripted, old_server, received_by, refused, reply, waiting, welcome)
-from serve_parts.wire import demand, frame
+from serve_parts.wire import demand, frame, until
 
 ROOT = pathlib.Path(__file__).resolve().parent.parent.parent
 FOLDER = ROOT / "clients/java"
 GSON = pathlib.Path("/usr/share/java/gson.jar")
-PATIENCE = 60
+PATIENCE = 300
 
 
 def missing():
@@ -88,7 +88,7 @@ def driver():
 
 
 @contextlib.contextmanager
-def opened(java, *deeds, patience=2000, version="", hello=welcome):
+def opened(java, *deeds, patience=60_000, version="", hello=welcome):
     """A scripted server that meets the hello so, with the driver's client 1."""
     with Scripted(hello, *deeds) as server:
         java.expect(f"open {server.port} 1 {patience} {version}".rstrip(), "result open")
@@ -165,7 +165,7 @@ def what_is_no_receipt(java):
     odd = [("by_client", 0), ("by_incarnation", 2**53), ("by_number", 1.0), ("by_number", "1")]
     bad += [reply("received", **{**whole, name: value}) for name, value in odd]
     bad += [reply("received", **whole, by_epoch=1), reply("done", **whole)]
-    with opened(java, *bad, received_by(2, 3, 4), patience=20_000) as server:
+    with opened(java, *bad, received_by(2, 3, 4), patience=60_000) as server:
         java.expect("transfer-receipt a", "result 1/1/1/1 by 1/2/3/4")
         demand(len(server.heard) == 2 + len(bad), f"{len(server.heard)} frames came")
 
@@ -178,7 +178,7 @@ def versions(java):
         others = [lambda asked, odd=odd: {"kind": "welcome", "epoch": 1, "client": 1, "incarnation": 1, **odd}
                   for odd in (other, {"version": 1}, {"version": 3}, {"version": "2"}, {"version": 2.0})]
         deeds = [*others[1:], welcome, refused(3), welcome, reply("done")]
-        with opened(java, *deeds, patience=20_000, version=version, hello=others[0]) as server:
+        with opened(java, *deeds, patience=60_000, version=version, hello=others[0]) as server:
             java.expect("put a", "result done")
             hellos = [members for members in server.heard if members["kind"] == "hello"]
             demand(hellos == [{**hello, **said}] * (len(others) + 2), f"{hellos}")
@@ -240,7 +240,7 @@ def a_drain_is_asked_under_one_key(java):
     bad = [reply("drained", texts=one) for one in bad] + [reply("drained"), reply("item", item="a", texts=[])]
     full = ["\u0001" * 512] * 16
     long = lambda one: frame(json.dumps(reply("drained", texts=full)(one)).encode().ljust(65_535))
-    with opened(java, long, HANG_UP, *bad, refused(11), texts(2), patience=10_000) as server:
+    with opened(java, long, HANG_UP, *bad, refused(11), texts(2), patience=60_000) as server:
         java.expect("drain 18", "result 18")
         numbers = [number for _, number, _ in asked(server)]
         demand(numbers == [None, 1] + [2] * (len(bad) + 3), f"{numbers}")
@@ -284,7 +284,7 @@ def repeats_until_it_is_told(java):
            frame(b'{"kind":"refused","code":1.0}'), frame(b'{"code":12,"kind":"refused"}'),
            frame(b'{"code":13,"kind":"refused"}')]
     deeds = [waiting, HANG_UP, welcome, *bad, waiting, reply("received")]
-    with opened(java, *deeds, patience=10_000) as server:
+    with opened(java, *deeds, patience=60_000) as server:
         java.expect("transfer a", "result received")
         demand(all(members == server.heard[1] for members in server.heard[1:]), "another request was sent")
         demand(len(server.heard) == 1 + len(deeds), f"{len(server.heard)} frames came")
@@ -310,29 +310,39 @@ def an_unsettled_request(java):
         demand(asked(server)[-1] == ("cancel", 1, None), "no cancel came")
 
 
+def interrupting(path, deed):
+    """A deed: the driver's thread is interrupted while it waits for the answer, and then it is met so."""
+    def meets(one):
+        path.touch()
+        until("an interrupt", lambda: not path.exists())
+        return deed(one) if callable(deed) else deed
+    return meets
+
+
 def interrupts(java):
     """An interrupt is a cancel; a result that came before it is given; calls that do not wait go on."""
-    deeds = [reply("done"), SILENCE, reply("cancelled"), SILENCE, reply("item", item="a")]
-    with opened(java, *deeds) as server:
-        java.expect("put a", "result done")
-        java.expect("interrupt 400", "result soon")
-        java.expect("take", "threw InterruptedException")
-        java.expect("interrupt 400", "result soon")
-        java.expect("take", "result a interrupted")
-        wanted = [("request", 1, "put"), ("request", 2, "take"), ("cancel", 2, None), ("request", 3, "take"),
-                  ("cancel", 3, None)]
-        demand(asked(server)[1:] == wanted, f"{asked(server)}")
-    slow = lambda one: (time.sleep(0.6), reply("done")(one))[1]
-    with opened(java, reply("done"), slow):
-        java.expect("put a", "result done")
-        java.expect("interrupt 100", "result soon")
-        java.expect("put a", "result done interrupted")
-    slow = lambda one: (time.sleep(0.6), texts(16)(one))[1]
-    with opened(java, slow, texts(3, 16)) as server:
-        java.expect("interrupt 100", "result soon")
-        java.expect("drain", "result 19 interrupted")
-        java.expect("drained", f"result [{', '.join(map(str, range(19)))}]")
-        demand(len(server.heard) == 3, f"{asked(server)}")
+    with tempfile.TemporaryDirectory(prefix="rv-interrupt-") as folder:
+        path = pathlib.Path(folder) / "now"
+        silence = interrupting(path, SILENCE)
+        deeds = [reply("done"), silence, reply("cancelled"), silence, reply("item", item="a")]
+        with opened(java, *deeds) as server:
+            java.expect("put a", "result done")
+            java.expect(f"interrupt {path}", "result soon")
+            java.expect("take", "threw InterruptedException")
+            java.expect(f"interrupt {path}", "result soon")
+            java.expect("take", "result a interrupted")
+            wanted = [("request", 1, "put"), ("request", 2, "take"), ("cancel", 2, None),
+                      ("request", 3, "take"), ("cancel", 3, None)]
+            demand(asked(server)[1:] == wanted, f"{asked(server)}")
+        with opened(java, reply("done"), interrupting(path, reply("done"))):
+            java.expect("put a", "result done")
+            java.expect(f"interrupt {path}", "result soon")
+            java.expect("put a", "result done interrupted")
+        with opened(java, interrupting(path, texts(16)), texts(3, 16)) as server:
+            java.expect(f"interrupt {path}", "result soon")
+            java.expect("drain", "result 19 interrupted")
+            java.expect("drained", f"result [{', '.join(map(str, range(19)))}]")
+            demand(len(server.heard) == 3, f"{asked(server)}")
 
 
 def a_timeout_is_kept(java):

@@ -6,7 +6,7 @@ import threading
 import time
 
 from serve_parts.listening import Listening
-from serve_parts.wire import frame
+from serve_parts.wire import PATIENCE, frame
 
 # What becomes of a frame, and how often. The server's answers know the first four alone.
 FATES = {"pass": 80, "delay": 6, "lose": 4, "cut": 4, "twice": 4, "late": 2}
@@ -20,10 +20,13 @@ class Proxy(Listening):
         super().__init__()
         self.server, self.chance, self.most = server, random.Random(seed), connections
         self.calm, self.met = False, dict.fromkeys(FATES, 0)
-        self.ends = []
+        self.ends, self.copies = [], []
 
     def __exit__(self, *_):
+        """Behind the end no connection to the server is made, and each late copy has come there."""
         super().__exit__()
+        for copy in list(self.copies):
+            copy.join(PATIENCE)
         for end in self.ends:
             hang_up(end)
 
@@ -68,7 +71,8 @@ class Proxy(Listening):
         if fate == "delay":
             time.sleep(self.chance.choice([0.001, 0.01, 0.05]))
         if fate == "late":
-            threading.Thread(target=self.later, args=(data,), daemon=True).start()
+            self.copies.append(threading.Thread(target=self.later, args=(data,), daemon=True))
+            self.copies[-1].start()
         sink.sendall(data * (2 if fate == "twice" else 1))
         return True
 

@@ -8,7 +8,7 @@ from serve_parts.wire import demand, together
 
 def session(server, number, incarnation=1, **more):
     """A session of a client."""
-    return rv.Session(("127.0.0.1", server.port), number, incarnation, patience=20, **more)
+    return rv.Session(("127.0.0.1", server.port), number, incarnation, patience=120, **more)
 
 
 def judged(server):
@@ -65,7 +65,7 @@ def between_python_and_java(program):
     """Python gives to Java and Java to Python, and each is told who received."""
     with Server(program, 4, 2) as server, session(server, 1) as one:
         with java.driver() as driver:
-            driver.expect(f"open {server.port} 2 5000", "result open")
+            driver.expect(f"open {server.port} 2 120000", "result open")
             receipt, taken = together(lambda: one.transfer(3, "a"), lambda: driver.tell("take"))
             demand((receipt.by, taken) == (rv.Key(1, 2, 1, 1), "result a"), f"{receipt}, {taken}")
             told, item = together(lambda: driver.tell("transfer-receipt b"), lambda: one.take(3))

@@ -14,13 +14,13 @@ BY = (2**53 - 1,) * 3
 class Scripted(Listening):
     """Listens on a port of this machine. `deeds` are, for each frame in turn over all connections: members or
     a list of members to answer, bytes to send as they are, `SILENCE`, `HANG_UP`, or a function of what came
-    that gives one of these. `heard` has the members of each frame that came, `connections` how many were
-    made."""
+    that gives one of these; behind all of them it is `otherwise`. `heard` has the members of each frame that
+    came, `connections` how many were made."""
 
     def __init__(self, *deeds):
         super().__init__()
         self.deeds, self.heard, self.connections = list(deeds), [], 0
-        self.lock = threading.Lock()
+        self.lock, self.otherwise = threading.Lock(), SILENCE
         self.open = []
 
     def __exit__(self, *_):
@@ -40,7 +40,7 @@ class Scripted(Listening):
             while (body := self.body(connection)) is not None:
                 with self.lock:
                     self.heard.append(json.loads(body))
-                    deed = self.deeds.pop(0) if self.deeds else SILENCE
+                    deed = self.deeds.pop(0) if self.deeds else self.otherwise
                     deed = deed(self.heard[-1]) if callable(deed) else deed
                 if deed == HANG_UP:
                     break

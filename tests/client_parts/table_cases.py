@@ -106,7 +106,7 @@ def the_programs_process(program):
             stories.setdefault(case["story"], []).append(case)
     for name, told in stories.items():
         lines = "".join(case["play"] + "\n" for case in told).encode()
-        ran = subprocess.run([program, "play"], input=lines, capture_output=True, timeout=60)
+        ran = subprocess.run([program, "play"], input=lines, capture_output=True, timeout=300)
         wanted = "".join(case["seen"] + "\n" for case in told).encode()
         demand((ran.stdout, ran.returncode) == (wanted, 0),
                f"{name}: rv play says {ran.stdout!r}, not {wanted!r}")

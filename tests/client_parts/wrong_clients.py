@@ -13,7 +13,7 @@ from serve_parts.wire import demand
 
 ROOT = pathlib.Path(__file__).resolve().parent.parent.parent
 FOLDERS = ["clients", "examples", "tests/client_parts", "tests/serve_parts", "tests/model_parts"]
-PATIENCE = 300
+PATIENCE = 1200
 
 PYTHON = "clients/python/rendezvous.py"
 PROCESS, SESSION, QUEUE, BODIES, LINK = (

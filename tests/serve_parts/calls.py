@@ -5,6 +5,7 @@ import time
 
 from model_parts.account import Key
 from model_parts.texts import written
+from serve_parts.plain import EXCHANGES, Looker, delayed
 from serve_parts.programs import Caller, Server
 from serve_parts.wire import (
     BAD_TEXT, PATIENCE, Peer, Wrong, demand, frame, give, hello, refused, replied, request, take, until, waits, welcome)
@@ -16,9 +17,6 @@ WELCOME, WAITS = frame(welcome(2)), frame(waits(ONE))
 SECOND, SECOND_WELCOME = hello(2, version=2), frame(welcome(2, version=2))
 ITEM = replied(ONE, reply="item", item="a")
 ANSWER = frame(ITEM)
-
-# Requests in a row, and how long a system waits before it acknowledges a packet with none of its own, in seconds.
-EXCHANGES, DELAY = 300, 0.04
 
 
 def lines(*calls):
@@ -47,9 +45,7 @@ def hand_over(program, gives, takes, receipt):
         given, got = Key(1, 1, 1, 1), Key(1, 2, 1, 1)
         after = [Key(1, client, 1, 2) for client in (1, 2)]
         with Caller(program, server.port, 1, lines(gift, first), speak=gives) as giver:
-            # A caller does not try again where nobody listens yet.
-            giver = again_if_early(program, server, giver, lines(gift, first), gives)
-            with giver, Caller(program, server.port, 2, lines(WISH, second), speak=takes) as taker:
+            with Caller(program, server.port, 2, lines(WISH, second), speak=takes) as taker:
                 taker.judge(replied(got, reply="item", item="a") + b"\n" + replied(after[1], reply="swapped", item="b") + b"\n")
                 giver.judge(replied(given, **receipt) + b"\n" + replied(after[0], reply="swapped", item="c") + b"\n")
         asked = {given: gift, got: WISH, after[0]: first, after[1]: second}
@@ -60,17 +56,6 @@ def hand_over(program, gives, takes, receipt):
 def swapped(item):
     """A swap that waits."""
     return {"call": "swap", "exchanger": 5, "item": item, "wait": "forever"}
-
-
-def again_if_early(program, server, caller, text, speak):
-    """The caller, or one like it where the server did not listen yet."""
-    ends = time.monotonic() + PATIENCE
-    while True:
-        time.sleep(0.1)
-        if caller.runs() or time.monotonic() > ends:
-            return caller
-        caller.judge(b"", 1, b"address fault\n")
-        caller = Caller(program, server.port, 1, text, speak=speak)
 
 
 def a_line_as_soon_as_it_is_settled(program):
@@ -143,12 +128,10 @@ def started_in_another_version(program):
 def started_while_it_waits(program):
     """A second start of the same incarnation is told the same reply as the first, or nothing that settles where its
     call is another; one of a greater incarnation ends the first."""
-    with Server(program, workers=4, connections=6) as server:
-        server.greeted(9).close()
+    with Server(program, workers=5, connections=6) as server, Looker(server) as looker:
         with Caller(program, server.port, 1, lines(WISH)) as first:
-            time.sleep(0.3)
+            looker.sees(consumers=1)
             with Caller(program, server.port, 1, lines(WISH)) as second:
-                time.sleep(0.3)
                 with Caller(program, server.port, 1, lines(take("now")), tries=2) as other:
                     other.judge(b"unsettled 1\n", 1)
                 with server.greeted(2) as peer:
@@ -157,9 +140,10 @@ def started_while_it_waits(program):
                     for caller in (first, second):
                         caller.judge(replied(Key(1, 1, 1, 1), reply="item", item="a") + b"\n")
                     with Caller(program, server.port, 3, lines(WISH)) as old:
-                        time.sleep(0.3)
+                        looker.sees(consumers=1)
                         peer.expect(hello(3, 2), welcome(3, 1, 2))
                         old.judge(b"replaced 2\n", 1)
+        looker.peer.close()
         server.ended()
 
 
@@ -167,7 +151,7 @@ class Scripted:
     """A listener that serves one connection: for each frame that it hears it sends the next bytes, and then it ends."""
 
     def __init__(self, steps, slowly=False):
-        self.steps, self.slowly, self.heard, self.fault = steps, slowly, [], None
+        self.steps, self.slowly, self.heard, self.took, self.fault = steps, slowly, [], [], None
         self.socket = socket.create_server(("127.0.0.1", 0))
         self.socket.settimeout(PATIENCE)
         self.port = self.socket.getsockname()[1]
@@ -185,7 +169,9 @@ class Scripted:
         try:
             with Peer(self.socket.accept()[0]) as peer:
                 for step in self.steps:
+                    began = time.monotonic()
                     body = peer.hear()
+                    self.took.append(time.monotonic() - began)
                     if body is None:
                         return
                     self.heard.append(body)
@@ -273,12 +259,13 @@ SECOND_SCRIPTS = [
 
 
 def at_a_script(program, steps, text, tries, printed, status, heard, slowly=False, speak=1):
-    """A caller at a listener that answers by a script must end so."""
+    """A caller at a listener that answers by a script must end so. Gives how long each frame was waited for, in seconds."""
     with Scripted(steps, slowly) as listener:
         with Caller(program, listener.port, 2, text, tries=tries, speak=speak) as caller:
             caller.judge(printed, status)
     demand(listener.heard == heard and not listener.fault,
            f"{steps}: the listener heard {listener.heard} and met {listener.fault}, not {heard}")
+    return listener.took
 
 
 def strange_servers(program):
@@ -313,11 +300,8 @@ def no_packet_waits(program):
     keys = [Key(1, 2, 1, number) for number in range(1, EXCHANGES + 1)]
     bodies = [request(key, PUTS[0]) for key in keys]
     done = [replied(key, reply="done") for key in keys]
-    began = time.monotonic()
-    at_a_script(program, [WELCOME, *map(frame, done)], lines(*PUTS[:1] * EXCHANGES), 3,
-                b"".join(line + b"\n" for line in done), 0, [HELLO, *bodies])
-    took = time.monotonic() - began
-    demand(took < EXCHANGES * DELAY / 2, f"{EXCHANGES} requests took {took:.1f} seconds")
+    delayed(lambda _: at_a_script(program, [WELCOME, *map(frame, done)], lines(*PUTS[:1] * EXCHANGES), 3,
+                                  b"".join(line + b"\n" for line in done), 0, [HELLO, *bodies]))
 
 
 CASES = [two_callers, a_line_as_soon_as_it_is_settled, settled_in_turn, started_again, started_in_another_version,

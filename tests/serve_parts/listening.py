@@ -2,10 +2,12 @@
 import socket
 import threading
 
+from serve_parts.wire import PATIENCE
+
 
 class Listening:
     """Listens from `with` on until its end, at `address`, a text. Each connection that comes is handed to `meet`, one
-    after another."""
+    after another; behind the end none is."""
 
     def __init__(self):
         self.listener = socket.create_server(("127.0.0.1", 0))
@@ -13,11 +15,13 @@ class Listening:
         self.address = f"127.0.0.1:{self.port}"
 
     def __enter__(self):
-        threading.Thread(target=self.accept, daemon=True).start()
+        self.accepting = threading.Thread(target=self.accept, daemon=True)
+        self.accepting.start()
         return self
 
     def __exit__(self, *_):
         self.listener.shutdown(socket.SHUT_RDWR)
+        self.accepting.join(PATIENCE)
         self.listener.close()
 
     def accept(self):

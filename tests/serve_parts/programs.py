@@ -1,4 +1,6 @@
 """The program's processes: a server on a port of this machine, and a caller. None is left running."""
+import os
+import pathlib
 import random
 import socket
 import subprocess
@@ -6,7 +8,7 @@ import threading
 import time
 
 from serve_parts.accounts import account_fault, read_account
-from serve_parts.wire import PATIENCE, Peer, Wrong, demand, members_of, welcome, hello
+from serve_parts.wire import PATIENCE, Peer, Wrong, demand, members_of, until, welcome, hello
 
 PORTS = range(20_000, 32_000)
 # How often another free port is tried, where somebody takes the one that was free.
@@ -23,6 +25,25 @@ def free_port():
             except OSError:
                 continue
         return port
+
+
+def listens_at(pid, port):
+    """Whether a process has a listening TCP socket at a port of this machine: known without a fixed wait, so that a
+    slow machine cannot have it missed."""
+    try:
+        own = {os.readlink(path) for path in pathlib.Path(f"/proc/{pid}/fd").glob("*")}
+    except OSError:
+        return False
+    for name in ("tcp", "tcp6"):
+        try:
+            rows = pathlib.Path(f"/proc/net/{name}").read_text().splitlines()[1:]
+        except OSError:
+            continue
+        for row in rows:
+            cells = row.split()
+            if cells[3] == "0A" and int(cells[1].rpartition(":")[2], 16) == port and f"socket:[{cells[9]}]" in own:
+                return True
+    return False
 
 
 class Process:
@@ -99,12 +120,9 @@ class Server(Process):
         raise Wrong("no port is free")
 
     def taken(self):
-        """Whether somebody took the port before the server did: then it ends soon."""
-        try:
-            self.process.wait(0.05)
-        except subprocess.TimeoutExpired:
-            return False
-        return self.status() == 1 and self.said == b"address fault\n"
+        """Whether somebody took the port before the server did: it has not begun to listen, and soon ends."""
+        until("the server listens, or ends", lambda: listens_at(self.process.pid, self.port) or not self.runs())
+        return not self.runs() and self.status() == 1 and self.said == b"address fault\n"
 
     def connect(self, receive=None):
         """A connection to the server; `receive` is how many bytes the system is to keep for the client, at least."""
@@ -177,7 +195,7 @@ class Server(Process):
 class Caller(Process):
     """A caller, with these lines for its input."""
 
-    def __init__(self, program, port, client, lines, incarnation=1, tries=20, speak=1):
+    def __init__(self, program, port, client, lines, incarnation=1, tries=2 * PATIENCE, speak=1):
         super().__init__([program, "call", "--connect", f"127.0.0.1:{port}", "--client", str(client),
                           "--incarnation", str(incarnation), "--tries", str(tries), "--speak", str(speak)])
         try:

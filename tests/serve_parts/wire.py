@@ -9,7 +9,7 @@ from model_parts.account import Key
 from model_parts.texts import KEY, members_of_version, read_json, written
 
 # How long a client waits for bytes, for room, or for a server that is to end, in seconds.
-PATIENCE = 30
+PATIENCE = 120
 MAX_FRAME = 65_535
 BAD_TEXT = b'{"code":1,"kind":"refused"}'
 

@@ -1,5 +1,6 @@
 """A server that has no room for its account, few descriptors, or no threads."""
 import os
+import pathlib
 import resource
 import signal
 import tempfile
@@ -82,11 +83,18 @@ def descriptors(server):
     return len(os.listdir(f"/proc/{server.process.pid}/fd"))
 
 
+def all_sleep(server):
+    """Whether each thread of a server waits for something: the one that accepts then does so."""
+    threads = pathlib.Path(f"/proc/{server.process.pid}/task").glob("*/stat")
+    return all(stat.read_text().rpartition(")")[2].split()[0] == "S" for stat in threads)
+
+
 def few_descriptors(program):
     """What can't be accepted for want of a descriptor counts as a connection; those that are open are served on."""
     for room in (0, 1, 3):
         with Server(program, workers=5, connections=9) as server:
             first = server.greeted(1)
+            until("the server accepts again", lambda: all_sleep(server))
             least = descriptors(server)
             resource.prlimit(server.process.pid, resource.RLIMIT_NOFILE, (least + room, least + room))
             # The accept that waits already has its descriptor.
@@ -123,12 +131,21 @@ def no_thread(program):
             demand(system.made("thread") >= workers, "a thread was not asked for")
 
 
+def threads(server):
+    """How many threads a server has; none where it has ended."""
+    try:
+        return len(os.listdir(f"/proc/{server.process.pid}/task"))
+    except OSError:
+        return 0
+
+
 def few_threads(program):
     """A worker that can't be started is left out; the others serve all connections, one after another at least."""
     for seed in range(1, 9):
         system = System(seed)
         system.be(thread=2)
         with HostileServer(program, system, workers=8, connections=6) as server:
+            until("threads are started, or none was", lambda: not server.runs() or threads(server) > 1)
             if not server.runs():
                 ends_with(server, (1, b"serve fault 1\n"))
                 continue

@@ -11,10 +11,12 @@ from serve_parts.programs import Server
 from serve_parts.wire import Peer
 
 SOURCE = pathlib.Path(__file__).resolve().parent.parent / "hostile.c"
-# What happens by odds, and what is counted down, in the order of the page; then how often each of the odds happened.
+# What happens by odds, and what is counted down, in the order of the page; then how often each of the odds happened, and
+# how many reads and writes of sockets were asked for.
 ODDS = ("growth", "cut_read", "failed_read", "cut_write", "failed_write", "accept", "thread", "clock", "sleep")
 NUMBERS = (*ODDS, "most", "growth_at", "read_at", "room", "calm")
-PAGE = struct.Struct(f"={len(NUMBERS) + len(ODDS)}I")
+WAYS = ("reads", "writes")
+PAGE = struct.Struct(f"={len(NUMBERS) + len(ODDS) + len(WAYS)}I")
 # Connections that a server may be asked for: it ends when so many could not be accepted.
 CONNECTIONS = 100_000
 
@@ -44,6 +46,10 @@ class System:
     def made(self, name):
         """How often something happened so far."""
         return PAGE.unpack(self.page)[len(NUMBERS) + ODDS.index(name)]
+
+    def asked(self):
+        """How many reads and how many writes of sockets were asked for so far."""
+        return PAGE.unpack(self.page)[len(NUMBERS) + len(ODDS) :]
 
 
 @contextlib.contextmanager

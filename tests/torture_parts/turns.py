@@ -3,12 +3,11 @@ its connections, and of a caller."""
 import contextlib
 import socket
 import subprocess
-import threading
 
 from model_parts.account import Key
 from model_parts.texts import written
 from serve_parts.listening import Listening
-from serve_parts.wire import PATIENCE, demand, frame, give, hello, replied, request, take, welcome
+from serve_parts.wire import PATIENCE, demand, frame, give, hello, replied, request, take, until, welcome
 from torture_parts.crowds import NO_MEMORY
 from torture_parts.system import HostileServer, System
 
@@ -140,42 +139,48 @@ REPLIES = [{"reply": "done"}, {"reply": "item", "item": "a"}, {"reply": "counted
 ANSWERS = [welcome(2, version=2), *(replied(Key(1, 2, 1, number), **reply) for number, reply in enumerate(REPLIES, 1))]
 PRINTED = [answer + b"\n" for answer in ANSWERS[1:]]
 TEXT = b"".join(written(call).encode() + b"\n" for call in LINES)
+# What no caller sends: the length of a frame that does not come.
+MARK = b"\xff\xff"
 
 
 class Listener(Listening):
-    """Answers each frame of each connection by its answer, one connection after another, and keeps their bytes."""
+    """Answers each frame of each connection by its answer, one connection after another, and keeps the bytes of those that
+    are closed."""
 
     def __init__(self):
         super().__init__()
-        self.heard, self.closed = [], threading.Semaphore(0)
+        self.heard = []
 
     def meet(self, connection):
-        """Serves one connection, and tells that it is closed."""
-        self.heard.append(b"")
+        """Serves one connection, and closes it."""
+        heard = bytearray()
         with connection:
             connection.settimeout(PATIENCE)
             try:
-                self.serve(connection)
+                self.serve(connection, heard)
             except OSError:
                 pass
-        self.closed.release()
+        self.heard.append(bytes(heard))
 
-    def serve(self, connection):
+    def serve(self, connection, heard):
         """Serves one connection until it ends."""
         connection.setsockopt(socket.IPPROTO_TCP, socket.TCP_NODELAY, 1)
         read = 0
         while piece := connection.recv(65_536):
-            self.heard[-1] += piece
-            while body := whole_body(self.heard[-1][read:]):
+            heard += piece
+            while body := whole_body(bytes(heard[read:])):
                 read += 2 + len(body)
                 connection.sendall(frame(ANSWERS[ASKED.index(body)]))
 
-    def last(self, is_connected):
-        """The bytes of the last connection, which is closed; none where the caller did not come so far."""
-        if not is_connected:
-            return b""
-        demand(self.closed.acquire(timeout=PATIENCE), "the caller's connection is not closed")
-        return self.heard[-1]
+    def taken(self):
+        """The bytes of the one connection that was made, which has ended; none where none was made. A connection of its own
+        is accepted behind that, so it tells that none is on its way."""
+        with socket.create_connection(("127.0.0.1", self.port), PATIENCE) as mark:
+            mark.sendall(MARK)
+        until("the connections are closed", lambda: self.heard[-1:] == [MARK])
+        connections, self.heard = self.heard[:-1], []
+        demand(len(connections) <= 1, f"{len(connections)} connections were made")
+        return connections[0] if connections else b""
 
 
 def whole_body(data):
@@ -186,12 +191,9 @@ def whole_body(data):
 
 def call(program, system, listener):
     """What a caller prints, how it ends, and the bytes that the listener heard."""
-    before = len(listener.heard)
     words = ["call", "--connect", listener.address, "--client", "2", "--incarnation", "1", "--tries", "3", "--speak", "2"]
     ran = subprocess.run([program, *words], input=TEXT, capture_output=True, env=system.env, timeout=PATIENCE)
-    # A caller that connected was accepted, at once or soon.
-    connected = ran.stderr not in (b"command fault 2\n", b"address fault\n") or len(listener.heard) > before
-    return ran.stdout, (ran.returncode, ran.stderr), listener.last(connected)
+    return ran.stdout, (ran.returncode, ran.stderr), listener.taken()
 
 
 STREAM = b"".join(map(frame, ASKED))

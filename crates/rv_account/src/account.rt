@@ -102,7 +102,8 @@ impl Account {
         self.call(place).is_some_and(|other| other.is_same(call))
     }
 
-    /// The limit of the request that arrived at a place, if it has one.
+    /// The limit of the request that arrived at a place, if it has one. The account's moments, numbers and
+    /// items keep their limits.
     pub fn limit(&self, place: Place) -> Option<u64>
         requires { FitEntries self.now.account.entries }
         ensures { result ≡ limit_at self.now.account.entries place }
@@ -111,7 +112,8 @@ impl Account {
         limit_after(entry.moment, self.call(place)?.wait()?)
     }
 
-    /// The key that the entry at a place names: of the request that arrived there, or that is cancelled.
+    /// The key that the entry at a place names: of the request that arrived there, or that is cancelled. An
+    /// arrival or a cancel stands there.
     pub fn key(&self, place: Place) -> Key
         requires { IsSome (key_at self.now.account.entries place) }
         ensures { key_at self.now.account.entries place ≡ Some result }
@@ -119,7 +121,7 @@ impl Account {
         self.entry(place).and_then(|entry| entry.act.key()).unwrap()
     }
 
-    /// The item that the arrival at a place hands over.
+    /// The item that the arrival at a place hands over. One that hands an item over stands there.
     pub fn item(&self, place: Place) -> &Item
         requires { IsSome (item_at self.now.account.entries place) }
         ensures { item_at self.now.account.entries place ≡ Some result.now }
@@ -127,8 +129,9 @@ impl Account {
         self.call(place).and_then(Call::item).unwrap()
     }
 
-    /// Copies of the items that the partners of the entry at a place hand over, in the order of their places.
-    /// It fails only where memory was refused.
+    /// Copies of the items that the partners of the entry at a place hand over, in the order in which it
+    /// names them. An entry stands there, and each of its partners hands an item over. It fails only where
+    /// memory was refused.
     pub fn partners_items(&self, place: Place) -> Result<Items, NoMemory>
         requires { IsSome (partners_items self.now.account.entries place) }
         ensures { IfOk result (λ items. partners_items self.now.account.entries place ≡ Some items) }
@@ -168,7 +171,8 @@ impl Account {
         Account::from_entries(epoch, opened, Vec::new(alloc))
     }
 
-    /// Makes room for so many entries more. Where that is refused the account and the room that it had stay.
+    /// Makes room for so many entries more. Where that is refused the account stays, with the room that it
+    /// had or more.
     pub fn reserve(&mut self, more: usize) -> Result<(), NoMemory>
         ensures same { self.new.account ≡ self.old.account }
         ensures kept { self.old.room ≤ self.new.room }
@@ -205,8 +209,7 @@ impl Account {
         self.push(moment, act, Partners::none(self.allocator()));
     }
 
-    /// The account of this epoch, opening moment and entries, legal or not. It takes no memory. A book's
-    /// account is always legal; this is for accounts that come from elsewhere.
+    /// The account of this epoch, opening moment and entries, legal or not. It takes no memory.
     pub fn from_entries(epoch: u64, opened: u64, entries: Vec<Entry>) -> Account
         ensures epoch { result.account.epoch ≡ epoch }
         ensures opened { result.account.opened ≡ opened }

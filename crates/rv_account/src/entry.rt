@@ -34,7 +34,8 @@ pub struct Entry {
     pub moment: u64,
     /// What it records.
     pub act: Act,
-    /// On the later arrival of a pair or swap, the places of the earlier ones that it met, which rise.
+    /// The places of the earlier arrivals that it met: in a legal account these rise, and only the later
+    /// arrival of a pair or swap has some.
     pub partners: Partners,
 }
 

@@ -90,7 +90,7 @@ module _ {W : Type 0} (contents : W → Option (List ℕ)) {a : Account} {input 
       }
 
   -- a write failed: what went out is the front of what one run prints
-  pub sends_front : (now' : Sink W) (out : ℕ) → StopsAfter contents output now now' out → SendsFront contents a input start now' out
+  pub sends_front : (now' : Sink W) (out : ℕ) → StopsAfter contents (gathered output) (sent_before output) now now' out → SendsFront contents a input start now' out
   sends_front now' out stops =
       let later = runs_on b (lines rest) in
       let bodies = so_far.bodies ++ later.0 in
@@ -111,7 +111,7 @@ module _ {W : Type 0} (contents : W → Option (List ℕ)) {a : Account} {input 
   sends_all_on_ok now' (Ok x) none out = sends_all now' none out
   sends_all_on_ok now' (Err fault) none out = tt
 
-  pub sends_front_if_err : {T : Type 0} (now' : Sink W) (answer : Result T OutputFault) → IfErr answer (λ fault. StopsAfter contents output now now' fault.sent)
+  pub sends_front_if_err : {T : Type 0} (now' : Sink W) (answer : Result T OutputFault) → IfErr answer (λ fault. StopsAfter contents (gathered output) (sent_before output) now now' fault.sent)
       → IfErr answer (λ fault. SendsFront contents a input start now' fault.sent)
   sends_front_if_err now' (Ok x) stops = tt
   sends_front_if_err now' (Err fault) stops = sends_front now' fault.sent stops

@@ -1,5 +1,5 @@
 -- How far the lines of an account are written.
-use Rattle.std.proofs.Common.{◌≡◌, ◌≤◌, ◌<◌, ◌+◌, ◌*◌, ℕ, zero, suc, List, [], ◌∷◌, ◌++◌, Option, Some, None, true, option_map, sym, ap, subst, ◌∙◌, length, take, drop, map, arith, length-append}
+use Rattle.std.proofs.Common.{◌≡◌, ◌≤◌, ◌<◌, ◌+◌, ◌*◌, ◌^◌, ℕ, zero, suc, List, [], ◌∷◌, ◌++◌, Option, Some, None, true, option_map, sym, ap, subst, ◌∙◌, length, take, drop, map, arith, length-append}
 use Rattle.std.specs.Prelude.{slice_get}
 use Rattle.std.proofs.lemmas.List.{length-map, take-append-drop, take-append-le, take_all}
 use Rattle.std.specs.Io.KnownBytes.{Appends, append_known}
@@ -12,9 +12,8 @@ use Rattle.rv_book.proofs.Places.{within}
 use Rattle.rv_lines.specs.Lines.{printed}
 use Rattle.rv_lines.specs.Written.{account_lines, entry_text}
 use Rattle.rv_app.specs.Accounts.{WritesAll, WritesFront, WritesSome}
-use Rattle.rv_run.specs.declared.output.Output.{Output}
-use Rattle.rv_run.specs.Output.{StopsAfter, gathered, sent_before}
-use Rattle.rv_run.proofs.Printing.{all_out, part_out, printed_append}
+use Rattle.rv_run.specs.Output.{StopsAfter}
+use Rattle.rv_run.proofs.Printing.{all_out, part_out, printed_append, promised_on}
 
 -- ---- the next line
 
@@ -48,11 +47,11 @@ pub record Wrote (contents : Option (List ℕ)) (a : Account) (now : Option (Lis
   pub inside : place ≤ length a.entries
   pub took : Appends contents (append_known now waiting) (printed (take many (account_lines a)))
   pub count : sent + length waiting ≡ length (printed (take many (account_lines a)))
-  pub small : sent + length waiting ≤ 65727 * (place + 1)
+  pub small : sent + length waiting ≤ 65727 + 18446744073709551616 * place
 
 module _ {contents : Option (List ℕ)} {a : Account} {now : Option (List ℕ)} {place : ℕ} {waiting : List ℕ} {sent : ℕ} (so_far : Wrote contents a now place waiting sent) where
   pub wrote_more : (now' : Option (List ℕ)) (waiting' text : List ℕ) (e : Entry) (sent' : ℕ) → slice_get a.entries place ≡ Some e → text ≡ entry_text e
-      → Appends (append_known now waiting) (append_known now' waiting') (text ++ 10 ∷ []) → sent' + length waiting' ≡ sent + length waiting + length text + 1 → length text < 65727
+      → Appends (append_known now waiting) (append_known now' waiting') (text ++ 10 ∷ []) → sent' + length waiting' ≡ sent + length waiting + length text + 1 → length text < 2 ^ 64
       → Wrote contents a now' (place + 1) waiting' sent'
   wrote_more now' waiting' text e sent' there is took count short =
       let front = take so_far.many (account_lines a) in
@@ -69,23 +68,29 @@ module _ {contents : Option (List ℕ)} {a : Account} {now : Option (List ℕ)} 
         small = omega (arith, so_far.small, count, short);
       }
 
+  -- the next line is as good as gathered where its call ends by a fault
+  pub wrote_next : (text : List ℕ) (e : Entry) → slice_get a.entries place ≡ Some e → text ≡ entry_text e → length text < 2 ^ 64 → Wrote contents a now (place + 1) (waiting ++ (text ++ 10 ∷ [])) sent
+  wrote_next text e there is short =
+      wrote_more now (waiting ++ (text ++ 10 ∷ [])) text e sent there is (promised_on now waiting (text ++ 10 ∷ []))
+      (omega (arith, length-append waiting (text ++ 10 ∷ []), length-append text (10 ∷ []))) short
+
 -- ---- the end
 
-module _ {W : Type 0} (contents : W → Option (List ℕ)) {a : Account} (start now : Sink W) {place : ℕ} (output : Output)
-    (so_far : Wrote (sink_contents contents start) a (sink_contents contents now) place (gathered output) (sent_before output)) where
+module _ {W : Type 0} (contents : W → Option (List ℕ)) {a : Account} (start now : Sink W) {place : ℕ} {waiting : List ℕ} {sent : ℕ}
+    (so_far : Wrote (sink_contents contents start) a (sink_contents contents now) place waiting sent) where
   -- what was gathered went out
-  front_out : (now' : Sink W) → SinkTakes contents now now' (gathered output) → SinkTakes contents start now' (printed (take so_far.many (account_lines a)))
+  front_out : (now' : Sink W) → SinkTakes contents now now' waiting → SinkTakes contents start now' (printed (take so_far.many (account_lines a)))
   front_out now' out =
-      all_out (sink_contents contents start) (sink_contents contents now) (sink_contents contents now') (gathered output) (printed (take so_far.many (account_lines a))) so_far.took out
+      all_out (sink_contents contents start) (sink_contents contents now) (sink_contents contents now') waiting (printed (take so_far.many (account_lines a))) so_far.took out
 
-  pub writes_all : (now' : Sink W) → slice_get a.entries place ≡ None → sink_failed now' ≡ sink_failed start → SinkTakes contents now now' (gathered output) → WritesAll contents a start now'
+  pub writes_all : (now' : Sink W) → slice_get a.entries place ≡ None → sink_failed now' ≡ sink_failed start → SinkTakes contents now now' waiting → WritesAll contents a start now'
   writes_all now' none stays out =
       let all : take so_far.many (account_lines a) ≡ account_lines a =
       take_all so_far.many (account_lines a) (omega (arith, so_far.many_is, past_end a.entries place none, length-map a.entries entry_text)) in
       record { went_out = subst (λ (l : List (List ℕ)). SinkTakes contents start now' (printed l)) all (front_out now' out); sink_stays = stays }
 
   -- a line has no text, for want of memory
-  pub writes_some : (now' : Sink W) (e : Entry) → slice_get a.entries place ≡ Some e → sink_failed now' ≡ sink_failed start → SinkTakes contents now now' (gathered output) → WritesSome contents a start now'
+  pub writes_some : (now' : Sink W) (e : Entry) → slice_get a.entries place ≡ Some e → sink_failed now' ≡ sink_failed start → SinkTakes contents now now' waiting → WritesSome contents a start now'
   writes_some now' e there stays out = record {
     count = so_far.many;
     not_all = omega (arith, so_far.many_is, within a.entries place e there, length-map a.entries entry_text);
@@ -94,13 +99,13 @@ module _ {W : Type 0} (contents : W → Option (List ℕ)) {a : Account} (start 
   }
 
   -- a write failed
-  pub writes_front : (now' : Sink W) (out : ℕ) → StopsAfter contents output now now' out → sink_failed now' ≡ true → WritesFront contents a start now' out
+  pub writes_front : (now' : Sink W) (out : ℕ) → StopsAfter contents waiting sent now now' out → sink_failed now' ≡ true → WritesFront contents a start now' out
   writes_front now' out stops fails =
       let first = take so_far.many (account_lines a) in
       let later = drop so_far.many (account_lines a) in
       let joined : printed (account_lines a) ≡ printed first ++ printed later = ap printed (sym (take-append-drop so_far.many (account_lines a))) ∙ printed_append first later in
       let front : take out (printed (account_lines a)) ≡ take out (printed first) = ap (take out) joined ∙ take-append-le out (printed first) (printed later) (omega (arith, so_far.count, stops.not_all)) in
-      let went = part_out (sink_contents contents start) (sink_contents contents now) (sink_contents contents now') (gathered output) (printed first) (sent_before output) out so_far.took so_far.count stops.past_those_sent stops.not_all stops.went_out in
+      let went = part_out (sink_contents contents start) (sink_contents contents now) (sink_contents contents now') waiting (printed first) sent out so_far.took so_far.count stops.past_those_sent stops.not_all stops.went_out in
       record {
         not_all = omega (arith, so_far.count, ap length joined, length-append (printed first) (printed later), stops.not_all);
         went_out = subst (SinkTakes contents start now') (sym front) went;

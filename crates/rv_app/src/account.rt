@@ -1,6 +1,6 @@
 //! Writes an account as lines.
 ghost use Rattle.std.specs.Prelude.{◌≡◌, ◌<◌, [], IfErr, OnOk, length};
-ghost use Rattle.rv_lines.specs.Written.{FitsLines, head_text};
+ghost use Rattle.rv_lines.specs.Written.{head_text};
 ghost use Rattle.rv_app.specs.Accounts.{StopsWriting, WritesAll};
 ghost use Rattle.rv_run.specs.Output.{gathered, taken_in};
 
@@ -12,7 +12,8 @@ use std::alloc::Global;
 use std::io::Write;
 
 /// Writes the lines of an account, legal or not: `epoch E opened T`, and a line for each entry, each with LF
-/// after it. They are read as that account, by `rv audit` too.
+/// after it, whatever their numbers and however long. That lines within the limits are read as that account
+/// is a law of rv_lines.
 ///
 /// It ends by `WriteFault`, after the bytes that the fault counts, or by `NoMemory`, after some whole lines
 /// or none, and by no other fault.
@@ -21,8 +22,6 @@ pub fn write_account<W: Write>(
     account: &Account,
     sink: &mut Sink<W>,
 ) -> Result<(), RunFault>
-    requires { FitsLines account.now.account }
-
     // The sink took exactly the account's lines.
     ensures written { OnOk result (WritesAll W.contents account.now.account sink.old sink.new) }
 
@@ -42,7 +41,6 @@ fn write_lines<W: Write>(
     output: &mut Output,
     sink: &mut Sink<W>,
 ) -> Result<(), RunFault>
-    requires fits { FitsLines account.now.account }
     requires head { head.now ≡ head_text account.now.account.epoch account.now.account.opened }
     requires short { length head.now < 65727 }
     requires nothing_gathered { gathered output.old ≡ [] }
@@ -50,6 +48,7 @@ fn write_lines<W: Write>(
     ensures all { OnOk result (WritesAll W.contents account.now.account sink.old sink.new) }
     ensures part { IfErr result (StopsWriting W.contents account.now.account sink.old sink.new) }
 {
+    let count = account.len();
     output.line(sink, head)?;
     let mut place = 0;
     while let Some(entry) = account.entry(place) {
@@ -58,6 +57,7 @@ fn write_lines<W: Write>(
             return Err(RunFault::NoMemory);
         };
         output.line(sink, text.as_bytes())?;
+        prove!(place < count);
         place += 1;
     }
     Ok(output.flush(sink)?)

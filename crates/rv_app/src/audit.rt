@@ -56,7 +56,7 @@ pub fn audit_run<R: Read, W: Write>(
     match sink.write_all(line.as_bytes()) {
         Ok(()) => Ok(said),
         Err(fault) => Err(RunFault::WriteFault(OutputFault {
-            sent: fault.sent as u64,
+            sent: fault.sent as u128,
         })),
     }
 }

@@ -36,15 +36,15 @@ pub enum CallSaid {
 /// their limits, and the hello asks for the version. Hello is said, and each request asked, at most `tries`
 /// times.
 ///
-/// All lines are read before hello is said, and read faults, want of memory and too long an input are found
-/// before anything is written. The run ends where a line cannot be settled, with one word behind those that
-/// were: `refused N` and `not welcome` at the hello; `unsettled NUMBER`, where nothing final was heard, and
-/// the request is given up; `epoch ended CURRENT`; `replaced CURRENT`; and `bad line` for a line that says no
-/// call. Lines end by LF, which the last one may lack.
+/// All lines are read before hello is said, and read faults, too long an input and want of memory up to
+/// there are found before anything is asked or written. The run ends where a line cannot be settled, with
+/// one word behind those that were: `refused N` and `not welcome` at the hello; `unsettled NUMBER`, where
+/// nothing final was heard, and the request is given up; `epoch ended CURRENT`; `replaced CURRENT`; and `bad
+/// line` for a line that says no call. Lines end by LF, which the last one may lack.
 ///
 /// [`RunFault::WriteFault`] tells of `out` alone: what becomes of the link is told by the word. A line whose
-/// reading or text finds no memory ends the run, and the lines before it are printed; its call may have
-/// been settled.
+/// reading or text finds no memory, or a word whose text does, ends the run behind whole lines: each is that
+/// of a call that was settled. The call of that line may have been settled too.
 pub fn call_run<L: Read, O: Write, R: Read, W: Write>(
     alloc: Global,
     lines: &mut Source<L>,
@@ -163,7 +163,7 @@ fn print_line<O: Write>(out: &mut Sink<O>, text: String, printed: u64) -> Result
     match out.write_all(line.as_bytes()) {
         Ok(()) => Ok(printed + line.len() as u64),
         Err(fault) => Err(RunFault::WriteFault(OutputFault {
-            sent: printed + fault.sent as u64,
+            sent: printed as u128 + fault.sent as u128,
         })),
     }
 }

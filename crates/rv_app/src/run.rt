@@ -22,8 +22,9 @@ use std::io::{Read, Write};
 /// memory was refused by that of refusal 11, and the run goes on. Lines end by LF, which the last
 /// one may lack.
 ///
-/// The whole input is read before the first line is looked at, and read faults, want of memory and
-/// too long an input are found before anything is written. Write faults may come at any line.
+/// The whole input is read before the first line is looked at, and read faults, too long an input and
+/// want of memory that ends the run are found before anything is written. Write faults may come at any
+/// line.
 pub fn book_run<R: Read, W: Write>(
     alloc: Global,
     source: &mut Source<R>,

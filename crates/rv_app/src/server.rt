@@ -6,7 +6,6 @@ use crate::account::write_account;
 use crate::fault::ProgramFault;
 use rv_book::Book;
 use rv_frame::Sink;
-use rv_lines::laws;
 use rv_run::RunFault;
 use rv_server::{Clock, Closing, Gate, ServeFault, Shared, finish, serve};
 use std::alloc::Global;
@@ -134,6 +133,5 @@ where
 
 // Writes the account of a book.
 fn write_book<W: Write>(alloc: Global, book: &Book, sink: &mut Sink<W>) -> Result<(), RunFault> {
-    laws::book_fits_lines();
     write_account(alloc, book.account(), sink)
 }

@@ -1,5 +1,5 @@
 //! The items that a drain takes in one step.
-ghost use Rattle.std.specs.Prelude.{◌≡◌, ◌↔◌, [], ◌∷◌, ◌++◌, IsTrue, IfOk, nat_eq};
+ghost use Rattle.std.specs.Prelude.{◌≡◌, ◌↔◌, [], ◌∷◌, ◌++◌, IsTrue, IfOk, OnErr, OnOk, nat_eq};
 ghost use Rattle.std.specs.Cmp.{partial_equiv_from_equiv};
 ghost use Rattle.std.specs.Cmp.Lexicographic.{lists_equiv, nat_list_eq_equiv, pointwise};
 ghost use Rattle.rv_item.specs.Limits.{FitsItems};
@@ -52,9 +52,11 @@ impl Items {
         }
     }
 
-    /// Puts a further item behind the others. It fails only where memory was refused.
+    /// Puts a further item behind the others. It fails only where memory was refused, and then the items stay
+    /// as they were.
     pub fn push(&mut self, item: Item) -> Result<(), NoMemory>
-        ensures { IfOk result (λ _. self.new ≡ self.old ++ item ∷ []) }
+        ensures pushed { OnOk result (self.new ≡ self.old ++ item ∷ []) }
+        ensures kept { OnErr result (self.new ≡ self.old) }
     {
         Ok(self.items.push(item)?)
     }

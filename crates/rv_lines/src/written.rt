@@ -18,13 +18,13 @@ pub fn head_line(alloc: Global, epoch: u64, opened: u64) -> Result<String, NoMem
 }
 
 /// The line of an entry, with no LF: three fields, which one space parts. They are the moment, the places of
-/// the partners with commas between, or `-`, and the written body of the message or the word `tick`. It fails
+/// the partners with commas between, or `-`, and the written body of the message or the word `tick`. It is
+/// short where the act is within its limits, and names at most 16 partners, at places up to 99,999. It fails
 /// only where memory was refused.
 pub fn entry_line(alloc: Global, entry: &Entry) -> Result<String, NoMemory>
-    requires act { FitsAct entry.now.act }
-    requires partners { FitPartners entry.now }
     ensures text { IfOk result (λ s. string_bytes s ≡ entry_text entry.now) }
-    ensures short { IfOk result (λ s. length (string_bytes s) < 65727) }
+    ensures short { FitsAct entry.now.act → FitPartners entry.now
+        → IfOk result (λ s. length (string_bytes s) < 65727) }
 {
     let moment = entry.moment;
     let partners = partners_field(alloc, &entry.partners)?;
@@ -63,9 +63,8 @@ fn add_place(field: &mut String, alloc: Global, place: Place) -> Result<(), NoMe
 
 // The body of the act's message, or `tick`.
 fn act_field(alloc: Global, act: &Act) -> Result<String, NoMemory>
-    requires { FitsAct act.now }
     ensures text { IfOk result (λ s. string_bytes s ≡ said_text (message_in act.now)) }
-    ensures short { IfOk result (λ s. length (string_bytes s) ≤ 65535) }
+    ensures short { FitsAct act.now → IfOk result (λ s. length (string_bytes s) ≤ 65535) }
 {
     match message_of(alloc, act)? {
         Some(message) => encode_message(alloc, &message),

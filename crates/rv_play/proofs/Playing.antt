@@ -82,7 +82,7 @@ module _ {W : Type 0} (contents : W → Option (List ℕ)) {input : List ℕ} (s
       record { turns = so_far.turns; line = line; left = lines after; plays = plays_first (line ∷ lines after) cut; went_out = all_texts now' out; sink_stays = stays }
 
   -- a write failed
-  pub prints_front : (now' : Sink W) (out : ℕ) → StopsAfter contents output now now' out → sink_failed now' ≡ true → PrintsFront contents input start now' out
+  pub prints_front : (now' : Sink W) (out : ℕ) → StopsAfter contents (gathered output) (sent_before output) now now' out → sink_failed now' ≡ true → PrintsFront contents input start now' out
   prints_front now' out stops fails = record {
     turns = so_far.turns;
     left = lines rest;

@@ -20,7 +20,8 @@ use std::io::{Read, Write};
 ///
 /// The whole input is read before the first line is looked at, and read faults, too long an input and want of
 /// memory up to there are found before anything is written. Where a line's reading or a result's text finds
-/// no memory, the results before it are written and the run ends. Write faults may come at any line.
+/// no memory, the run ends behind the results of the lines before it, and the clause says no more than that
+/// they are those of some first lines, and not of all. Write faults may come at any line.
 pub fn play_run<R: Read, W: Write>(
     alloc: Global,
     source: &mut Source<R>,

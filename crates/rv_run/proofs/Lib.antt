@@ -1,3 +1,4 @@
 -- The lemmas on what was read and printed, for the runs above too.
 pub mod Printing
+pub mod Sending
 pub mod ShortTexts

@@ -17,6 +17,11 @@ printed_append (body ∷ bodies) others = ap (λ rest. body ++ 10 ∷ rest) (pri
 
 -- ---- what went out
 
+-- what is gathered behind the rest is promised behind it
+pub promised_on : (now : Option (List ℕ)) (waiting more : List ℕ) → Appends (append_known now waiting) (append_known now (waiting ++ more)) more
+promised_on None waiting more = tt
+promised_on (Some xs) waiting more = sym (append_assoc xs waiting more)
+
 -- where all that was gathered went out, all that was promised did
 pub all_out : (contents now now' : Option (List ℕ)) (gathered output : List ℕ) → Appends contents (append_known now gathered) output → Appends now now' gathered → Appends contents now' output
 all_out None now now' gathered output promised out = tt

@@ -29,9 +29,10 @@ IsShortText text = IsShort (string_bytes text)
 abbrev pub promised : Option (List ℕ) → Output → Option (List ℕ)
 promised contents output = append_known contents (gathered output)
 
--- a write failed after so many of the bytes that were taken in: of those that waited the sink took the front
-pub record StopsAfter {W : Type 0} (contents : W → Option (List ℕ)) (output : Output)
+-- of these bytes, behind so many that went out before, the sink took the front: a write failed after so many in
+-- all, and not all
+pub record StopsAfter {W : Type 0} (contents : W → Option (List ℕ)) (bytes : List ℕ) (before : ℕ)
     (old new : Sink W) (sent : ℕ) : Type 0 where
-  pub past_those_sent : sent_before output ≤ sent
-  pub not_all : sent < taken_in output
-  pub went_out : SinkTakes contents old new (take (sent - sent_before output) (gathered output))
+  pub past_those_sent : before ≤ sent
+  pub not_all : sent < before + length bytes
+  pub went_out : SinkTakes contents old new (take (sent - before) bytes)

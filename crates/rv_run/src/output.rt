@@ -1,40 +1,36 @@
 //! Gathers what is printed, and sends it in large pieces.
-ghost use Rattle.std.specs.Prelude.{◌≡◌, ◌∷◌, ◌++◌, ◌+◌, ◌^◌, ◌<◌, ◌≤◌, [], length, IfOk, IfErr, OnOk};
+ghost use Rattle.std.specs.Prelude.{◌≡◌, ◌∷◌, ◌++◌, ◌+◌, ◌^◌, ◌<◌, ◌≤◌, [], length, IfOk, IfErr, OnErr, OnOk};
 ghost use Rattle.std.specs.Io.KnownBytes.{Appends};
 ghost use Rattle.std.specs.Vec.{vec_capacity};
 ghost use Rattle.rv_frame.specs.Sink.{FailsWithSink, SinkTakes, sink_contents};
 
 use rv_frame::Sink;
-use rv_text::MAX_BODY_BYTES;
 use std::alloc::{AllocError, Global};
 use std::io::Write;
 use thiserror::Error;
 
-/// A write of the output failed. Of all that the run prints, exactly the first `sent` bytes went
-/// out.
+/// A write of the output failed. Of all that the output had taken in, and of the line that it was to take in
+/// then, exactly the first `sent` bytes went out, and not all.
 #[derive(Clone, Copy, Debug, PartialEq, Eq, Error)]
 #[error("a write failed after {sent} bytes")]
 pub struct OutputFault {
-    pub sent: u64,
+    pub sent: u128,
 }
 
 // How many bytes are gathered at most.
 const ROOM: usize = 131_072;
 
-// The most bytes of a printed line with its LF: a body, and the words or places before it.
-const LONGEST_LINE: usize = MAX_BODY_BYTES + 192;
-
-/// Lines on their way to a sink, gathered into pieces of at most 131,072 bytes. Its room is made once, so
-/// that a line needs no memory.
+/// Lines on their way to a sink, gathered into pieces of at most 131,072 bytes. Its room is made once, by
+/// `new`, so that a line needs no memory.
 #[derive(Drop)]
 pub struct Output {
     gathered: Vec<u8>,
-    sent: u64,
+    sent: u128,
     ghost has_room: { 131072 ≤ vec_capacity gathered },
 }
 
 impl Output {
-    ghost use Rattle.rv_run.specs.Output.{IsShort, StopsAfter, gathered, promised, taken_in};
+    ghost use Rattle.rv_run.specs.Output.{StopsAfter, gathered, promised, sent_before, taken_in};
 
     /// An output that has taken nothing in.
     pub fn new(alloc: Global) -> Result<Output, AllocError>
@@ -47,19 +43,27 @@ impl Output {
         })
     }
 
-    /// Takes a text in, and LF after it. Where room may be missing, what was gathered is sent
-    /// first, and a fault is one of that.
+    /// Takes a text of any length in, and LF after it. Where there is no room left for both, what was
+    /// gathered is sent first; else the sink is not asked. Only a text of at least 131,072 bytes is sent by
+    /// itself, and so only such a one can be cut. A text whose call ends by a fault is not taken in.
     pub fn line<W: Write>(&mut self, sink: &mut Sink<W>, text: &[u8]) -> Result<(), OutputFault>
-        requires short { IsShort text.now }
-        requires countable { taken_in self.old < 2 ^ 63 }
+        requires { taken_in self.old + length text.now + 1 < 2 ^ 128 }
         ensures ok { OnOk result (Appends (promised (sink_contents W.contents sink.old) self.old)
             (promised (sink_contents W.contents sink.new) self.new) (text.now ++ 10 ∷ [])) }
         ensures count { OnOk result (taken_in self.new ≡ taken_in self.old + length text.now + 1) }
-        ensures fault { IfErr result (λ fault.
-            StopsAfter W.contents self.old sink.old sink.new fault.sent) }
+        ensures fault { IfErr result (λ fault. StopsAfter W.contents
+            (gathered self.old ++ (text.now ++ 10 ∷ [])) (sent_before self.old)
+            sink.old sink.new fault.sent) }
+        ensures cut_before { length text.now < 131072 → IfErr result (λ fault. StopsAfter W.contents
+            (gathered self.old) (sent_before self.old) sink.old sink.new fault.sent) }
+        ensures kept { OnErr result (taken_in self.new ≡ taken_in self.old) }
         ensures told { FailsWithSink result sink.old sink.new }
+        ensures gathers { length (gathered self.old) + length text.now + 1 ≤ 131072 → sink.new ≡ sink.old }
     {
-        if self.gathered.len() > ROOM - LONGEST_LINE {
+        if text.len() >= ROOM {
+            return self.long_line(sink, text);
+        }
+        if self.gathered.len() >= ROOM - text.len() {
             self.flush(sink)?;
         }
         self.gather(text);
@@ -67,27 +71,60 @@ impl Output {
         Ok(())
     }
 
+    // Sends what was gathered and then a text that passes all room, and takes LF in.
+    fn long_line<W: Write>(&mut self, sink: &mut Sink<W>, text: &[u8]) -> Result<(), OutputFault>
+        requires long { 131072 ≤ length text.now }
+        requires countable { taken_in self.old + length text.now < 2 ^ 128 }
+        ensures ok { OnOk result (Appends (promised (sink_contents W.contents sink.old) self.old)
+            (promised (sink_contents W.contents sink.new) self.new) (text.now ++ 10 ∷ [])) }
+        ensures count { OnOk result (taken_in self.new ≡ taken_in self.old + length text.now + 1) }
+        ensures fault { IfErr result (λ fault. StopsAfter W.contents
+            (gathered self.old ++ (text.now ++ 10 ∷ [])) (sent_before self.old)
+            sink.old sink.new fault.sent) }
+        ensures kept { OnErr result (taken_in self.new ≡ taken_in self.old) }
+        ensures told { FailsWithSink result sink.old sink.new }
+    {
+        self.flush(sink)?;
+        let sent = Output::send(sink, self.sent, text)?;
+        self.sent = sent;
+        self.gather(b"\n");
+        Ok(())
+    }
+
     /// Sends what was gathered. The sink is not asked where that is nothing.
     pub fn flush<W: Write>(&mut self, sink: &mut Sink<W>) -> Result<(), OutputFault>
-        requires { taken_in self.old < 2 ^ 64 }
+        requires { taken_in self.old < 2 ^ 128 }
         ensures empty { OnOk result (gathered self.new ≡ []) }
         ensures ok { OnOk result (SinkTakes W.contents sink.old sink.new (gathered self.old)) }
         ensures count { OnOk result (taken_in self.new ≡ taken_in self.old) }
-        ensures fault { IfErr result (λ fault.
-            StopsAfter W.contents self.old sink.old sink.new fault.sent) }
+        ensures fault { IfErr result (λ fault. StopsAfter W.contents (gathered self.old)
+            (sent_before self.old) sink.old sink.new fault.sent) }
+        ensures kept { OnErr result (taken_in self.new ≡ taken_in self.old) }
         ensures told { FailsWithSink result sink.old sink.new }
+        ensures idle { gathered self.old ≡ [] → sink.new ≡ sink.old }
     {
         if self.gathered.is_empty() {
             return Ok(());
         }
-        match sink.write_all(&self.gathered) {
-            Ok(()) => {
-                self.sent += self.gathered.len() as u64;
-                self.gathered.clear();
-                Ok(())
-            }
+        self.sent = Output::send(sink, self.sent, &self.gathered)?;
+        self.gathered.clear();
+        Ok(())
+    }
+
+    // Sends bytes, of which there are some, behind so many that went out, and gives how many that makes.
+    fn send<W: Write>(sink: &mut Sink<W>, sent: u128, bytes: &[u8]) -> Result<u128, OutputFault>
+        requires some { 0 < length bytes.now }
+        requires countable { sent + length bytes.now < 2 ^ 128 }
+        ensures ok { OnOk result (SinkTakes W.contents sink.old sink.new bytes.now) }
+        ensures count { IfOk result (λ count. count ≡ sent + length bytes.now) }
+        ensures fault { IfErr result (λ fault.
+            StopsAfter W.contents bytes.now sent sink.old sink.new fault.sent) }
+        ensures told { FailsWithSink result sink.old sink.new }
+    {
+        match sink.write_all(bytes) {
+            Ok(()) => Ok(sent + bytes.len() as u128),
             Err(fault) => Err(OutputFault {
-                sent: self.sent + fault.sent as u64,
+                sent: sent + fault.sent as u128,
             }),
         }
     }

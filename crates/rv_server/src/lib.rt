@@ -6,6 +6,7 @@ mod book;
 mod desk;
 mod fault;
 mod inlet;
+mod outbox;
 mod served;
 mod shared;
 mod sockets;

@@ -5,6 +5,7 @@ ghost use Rattle.rv_server.specs.declared.sockets.ServeFault.TheVariants.{NoMemo
 
 use crate::asking::Post;
 use crate::desk::{Clock, Desk, Gate};
+use crate::outbox::{Outbox, SendingGate};
 use crate::shared::{Seat, Shared};
 use crate::worker::work;
 use crossbeam_channel::{Receiver, Sender};
@@ -22,10 +23,10 @@ use thiserror::Error;
 pub struct Report<L: Ledger> {
     /// All the seats that were handed in.
     pub seats: Vec<Seat<L>>,
-    /// How many connections were answered to their end.
+    /// How many connections were answered to their end, with all answers sent.
     pub served: u32,
-    /// How many were not: their worker stopped by a [`WorkFault`](crate::WorkFault), accepting them failed,
-    /// or their hand-over to a worker found no memory.
+    /// How many were not: their worker stopped by a [`WorkFault`](crate::WorkFault), an answer could not be
+    /// sent, accepting them failed, or their hand-over to a worker found no memory.
     pub faults: u32,
 }
 
@@ -108,23 +109,25 @@ fn accept_all<T: Wait>(rt: &T, listener: TcpListener, to: Sender<TcpStream>, con
 }
 
 impl<'a, T: Wait, D: Desk, L: Ledger, C: Clock, G: Gate> Post<'a, T, D, L, C, G> {
-    // Answers the frames of a connection, and tells whether it came to its end.
+    // Answers the frames of a connection, and tells whether it came to its end and all answers were sent.
     fn serve_connection(&self, seat: &mut Seat<L>, stream: TcpStream) -> bool {
         // A connection that won't send at once is served all the same.
         let _ = stream.set_nodelay(true);
-        let mut source = Source::new(&stream);
-        let mut sink = Sink::new(&stream);
+        let outbox = Outbox::new(self.alloc, &stream);
+        let gate = SendingGate::new(self.gate, &outbox);
+        let mut source = Source::new(&outbox);
+        let mut sink = Sink::new(&outbox);
         let served = work(
             self.rt,
             self.alloc,
             self.shared,
             seat,
             self.clock,
-            self.gate,
+            &gate,
             &mut source,
             &mut sink,
         );
-        served.is_ok()
+        outbox.send().is_ok() && served.is_ok()
     }
 
     // Serves what is handed over, one connection after the other, until no more can come.
@@ -201,16 +204,18 @@ where
 }
 
 /// Serves so many connections of the listener, by one thread for each seat, and ends when all of them were
-/// served. A worker answers a connection as [`work`] does, until it ends, and then takes the next. An
-/// accepted connection waits while all workers are busy, and while as many as there are workers wait so, no
-/// further one is accepted.
+/// served. A worker answers a connection as [`work`] does, until it ends, and then takes the next. It sends
+/// its answers before each read of the connection, before each pause and at the end, all that there are at
+/// once. An accepted connection waits while all workers are busy, and while as many as there are workers wait
+/// so, no further one is accepted.
 ///
 /// A thread that can't be started is left out, and its seat stays. An accept that fails counts as a
 /// connection. After the last one was accepted the listener is closed, so that whoever comes late is refused.
 ///
 /// The report has as many seats as were handed in, on a fault too. Each connection counts once: as served,
-/// where its frames were answered to its end, or as a fault. A [`ServeFault`] comes before the first accept
-/// alone. It waits for connections, for their bytes, for the lock and for the gate.
+/// where its frames were answered to its end and all answers were sent, or as a fault. A [`ServeFault`]
+/// comes before the first accept alone. It waits for connections, for their bytes, for the lock and for the
+/// gate.
 pub fn serve<T, D, L, C, G>(
     rt: &T,
     alloc: Global,

@@ -17,7 +17,8 @@ pub const MAX_CLIENTS: usize = 1_024;
 /// The sessions of an epoch, which contracts see as a map from clients to their [`Session`]s. There are
 /// at most 1,024.
 ///
-/// Each call looks a client up in a hash table, and searches nothing else: it takes constant time on average.
+/// Each call but `open` looks a client up in a hash table, once or twice, and searches nothing else: it takes
+/// constant time on average.
 #[derive(Drop)]
 pub struct Sessions {
     epoch: u64,
@@ -50,7 +51,7 @@ impl Sessions {
     ghost use Rattle.rv_session.specs.Meanings.{GreetingMeans, StandingMeans};
     ghost use Rattle.rv_session.specs.Standings.{MayEnter, greeting_of, max_clients, standing_of};
 
-    /// The table of an epoch, 1 to 2^53 - 1, with no session. It takes no memory yet.
+    /// The table of an epoch, whatever its number, with no session. It takes no memory yet.
     pub fn open(alloc: Global, epoch: u64) -> Sessions
         ensures { result ≡ record { epoch = epoch; sessions = empty } }
     {
@@ -140,8 +141,8 @@ impl Sessions {
         }
     }
 
-    /// Makes a next number its session's last, whose request arrived at a place and waits there, and gives
-    /// the one duty to settle it.
+    /// Makes the next number of a key's session its last, whose request arrived at a place and waits there,
+    /// and gives the duty to settle it.
     pub fn begin(&mut self, key: &Key, place: Place) -> Duty
         requires { standing_of self.old key.now ≡ Next }
         ensures duty { result ≡ record { place = place; client = key.now.client } }
@@ -151,7 +152,7 @@ impl Sessions {
         Duty::new(place, key.client)
     }
 
-    /// The version of the session that a duty is for.
+    /// The version of the session that a duty is for, which waits at the duty's place.
     pub fn version(&self, duty: &Duty) -> Version
         requires { waiting_of self.now duty.now.client ≡ Some duty.now.place }
         ensures { version_in self.now duty.now.client ≡ Some result }
@@ -171,7 +172,8 @@ impl Sessions {
         }
     }
 
-    /// Makes a next number its session's last, and settles it as cancelled: no request arrived with it.
+    /// Makes the next number of a key's session its last, and settles it as cancelled: no request arrived
+    /// with it.
     pub fn bury(&mut self, key: &Key)
         requires { standing_of self.old key.now ≡ Next }
         ensures { OnlyAdvances self.old self.new key.now (Settled None Cancelled) }

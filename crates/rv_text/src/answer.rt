@@ -17,8 +17,8 @@ pub enum Reply {
     Done,
     /// A transfer's item was given to a consumer.
     Received,
-    /// The same in a session of version 2: the item was given to the request of this key, whose epoch is
-    /// the answer's.
+    /// The same in a session of version 2: the item was given to the request of this key, whose epoch is,
+    /// within the limits, the answer's.
     ReceivedBy(Key),
     /// A transfer that does not wait found no consumer.
     Nobody,
@@ -30,10 +30,11 @@ pub enum Reply {
     Swapped(Item),
     /// The request's wait ended, and it had met nobody.
     TimedOut,
-    /// The request waited and was ended, by a cancel or by its client's hello of a greater incarnation.
+    /// The request was ended by a cancel, while it waited or before it came, or by its client's hello of a
+    /// greater incarnation, while it waited.
     Cancelled,
-    /// How many items wait in the queue, those of puts and of transfers, and how many consumers: 0 to
-    /// 100,000 each.
+    /// How many items wait in the queue, those of puts and of transfers, and how many consumers: within the
+    /// limits 0 to 100,000 each.
     Counted { items: u64, consumers: u64 },
     /// A peek saw this item, the queue's oldest.
     Peeked(Item),
@@ -41,7 +42,8 @@ pub enum Reply {
     Drained(Items),
 }
 
-/// Why a message was refused. Its number is [`Refusal::code`].
+/// Why a message was refused. Its number is [`Refusal::code`]. The book says when each comes; none of it is
+/// promised here.
 #[derive(Clone, Copy, Debug, PartialEq, Eq, Error)]
 pub enum Refusal {
     /// 1: the body is not a message.
@@ -50,7 +52,7 @@ pub enum Refusal {
     /// 2: the key's epoch is not the server's, which is given.
     #[error("the server's epoch is {0}")]
     OtherEpoch(u64),
-    /// 3: in this epoch the client said no hello of so great an incarnation, nor of a greater one.
+    /// 3: in this epoch the client has no session, or one of a lower incarnation.
     #[error("the client has no session")]
     NoSession,
     /// 4: the session has a greater incarnation, which is given.
@@ -78,7 +80,7 @@ pub enum Refusal {
     #[error("out of memory")]
     NoMemory,
     /// 12: a hello of the session's incarnation asks for another version than the session's, which is
-    /// given. It is looked at behind 4, and before a welcome and 9.
+    /// given.
     #[error("the session's version is {}", .0.number())]
     OtherVersion(Version),
 }
@@ -216,8 +218,8 @@ pub enum Answer {
 impl Answer {
     ghost use Rattle.rv_text.specs.Limits.{FitsAnswer};
 
-    /// Whether every number and item, and how many items there are, are within their limits, and a consumer
-    /// that is named has the answer's epoch.
+    /// Whether every number and item, and how many items a drain took, are within their limits, and a
+    /// consumer that is named has the answer's epoch.
     pub fn fits(&self) -> bool
         ensures { IsTrue result ↔ FitsAnswer self.now }
     {

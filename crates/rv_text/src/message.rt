@@ -8,14 +8,15 @@ use crate::version::Version;
 /// The greatest epoch, client, incarnation and request number: 2^53 - 1.
 pub const MAX_IDENTIFIER: u64 = 9_007_199_254_740_991;
 
-/// What names a request: no two requests of an epoch have the same key.
+/// What names a request. Any numbers make a key; [`Key::fits`] tells whether they are within their limits, 1
+/// to 2^53 - 1 each. That no two requests of an epoch have the same key is the book's promise.
 #[derive(Clone, Copy, Debug, PartialEq, Eq)]
 pub struct Key {
-    /// The server's epoch, 1 to 2^53 - 1.
+    /// The server's epoch.
     pub epoch: u64,
-    /// The client's number, 1 to 2^53 - 1.
+    /// The client's number.
     pub client: u64,
-    /// Which of the client's lives asks, 1 to 2^53 - 1.
+    /// Which of the client's lives asks.
     pub incarnation: u64,
     /// The request's number in its session, from 1 on.
     pub number: u64,
@@ -24,7 +25,8 @@ pub struct Key {
 /// What a client sends.
 #[derive(Debug, PartialEq, Eq, Drop)]
 pub enum Message {
-    /// Opens a session of this version, or ends that of a lower incarnation.
+    /// Opens a session of this version, and ends the client's session of a lower incarnation, if it has one.
+    /// Said again it is welcomed again.
     Hello {
         client: u64,
         incarnation: u64,
@@ -57,7 +59,7 @@ impl Key {
 impl Message {
     ghost use Rattle.rv_text.specs.Limits.{FitsMessage};
 
-    /// Whether every number and the item are within their limits.
+    /// Whether every number and the item are within their limits, and the wait of a swap is not `Now`.
     pub fn fits(&self) -> bool
         ensures { IsTrue result ↔ FitsMessage self.now }
     {

@@ -11,8 +11,9 @@ use crate::seen::WorldRefusal;
 use crate::world::World;
 use std::alloc::Global;
 
-/// The world after a list of events, from epoch 1. Where an event is refused, its number in the list, from
-/// 0, and the refusal; number 0 and want of memory stand also where the world found none to begin with.
+/// The world after a list of events, each of which keeps its limits, from epoch 1. Where an event is refused,
+/// the number of the first that is, from 0, and its refusal; number 0 and want of memory stand also where the
+/// world found none to begin with.
 pub fn run(alloc: Global, events: &[Event]) -> Result<World, (usize, WorldRefusal)>
     requires { All FitsEvent events.now }
     ensures runs { IfOk result (Runs (first_world 1) events.now) }

@@ -15,7 +15,8 @@ use std::marker::Model;
 /// Servers, clients, and a link that loses, repeats and reorders what was sent.
 ///
 /// A delivery to the server costs what the book's step costs, and any other event at most three look-ups of a
-/// client. Nothing is ever forgotten.
+/// client. What was sent, asked, held or started is never forgotten, nor is a book; of a process that ended
+/// nothing else is kept.
 #[derive(Drop)]
 pub struct World {
     state: State,
@@ -57,8 +58,9 @@ impl World {
         Ok(World { state })
     }
 
-    /// Takes one event, and tells what is seen of it. A refused event changes nothing; want of memory is told
-    /// only where no other refusal is due and the server was not asked yet, and never of a crash.
+    /// Takes one event, which keeps its limits, and tells what is seen of it. A refused event changes
+    /// nothing. Want of memory is told only where no other refusal is due, and never of a crash. Where the
+    /// server itself lacks memory the event is not refused: the answer that is sent says so.
     pub fn step(&mut self, alloc: Global, event: &Event) -> Result<Seen, WorldRefusal>
         requires { FitsEvent event.now }
         ensures comes { Comes self.old event.now self.new result }

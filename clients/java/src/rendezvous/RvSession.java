@@ -83,8 +83,8 @@ public final class RvSession implements AutoCloseable {
 
     /**
      * Goes on with the request that an exception left unsettled, and gives the word of its reply: {@code done},
-     * {@code received}, {@code item} and so on; with {@code item} and {@code swapped} stands the text behind a space.
-     * The items of a {@code drained} are in {@link #items()}, and the receipt of a {@code received} is in
+     * {@code received}, {@code item} and so on; with {@code item}, {@code swapped} and {@code peeked} stands the text
+     * behind a space. The items of a {@code drained} are in {@link #items()}, and the receipt of a {@code received} is in
      * {@link #receipt()}.
      */
     public String again() {

@@ -35,7 +35,7 @@ final class Crowd {
         List<Thread> threads = new ArrayList<>();
         for (int each = 0; each < count; each++) {
             RvClients clients = new RvClients("127.0.0.1", Integer.parseInt(words[0]),
-                Long.parseLong(words[1]) + each, 1, 1, Duration.ofSeconds(30), 1 + each % 2);
+                Long.parseLong(words[1]) + each, 1, 1, Duration.ofSeconds(120), 1 + each % 2);
             Crowd one = new Crowd(clients, Long.parseLong(words[4]) * 1000 + each);
             threads.add(new Thread(() -> one.run(ends)));
         }

@@ -4,6 +4,8 @@ import java.io.BufferedReader;
 import java.io.IOException;
 import java.io.InputStreamReader;
 import java.nio.charset.StandardCharsets;
+import java.nio.file.Files;
+import java.nio.file.Path;
 import java.time.Duration;
 import java.util.ArrayList;
 import java.util.List;
@@ -65,7 +67,7 @@ final class Driver {
                 queue = new RvTransferQueue(clients, 3);
                 return "open";
             case "interrupt":
-                interruptIn(number(given, 0));
+                interruptAt(Path.of(given.get(0)));
                 return "soon";
             case "again":
                 return clients.session().again();
@@ -141,16 +143,21 @@ final class Driver {
         return Integer.parseInt(given.get(at));
     }
 
-    private static void interruptIn(int millis) {
+    /** Interrupts the thread that asks as soon as a file is there, and takes the file away. */
+    private static void interruptAt(Path file) {
         Thread main = Thread.currentThread();
         Thread later = new Thread(() -> {
             try {
-                Thread.sleep(millis);
+                while (!Files.exists(file)) {
+                    Thread.sleep(5);
+                }
                 main.interrupt();
-            } catch (InterruptedException nobody) {
-                // nobody interrupts it
+                Files.delete(file);
+            } catch (InterruptedException | IOException nobody) {
+                throw new IllegalStateException(nobody);
             }
         });
+        later.setDaemon(true);
         later.start();
     }
 

@@ -1,5 +1,5 @@
 -- Each line that is answered moves the run on, and a fault leaves the front of what it prints.
-use Rattle.std.proofs.Common.{refl, sym, subst, ◌∙◌}
+use Rattle.std.proofs.Common.{arith, refl, sym, subst, ◌∙◌}
 use Rattle.std.proofs.lemmas.Result.{err_from_is_err_and}
 use Rattle.rv_app.specs.Run.{AnswersLine}
 use Rattle.rv_app.proofs.Progress.{progress_start, progress_more, sends_all_on_ok, sends_front, sends_front_if_err}
@@ -27,7 +27,7 @@ loop-line-preserved g c =
 pub returns-in_err-line-clause-part : goal.returns-in_err-line-clause-part
 returns-in_err-line-clause-part g c =
     let exit = err_from_is_err_and c.from_residual.result c.from_residual.ensures.1 in
-    rw (exit.1, exit.2) (sends_front g.W.Write.contents c.args.sink.now c.loop-line.sink c.loop-line.output c.loop-line.invariant.progress _ _ c.in_err-line.ensures.fault)
+    rw (exit.1, exit.2) (sends_front g.W.Write.contents c.args.sink.now c.loop-line.sink c.loop-line.output c.loop-line.invariant.progress _ _ (c.in_err-line.ensures.cut_before (omega (arith, c.as_bytes.ensures.of_body.1))))
 
 pub returns-clause-part : goal.returns-clause-part
 returns-clause-part g c = sends_front_if_err g.W.Write.contents c.args.sink.now c.loop-line.sink c.loop-line.output c.loop-line.invariant.progress _ c.flush.result c.flush.ensures.fault

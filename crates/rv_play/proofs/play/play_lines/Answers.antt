@@ -1,5 +1,5 @@
 -- Each result moves the play on, and a fault leaves the front of what it prints.
-use Rattle.std.proofs.Common.{ℕ, List, refl, subst, sym, ◌∙◌}
+use Rattle.std.proofs.Common.{ap, arith, length, ℕ, List, refl, subst, sym, ◌∙◌}
 use Rattle.std.proofs.lemmas.Result.{err_from_is_err_and}
 use Rattle.rv_run.specs.Output.{IsShort}
 use Rattle.rv_play.specs.Turns.{TakesTurn}
@@ -23,7 +23,7 @@ loop-line-preserved g c =
 pub returns-in_err-line-clause-part : goal.returns-in_err-line-clause-part
 returns-in_err-line-clause-part g c =
     let exit = err_from_is_err_and c.from_residual-in_err-line.result c.from_residual-in_err-line.ensures.1 in
-    rw (exit.1, exit.2) (prints_front g.W.Write.contents c.args.sink.now c.loop-line.sink c.loop-line.output c.loop-line.invariant.so_far _ _ c.in_err-line.ensures.fault c.in_err-line.ensures.told)
+    rw (exit.1, exit.2) (prints_front g.W.Write.contents c.args.sink.now c.loop-line.sink c.loop-line.output c.loop-line.invariant.so_far _ _ (c.in_err-line.ensures.cut_before (omega (arith, ap length c.as_bytes.ensures.value, c.in-Ok.ensures.short))) c.in_err-line.ensures.told)
 
 pub returns-in_err-flush-clause-part : goal.returns-in_err-flush-clause-part
 returns-in_err-flush-clause-part g c =

@@ -1,0 +1,38 @@
+"""How many reads and writes of its connection a worker needs."""
+from model_parts.account import Key
+from serve_parts.wire import demand, frame, give, hello, replied, request, welcome
+from torture_parts.system import HostileServer, System
+
+REQUESTS = 16
+# How often it is tried, where the machine cuts a piece in two.
+TRIES = 10
+
+
+def asked_in_one_piece(program):
+    """The reads and writes of a connection over which a hello comes, and behind its welcome requests in one piece."""
+    system = System()
+    with HostileServer(program, system, workers=1, connections=1) as server:
+        keys = [Key(1, 1, 1, number) for number in range(1, REQUESTS + 1)]
+        with server.connect() as peer:
+            peer.expect(hello(1), welcome(1))
+            peer.send(b"".join(frame(request(key, give("put", "a"))) for key in keys))
+            for key in keys:
+                got = peer.hear()
+                demand(got == replied(key, reply="done"), f"{key} was answered {got!r}")
+            peer.end()
+            peer.expect_end()
+        server.judged({key: give("put", "a") for key in keys}, [])
+    return system.asked()
+
+
+def a_read_and_a_write_a_piece(program):
+    """The answers to the requests of one piece go out in one write: beside the hello's there is one read, one write, and the
+    read of the end. Before each read all answers are out, so there are never more writes than reads."""
+    seen = []
+    while (3, 2) not in seen and len(seen) < TRIES:
+        seen.append(asked_in_one_piece(program))
+        demand(seen[-1][1] < seen[-1][0], f"of {REQUESTS} requests in a piece: {seen[-1]} reads and writes")
+    demand((3, 2) in seen, f"{REQUESTS} requests in a piece have these reads and writes: {seen}")
+
+
+CASES = [a_read_and_a_write_a_piece]
