@@ -29,8 +29,8 @@ IsShortText text = IsShort (string_bytes text)
 abbrev pub promised : Option (List ℕ) → Output → Option (List ℕ)
 promised contents output = append_known contents (gathered output)
 
--- of these bytes, behind so many that went out before, the sink took the front: a write failed after so many in
--- all, and not all
+-- of these bytes, behind so many that went out before, the sink took the front: a write failed after so many
+-- in all, and not all
 pub record StopsAfter {W : Type 0} (contents : W → Option (List ℕ)) (bytes : List ℕ) (before : ℕ)
     (old new : Sink W) (sent : ℕ) : Type 0 where
   pub past_those_sent : before ≤ sent
