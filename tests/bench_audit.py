@@ -7,7 +7,7 @@ import tempfile
 import time
 
 SIZES = [25_000, 50_000, 100_000]
-RUNS = 3
+RUNS = 5
 # What an audit of the greatest account may take: so many times the book's time, and so many bytes an entry beside its
 # line.
 MOST_RATIO = 3

@@ -62,15 +62,21 @@ static int happens(int what) {
     return 1;
 }
 
+/* Counts a number down by one, unless it is 0, and gives what it was. Threads may do so side by side. */
+static uint32_t counted_down(volatile uint32_t *number) {
+    uint32_t was = *number;
+    while (was && !__sync_bool_compare_and_swap(number, was, was - 1))
+        was = *number;
+    return was;
+}
+
 static int is_refused(void) {
-    if (page && page->growth_at && --page->growth_at == 0) {
+    if (page && counted_down(&page->growth_at) == 1) {
         __sync_fetch_and_add(&page->made[GROWTH], 1);
         return 1;
     }
-    if (page && page->calm) {
-        page->calm--;
+    if (page && counted_down(&page->calm))
         return 0;
-    }
     return happens(GROWTH);
 }
 
@@ -127,7 +133,7 @@ static size_t passes(int way, int cut, int failed, size_t count) {
 }
 
 static size_t readable(size_t count) {
-    if (page->read_at && --page->read_at == 0)
+    if (counted_down(&page->read_at) == 1)
         return 0;
     return passes(READS, CUT_READ, FAILED_READ, count);
 }

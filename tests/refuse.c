@@ -7,7 +7,7 @@
 #include <sys/mman.h>
 #include <unistd.h>
 
-static long before = -1, refusals, first_growths, *growths = &first_growths;
+static long first = -1, refusals, first_growths, *growths = &first_growths;
 
 __attribute__((constructor)) static void count(void) {
     const char *name = getenv("COUNTED");
@@ -27,16 +27,15 @@ static long number(const char *name, long otherwise) {
     return digits ? atol(digits) : otherwise;
 }
 
+/* Threads grow side by side: each growth has a number of its own. */
 static int is_refused(void) {
-    ++*growths;
-    if (before < 0) {
-        refusals = number("REFUSE", 0) ? number("REFUSALS", 1) : 0;
-        before = refusals ? number("REFUSE", 0) - 1 : 0;
+    long growth = __atomic_add_fetch(growths, 1, __ATOMIC_SEQ_CST);
+    if (first < 0) {
+        refusals = number("REFUSALS", 1);
+        first = number("REFUSE", 0);
     }
-    if (refusals == 0 || before-- > 0)
+    if (first == 0 || growth < first || growth - first >= refusals)
         return 0;
-    before = 0;
-    refusals--;
     const char *name = getenv("REFUSED");
     if (name)
         close(open(name, O_CREAT | O_WRONLY, 0600));

@@ -1,5 +1,6 @@
 """A pool of two workers, each of which dies once in the middle of a job, and is started anew.
- What was received was assigned to one worker: it is never offered again, so it is never done twice. What
+
+What was received was assigned to one worker: it is never offered again, so it is never done twice. What
 nobody received is still the boss's, who offers it again. By the receipts the boss knows which worker, in
 which of its starts, had a job that was not done.
 

@@ -7,8 +7,9 @@ from serve_parts.wire import demand, together
 
 
 def session(server, number, incarnation=1, **more):
-    """A session of a client."""
-    return rv.Session(("127.0.0.1", server.port), number, incarnation, patience=120, **more)
+    """A session of a client. It waits long for each answer, so that a slow machine does not have it connect anew: the
+    server ends after as many connections as there are sessions."""
+    return rv.Session(("127.0.0.1", server.port), number, incarnation, patience=120, answer=60, **more)
 
 
 def judged(server):

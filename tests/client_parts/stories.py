@@ -1,5 +1,6 @@
 """The table of cases of a client's process, made by the process of tests/model.
- A story is a list of play lines, each with the result that `rv play` must print for it. A line that starts,
+
+A story is a list of play lines, each with the result that `rv play` must print for it. A line that starts,
 begins, repeats, cancels or ends something, or brings an answer, is a case: what the process is, what comes,
 what it becomes, and what it says. Behind the stories stand cases that no play of a right server comes to.
 """

@@ -18,8 +18,10 @@ TEXTS = 8
 AT_HAND = 400
 # A run of so many accounts has to meet each verdict.
 FULL_RUN = 2_000
-# The most seconds that one account may take.
-MOST_SECONDS = 60
+# The most seconds that one account may take, on a slow machine too.
+MOST_SECONDS = 600
+
+
 def hand_made():
     """Each account that is made by hand, with its name and its verdict."""
     for name, texts in [("form", line_texts()), ("account", broken_texts()), ("full account", full_texts())]:

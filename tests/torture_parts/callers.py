@@ -12,7 +12,7 @@ from serve_parts.listening import Listening
 from serve_parts.wire import (
     MAX_FRAME, PATIENCE, demand, drain, frame, give, key_of, members_of, reply_of, swap, take, together)
 from torture_parts.mutants import EDGES, Mutants
-from torture_parts.system import HostileServer, System
+from torture_parts.system import HostileServer, System, file_of
 
 CALLERS, RUNS, LINES = 8, 12, 5
 # What a caller ends with where it prints no line more, with its words on standard error.
@@ -66,7 +66,8 @@ def one_caller(program, server, client, calls, chance):
     system.be(growth=1_500, cut_read=3, failed_read=6_000, cut_write=3, failed_write=6_000)
     text = b"".join(written(call).encode() + b"\n" for call in calls)
     words = call_words(server.port, client, 5, chance.choice([1, 2]))
-    ran = subprocess.run([program, *words], input=text, capture_output=True, env=system.env, timeout=PATIENCE)
+    with file_of(text) as given:
+        ran = subprocess.run([program, *words], stdin=given, capture_output=True, env=system.env, timeout=PATIENCE)
     *lines, rest = ran.stdout.split(b"\n")
     end = (ran.returncode, ran.stderr)
     word = lines.pop() if lines and lines[-1].startswith(WORDS) else None

@@ -13,6 +13,8 @@ from torture_parts.system import HostileServer, System
 NO_MEMORY = {"code": 11, "kind": "refused"}
 # Tries until a request has its reply, at most.
 MOST_TRIES = 400
+# Crowds until each kind of hostility has happened, at most: a slow machine may do little in one.
+MOST_CROWDS = 5
 
 
 class Stubborn(crowds.Client):
@@ -47,9 +49,22 @@ class Stubborn(crowds.Client):
             super().take_in(key, answer)
 
 
+def crowd_after_crowd(program, words, size, beside=None, **odds):
+    """Crowds, each with a chance of its own that these words and its number tell, until each kind of hostility has
+    happened."""
+    # A server that reads byte by byte has no read to cut.
+    missed = [name for name in odds if name != "cut_read"]
+    for number in range(MOST_CROWDS):
+        system = one_crowd(program, random.Random(f"{words} {number}"), size, beside, **odds)
+        missed = [name for name in missed if not system.made(name)]
+        if not missed:
+            return
+    demand(False, f"in {MOST_CROWDS} crowds no {missed} happened")
+
+
 def one_crowd(program, chance, size, beside=None, **odds):
     """A crowd while the system is hostile so, and what must hold behind it. `beside` is done with the server meanwhile,
-    until an event is set."""
+    until an event is set. It gives the system."""
     system, ledger, done = System(chance.randrange(2**31)), Ledger(), threading.Event()
     with HostileServer(program, system, size + 1, epoch=chance.choice([1, 7, 2**53 - 1])) as server:
         server.connect().close()
@@ -62,67 +77,58 @@ def one_crowd(program, chance, size, beside=None, **odds):
             finally:
                 done.set()
 
-        together(all_clients, *([lambda: beside(server, done)] if beside else []))
+        together(all_clients, *([lambda: beside(chance, server, done)] if beside else []))
         system.be()
         left = take_the_rest(server, ledger, size + 1)
         server.no_more()
         fault = crowd_fault(ledger, left)
         demand(not fault, f"of {size}: {fault}")
         server.judged(ledger.asked, list(ledger.told.items()))
-    # A server that reads byte by byte has no read to cut.
-    missed = [name for name in odds if name != "cut_read" and not system.made(name)]
-    demand(not missed, f"no {missed} happened")
+    return system
 
 
 def growths_refused(program, seed):
     """Each growth may be refused."""
-    chance = random.Random(f"growths {seed}")
-    for size, odds in [(6, 40), (20, chance.choice([100, 300]))]:
-        one_crowd(program, chance, size, growth=odds)
+    for size, odds in [(6, 40), (20, random.Random(f"growths {seed}").choice([100, 300]))]:
+        crowd_after_crowd(program, f"growths {seed} {size}", size, growth=odds)
 
 
 def links_broken(program, seed):
     """Each read and each write of a connection may be cut short or fail."""
-    chance = random.Random(f"links {seed}")
-    one_crowd(program, chance, 12, cut_read=2, failed_read=2_000, cut_write=2, failed_write=2_000)
+    crowd_after_crowd(program, f"links {seed}", 12, cut_read=2, failed_read=2_000, cut_write=2, failed_write=2_000)
 
 
 def connections_not_accepted(program, seed):
     """Each accept may fail."""
-    one_crowd(program, random.Random(f"accepts {seed}"), 12, accept=3)
+    crowd_after_crowd(program, f"accepts {seed}", 12, accept=3)
 
 
 def clocks_that_fail(program, seed):
     """The clock can't be read now and then, which counts as moment 0, and a pause may end at once."""
-    one_crowd(program, random.Random(f"clocks {seed}"), 12, clock=5, sleep=3)
+    crowd_after_crowd(program, f"clocks {seed}", 12, clock=5, sleep=3)
 
 
 def all_at_once(program, seed):
     """Growths, reads, writes, accepts, clocks and pauses, all of them."""
-    chance = random.Random(f"all {seed}")
-    one_crowd(program, chance, 10, growth=200, cut_read=3, failed_read=3_000, cut_write=3, failed_write=3_000, accept=5,
-              clock=50, sleep=20)
+    crowd_after_crowd(program, f"all {seed}", 10, growth=200, cut_read=3, failed_read=3_000, cut_write=3,
+                      failed_write=3_000, accept=5, clock=50, sleep=20)
 
 
-def stop_and_go(chance):
+def stop_and_go(chance, server, done):
     """Stops a server and lets it go on, at random."""
-    def beside(server, done):
-        try:
-            while not done.is_set():
-                time.sleep(chance.choice([0.001, 0.01, 0.05, 0.2]))
-                os.kill(server.process.pid, signal.SIGSTOP)
-                time.sleep(chance.choice([0, 0.001, 0.01, 0.1, 0.3]))
-                os.kill(server.process.pid, signal.SIGCONT)
-        finally:
+    try:
+        while not done.is_set():
+            time.sleep(chance.choice([0.001, 0.01, 0.05, 0.2]))
+            os.kill(server.process.pid, signal.SIGSTOP)
+            time.sleep(chance.choice([0, 0.001, 0.01, 0.1, 0.3]))
             os.kill(server.process.pid, signal.SIGCONT)
-
-    return beside
+    finally:
+        os.kill(server.process.pid, signal.SIGCONT)
 
 
 def stopped_and_gone_on(program, seed):
     """The server is stopped and goes on, in the middle of whatever it does."""
-    chance = random.Random(f"stopped {seed}")
-    one_crowd(program, chance, 12, stop_and_go(chance))
+    crowd_after_crowd(program, f"stopped {seed}", 12, stop_and_go)
 
 
 CASES = [growths_refused, links_broken, connections_not_accepted, clocks_that_fail, all_at_once, stopped_and_gone_on]

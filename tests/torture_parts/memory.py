@@ -8,7 +8,7 @@ from model_parts.scripts import Script
 from model_parts.steps import ticked, told
 from model_parts.texts import NoReading, read_line
 from serve_parts.wire import demand
-from torture_parts.system import System
+from torture_parts.system import System, file_of
 
 LINES, BOOKS = 60, 40
 # Growths before the first line, about.
@@ -55,8 +55,8 @@ def short_of_memory(program, seed):
         # Some lines come again, as they do where a client was told want of memory.
         lines = [line for line in (script.line()[0] for _ in range(LINES)) for _ in range(chance.choice([1, 1, 2]))]
         system.be(growth=chance.choice([30, 100, 300]), calm=BEFORE)
-        ran = subprocess.run([program, "book", "--epoch", "1"], input=b"".join(line + b"\n" for line in lines),
-                             capture_output=True, env=system.env)
+        with file_of(b"".join(line + b"\n" for line in lines)) as given:
+            ran = subprocess.run([program, "book", "--epoch", "1"], stdin=given, capture_output=True, env=system.env)
         end = (ran.returncode, ran.stderr)
         if end in NO_BOOK and not ran.stdout:
             continue

@@ -62,6 +62,16 @@ def built():
         yield
 
 
+@contextlib.contextmanager
+def file_of(text):
+    """An input with these bytes. A file gives them whole: how many growths its reading takes follows from their number,
+    and not from the pieces in which a pipe would hand them over."""
+    with tempfile.TemporaryFile() as file:
+        file.write(text)
+        file.seek(0)
+        yield file
+
+
 class LossyPeer(Peer):
     """A client's end of a connection that may break at any time. Where something can't be sent, the next answer tells."""
 

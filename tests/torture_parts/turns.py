@@ -9,7 +9,7 @@ from model_parts.texts import written
 from serve_parts.listening import Listening
 from serve_parts.wire import PATIENCE, demand, frame, give, hello, replied, request, take, until, welcome
 from torture_parts.crowds import NO_MEMORY
-from torture_parts.system import HostileServer, System
+from torture_parts.system import HostileServer, System, file_of
 
 # More turns than any talk has growths, reads or bytes.
 MOST_TURNS = 3_000
@@ -192,7 +192,8 @@ def whole_body(data):
 def call(program, system, listener):
     """What a caller prints, how it ends, and the bytes that the listener heard."""
     words = ["call", "--connect", listener.address, "--client", "2", "--incarnation", "1", "--tries", "3", "--speak", "2"]
-    ran = subprocess.run([program, *words], input=TEXT, capture_output=True, env=system.env, timeout=PATIENCE)
+    with file_of(TEXT) as given:
+        ran = subprocess.run([program, *words], stdin=given, capture_output=True, env=system.env, timeout=PATIENCE)
     return ran.stdout, (ran.returncode, ran.stderr), listener.taken()
 
 

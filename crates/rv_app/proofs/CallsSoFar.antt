@@ -1,5 +1,5 @@
 -- How far a run of calls over an input has come, and what it leaves where it ends.
-use Rattle.std.proofs.Common.{◌≡◌, ◌∙◌, ◌<◌, ◌≤◌, ◌+◌, ◌-◌, ◌++◌, ◌∷◌, ◌⊎◌, [], ℕ, List, Option, Some, None, Result, Ok, Err, IfErr, IfOk, IfSome, OnOk, append-nil, append_assoc, ap, arith, inl, inr, length, length-append, refl, subst, sym, take}
+use Rattle.std.proofs.Common.{◌≡◌, ◌∙◌, ◌<◌, ◌≤◌, ◌+◌, ◌-◌, ◌++◌, ◌∷◌, [], ℕ, List, Option, Some, None, Result, Ok, Err, IfErr, IfOk, IfSome, OnOk, append-nil, append_assoc, ap, arith, inl, inr, length, length-append, refl, subst, sym, take}
 use Rattle.std.proofs.Math.Seq.{take-append-add}
 use Rattle.std.specs.Io.KnownBytes.{Appends}
 use Rattle.std.proofs.KnownBytes.{Appends-nil, Appends-trans}
@@ -16,8 +16,9 @@ use Rattle.rv_app.specs.declared.calls.CallSaid.TheVariants.{Stopped, Whole}
 use Rattle.rv_run.specs.declared.fault.RunFault.{RunFault}
 use Rattle.rv_run.specs.declared.fault.RunFault.TheVariants.{NoMemory, ReadFault, TooLong, WriteFault}
 use Rattle.rv_app.specs.declared.word.Word.{Word}
-use Rattle.rv_app.specs.CallRuns.{CutsLine, CutsText, RanCalls, RunsCalls, SettlesFirst, Stops, StopsText, TakesLines, TakesText}
-use Rattle.rv_app.specs.Calling.{HasNumbers, IsTurnedAway, IsWelcomed, SettlesLine, SettlesLines, StopsAt, key_behind}
+use Rattle.rv_app.specs.CallRuns.{CutsLine, CutsText, RanCalls, RunsCalls, SaysNext, SettlesFirst, Stops, StopsText, TakesLines, TakesText}
+use Rattle.rv_app.specs.declared.client.Halt.TheVariants as halt
+use Rattle.rv_app.specs.Calling.{HaltsAt, HasNumbers, IsTurnedAway, IsWelcomed, SettlesLine, SettlesLines, StopsAt, key_behind}
 use Rattle.rv_app.specs.Lines.{lines}
 use Rattle.rv_app.specs.Outcomes.{ReadsAll}
 use Rattle.rv_app.specs.Run.{printed}
@@ -108,20 +109,19 @@ module _ {O R W : Type 0} (taken : O → Option (List ℕ)) (remaining : R → O
 
 module _ {O R W : Type 0} (taken : O → Option (List ℕ)) (remaining : R → Option (List ℕ)) (contents : W → Option (List ℕ)) (starting : Starting) (tries : ℕ) where
   -- behind the texts a word is printed, or it is not
-  pub runs_by_word : (all texts : List (List ℕ)) (word : Word) (before between after : Link R W) (count : ℕ) (a b c : Sink O) (result : Result CallSaid RunFault)
-      → Stops remaining contents starting tries all texts word before after → (texts ≡ []) ⊎ SettlesFirst remaining contents starting tries all texts before between
-      → TakesLines taken texts a b → count ≡ length (printed texts)
+  pub runs_by_word : (all texts : List (List ℕ)) (word : Word) (before after : Link R W) (count : ℕ) (a b c : Sink O) (result : Result CallSaid RunFault)
+      → Stops remaining contents starting tries all texts word before after → TakesLines taken texts a b → count ≡ length (printed texts)
       → IfOk result (λ said. said ≡ Stopped) → OnOk result (TakesText taken (word_text word) b c) → IfErr result (StopsText taken (word_text word) count b c)
       → RunsCalls taken remaining contents starting tries all before after a c result
-  runs_by_word all texts word before between after count a b c (Ok Stopped) stops settles took counted said out cut =
+  runs_by_word all texts word before after count a b c (Ok Stopped) stops took counted said out cut =
       record { texts = texts; word = word; stops = stops; took = takes_more taken texts (word_text word) a b c took out }
-  runs_by_word all texts word before between after count a b c (Ok Whole) stops settles took counted said out cut = absurd (cc)
-  runs_by_word all texts word before between after count a b c (Err (WriteFault fault)) stops settles took counted said out cut =
+  runs_by_word all texts word before after count a b c (Ok Whole) stops took counted said out cut = absurd (cc)
+  runs_by_word all texts word before after count a b c (Err (WriteFault fault)) stops took counted said out cut =
       record { texts = texts; text = word_text word; says = inr (word, stops, refl); cut = cuts_more taken texts (word_text word) count fault.sent a b c took counted cut }
-  runs_by_word all texts word before between after count a b c (Err NoMemory) stops settles took counted said out cut =
-      record { texts = texts; between = between; settles = settles; took = subst (TakesLines taken texts a) (sym cut) took }
-  runs_by_word all texts word before between after count a b c (Err ReadFault) stops settles took counted said out cut = absurd cut
-  runs_by_word all texts word before between after count a b c (Err TooLong) stops settles took counted said out cut = absurd cut
+  runs_by_word all texts word before after count a b c (Err NoMemory) stops took counted said out cut =
+      record { texts = texts; leaves = inr (word_text word, inr (word, stops, refl)); took = subst (TakesLines taken texts a) (sym cut) took }
+  runs_by_word all texts word before after count a b c (Err ReadFault) stops took counted said out cut = absurd cut
+  runs_by_word all texts word before after count a b c (Err TooLong) stops took counted said out cut = absurd cut
 
   -- the client is not welcome
   pub runs_at_once : (all : List (List ℕ)) (word : Word) (before after : Link R W) (a c : Sink O) (result : Result CallSaid RunFault)
@@ -129,7 +129,7 @@ module _ {O R W : Type 0} (taken : O → Option (List ℕ)) (remaining : R → O
       → IfOk result (λ said. said ≡ Stopped) → OnOk result (TakesText taken (word_text word) a c) → IfErr result (StopsText taken (word_text word) 0 a c)
       → RunsCalls taken remaining contents starting tries all before after a c result
   runs_at_once all word before after a c result turned said out cut =
-      runs_by_word all [] word before before after 0 a a c result (inl (record { no_text = refl; turned_away = turned })) (inl refl) (takes_none taken a) refl said out cut
+      runs_by_word all [] word before after 0 a a c result (inl (record { no_text = refl; turned_away = turned })) (takes_none taken a) refl said out cut
 
   module _ {all : List (List ℕ)} {epoch : ℕ} {before greeted at : Link R W} {a b : Sink O} {idle : Option Key} {rest : List ℕ} {count : ℕ}
       (welcomed : IsWelcomed remaining contents starting tries epoch before greeted)
@@ -156,9 +156,6 @@ module _ {O R W : Type 0} (taken : O → Option (List ℕ)) (remaining : R → O
           took = so_far.took;
         }
 
-    pub runs_short : (after : Link R W) → RunsCalls taken remaining contents starting tries all before after a b (Err NoMemory)
-    runs_short after = record { texts = so_far.texts; between = at; settles = inr settles_first; took = so_far.took }
-
     -- a word ends it at the next line
     pub runs_to_word : (line later : List ℕ) (word : Word) (after : Link R W) (c : Sink O) (result : Result CallSaid RunFault) → lines rest ≡ line ∷ lines later
         → IfSome idle (λ key. StopsAt remaining contents tries key line word at after)
@@ -166,7 +163,7 @@ module _ {O R W : Type 0} (taken : O → Option (List ℕ)) (remaining : R → O
         → RunsCalls taken remaining contents starting tries all before after a c result
     runs_to_word line later word after c result cut stops said out short =
         let here = subst (λ (i : Option Key). IfSome i (λ key. StopsAt remaining contents tries key line word at after)) so_far.next stops in
-        runs_by_word all so_far.texts word before at after count a b c result
+        runs_by_word all so_far.texts word before after count a b c result
         (inr (record {
           first = so_far.first;
           line = line;
@@ -179,9 +176,24 @@ module _ {O R W : Type 0} (taken : O → Option (List ℕ)) (remaining : R → O
           settled = so_far.settled;
           stops = here;
         }))
-        (inr settles_first) so_far.took so_far.counted said out short
+        so_far.took so_far.counted said out short
 
-    -- the next line is settled, and its text does not go out
+    -- the next line is settled
+    says_next : (line later text : List ℕ) (after : Link R W) → lines rest ≡ line ∷ lines later
+        → SettlesLine remaining contents tries (key_behind (first_key starting epoch) (length so_far.texts)) line text at after → SaysNext remaining contents starting tries all so_far.texts text before after
+    says_next line later text after cut here = inl (record {
+      first = so_far.first ++ line ∷ [];
+      later = lines later;
+      cut = so_far.cut ∙ ap (λ l. so_far.first ++ l) cut ∙ sym (append_assoc so_far.first (line ∷ []) (lines later));
+      settles = record {
+        epoch = epoch;
+        greeted = greeted;
+        welcomed = welcomed;
+        settled = settles_more remaining contents tries (first_key starting epoch) so_far.first so_far.texts line text greeted at after so_far.settled here;
+      };
+    })
+
+    -- and its text does not go out
     pub runs_to_cut : (line later text : List ℕ) (after : Link R W) (c : Sink O) (fault : RunFault) → lines rest ≡ line ∷ lines later
         → IfSome idle (λ key. SettlesLine remaining contents tries key line text at after) → StopsText taken text count b c fault
         → RunsCalls taken remaining contents starting tries all before after a c (Err fault)
@@ -190,23 +202,27 @@ module _ {O R W : Type 0} (taken : O → Option (List ℕ)) (remaining : R → O
         record {
           texts = so_far.texts;
           text = text;
-          says = inl (record {
-            first = so_far.first ++ line ∷ [];
-            later = lines later;
-            cut = so_far.cut ∙ ap (λ l. so_far.first ++ l) cut ∙ sym (append_assoc so_far.first (line ∷ []) (lines later));
-            settles = record {
-              epoch = epoch;
-              greeted = greeted;
-              welcomed = welcomed;
-              settled = settles_more remaining contents tries (first_key starting epoch) so_far.first so_far.texts line text greeted at after so_far.settled here;
-            };
-          });
+          says = says_next line later text after cut here;
           cut = cuts_more taken so_far.texts text count fault.sent a b c so_far.took so_far.counted stops;
         }
     runs_to_cut line later text after c NoMemory cut one stops =
-        record { texts = so_far.texts; between = at; settles = inr settles_first; took = subst (TakesLines taken so_far.texts a) (sym stops) so_far.took }
+        let here = subst (λ (i : Option Key). IfSome i (λ key. SettlesLine remaining contents tries key line text at after)) so_far.next one in
+        record { texts = so_far.texts; leaves = inr (text, says_next line later text after cut here); took = subst (TakesLines taken so_far.texts a) (sym stops) so_far.took }
     runs_to_cut line later text after c ReadFault cut one stops = absurd stops
     runs_to_cut line later text after c TooLong cut one stops = absurd stops
+
+    -- the next line lacks memory: it is not read, or settled and has no text
+    short_at : (line later : List ℕ) (after : Link R W) → lines rest ≡ line ∷ lines later → HaltsAt remaining contents tries (key_behind (first_key starting epoch) (length so_far.texts)) line halt.NoMemory at after
+        → RunsCalls taken remaining contents starting tries all before after a b (Err NoMemory)
+    short_at line later after cut (inl same) =
+        record { texts = so_far.texts; leaves = inl (subst (SettlesFirst remaining contents starting tries all so_far.texts before) (sym same) settles_first); took = so_far.took }
+    short_at line later after cut (inr settled) =
+        record { texts = so_far.texts; leaves = inr (settled.0, says_next line later settled.0 after cut settled.1); took = so_far.took }
+
+    pub runs_short : (line later : List ℕ) (after : Link R W) → lines rest ≡ line ∷ lines later → IfSome idle (λ key. HaltsAt remaining contents tries key line halt.NoMemory at after)
+        → RunsCalls taken remaining contents starting tries all before after a b (Err NoMemory)
+    runs_short line later after cut halts =
+        short_at line later after cut (subst (λ (i : Option Key). IfSome i (λ key. HaltsAt remaining contents tries key line halt.NoMemory at after)) so_far.next halts)
 
 -- ---- the input that was read
 

@@ -1,13 +1,21 @@
 -- How far hellos have come, and the calls of lines.
-use Rattle.std.proofs.Common.{◌≡◌, ◌∙◌, ◌<◌, ◌≤◌, ◌+◌, ◌++◌, ◌∷◌, if◌then◌else◌, [], ℕ, List, Option, Some, None, Result, Ok, Err, IfSome, add-zero, ap, arith, inl, length, length-append, refl, subst}
+use Rattle.std.proofs.Common.{◌≡◌, ◌∙◌, ◌<◌, ◌≤◌, ◌+◌, ◌++◌, ◌∷◌, if◌then◌else◌, [], ℕ, List, Option, Some, None, Result, Ok, Err, IfErr, IfSome, IsErrAnd, add-zero, ap, arith, inl, inr, length, length-append, refl, subst, sym}
 use Rattle.std.proofs.lemmas.Bool.{lt-ltb}
 use Rattle.rv_text.specs.Limits.{FitsIdentifier}
+use Rattle.rv_text.specs.Bodies.{IsCallBody, answer_text}
 use Rattle.rv_text.specs.declared.answer.Answer.{Answer}
+use Rattle.rv_text.specs.declared.answer.Answer.TheVariants as answers
+use Rattle.rv_text.specs.declared.answer.Reply.{Reply}
+use Rattle.rv_text.specs.declared.call.Call.{Call}
 use Rattle.rv_text.specs.declared.message.Key.{Key}
+use Rattle.rv_client.specs.declared.calling.Called.TheVariants as called
+use Rattle.rv_client.specs.Calls.{Calls}
 use Rattle.rv_client.specs.Link.{Link}
 use Rattle.rv_text.specs.Members.{max_identifier}
 use Rattle.rv_client.specs.Process.{PassesBy, Starting, first_key, key_after}
-use Rattle.rv_app.specs.Calling.{AllInVain, HasNumbers, HelloEnds, HellosInVain, IsPassedBy, SaysHello, SettlesLine, SettlesLines, WelcomesOrNot, key_behind}
+use Rattle.rv_app.specs.declared.client.Halt.{Halt}
+use Rattle.rv_app.specs.declared.client.Halt.TheVariants as halt
+use Rattle.rv_app.specs.Calling.{AllInVain, HaltsAt, HasNumbers, HelloEnds, HellosInVain, IsPassedBy, SaysHello, SettlesLine, SettlesLines, WelcomesOrNot, key_behind}
 use Rattle.rv_app.specs.declared.word.Word.{Word}
 use Rattle.rv_app.specs.declared.word.Word.TheVariants.{BadLine, EpochEnded, NotWelcome, Refused, Replaced, Unsettled}
 
@@ -88,3 +96,15 @@ module _ {R W : Type 0} (remaining : R → Option (List ℕ)) (contents : W → 
   settles_more tries key (l ∷ ls) (t ∷ ts) line text a b c settled one =
       let same : key_behind key (length (t ∷ ts)) ≡ key_behind (key_behind key 1) (length ts) = let more : length (t ∷ ts) ≡ length ts + 1 = omega arith in ap (key_behind key) more ∙ key_behind_more key (length ts) in
       (settled.0, settled.1, settles_more tries (key_behind key 1) ls ts line text settled.0 b c settled.2 (subst (λ (k : Key). SettlesLine remaining contents tries k line text b c) same one))
+
+-- ---- a call that was settled, and whose reply's text found no memory
+
+module _ {R W X : Type 0} (remaining : R → Option (List ℕ)) (contents : W → Option (List ℕ)) (tries : ℕ) (call : Call) (line : List ℕ) (next : Option Key) (reply : Reply) (before after : Link R W) where
+  pub lacks_text : (result : Result X Halt) (idle : Option Key) → IsCallBody line call → IfSome idle (λ key. Calls remaining contents (record { key = key; call = call }) tries before after (called.Settled next reply))
+      → IsErrAnd result (λ fault. fault ≡ halt.NoMemory) → IfErr result (λ fault. IfSome idle (λ key. HaltsAt remaining contents tries key line fault before after))
+  lacks_text (Ok text) idle says made lacks = tt
+  lacks_text (Err fault) None says made lacks = tt
+  lacks_text (Err fault) (Some key) says made lacks =
+      let settles : SettlesLine remaining contents tries key line (answer_text (answers.Replied key reply)) before after =
+      record { next = next; reply = reply; settled = record { call = call; said = says; made = made }; text_is = refl } in
+      subst (λ (f : Halt). HaltsAt remaining contents tries key line f before after) (sym lacks) (inr (answer_text (answers.Replied key reply), settles))

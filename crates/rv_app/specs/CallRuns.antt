@@ -126,11 +126,12 @@ module _ {O R W : Type 0} (taken : O → Option (List ℕ)) (remaining : R → O
     pub says : SaysNext remaining contents starting tries all texts text before after
     pub cut : CutsLine taken texts text sent out out'
 
-  -- memory was refused for a line: those before it were settled and have their texts
-  pub record RunsShort (all : List (List ℕ)) (before : Link R W) (out out' : Sink O) : Type 0 where
+  -- memory was refused behind lines that were settled and have these texts: to read the line behind them, of
+  -- which nothing was asked then, or for the text that comes next
+  pub record RunsShort (all : List (List ℕ)) (before after : Link R W) (out out' : Sink O) : Type 0 where
     pub texts : List (List ℕ)
-    pub between : Link R W
-    pub settles : (texts ≡ []) ⊎ SettlesFirst remaining contents starting tries all texts before between
+    pub leaves : SettlesFirst remaining contents starting tries all texts before after
+        ⊎ ((text : List ℕ) × SaysNext remaining contents starting tries all texts text before after)
     pub took : TakesLines taken texts out out'
 
   -- what a run over the lines leaves, by what it answers
@@ -140,7 +141,7 @@ module _ {O R W : Type 0} (taken : O → Option (List ℕ)) (remaining : R → O
   RunsCalls all before after out out' (Ok Stopped) = RunsToWord all before after out out'
   RunsCalls all before after out out' (Err (WriteFault fault)) =
       RunsToCut all before after out out' fault.sent
-  RunsCalls all before after out out' (Err NoMemory) = RunsShort all before out out'
+  RunsCalls all before after out out' (Err NoMemory) = RunsShort all before after out out'
   RunsCalls all before after out out' (Err ReadFault) = ⊥
   RunsCalls all before after out out' (Err TooLong) = ⊥
 

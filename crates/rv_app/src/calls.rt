@@ -44,7 +44,8 @@ pub enum CallSaid {
 ///
 /// [`RunFault::WriteFault`] tells of `out` alone: what becomes of the link is told by the word. A line whose
 /// reading or text finds no memory, or a word whose text does, ends the run behind whole lines: each is that
-/// of a call that was settled. The call of that line may have been settled too.
+/// of a call that was settled. Of a line that was not read nothing was asked; one whose text found no memory
+/// was settled.
 pub fn call_run<L: Read, O: Write, R: Read, W: Write>(
     alloc: Global,
     lines: &mut Source<L>,
@@ -70,7 +71,8 @@ pub fn call_run<L: Read, O: Write, R: Read, W: Write>(
         (record { client = client; incarnation = incarnation; version = version }) tries lines.old lines.new
         (link from.old to.old) (link from.new to.new) out.old out.new (Err (RunFault.WriteFault fault)) }
 
-    // The lines before the one that found no memory are settled and have their texts, or nothing was done.
+    // Behind lines that are settled and have their texts a line was not read, or the next text not made; or
+    // nothing was done.
     ensures lacked_memory { result ≡ Err RunFault.NoMemory →
         ((source_failed lines.new ≡ false)
         × DidNothing (link from.old to.old) (link from.new to.new) out.old out.new)

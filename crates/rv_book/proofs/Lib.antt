@@ -56,7 +56,7 @@ pub mod FrontPairs
 pub mod OneStep
 pub mod Fitting
 pub mod Stamping
-pub mod Texts
+pub mod Saying
 pub mod ToldNow
 pub mod Ending
 pub mod Keeping

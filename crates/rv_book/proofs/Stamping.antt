@@ -15,9 +15,11 @@ use Rattle.rv_book.specs.Laws.{VerdictsStay}
 use Rattle.rv_book.specs.Limits.{FitsAccount}
 use Rattle.rv_book.specs.Steps.{Next, step_moment}
 use Rattle.rv_book.specs.Tables.{BecomesAfterTicks, IsSound, account_of}
-use Rattle.rv_book.specs.Verdicts.{IsOfStep, Stamp, WasGiven, said_in, stamp_of}
+use Rattle.rv_book.specs.Saying.{said_in, stamp_of}
+use Rattle.rv_book.specs.Verdicts.{IsOfStep, Stamp, WasGiven}
 use Rattle.rv_book.proofs.Fitting.{step_fits}
-use Rattle.rv_book.proofs.Staying.{said_stays, steps_extend}
+use Rattle.rv_book.proofs.Staying.{still_kept, steps_extend}
+use Rattle.rv_book.proofs.Saying.{said_kept}
 use Rattle.std.proofs.lemmas.List.{take-append-le, take_all}
 
 -- ---- fronts of accounts
@@ -59,7 +61,7 @@ verdicts_stay a b v extends given =
       step = same_step first (same_front a b v.length extends given.within) refl given.step;
       grows = given.grows;
       within = omega (arith, given.within, more);
-      says = said_stays a b v.kept v.said extends given.says;
+      says = still_kept a b v.kept v.said extends given.says;
     }
 
 -- a step of the message between the accounts gives this stamp
@@ -86,7 +88,7 @@ step_gives a b now m kept legal after fits message became =
         step = same_step first (whole_front b) said next;
         grows = not_shorter a b extends;
         within = le_refl _;
-        says = became.becomes.is ∙ ap Some (sym said);
+        says = said_kept b.entries kept (said_in b kept) (became.becomes.is ∙ ap Some (sym said));
       };
     }
 

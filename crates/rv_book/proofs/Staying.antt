@@ -1,9 +1,8 @@
--- Replies, and what is kept of answers, stay where an account is extended, and a key is told one thing.
+-- Replies, and what is kept of them, stay where an account is extended, and a key is told one thing.
 use Rattle.rv_text.specs.declared.answer.Reply as reply
 use Rattle.rv_text.specs.declared.answer.Answer as answer
 use Rattle.rv_account.specs.declared.entry.Act as act
 use Rattle.rv_session.specs.declared.kept.Kept as kept
-use Rattle.rv_book.specs.declared.verdict.Said as said
 use Rattle.rv_text.specs.declared.message.Message.TheVariants.{Cancel, Hello, Request}
 use Rattle.rv_account.specs.Account.{Account, Extends, act_at, call_in, key_at, key_in, partners_items}
 use Rattle.rv_book.proofs.Drains.{drains_on}
@@ -25,8 +24,7 @@ use Rattle.rv_book.proofs.Keys.{key_read}
 use Rattle.rv_book.proofs.Lines.{RefuseOr-elim, WhereElse-elim}
 use Rattle.rv_book.specs.Laws.{RepliesStay, StepsExtend}
 use Rattle.rv_text.specs.declared.answer.Reply.{Reply}
-use Rattle.rv_book.specs.declared.verdict.Said.{Said}
-use Rattle.rv_book.specs.Verdicts.{answer_of, item_at, reply_of}
+use Rattle.rv_book.specs.Verdicts.{IsAsKept, item_at, reply_of}
 use Rattle.rv_book.proofs.OnePartner.{arrives_first, arrives_once}
 use Rattle.rv_book.proofs.Replying.{reply_laws}
 use Rattle.rv_text.specs.Calls.{item_of}
@@ -100,12 +98,12 @@ extends_on a b c first second = record {
 pub steps_extend : StepsExtend
 steps_extend a b now m x next = extends_on a next.ticked b (ticks_extend a next.ticked _ next.ticks) (step_extends next.ticked b _ m x next.steps)
 
--- ---- what is kept of an answer stays
+-- ---- what is kept of a reply stays
 
 reading_on : {B : Type 0} (F : Option Entry → Option B) → F None ≡ None → (a b : Account) (r : ℕ) (y : B) → Extends a b → F (slice_get a.entries r) ≡ Some y → F (slice_get b.entries r) ≡ Some y
 reading_on F none a b r y extends there = ap (λ (es : List Entry). F (slice_get es r)) extends.entries ∙ reads_on F none a.entries extends.more r y there
 
-mapped : {A B : Type 0} (f : A → B) (o : Option A) (y : B) → option_map f o ≡ Some y → (x : A) × (o ≡ Some x)
+pub mapped : {A B : Type 0} (f : A → B) (o : Option A) (y : B) → option_map f o ≡ Some y → (x : A) × (o ≡ Some x)
 mapped f None y h = absurd (none-some y h)
 mapped f (Some x) y h = (x, refl)
 
@@ -132,13 +130,9 @@ kept_stays a b (kept.TheVariants.ReceivedBy place) r extends is =
     ap (option_map reply.TheVariants.ReceivedBy) (there ∙ sym key.1) ∙ is
 kept_stays a b k r extends is = is
 
-pub said_stays : (a b : Account) (s : Said) (x : Answer) → Extends a b → answer_of a.entries s ≡ Some x → answer_of b.entries s ≡ Some x
-said_stays a b (said.TheVariants.Welcome epoch client incarnation version) x extends is = is
-said_stays a b (said.TheVariants.Replied key k) x extends is =
-    let r = mapped (answer.TheVariants.Replied key) (reply_of a.entries k) x is in
-    ap (option_map (answer.TheVariants.Replied key)) (kept_stays a b k r.0 extends r.1 ∙ sym r.1) ∙ is
-said_stays a b (said.TheVariants.Waiting key) x extends is = is
-said_stays a b (said.TheVariants.Refused refusal) x extends is = is
+pub still_kept : (a b : Account) (k : Option Kept) (x : Answer) → Extends a b → IsAsKept a.entries k x → IsAsKept b.entries k x
+still_kept a b (Some k) (answer.TheVariants.Replied key r) extends is = kept_stays a b k r extends is
+still_kept a b k x extends is = is
 
 -- ---- a reply stays, and it is the only one
 

@@ -22,7 +22,8 @@ use Rattle.rv_book.specs.Sessions.{AskedIn, HasIncarnation, LastNumber}
 use Rattle.rv_book.specs.Legal.{HasWaiting, Legal}
 use Rattle.rv_book.specs.Replies.{RepliesAt}
 use Rattle.rv_book.specs.Steps.{Adds, Answers, Replies}
-use Rattle.rv_book.specs.Verdicts.{answer_of, reply_of}
+use Rattle.rv_book.specs.Saying.{answer_of}
+use Rattle.rv_book.specs.Verdicts.{reply_of}
 
 -- the key is of its client's session in this epoch, with the next number
 pub record IsNext (a : Account) (key : Key) : Type 0 where

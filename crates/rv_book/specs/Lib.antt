@@ -13,6 +13,7 @@ pub mod Laws
 pub mod Views
 pub mod Parked
 pub mod Elapsing
+pub mod Saying
 pub mod Arriving
 pub mod Tables
 -- What only private clauses and proofs cite.

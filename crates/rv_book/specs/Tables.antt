@@ -41,7 +41,7 @@ use Rattle.rv_book.specs.Parked.{AreParked, AreStations, owed_at}
 use Rattle.rv_book.specs.Elapsing.{AreDeadlines, deadline_of, with_deadline, without_deadline}
 use Rattle.rv_book.specs.Sessions.{HasOpened, LastNumber, SaidHello}
 use Rattle.rv_book.specs.Steps.{EpochFullDue, NextAt, Ticks, max_entries, max_moment, step_moment}
-use Rattle.rv_book.specs.Verdicts.{answer_of}
+use Rattle.rv_book.specs.Saying.{answer_of}
 use Rattle.rv_book.specs.Views.{SameStations}
 use Rattle.rv_session.specs.Owed.{Owed}
 use Rattle.rv_book.specs.Waiting.{Waiting, limit_at}

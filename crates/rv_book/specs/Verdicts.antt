@@ -1,14 +1,11 @@
 -- What a verdict shows, the answer that it stands for, and when it was given.
-use Rattle.std.specs.Prelude.{◌≡◌, ◌≤◌, ℕ, List, Option, Some, length, option_map, unwrap_or}
+use Rattle.std.specs.Prelude.{◌≡◌, ◌≤◌, ℕ, List, Option, Some, None, length, option_map}
 use Rattle.rv_text.specs.declared.answer.Reply.{Reply}
 use Rattle.rv_text.specs.declared.answer.Reply as reply
 use Rattle.rv_text.specs.declared.answer.Answer.{Answer}
 use Rattle.rv_text.specs.declared.answer.Answer as answer
-use Rattle.rv_text.specs.declared.answer.Refusal.TheVariants as refusal
 use Rattle.rv_session.specs.declared.kept.Kept.{Kept}
 use Rattle.rv_session.specs.declared.kept.Kept as kept
-use Rattle.rv_book.specs.declared.verdict.Said.{Said}
-use Rattle.rv_book.specs.declared.verdict.Said.TheVariants.{Welcome, Replied, Waiting, Refused}
 use Rattle.rv_account.specs.declared.entry.Entry.{Entry}
 use Rattle.rv_text.specs.declared.message.Message.{Message}
 use Rattle.rv_account.specs.Account.{Account, key_at, partners_items}
@@ -35,17 +32,12 @@ reply_of entries (kept.TheVariants.Peeked place) = option_map reply.TheVariants.
 reply_of entries (kept.TheVariants.Drained place) =
     option_map reply.TheVariants.Drained (partners_items entries place)
 
--- the answer that stands for what is kept; none where its reply has none
-abbrev pub answer_of : List Entry → Said → Option Answer
-answer_of entries (Welcome epoch client incarnation version) =
-    Some (answer.TheVariants.Welcome epoch client incarnation version)
-answer_of entries (Replied key kept) = option_map (answer.TheVariants.Replied key) (reply_of entries kept)
-answer_of entries (Waiting key) = Some (answer.TheVariants.Waiting key)
-answer_of entries (Refused refusal) = Some (answer.TheVariants.Refused refusal)
-
--- the same; the refusal stands only where there is none, as for no verdict
-abbrev pub said_in : Account → Said → Answer
-said_in a kept = unwrap_or (answer_of a.entries kept) (answer.TheVariants.Refused refusal.NoMemory)
+-- an answer that hands over a reply is as the account has what is kept of it; of all others nothing is kept
+abbrev pub IsAsKept : List Entry → Option Kept → Answer → Type 0
+IsAsKept entries (Some kept) (answer.TheVariants.Replied key told) = reply_of entries kept ≡ Some told
+IsAsKept entries None (answer.TheVariants.Replied key told) = ⊥
+IsAsKept entries (Some kept) _ = ⊥
+IsAsKept entries None _ = Unit {0}
 
 -- the reply carries items' texts, or a list for them
 abbrev pub ReplyHasText : Reply → Type 0
@@ -61,23 +53,13 @@ HasText (answer.TheVariants.Replied key told) = ReplyHasText told
 HasText _ = ⊥
 
 -- what a verdict shows: the message that it was given for, the answer that it stands for, the number of the
--- account's entries before and after that step, and what it keeps of the answer
+-- account's entries before and after that step, and what is kept of the reply, if it is one
 pub record Stamp : Type 0 where
   pub asked : Message
   pub said : Answer
   pub before : ℕ
   pub length : ℕ
-  pub kept : Said
-
--- the stamp of a message, between two accounts
-abbrev pub stamp_of : Message → Account → Account → Said → Stamp
-stamp_of m a b kept = record {
-  asked = m;
-  said = said_in b kept;
-  before = length a.entries;
-  length = length b.entries;
-  kept = kept;
-}
+  pub kept : Option Kept
 
 -- the stamp is of a step from some legal account
 pub record IsOfStep (v : Stamp) : Type 0 where
@@ -89,11 +71,11 @@ pub record IsOfStep (v : Stamp) : Type 0 where
   pub after_has : length after.entries ≡ v.length
   pub step : Next account moment v.asked after v.said
 
--- the stamp was given in the account: a step leads from its entries before to those after, and in it what the
--- stamp keeps stands for the answer of that step
+-- the stamp was given in the account: a step leads from its entries before to those after, and the account has
+-- the reply of that step as the stamp keeps it
 pub record WasGiven (a : Account) (v : Stamp) : Type 0 where
   pub moment : ℕ
   pub step : Next (before a v.before) moment v.asked (before a v.length) v.said
   pub grows : v.before ≤ v.length
   pub within : v.length ≤ length a.entries
-  pub says : answer_of a.entries v.kept ≡ Some v.said
+  pub says : IsAsKept a.entries v.kept v.said

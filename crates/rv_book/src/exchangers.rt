@@ -69,8 +69,7 @@ impl Exchangers {
         usize::from(self.exchangers[exchanger as usize].waiting().is_some())
     }
 
-    /// A request arrives at an exchanger: it meets the one that waits there, which leaves; or, where none
-    /// does, waits itself, if its wait lasts.
+    /// An arrival meets the one that waits at the exchanger, which leaves; else it waits, if its wait lasts.
     pub(crate) fn exchange(&mut self, exchanger: u64, wait: Wait, duty: Duty) -> Arrived
         requires { FitsSide (Exchanges exchanger) }
         ensures exchanged { Exchanged (exchanger_at self.old exchanger) (exchanger_at self.new exchanger) wait

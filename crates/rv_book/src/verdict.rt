@@ -40,7 +40,8 @@ pub struct Verdict {
 }
 
 impl Model for Verdict {
-    ghost use Rattle.rv_book.specs.Verdicts.{IsOfStep, Stamp, stamp_of};
+    ghost use Rattle.rv_book.specs.Saying.{stamp_of};
+    ghost use Rattle.rv_book.specs.Verdicts.{IsOfStep, Stamp};
 
     ghost Value = { Stamp };
 

@@ -46,8 +46,8 @@ fn other_frames_are_answered_at_once(rt: HostRuntime) -> Result<(), Fail> {
     Ok(())
 }
 
-// Client 1 puts "a", and takes it again.
-const THREE: Row<'static> = Row {
+/// Client 1 puts "a", and takes it again.
+pub(crate) const THREE: Row<'static> = Row {
     sent: b"\x00\x2b{\"client\":1,\"incarnation\":1,\"kind\":\"hello\"}\
         \x00\x64{\"call\":\"put\",\"client\":1,\"epoch\":1,\"incarnation\":1,\"item\":\"a\",\
         \"kind\":\"request\",\"number\":1,\"queue\":3}\

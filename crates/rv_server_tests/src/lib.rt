@@ -5,6 +5,8 @@
 #[cfg(test)]
 mod frames;
 #[cfg(test)]
+mod hostile;
+#[cfg(test)]
 mod meeting;
 #[cfg(test)]
 mod pauses;

@@ -44,11 +44,13 @@ impl Event {
     }
 }
 
-/// A gate that tells of its first pause, and waits in it until the second client has its answers.
+/// A gate that tells of its first pause, and waits in it until the second client has its answers. The first
+/// client tells that it is welcomed.
 #[derive(Drop)]
 pub(crate) struct Meeting<'a, C> {
     pub(crate) clock: &'a C,
     pub(crate) paused: Event,
+    pub(crate) welcomed: Event,
     pub(crate) answered: Event,
 }
 
@@ -57,6 +59,7 @@ impl<'a, C> Meeting<'a, C> {
         Meeting {
             clock,
             paused: Event::new(),
+            welcomed: Event::new(),
             answered: Event::new(),
         }
     }

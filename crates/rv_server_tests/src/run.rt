@@ -152,6 +152,25 @@ pub(crate) fn all_are_asked_for<L: Ledger, R: Abort + AllocGlobal>(
     }
 }
 
+/// One connection: a worker answers what the reader gives as the row says, with so many pauses.
+pub(crate) fn connects<L: Ledger, R: Wait + Abort + AllocGlobal, C: Clock>(
+    rt: &R,
+    shared: &Shared<Book, L>,
+    seat: &mut Seat<L>,
+    clock: &C,
+    row: &Row<'_>,
+    reader: &mut TestReader<'_>,
+    mut writer: TestWriter,
+    pauses: u64,
+) {
+    let gate = Counting {
+        pauses: AtomicU64::new(0),
+    };
+    let ended = answer(rt, shared, seat, clock, &gate, reader, &mut writer);
+    row.came(rt, &ended, writer.taken());
+    assert_eq!(rt; gate.pauses.load(Ordering::SeqCst), pauses);
+}
+
 // A server of one worker over a ledger answers what the reader gives as the row says.
 fn one<L: Ledger, R: Wait + Abort + AllocGlobal, C: Clock>(
     rt: &R,
@@ -169,14 +188,17 @@ fn one<L: Ledger, R: Wait + Abort + AllocGlobal, C: Clock>(
     let alloc = rt.alloc();
     let desk = Book::open(alloc, 1, 0)?;
     let (shared, mut seats) = Shared::<Book, L>::open(alloc, blank, desk, 1)?;
-    let gate = Counting {
-        pauses: AtomicU64::new(0),
-    };
-    let mut writer = TestWriter::new(alloc, 50);
-    let seat = &mut seats[0];
-    let ended = answer(rt, &shared, seat, clock, &gate, reader, &mut writer);
-    row.came(rt, &ended, writer.taken());
-    assert_eq!(rt; gate.pauses.load(Ordering::SeqCst), pauses);
+    let writer = TestWriter::new(alloc, 50);
+    connects(
+        rt,
+        &shared,
+        &mut seats[0],
+        clock,
+        row,
+        reader,
+        writer,
+        pauses,
+    );
     closes(rt, shared, seats, moments);
     Ok(())
 }

@@ -19,6 +19,9 @@ use std::thread::Threads;
 use std::time::Duration;
 use std::{thread, time};
 
+// The bytes of a welcome.
+const WELCOME_BYTES: usize = 57;
+
 // A client that is connected, and waits for its next byte 20 seconds at most.
 fn connect<R: Net<Stream = TcpStream> + Abort>(rt: &R, address: SocketAddr) -> TcpStream {
     let stream = TcpStream::connect(rt, address).expect(rt, "no connection");
@@ -27,14 +30,30 @@ fn connect<R: Net<Stream = TcpStream> + Abort>(rt: &R, address: SocketAddr) -> T
     stream
 }
 
-// The client sends its frames, and reads these answers.
-fn converse<R: Abort + AllocGlobal>(rt: &R, stream: &TcpStream, talk: Talk) {
+// The client reads these answers.
+fn hear<R: Abort + AllocGlobal>(rt: &R, stream: &TcpStream, answers: &[u8]) {
+    let mut link = stream;
+    let mut heard = vec![in rt.alloc(); 0u8; answers.len()].expect(rt, "no memory");
+    let read = link.read_exact(heard.as_mut_slice());
+    assert_eq!(rt; heard.as_slice(), answers);
+    assert!(rt; read.is_ok());
+}
+
+// The client sends its frames in one piece, and reads its welcome, of which it may tell, and the others.
+fn converse<R: Abort + AllocGlobal>(
+    rt: &R,
+    stream: &TcpStream,
+    talk: Talk,
+    welcomed: Option<&Event>,
+) {
     let mut link = stream;
     assert!(rt; link.write_all(talk.sent).is_ok());
-    let mut answers = vec![in rt.alloc(); 0u8; talk.answers.len()].expect(rt, "no memory");
-    let read = link.read_exact(answers.as_mut_slice());
-    assert_eq!(rt; answers.as_slice(), talk.answers);
-    assert!(rt; read.is_ok());
+    let (welcome, others) = talk.answers.split_at(WELCOME_BYTES.min(talk.answers.len()));
+    hear(rt, stream, welcome);
+    if let Some(event) = welcomed {
+        event.comes();
+    }
+    hear(rt, stream, others);
 }
 
 // What serving ended with.
@@ -75,16 +94,16 @@ where
         || serve(rt, alloc, &shared, seats, &Still(0), &meeting, listener, 2),
         || {
             for talk in [PUTS, POLLS] {
-                converse(rt, &connect(rt, address), talk);
+                converse(rt, &connect(rt, address), talk, None);
             }
         },
     );
     served_both(rt, shared, ended)
 }
 
-// Two clients are connected. The second says nothing until the first one's worker pauses, and that pause ends
-// when the second has the item.
-fn hand_over<R>(rt: &R, address: SocketAddr, paused: &Event, answered: &Event)
+// Two clients are connected. The second says nothing until the first one's worker pauses and the first has
+// its welcome, and that pause ends when the second has the item.
+fn hand_over<R>(rt: &R, address: SocketAddr, paused: &Event, welcomed: &Event, answered: &Event)
 where
     R: Threads + Net<Stream = TcpStream> + Abort + AllocGlobal + time::Clock + Sync,
 {
@@ -92,10 +111,12 @@ where
     let second = connect(rt, address);
     thread::join(
         rt,
-        || converse(rt, &first, GIVES),
+        || converse(rt, &first, GIVES, Some(welcomed)),
         || {
             paused.wait(rt);
-            converse(rt, &second, TAKES);
+            welcomed.wait(rt);
+            assert!(rt; !welcomed.is_late(), "no welcome came before the pause");
+            converse(rt, &second, TAKES, None);
             answered.comes();
         },
     );
@@ -118,7 +139,13 @@ where
     let (ended, ()) = thread::join(
         rt,
         || serve(rt, alloc, &shared, seats, &Still(0), &meeting, listener, 2),
-        || hand_over(rt, address, &meeting.paused, &meeting.answered),
+        || hand_over(
+            rt,
+            address,
+            &meeting.paused,
+            &meeting.welcomed,
+            &meeting.answered,
+        ),
     );
     assert!(rt; !meeting.paused.is_late(), "no worker paused");
     assert!(rt; !meeting.answered.is_late(), "no answer came in a pause");

@@ -1,15 +1,17 @@
-//! What no clause says of the crates below the program: what is read and written for a request, the entries
-//! of a book after worked rows, a world after a worked play; and once, with ample memory, each call that the
-//! program doesn't make.
+//! What no clause says of the crates below the program: what a book answers and the entries that it has after
+//! worked scripts, a world after a worked play, also where growths of memory are refused; and once, with ample
+//! memory, each call that the program doesn't make.
 #![tactic(auto)]
 
 #[cfg(test)]
-mod clients;
+mod answers;
 #[cfg(test)]
 mod deadlines;
 #[cfg(test)]
 mod line;
 #[cfg(test)]
 mod rows;
+#[cfg(test)]
+mod scripts;
 #[cfg(test)]
 mod worlds;

@@ -1,219 +1,133 @@
-//! A short way to write messages and entries by hand.
-use rv_book::{Act, Book, Entry, Partners, Place};
-use rv_text::{Answer, Call, Item, Key, Message, NoMemory, Version, Wait};
-use std::alloc::{AllocGlobal, Global};
-use std::process::Abort;
+//! A short way to write messages and entries by hand, as constants of epoch 1.
+use rv_book::{Act, Entry, Partners, Place};
+use rv_text::{Call, Item, Key, Message, NoMemory, Version, Wait};
+use std::alloc::Global;
 
+/// What a request asks for: a call, its queue or exchanger first.
 #[derive(Clone, Copy)]
-enum Does {
-    Hello,
-    Cancel,
-    Tick,
-    Put(&'static str),
-    Transfer(&'static str),
-    Take,
-    Drain(u64),
-    Count,
-    Peek,
+pub(crate) enum Asked {
+    Put(u64, &'static str),
+    Transfer(u64, &'static str, Wait),
+    Take(u64, Wait),
+    Swap(u64, &'static str, Wait),
+    Drain(u64, u64),
+    Count(u64),
+    Peek(u64),
 }
 
-/// A message to a book, or an entry of an account. It is of epoch 1, incarnation 1, version 1 and queue 3,
-/// at moment 0, without a wait and without partners, unless changed.
+/// What a message says: its client, its incarnation, and where it has one its number stand first.
 #[derive(Clone, Copy)]
-pub(crate) struct Line {
-    moment: u64,
-    key: Key,
-    queue: u64,
-    does: Does,
-    version: Version,
-    wait: Wait,
-    partners: &'static [Place],
+pub(crate) enum Says {
+    Hello(u64, u64, Version),
+    Asks(u64, u64, u64, Asked),
+    Cancels(u64, u64, u64),
 }
 
-pub(crate) fn hello(client: u64, incarnation: u64) -> Line {
-    Line::of(client, 0, Does::Hello).by(incarnation)
+/// An entry: its moment, and but for a tick what its message said and the places of its partners.
+#[derive(Clone, Copy)]
+pub(crate) enum Recorded {
+    Ticks(u64),
+    Adds(u64, Says, &'static [Place]),
 }
 
-pub(crate) fn put(client: u64, number: u64, text: &'static str) -> Line {
-    Line::of(client, number, Does::Put(text))
+/// The key of a client, an incarnation and a number.
+pub(crate) fn key(client: u64, incarnation: u64, number: u64) -> Key {
+    Key {
+        epoch: 1,
+        client,
+        incarnation,
+        number,
+    }
 }
 
-pub(crate) fn transfer(client: u64, number: u64, text: &'static str) -> Line {
-    Line::of(client, number, Does::Transfer(text))
-}
-
-pub(crate) fn take(client: u64, number: u64) -> Line {
-    Line::of(client, number, Does::Take)
-}
-
-pub(crate) fn drain(client: u64, number: u64, max: u64) -> Line {
-    Line::of(client, number, Does::Drain(max))
-}
-
-pub(crate) fn count(client: u64, number: u64) -> Line {
-    Line::of(client, number, Does::Count)
-}
-
-pub(crate) fn peek(client: u64, number: u64) -> Line {
-    Line::of(client, number, Does::Peek)
-}
-
-pub(crate) fn cancel(client: u64, number: u64) -> Line {
-    Line::of(client, number, Does::Cancel)
-}
-
-/// A tick at a moment: an entry, and no message.
-pub(crate) fn tick(moment: u64) -> Line {
-    Line::of(1, 0, Does::Tick).at(moment)
-}
-
-fn item(alloc: Global, text: &str) -> Result<Item, NoMemory> {
+/// The item of this text.
+pub(crate) fn item(alloc: Global, text: &str) -> Result<Item, NoMemory> {
     Ok(Item::from_text(String::from_str(alloc, text)?))
 }
 
-impl Line {
-    fn of(client: u64, number: u64, does: Does) -> Line {
-        let key = Key {
-            epoch: 1,
-            client,
-            incarnation: 1,
-            number,
-        };
-        Line {
-            moment: 0,
-            key,
-            queue: 3,
-            does,
-            version: Version::One,
-            wait: Wait::Now,
-            partners: &[],
-        }
-    }
-
-    /// The same line at this moment.
-    pub(crate) fn at(mut self, moment: u64) -> Line {
-        self.moment = moment;
-        self
-    }
-
-    /// The same line, which names these places as its partners.
-    pub(crate) fn meeting(mut self, places: &'static [Place]) -> Line {
-        self.partners = places;
-        self
-    }
-
-    /// The same line, which waits without end.
-    pub(crate) fn waits(mut self) -> Line {
-        self.wait = Wait::Forever;
-        self
-    }
-
-    /// The same line, which waits so many milliseconds.
-    pub(crate) fn waits_for(mut self, millis: u64) -> Line {
-        self.wait = Wait::Millis(millis);
-        self
-    }
-
-    /// The same line of another queue.
-    pub(crate) fn on(mut self, queue: u64) -> Line {
-        self.queue = queue;
-        self
-    }
-
-    /// The same hello, for version 2.
-    pub(crate) fn for_keys(mut self) -> Line {
-        self.version = Version::Two;
-        self
-    }
-
-    /// The same line of another epoch.
-    pub(crate) fn in_epoch(mut self, epoch: u64) -> Line {
-        self.key.epoch = epoch;
-        self
-    }
-
-    /// The same line of another incarnation.
-    pub(crate) fn by(mut self, incarnation: u64) -> Line {
-        self.key.incarnation = incarnation;
-        self
-    }
-
-    fn act(&self, alloc: Global) -> Result<Act, NoMemory> {
-        let Line {
-            key,
-            queue,
-            version,
-            wait,
-            ..
-        } = *self;
-        let call = match self.does {
-            Does::Hello => {
-                return Ok(Act::Hello {
-                    client: key.client,
-                    incarnation: key.incarnation,
-                    version,
-                });
-            }
-            Does::Cancel => return Ok(Act::Cancel { key }),
-            Does::Tick => return Ok(Act::Tick),
-            Does::Put(text) => Call::Put {
+impl Asked {
+    fn call(self, alloc: Global) -> Result<Call, NoMemory> {
+        Ok(match self {
+            Asked::Put(queue, text) => Call::Put {
                 queue,
                 item: item(alloc, text)?,
             },
-            Does::Transfer(text) => Call::Transfer {
+            Asked::Transfer(queue, text, wait) => Call::Transfer {
                 queue,
                 item: item(alloc, text)?,
                 wait,
             },
-            Does::Take => Call::Take { queue, wait },
-            Does::Drain(max) => Call::Drain { queue, max },
-            Does::Count => Call::Count { queue },
-            Does::Peek => Call::Peek { queue },
-        };
-        Ok(Act::Arrive { key, call })
-    }
-
-    // A tick is no message.
-    fn message(&self, alloc: Global) -> Result<Option<Message>, NoMemory> {
-        Ok(match self.act(alloc)? {
-            Act::Hello {
-                client,
-                incarnation,
-                version,
-            } => Some(Message::Hello {
-                client,
-                incarnation,
-                version,
-            }),
-            Act::Arrive { key, call } => Some(Message::Request { key, call }),
-            Act::Cancel { key } => Some(Message::Cancel { key }),
-            Act::Tick => None,
+            Asked::Take(queue, wait) => Call::Take { queue, wait },
+            Asked::Swap(exchanger, text, wait) => Call::Swap {
+                exchanger,
+                item: item(alloc, text)?,
+                wait,
+            },
+            Asked::Drain(queue, max) => Call::Drain { queue, max },
+            Asked::Count(queue) => Call::Count { queue },
+            Asked::Peek(queue) => Call::Peek { queue },
         })
     }
+}
 
-    pub(crate) fn entry(&self, alloc: Global) -> Result<Entry, NoMemory> {
-        Ok(Entry {
-            moment: self.moment,
-            act: self.act(alloc)?,
-            partners: Partners::from_vec(self.partners.to_vec(alloc)?),
-        })
-    }
-
-    /// What the book answers when the message comes. What a refused growth stopped is asked again.
-    pub(crate) fn ask(
-        &self,
-        rt: &(impl Abort + AllocGlobal),
-        book: &mut Book,
-    ) -> Result<Answer, NoMemory> {
-        let alloc = rt.alloc();
-        let Some(message) = self.message(alloc).or_else(|_| self.message(alloc))? else {
-            panic!(rt; "no message makes a tick")
-        };
-        assert!(rt; message.fits());
-        let verdict = book.handle(self.moment, message);
-        match book.answer(alloc, &verdict) {
-            Ok(answer) => Ok(answer),
-            Err(_refused) => book.answer(alloc, &verdict),
+impl Says {
+    /// The message's key; that of a hello has number 0.
+    pub(crate) fn key(self) -> Key {
+        match self {
+            Says::Hello(client, incarnation, _) => key(client, incarnation, 0),
+            Says::Asks(client, incarnation, number, _) => key(client, incarnation, number),
+            Says::Cancels(client, incarnation, number) => key(client, incarnation, number),
         }
+    }
+
+    /// The message.
+    pub(crate) fn message(self, alloc: Global) -> Result<Message, NoMemory> {
+        let key = self.key();
+        Ok(match self {
+            Says::Hello(client, incarnation, version) => Message::Hello {
+                client,
+                incarnation,
+                version,
+            },
+            Says::Asks(_, _, _, asked) => Message::Request {
+                key,
+                call: asked.call(alloc)?,
+            },
+            Says::Cancels(_, _, _) => Message::Cancel { key },
+        })
+    }
+
+    fn act(self, alloc: Global) -> Result<Act, NoMemory> {
+        let key = self.key();
+        Ok(match self {
+            Says::Hello(client, incarnation, version) => Act::Hello {
+                client,
+                incarnation,
+                version,
+            },
+            Says::Asks(_, _, _, asked) => Act::Arrive {
+                key,
+                call: asked.call(alloc)?,
+            },
+            Says::Cancels(_, _, _) => Act::Cancel { key },
+        })
+    }
+}
+
+impl Recorded {
+    /// The entry.
+    pub(crate) fn entry(self, alloc: Global) -> Result<Entry, NoMemory> {
+        Ok(match self {
+            Recorded::Ticks(moment) => Entry {
+                moment,
+                act: Act::Tick,
+                partners: Partners::none(alloc),
+            },
+            Recorded::Adds(moment, says, places) => Entry {
+                moment,
+                act: says.act(alloc)?,
+                partners: Partners::from_vec(places.to_vec(alloc)?),
+            },
+        })
     }
 }

@@ -1,22 +1,11 @@
 //! A list of events, which no program runs as a whole: what is left of it in the world that it leads to.
-use rv_text::{Answer, Call, Item, Key, NoMemory, Reply, Version, Wait};
+use rv_text::{Answer, Call, Item, Key, NoMemory, Refusal, Reply, Version, Wait};
 use rv_world::{Event, World, WorldRefusal, run};
 use std::alloc::Global;
 use std::test::Fail;
 
 fn item(alloc: Global, text: &str) -> Result<Item, NoMemory> {
     Ok(Item::from_text(String::from_str(alloc, text)?))
-}
-
-// The world after these events.
-fn play(alloc: Global, events: &[Event]) -> Result<World, Fail> {
-    if !events.iter().all(Event::fits) {
-        return Err(Fail::new("an event is out of its limits"));
-    }
-    match run(alloc, events) {
-        Ok(world) => Ok(world),
-        Err(_) => Err(Fail::new("an event was refused")),
-    }
 }
 
 // A hello and a put, each of which gets to the server and back.
@@ -33,7 +22,10 @@ fn a_list_of_events(rt: HostRuntime) -> Result<(), Fail> {
         Event::ToServer(1, 0),
         Event::ToClient(1),
     ];
-    let world = play(alloc, &events)?;
+    assert!(rt; events.iter().all(Event::fits));
+    let Ok(world) = run(alloc, &events) else {
+        return Err(Fail::new("an event was refused"));
+    };
     assert_eq!(rt; (world.held().len(), world.asked().len()), (1, 1));
     let entries = world.account(1).map(|account| account.len());
     assert_eq!(rt; entries, Some(2));
@@ -56,10 +48,9 @@ fn a_list_with_an_event_that_is_refused(rt: HostRuntime) {
     assert!(rt; stop == Some((1, WorldRefusal::NoSuchClient)));
 }
 
-// A transfer gets to the server again and again, and its reply to its client twice and late.
-#[test]
-fn a_worked_play(rt: HostRuntime) -> Result<(), Fail> {
-    let alloc = rt.alloc();
+// The worked play up to its last reply that is settled: a transfer gets to the server again and again, and its
+// reply to its client twice and late.
+fn worked_play(alloc: Global) -> Result<[Event; 23], NoMemory> {
     let queue = 3;
     let transfer = Call::Transfer {
         queue,
@@ -72,7 +63,7 @@ fn a_worked_play(rt: HostRuntime) -> Result<(), Fail> {
     };
     let item = item(alloc, "b")?;
     let put = Call::Put { queue, item };
-    let events = [
+    Ok([
         Event::Start(1, 1, Version::One),
         Event::Start(2, 1, Version::One),
         Event::ToServer(0, 0),
@@ -96,10 +87,64 @@ fn a_worked_play(rt: HostRuntime) -> Result<(), Fail> {
         Event::ToClient(8),
         Event::ToClient(6),
         Event::ToClient(7),
-    ];
-    let world = play(alloc, &events)?;
-    assert_eq!(rt; (world.held().len(), world.asked().len()), (3, 3));
+    ])
+}
+
+// Whether an answer of the play says that the server found no memory.
+fn lacks(world: &World) -> bool {
+    for packet in 0..9 {
+        if world.answer_packet(packet) == Some(&Answer::Refused(Refusal::NoMemory)) {
+            return true;
+        }
+    }
+    false
+}
+
+// Whether the world holds the replies, the requests and the entries that the play leads to with ample memory.
+fn is_whole(world: &World) -> bool {
     let entries = world.account(1).map(|account| account.len());
-    assert_eq!(rt; entries, Some(5));
+    world.held().len() == 3 && world.asked().len() == 3 && entries == Some(5)
+}
+
+// With ample memory the play leads to its world. Where a growth is refused, an event finds no memory; or an answer
+// says that the server found none, and then a request that was to follow on it may not be begun, or not be settled.
+#[test]
+fn a_worked_play(rt: HostRuntime) -> Result<(), Fail> {
+    let alloc = rt.alloc();
+    let events = worked_play(alloc).or_else(|_| worked_play(alloc))?;
+    assert!(rt; events.iter().all(Event::fits));
+    match run(alloc, &events) {
+        Ok(world) => assert!(rt; is_whole(&world) || lacks(&world)),
+        Err((_, WorldRefusal::NoMemory)) => (),
+        Err((at, refusal)) => {
+            assert!(rt; refusal == WorldRefusal::NotIdle, "at {at}");
+            assert!(rt;
+                matches!(events.get(at), Some(Event::Begin(_, _))),
+                "at {at}"
+            );
+        }
+    }
+    Ok(())
+}
+
+// The same play event by event. One that finds no memory changes nothing, and is taken when it comes again; what
+// is not idle in the end was told that the server found none.
+#[test]
+fn a_worked_play_by_steps(rt: HostRuntime) -> Result<(), Fail> {
+    let alloc = rt.alloc();
+    let events = worked_play(alloc).or_else(|_| worked_play(alloc))?;
+    let mut world = World::open(alloc, 1).or_else(|_| World::open(alloc, 1))?;
+    for event in &events {
+        assert!(rt; event.fits());
+        let mut seen = world.step(alloc, event);
+        if seen == Err(WorldRefusal::NoMemory) {
+            seen = world.step(alloc, event);
+        }
+        if seen.is_err() {
+            assert!(rt; seen == Err(WorldRefusal::NotIdle) && lacks(&world));
+            return Ok(());
+        }
+    }
+    assert!(rt; is_whole(&world) || lacks(&world));
     Ok(())
 }

@@ -1,6 +1,7 @@
 -- What a process makes of an answer, and what the world then is.
 use Rattle.std.proofs.Common.{◌≡◌, ℕ, Bool, false, List, [], ◌∷◌, ◌++◌, Option, Some, None, option_map, sym, ap, subst, ◌∙◌}
 use Rattle.std.specs.Prelude.{is_some, not}
+use Rattle.std.specs.List.{slice_get}
 use Rattle.rv_text.specs.declared.message.Key.{Key}
 use Rattle.rv_text.specs.declared.answer.Answer.{Answer}
 use Rattle.rv_text.specs.declared.answer.Reply.{Reply}
@@ -10,7 +11,7 @@ use Rattle.rv_world.specs.declared.packet.Packet.{Packet}
 use Rattle.rv_world.specs.declared.process.Told.{Told}
 use Rattle.rv_world.specs.declared.seen.Seen.{Seen}
 use Rattle.rv_world.specs.World.{World, process_of}
-use Rattle.rv_world.specs.Events.{OnlyTurns, Turns, Becomes, ComesTo, IsHeard}
+use Rattle.rv_world.specs.Events.{OnlyTurns, Turns, Becomes, ComesTo, IsAwaited, IsHeard}
 use Rattle.rv_world.specs.Processes.{process_in, LeavesBy, HearsAs}
 use Rattle.rv_world.specs.Table.{Table, running_of, with_process}
 use Rattle.rv_world.proofs.TableWrites.{only_turns, runs_stands, turned_back}
@@ -69,6 +70,13 @@ runs_some : {X : Type 0} (read : X → Process) (found : Option X) (runs : Optio
     → (running : Process) × (runs ≡ Some running)
 runs_some read None runs is_none is some runs_so = absurd (let none : ⊥ = cc in none)
 runs_some read (Some x) runs is_none is some runs_so = (read x, sym is)
+
+-- an answer that was sent to it is awaited
+pub awaited : {X : Type 0} (read : X → Process) (w : World) (packet : ℕ) (sent : Packet) (found : Option X) (is_none : Bool)
+    → slice_get w.to_client packet ≡ Some sent → option_map read found ≡ process_of w sent.client → is_some found ≡ not is_none → is_none ≡ false → IsAwaited w packet
+awaited read w packet sent found is_none there is some runs_so =
+    let runs = runs_some read found (process_of w sent.client) is_none is some runs_so in
+    record { sent = sent; there = there; process = runs.0; runs = runs.1 }
 
 -- what was sent comes to it by a copy of the answer, with room for one more that is held
 pub comes_heard : {X : Type 0} (read : X → Process) (w : World) (kept : List (Key × Reply)) (sent : Packet) (answer : Answer) (v : World) (shows : Seen) (found : Option X) (is_none : Bool)

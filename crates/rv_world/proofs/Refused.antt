@@ -1,8 +1,11 @@
 -- Events that are refused for want of memory.
-use Rattle.std.proofs.Common.{◌≡◌, inr, ℕ, Result, Ok, Err, IsErrAnd, arith}
+use Rattle.std.proofs.Common.{◌≡◌, inr, ℕ, Result, Ok, Err, IsErrAnd, arith, Some, sym, ◌∙◌}
+use Rattle.std.proofs.lemmas.Option.{none-some}
+use Rattle.std.specs.List.{slice_get}
 use Rattle.rv_text.specs.declared.version.Version.{Version}
 use Rattle.rv_world.specs.declared.event.Event.{Event}
 use Rattle.rv_world.specs.declared.event.Event.TheVariants as event
+use Rattle.rv_world.specs.declared.packet.Packet.{Packet}
 use Rattle.rv_world.specs.declared.seen.Seen.{Seen}
 use Rattle.rv_world.specs.declared.seen.WorldRefusal.{WorldRefusal}
 use Rattle.rv_world.specs.declared.seen.WorldRefusal.TheVariants as refuses
@@ -11,7 +14,7 @@ use Rattle.rv_world.specs.Events.{Due, Comes, IsNewest, NeedsMemory}
 
 -- where nothing else is due and nothing changed, that is what comes of the event
 pub lacks_memory : (w v : World) (e : Event) (result : Result Seen WorldRefusal) → ((other : WorldRefusal) → ¬ Due w e other)
-    → NeedsMemory e → IsErrAnd result (λ refusal. refusal ≡ refuses.NoMemory) → v ≡ w → Comes w e v result
+    → NeedsMemory w e → IsErrAnd result (λ refusal. refusal ≡ refuses.NoMemory) → v ≡ w → Comes w e v result
 lacks_memory w v e (Ok shows) nothing needs refused same = absurd refused
 lacks_memory w v e (Err refusal) nothing needs refused same = (inr (record { nothing_due = nothing; needs = needs; is = refused }), same)
 
@@ -21,3 +24,7 @@ start_due w client incarnation version newest other due =
     let reaches = due.0.reaches in
     let below = newest due.0.other due.0.there in
     omega (arith, reaches, below)
+
+-- nor is an answer that was sent
+pub sent_due : (w : World) (packet : ℕ) (sent : Packet) → slice_get w.to_client packet ≡ Some sent → (other : WorldRefusal) → ¬ Due w (event.ToClient packet) other
+sent_due w packet sent there other due = none-some sent (sym due.0 ∙ there)

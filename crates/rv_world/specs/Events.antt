@@ -227,15 +227,24 @@ Due w (event.ToClient packet) refusal =
 Due w (event.NewEpoch epoch) refusal =
     (epoch ≤ w.present.epoch) × (refusal ≡ refuses.EpochNotGreater)
 
--- the event needs memory: for what is sent, asked or held, or for a process or a server; a crash needs none
-abbrev pub NeedsMemory : Event → Type 0
-NeedsMemory (event.Crash client) = ⊥
-NeedsMemory _ = Unit {0}
+-- the packet is there, and a process of its client runs
+pub record IsAwaited (w : World) (packet : ℕ) : Type 0 where
+  pub sent : Packet
+  pub there : slice_get w.to_client packet ≡ Some sent
+  pub process : Process
+  pub runs : process_of w sent.client ≡ Some process
+
+-- the event needs memory: for what is sent, asked or held, or for a process or a server; a crash needs none,
+-- nor does an answer whose client has no process
+abbrev pub NeedsMemory : World → Event → Type 0
+NeedsMemory w (event.Crash client) = ⊥
+NeedsMemory w (event.ToClient packet) = IsAwaited w packet
+NeedsMemory w _ = Unit {0}
 
 -- no other refusal is due, and memory that the event needs was refused
 pub record LacksMemory (w : World) (e : Event) (refusal : WorldRefusal) : Type 0 where
   pub nothing_due : (other : WorldRefusal) → ¬ Due w e other
-  pub needs : NeedsMemory e
+  pub needs : NeedsMemory w e
   pub is : refusal ≡ refuses.NoMemory
 
 -- the event is refused: that is due, or, only where nothing is, memory was

@@ -59,8 +59,9 @@ impl World {
     }
 
     /// Takes one event, which keeps its limits, and tells what is seen of it. A refused event changes
-    /// nothing. Want of memory is told only where no other refusal is due, and never of a crash. Where the
-    /// server itself lacks memory the event is not refused: the answer that is sent says so.
+    /// nothing. Want of memory is told only where no other refusal is due, and never of a crash, nor of an
+    /// answer whose client has no process. Where the server itself lacks memory the event is not refused: the
+    /// answer that is sent says so.
     pub fn step(&mut self, alloc: Global, event: &Event) -> Result<Seen, WorldRefusal>
         requires { FitsEvent event.now }
         ensures comes { Comes self.old event.now self.new result }

@@ -37,7 +37,8 @@ returns-in-Err-Word g c starting epoch before welcomed is =
 
 pub returns-in-Err-NoMemory : goal.returns-in-Err-NoMemory
 returns-in-Err-NoMemory g c starting epoch before welcomed is =
-    runs_short g.O.Write.contents g.R.Read.remaining g.W.Write.contents starting c.args.tries welcomed (c.loop-line.invariant.so_far (first_key starting epoch) is) (link c.call_line.new.from c.call_line.new.to)
+    runs_short g.O.Write.contents g.R.Read.remaining g.W.Write.contents starting c.args.tries welcomed (c.loop-line.invariant.so_far (first_key starting epoch) is)
+    c.in-Some.line.now c.in-Some.after.now (link c.call_line.new.from c.call_line.new.to) c.in-Some.ensures.some (rw c.in-Err-NoMemory.field-0-is at c.in-Err-NoMemory.ensures.halted)
 
 pub returns : goal.returns
 returns g c starting epoch before welcomed is =

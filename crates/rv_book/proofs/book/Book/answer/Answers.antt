@@ -1,15 +1,24 @@
--- Only a reply with an item's text can want memory.
-use Rattle.std.proofs.Common.{◌∙◌, IfSome, ap, subst, sym}
+-- The reply that is made of what is kept is the one that was said.
+use Rattle.std.proofs.Common.{◌∙◌, ap, subst, sym}
+use Rattle.std.proofs.lemmas.Option.{same_Some}
+use Rattle.rv_text.specs.declared.answer.Answer.TheVariants.{Replied}
 use Rattle.rv_account.specs.Account.{Account, Stored}
-use Rattle.rv_book.specs.Verdicts.{ReplyHasText, Stamp, reply_of}
-use Rattle.rv_book.proofs.Texts.{text_said}
+use Rattle.rv_book.specs.declared.verdict.Said as said
+use Rattle.rv_book.specs.Saying.{kept_of, said_in}
+use Rattle.rv_book.specs.Verdicts.{IsAsKept, Stamp, reply_of}
+use Rattle.rv_book.proofs.Saying.{tells_kept}
 use Rattle.rv_book.proofs.book.Book.answer.Goals as goal
 
-pub returns-in_err-reply-in-Replied-clause-err : goal.returns-in_err-reply-in-Replied-clause-err
-returns-in_err-reply-in-Replied-clause-err c =
+pub returns-in_ok-reply-in-Replied-clause-ok : goal.returns-in_ok-reply-in-Replied-clause-ok
+returns-in_ok-reply-in-Replied-clause-ok c =
     let verdict = c.args.verdict.now in
-    let said = c.in-Replied in
-    let kept = sym (ap (λ (v : Stamp). v.kept) c.verdict.view_is) ∙ said.is in
+    let words = c.in-Replied in
+    let entries = c.args.self.now.entries in
+    let after : Account = c.verdict.inside.after.value.account in
+    let kept = sym (ap (λ (v : Stamp). v.kept) c.verdict.view_is) ∙ ap kept_of words.is in
+    let says = sym (ap (λ (v : Stamp). v.said) c.verdict.view_is) ∙ ap (said_in after) words.is in
+    let tells = tells_kept entries after words.key words.kept
+    (subst (λ o. IsAsKept entries o (said_in after (said.TheVariants.Replied words.key words.kept))) kept (subst (IsAsKept entries verdict.kept) says c.requires.says)) in
     let same = ap (λ (stored : Stored). stored.account.entries) c.account.ensures ∙ ap (λ (a : Account). a.entries) c.self.view_is in
-    let has = subst (λ es. IfSome (reply_of es said.kept) ReplyHasText) same c.in_err-reply-in-Replied.ensures.err in
-    text_said c.from_residual.result c.args.self.now.entries said.key said.kept verdict.kept verdict.said kept c.requires.says has
+    let reply = sym c.in_ok-reply-in-Replied.ensures.ok ∙ ap (λ es. reply_of es words.kept) same ∙ tells.is in
+    ap (Replied words.key) (same_Some _ _ reply) ∙ sym tells.tells ∙ sym says

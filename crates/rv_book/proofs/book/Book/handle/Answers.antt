@@ -2,7 +2,8 @@
 use Rattle.std.proofs.Common.{◌∙◌, subst, sym}
 use Rattle.rv_account.specs.Account.{Account}
 use Rattle.rv_book.specs.Steps.{Next}
-use Rattle.rv_book.specs.Verdicts.{WasGiven, said_in}
+use Rattle.rv_book.specs.Saying.{said_in}
+use Rattle.rv_book.specs.Verdicts.{WasGiven}
 use Rattle.rv_book.proofs.Stamping.{gives_stamp, still_given}
 use Rattle.rv_book.proofs.book.Book.handle.Goals as goal
 
