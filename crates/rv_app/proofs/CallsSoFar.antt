@@ -18,7 +18,7 @@ use Rattle.rv_run.specs.declared.fault.RunFault.TheVariants.{NoMemory, ReadFault
 use Rattle.rv_app.specs.declared.word.Word.{Word}
 use Rattle.rv_app.specs.CallRuns.{CutsLine, CutsText, RanCalls, RunsCalls, SaysNext, SettlesFirst, Stops, StopsText, TakesLines, TakesText}
 use Rattle.rv_app.specs.declared.client.Halt.TheVariants as halt
-use Rattle.rv_app.specs.Calling.{HaltsAt, HasNumbers, IsTurnedAway, IsWelcomed, SettlesLine, SettlesLines, StopsAt, key_behind}
+use Rattle.rv_app.specs.Calling.{HaltsAt, HasNumbers, IsTurnedAway, IsWelcomed, SettlesLine, SettlesLines, StopsWithWord, key_behind}
 use Rattle.rv_app.specs.Lines.{lines}
 use Rattle.rv_app.specs.Outcomes.{ReadsAll}
 use Rattle.rv_app.specs.Run.{printed}
@@ -158,11 +158,11 @@ module _ {O R W : Type 0} (taken : O → Option (List ℕ)) (remaining : R → O
 
     -- a word ends it at the next line
     pub runs_to_word : (line later : List ℕ) (word : Word) (after : Link R W) (c : Sink O) (result : Result CallSaid RunFault) → lines rest ≡ line ∷ lines later
-        → IfSome idle (λ key. StopsAt remaining contents tries key line word at after)
+        → IfSome idle (λ key. StopsWithWord remaining contents tries key line word at after)
         → IfOk result (λ said. said ≡ Stopped) → OnOk result (TakesText taken (word_text word) b c) → IfErr result (StopsText taken (word_text word) count b c)
         → RunsCalls taken remaining contents starting tries all before after a c result
     runs_to_word line later word after c result cut stops said out short =
-        let here = subst (λ (i : Option Key). IfSome i (λ key. StopsAt remaining contents tries key line word at after)) so_far.next stops in
+        let here = subst (λ (i : Option Key). IfSome i (λ key. StopsWithWord remaining contents tries key line word at after)) so_far.next stops in
         runs_by_word all so_far.texts word before after count a b c result
         (inr (record {
           first = so_far.first;

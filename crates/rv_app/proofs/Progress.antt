@@ -16,12 +16,12 @@ use Rattle.rv_app.specs.Lines.{lines}
 use Rattle.rv_app.proofs.Forms.{formless_is_bad, has_form}
 use Rattle.rv_run.proofs.Printing.{Appends-nothing, all_out, part_out, printed_append}
 use Rattle.rv_text.specs.Bodies.{refused_text}
-use Rattle.rv_app.specs.Run.{AnswersLine, Runs, printed}
+use Rattle.rv_app.specs.Run.{AnswersLine, RunsLines, printed}
 
 -- ---- runs, one after the other
 
-pub runs_append : (a b c : Account) (first more bodies others : List (List ℕ)) → Runs a first bodies b → Runs b more others c → Runs a (first ++ more) (bodies ++ others) c
-runs_append a b c [] more [] others run run' = subst (λ (x : Account). Runs x more others c) run run'
+pub runs_append : (a b c : Account) (first more bodies others : List (List ℕ)) → RunsLines a first bodies b → RunsLines b more others c → RunsLines a (first ++ more) (bodies ++ others) c
+runs_append a b c [] more [] others run run' = subst (λ (x : Account). RunsLines x more others c) run run'
 runs_append a b c [] more (body ∷ bodies) others run run' = absurd run
 runs_append a b c (line ∷ first) more [] others run run' = absurd run
 runs_append a b c (line ∷ first) more (body ∷ bodies) others run run' = (run.0, run.1, runs_append run.0 b c first more bodies others run.2 run')
@@ -33,7 +33,7 @@ answered a line = elim (has_form line) [
   | inr formless ↦ (refused_text BadText, inl (record { is_bad = formless_is_bad line formless; account_stays = refl; body_is = refl }))
 ]
 
-pub runs_on : (a : Account) (all : List (List ℕ)) → (bodies : List (List ℕ)) × Runs a all bodies a
+pub runs_on : (a : Account) (all : List (List ℕ)) → (bodies : List (List ℕ)) × RunsLines a all bodies a
 runs_on a [] = ([], refl)
 runs_on a (line ∷ all) = let here = answered a line in let later = runs_on a all in (here.0 ∷ later.0, (a, here.1, later.1))
 
@@ -44,7 +44,7 @@ pub record Progress (contents : Option (List ℕ)) (a : Account) (input : List �
   pub first : List (List ℕ)
   pub bodies : List (List ℕ)
   pub cut : lines input ≡ first ++ lines rest
-  pub run : Runs a first bodies b
+  pub run : RunsLines a first bodies b
   pub took : Appends contents (append_known now waiting) (printed bodies)
   pub count : sent + length waiting ≡ length (printed bodies)
   pub small : sent + length waiting + 65536 * length rest ≤ 65536 * length input
@@ -85,7 +85,7 @@ module _ {W : Type 0} (contents : W → Option (List ℕ)) {a : Account} {input 
       let all : lines input ≡ so_far.first = so_far.cut ∙ ap (λ bytes. so_far.first ++ lines bytes) none ∙ append-nil so_far.first in
       record {
         output = printed so_far.bodies;
-        is_printed = record { bodies = so_far.bodies; last = b; run = subst (λ (l : List (List ℕ)). Runs a l so_far.bodies b) (sym all) so_far.run; output_is = refl };
+        is_printed = record { bodies = so_far.bodies; last = b; run = subst (λ (l : List (List ℕ)). RunsLines a l so_far.bodies b) (sym all) so_far.run; output_is = refl };
         went_out = all_out (sink_contents contents start) (sink_contents contents now) (sink_contents contents now') (gathered output) (printed so_far.bodies) so_far.took out;
       }
 
@@ -100,7 +100,7 @@ module _ {W : Type 0} (contents : W → Option (List ℕ)) {a : Account} {input 
       let went = part_out (sink_contents contents start) (sink_contents contents now) (sink_contents contents now') (gathered output) (printed so_far.bodies) (sent_before output) out so_far.took so_far.count stops.past_those_sent stops.not_all stops.went_out in
       record {
         output = printed bodies;
-        is_printed = record { bodies = bodies; last = b; run = subst (λ (l : List (List ℕ)). Runs a l bodies b) (sym so_far.cut) run; output_is = refl };
+        is_printed = record { bodies = bodies; last = b; run = subst (λ (l : List (List ℕ)). RunsLines a l bodies b) (sym so_far.cut) run; output_is = refl };
         not_all = omega (arith, so_far.count, ap length joined, length-append (printed so_far.bodies) (printed later.0), stops.not_all);
         went_out = subst (Appends (sink_contents contents start) (sink_contents contents now')) (sym front) went;
       }

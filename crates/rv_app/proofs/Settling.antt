@@ -8,14 +8,14 @@ use Rattle.rv_text.specs.declared.answer.Answer.TheVariants as answers
 use Rattle.rv_text.specs.declared.answer.Reply.{Reply}
 use Rattle.rv_text.specs.declared.call.Call.{Call}
 use Rattle.rv_text.specs.declared.message.Key.{Key}
-use Rattle.rv_client.specs.declared.calling.Called.TheVariants as called
+use Rattle.rv_client.specs.declared.calling.CallOutcome.TheVariants as called
 use Rattle.rv_client.specs.Calls.{Calls}
 use Rattle.rv_client.specs.Link.{Link}
 use Rattle.rv_text.specs.Members.{max_identifier}
 use Rattle.rv_client.specs.Process.{PassesBy, Starting, first_key, key_after}
 use Rattle.rv_app.specs.declared.client.Halt.{Halt}
 use Rattle.rv_app.specs.declared.client.Halt.TheVariants as halt
-use Rattle.rv_app.specs.Calling.{AllInVain, HaltsAt, HasNumbers, HelloEnds, HellosInVain, IsPassedBy, SaysHello, SettlesLine, SettlesLines, WelcomesOrNot, key_behind}
+use Rattle.rv_app.specs.Calling.{AllInVain, HaltsAt, HasNumbers, HelloEnds, HellosInVain, IsHelloInVain, SaysHello, SettlesLine, SettlesLines, WelcomesOrNot, key_behind}
 use Rattle.rv_app.specs.declared.word.Word.{Word}
 use Rattle.rv_app.specs.declared.word.Word.TheVariants.{BadLine, EpochEnded, NotWelcome, Refused, Replaced, Unsettled}
 
@@ -65,7 +65,7 @@ module _ {R W : Type 0} (remaining : R → Option (List ℕ)) (contents : W → 
   pub none_in_vain : (starting : Starting) (at : Link R W) → AllInVain remaining contents starting 0 at at
   none_in_vain starting at = record { answers = []; each = refl; in_vain = refl }
 
-  pub one_more_in_vain : (starting : Starting) (times : ℕ) (a b c : Link R W) → AllInVain remaining contents starting times a b → IsPassedBy remaining contents starting b c
+  pub one_more_in_vain : (starting : Starting) (times : ℕ) (a b c : Link R W) → AllInVain remaining contents starting times a b → IsHelloInVain remaining contents starting b c
       → AllInVain remaining contents starting (times + 1) a c
   one_more_in_vain starting times a b c vain once = record {
     answers = vain.answers ++ once.answer ∷ [];

@@ -40,15 +40,15 @@ pub record TellsBadLine (input text : List ℕ) : Type 0 where
   pub text_is : text ≡ codes "bad line " ++ decimal number
 
 -- the text says what the audit of the input finds, and of which of the three kinds it is
-abbrev pub Tells : List ℕ → AuditSaid → List ℕ → Type 0
-Tells input Legal text = TellsLegal input text
-Tells input Fault text = TellsFault input text
-Tells input BadLine text = TellsBadLine input text
+abbrev pub TellsAudit : List ℕ → AuditSaid → List ℕ → Type 0
+TellsAudit input Legal text = TellsLegal input text
+TellsAudit input Fault text = TellsFault input text
+TellsAudit input BadLine text = TellsBadLine input text
 
 -- the line with its LF (10) says it
 pub record TellsLine (input : List ℕ) (said : AuditSaid) (line : List ℕ) : Type 0 where
   pub text : List ℕ
-  pub tells : Tells input said text
+  pub tells : TellsAudit input said text
   pub line_is : line ≡ text ++ 10 ∷ []
 
 abbrev pub HasLine : List ℕ → AuditSaid × String Global → Type 0

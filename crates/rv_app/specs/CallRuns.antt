@@ -12,7 +12,7 @@ use Rattle.rv_app.specs.declared.calls.CallSaid.TheVariants.{Stopped, Whole}
 use Rattle.rv_run.specs.declared.fault.RunFault.{RunFault}
 use Rattle.rv_run.specs.declared.fault.RunFault.TheVariants.{NoMemory, ReadFault, TooLong, WriteFault}
 use Rattle.rv_app.specs.declared.word.Word.{Word}
-use Rattle.rv_app.specs.Calling.{IsTurnedAway, IsWelcomed, SettlesLines, StopsAt, key_behind}
+use Rattle.rv_app.specs.Calling.{IsTurnedAway, IsWelcomed, SettlesLines, StopsWithWord, key_behind}
 use Rattle.rv_app.specs.Lines.{lines}
 use Rattle.rv_app.specs.Outcomes.{ReadsAll}
 use Rattle.rv_app.specs.Run.{printed}
@@ -23,14 +23,15 @@ use Rattle.rv_app.specs.Word.{word_text}
 module _ {R W : Type 0} (remaining : R → Option (List ℕ)) (contents : W → Option (List ℕ))
     (starting : Starting) (tries : ℕ) where
   -- the client is welcome, and the calls of these lines were settled with these texts, from number 1 on
-  pub record Settles (all texts : List (List ℕ)) (before after : Link R W) : Type 0 where
+  pub record SettlesAll (all texts : List (List ℕ)) (before after : Link R W) : Type 0 where
     pub epoch : ℕ
     pub greeted : Link R W
     pub welcomed : IsWelcomed remaining contents starting tries epoch before greeted
     pub settled : SettlesLines remaining contents tries (first_key starting epoch) all texts greeted after
 
   -- so were some first lines, and the word says why the one behind them was not
-  pub record StopsAtLine (all texts : List (List ℕ)) (word : Word) (before after : Link R W) : Type 0 where
+  pub record CallsStopAtLine (all texts : List (List ℕ)) (word : Word) (before after : Link R W)
+      : Type 0 where
     pub first : List (List ℕ)
     pub line : List ℕ
     pub later : List (List ℕ)
@@ -40,7 +41,8 @@ module _ {R W : Type 0} (remaining : R → Option (List ℕ)) (contents : W → 
     pub welcomed : IsWelcomed remaining contents starting tries epoch before greeted
     pub between : Link R W
     pub settled : SettlesLines remaining contents tries (first_key starting epoch) first texts greeted between
-    pub stops : StopsAt remaining contents tries (key_behind (first_key starting epoch) (length texts)) line
+    pub stops : StopsWithWord remaining contents tries
+        (key_behind (first_key starting epoch) (length texts)) line
         word between after
 
   -- the word says why the client is not welcome, and no line was looked at
@@ -51,14 +53,14 @@ module _ {R W : Type 0} (remaining : R → Option (List ℕ)) (contents : W → 
   -- the word ends the run behind the lines that were settled with these texts
   abbrev pub Stops : List (List ℕ) → List (List ℕ) → Word → Link R W → Link R W → Type 0
   Stops all texts word before after = StopsAtOnce texts word before after
-      ⊎ StopsAtLine all texts word before after
+      ⊎ CallsStopAtLine all texts word before after
 
   -- some first lines were settled with these texts
   pub record SettlesFirst (all texts : List (List ℕ)) (before after : Link R W) : Type 0 where
     pub first : List (List ℕ)
     pub later : List (List ℕ)
     pub cut : all ≡ first ++ later
-    pub settles : Settles first texts before after
+    pub settles : SettlesAll first texts before after
 
   -- behind these texts comes this one: that of one more settled line, or the word that ends the run
   abbrev pub SaysNext : List (List ℕ) → List (List ℕ) → List ℕ → Link R W → Link R W → Type 0
@@ -108,7 +110,7 @@ module _ {O R W : Type 0} (taken : O → Option (List ℕ)) (remaining : R → O
   -- each line is settled and has its text
   pub record RunsWhole (all : List (List ℕ)) (before after : Link R W) (out out' : Sink O) : Type 0 where
     pub texts : List (List ℕ)
-    pub settles : Settles remaining contents starting tries all texts before after
+    pub settles : SettlesAll remaining contents starting tries all texts before after
     pub took : TakesLines taken texts out out'
 
   -- the lines before the last have the texts of settled ones, and the last is a word

@@ -8,8 +8,8 @@ use Rattle.rv_text.specs.declared.answer.Answer.TheVariants as answers
 use Rattle.rv_text.specs.declared.answer.Reply.{Reply}
 use Rattle.rv_text.specs.declared.call.Call.{Call}
 use Rattle.rv_text.specs.declared.message.Key.{Key}
-use Rattle.rv_client.specs.declared.calling.Called.{Called}
-use Rattle.rv_client.specs.declared.calling.Called.TheVariants as called
+use Rattle.rv_client.specs.declared.calling.CallOutcome.{CallOutcome}
+use Rattle.rv_client.specs.declared.calling.CallOutcome.TheVariants as called
 use Rattle.rv_client.specs.declared.fault.LinkFault.{LinkFault}
 use Rattle.rv_client.specs.Calls.{Calls}
 use Rattle.rv_client.specs.Link.{Asks, Link, message_frame}
@@ -57,7 +57,7 @@ module _ {R W : Type 0} (remaining : R → Option (List ℕ)) (contents : W → 
       × HellosInVain starting answers between after
 
   -- after fewer hellos in vain than there may be tries, one more came to this
-  pub record LastHello (starting : Starting) (tries : ℕ) (before after : Link R W)
+  pub record DecidingHello (starting : Starting) (tries : ℕ) (before after : Link R W)
       (result : Result Answer LinkFault) : Type 0 where
     pub answers : List Answer
     pub fewer : length answers < tries
@@ -67,7 +67,7 @@ module _ {R W : Type 0} (remaining : R → Option (List ℕ)) (contents : W → 
 
   -- the client is welcome in this epoch
   abbrev pub IsWelcomed : Starting → ℕ → ℕ → Link R W → Link R W → Type 0
-  IsWelcomed starting tries epoch before after = LastHello starting tries before after
+  IsWelcomed starting tries epoch before after = DecidingHello starting tries before after
       (Ok (answers.Welcome epoch starting.client starting.incarnation starting.version))
 
   -- as many hellos as there may be tries were in vain
@@ -79,12 +79,12 @@ module _ {R W : Type 0} (remaining : R → Option (List ℕ)) (contents : W → 
   -- a hello met a fault of the link
   pub record MeetsFault (starting : Starting) (tries : ℕ) (before after : Link R W) : Type 0 where
     pub fault : LinkFault
-    pub met : LastHello starting tries before after (Err fault)
+    pub met : DecidingHello starting tries before after (Err fault)
 
   -- the client isn't welcome, and this word says so
   abbrev pub IsTurnedAway : Starting → ℕ → Word → Link R W → Link R W → Type 0
   IsTurnedAway starting tries (word.Refused refusal) before after =
-      LastHello starting tries before after (Ok (answers.Refused refusal))
+      DecidingHello starting tries before after (Ok (answers.Refused refusal))
   IsTurnedAway starting tries word.NotWelcome before after =
       MeetsFault starting tries before after ⊎ AllInVain starting tries before after
   IsTurnedAway starting tries _ before after = ⊥
@@ -93,7 +93,7 @@ module _ {R W : Type 0} (remaining : R → Option (List ℕ)) (contents : W → 
 
   -- the call that the line says was made under this key, and this came of it
   pub record MakesCall (tries : ℕ) (key : Key) (line : List ℕ) (before after : Link R W)
-      (outcome : Called) : Type 0 where
+      (outcome : CallOutcome) : Type 0 where
     pub call : Call
     pub said : IsCallBody line call
     pub made : Calls remaining contents (record { key = key; call = call }) tries before after outcome
@@ -123,20 +123,20 @@ module _ {R W : Type 0} (remaining : R → Option (List ℕ)) (contents : W → 
     pub made : MakesCall tries key line before after (called.Unsettled asking fault)
 
   -- this word says why the line, whose call would have this key, is not settled
-  abbrev pub StopsAt : ℕ → Key → List ℕ → Word → Link R W → Link R W → Type 0
-  StopsAt tries key line word.BadLine before after = IsNoCall line × (after ≡ before)
-  StopsAt tries key line (word.Unsettled number) before after =
+  abbrev pub StopsWithWord : ℕ → Key → List ℕ → Word → Link R W → Link R W → Type 0
+  StopsWithWord tries key line word.BadLine before after = IsNoCall line × (after ≡ before)
+  StopsWithWord tries key line (word.Unsettled number) before after =
       (number ≡ key.number) × LeavesUnsettled tries key line before after
-  StopsAt tries key line (word.EpochEnded current) before after =
+  StopsWithWord tries key line (word.EpochEnded current) before after =
       MakesCall tries key line before after (called.EpochEnded key current)
-  StopsAt tries key line (word.Replaced current) before after =
+  StopsWithWord tries key line (word.Replaced current) before after =
       MakesCall tries key line before after (called.Replaced key current)
-  StopsAt tries key line _ before after = ⊥
+  StopsWithWord tries key line _ before after = ⊥
 
   -- ---- for private clauses
 
   -- one hello got an answer that says nothing to the client
-  pub record IsPassedBy (starting : Starting) (before after : Link R W) : Type 0 where
+  pub record IsHelloInVain (starting : Starting) (before after : Link R W) : Type 0 where
     pub answer : Answer
     pub asked : SaysHello starting before after (Ok answer)
     pub passed_by : PassesBy starting answer
@@ -162,6 +162,6 @@ module _ {R W : Type 0} (remaining : R → Option (List ℕ)) (contents : W → 
 
   -- the call of a line has no text: for a word, or for want of memory, before it was made or once it was settled
   abbrev pub HaltsAt : ℕ → Key → List ℕ → Halt → Link R W → Link R W → Type 0
-  HaltsAt tries key line (halt.Word word) before after = StopsAt tries key line word before after
+  HaltsAt tries key line (halt.Word word) before after = StopsWithWord tries key line word before after
   HaltsAt tries key line halt.NoMemory before after =
       (after ≡ before) ⊎ ((text : List ℕ) × SettlesLine tries key line text before after)

@@ -1,2 +1,3 @@
 -- Numbers that are written in decimal digits.
-pub use Rattle.rv_lines.specs.Number.{IsDigits, Writes, WritesBetween, WritesIdentifier, value_of_digits}
+pub use Rattle.rv_lines.specs.Number.{IsDigits, WritesBetween, WritesIdentifier, WritesNumber}
+pub use Rattle.rv_lines.specs.Number.{value_of_digits}

@@ -36,7 +36,7 @@ pub record SaysAnswer (line : List ℕ) (a b : Account) (body : List ℕ) : Type
 
 -- memory was refused, for a line of a message's form: the account stays or takes the step of the line's
 -- message, and the body says that memory was refused
-pub record LacksMemory (line : List ℕ) (a b : Account) (body : List ℕ) : Type 0 where
+pub record LineLacksMemory (line : List ℕ) (a b : Account) (body : List ℕ) : Type 0 where
   pub has_form : HasForm line
   pub stays_or_steps : (b ≡ a) ⊎ ((answer : Answer) × StepsBy line a b answer)
   pub body_is : body ≡ refused_text NoMemory
@@ -44,7 +44,7 @@ pub record LacksMemory (line : List ℕ) (a b : Account) (body : List ℕ) : Typ
 -- the line is answered by this body, and leads from one account to the other
 abbrev pub AnswersLine : List ℕ → Account → Account → List ℕ → Type 0
 AnswersLine line a b body =
-    RefusesLine line a b body ⊎ (SaysAnswer line a b body ⊎ LacksMemory line a b body)
+    RefusesLine line a b body ⊎ (SaysAnswer line a b body ⊎ LineLacksMemory line a b body)
 
 -- the message takes its step and the body says the answer, or the body says that memory was refused
 pub record SaysNext (moment : ℕ) (message : Message) (a b : Account) (body : List ℕ) : Type 0 where
@@ -55,15 +55,15 @@ pub record SaysNext (moment : ℕ) (message : Message) (a b : Account) (body : L
 -- ---- all lines
 
 -- the lines, in order, are answered by these bodies, one a line, and lead from one account to the other
-abbrev pub Runs : Account → List (List ℕ) → List (List ℕ) → Account → Type 0
-Runs a [] [] b = b ≡ a
-Runs a (line ∷ lines) (body ∷ bodies) b =
-    (between : Account) × AnswersLine line a between body × Runs between lines bodies b
-Runs a _ _ b = ⊥
+abbrev pub RunsLines : Account → List (List ℕ) → List (List ℕ) → Account → Type 0
+RunsLines a [] [] b = b ≡ a
+RunsLines a (line ∷ lines) (body ∷ bodies) b =
+    (between : Account) × AnswersLine line a between body × RunsLines between lines bodies b
+RunsLines a _ _ b = ⊥
 
 -- the output is what one run over the lines of the input prints, from this account on
 pub record Prints (a : Account) (input output : List ℕ) : Type 0 where
   pub bodies : List (List ℕ)
   pub last : Account
-  pub run : Runs a (lines input) bodies last
+  pub run : RunsLines a (lines input) bodies last
   pub output_is : output ≡ printed bodies

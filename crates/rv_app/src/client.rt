@@ -4,11 +4,11 @@ ghost use Rattle.rv_text.specs.Bodies.{HasBodyLength, IsCallBody};
 ghost use Rattle.rv_text.specs.Limits.{FitsIdentifier, FitsKey};
 ghost use Rattle.rv_client.specs.Link.{link};
 ghost use Rattle.rv_client.specs.Process.{PassesBy, key_after};
-ghost use Rattle.rv_app.specs.Calling.{HaltsAt, HaltsReading, HelloEnds, IsPassedBy, SettlesLine};
+ghost use Rattle.rv_app.specs.Calling.{HaltsAt, HaltsReading, HelloEnds, IsHelloInVain, SettlesLine};
 ghost use Rattle.rv_app.specs.Calling.{WelcomesOrNot};
 
 use crate::word::Word;
-use rv_client::{Called, Greeted, Idle, New, ask, call};
+use rv_client::{CallOutcome, Idle, New, WelcomeOutcome, ask, call};
 use rv_frame::{Sink, Source};
 use rv_text::{Answer, Call, NoMemory, TextFault, decode_call, encode_answer};
 use std::alloc::{AllocError, Global};
@@ -67,15 +67,15 @@ fn try_hello<R: Read, W: Write>(
     requires client { FitsIdentifier new.client }
     requires incarnation { FitsIdentifier new.incarnation }
     ensures again { IfOk result (λ same. (same ≡ new)
-        × IsPassedBy R.remaining W.contents new (link from.old to.old) (link from.new to.new)) }
+        × IsHelloInVain R.remaining W.contents new (link from.old to.old) (link from.new to.new)) }
     ensures ended { IfErr result (HelloEnds R.remaining W.contents new
         (link from.old to.old) (link from.new to.new)) }
 {
     match ask(alloc, from, to, &new.message()) {
         Ok(answer) => match new.welcome(&answer) {
-            Greeted::Idle(idle) => Err(Ok(idle)),
-            Greeted::Again(same) => Ok(same),
-            Greeted::Refused(_, refusal) => Err(Err(Word::Refused(refusal))),
+            WelcomeOutcome::Idle(idle) => Err(Ok(idle)),
+            WelcomeOutcome::Again(same) => Ok(same),
+            WelcomeOutcome::Refused(_, refusal) => Err(Err(Word::Refused(refusal))),
         },
         Err(_) => Err(Err(Word::NotWelcome)),
     }
@@ -103,16 +103,16 @@ pub(crate) fn call_line<R: Read, W: Write>(
     let key = idle.next_key().unwrap();
     let asked = read_call(alloc, line)?;
     match call(alloc, idle, from, to, asked, tries) {
-        Called::Settled(next, reply) => {
+        CallOutcome::Settled(next, reply) => {
             let answer = Answer::Replied { key, reply };
             Ok((next, encode_answer(alloc, &answer)?))
         }
-        Called::Unsettled(outstanding, _) => {
+        CallOutcome::Unsettled(outstanding, _) => {
             let number = outstanding.abandon().number;
             Err(Halt::Word(Word::Unsettled(number)))
         }
-        Called::EpochEnded(_, current) => Err(Halt::Word(Word::EpochEnded(current))),
-        Called::Replaced(_, current) => Err(Halt::Word(Word::Replaced(current))),
+        CallOutcome::EpochEnded(_, current) => Err(Halt::Word(Word::EpochEnded(current))),
+        CallOutcome::Replaced(_, current) => Err(Halt::Word(Word::Replaced(current))),
     }
 }
 

@@ -1,7 +1,7 @@
 //! Reads the moment and the message that a line of the book's input says.
 ghost use Rattle.std.specs.Prelude.{◌≡◌, ◌∷◌, ◌++◌, ℕ, List, None, IfSome, IfOk, Err};
 ghost use Rattle.rv_app.specs.Lines.{HasForm, IsBadLine, ReadsLine};
-ghost use Rattle.rv_app.specs.Number.{Writes};
+ghost use Rattle.rv_app.specs.Number.{WritesNumber};
 
 use rv_lines::{cut_at, read_number};
 pub(crate) use rv_lines::{LineFault, first_line};
@@ -21,9 +21,9 @@ pub(crate) fn read_line(alloc: Global, line: &[u8]) -> Result<(u64, Message), Li
 // The moment of a line, and the bytes behind the one space after it, whatever they are.
 fn moment_and_body(line: &[u8]) -> Option<(u64, &[u8])>
     ensures some { IfSome result (λ p. (digits : List ℕ) × (line.now ≡ digits ++ 32 ∷ p.1.now)
-        × Writes digits p.0) }
+        × WritesNumber digits p.0) }
     ensures none { result ≡ None → (digits body : List ℕ) (moment : ℕ)
-        → line.now ≡ digits ++ 32 ∷ body → ¬ Writes digits moment }
+        → line.now ≡ digits ++ 32 ∷ body → ¬ WritesNumber digits moment }
 {
     let (digits, body) = cut_at(b' ', line)?;
     Some((read_number(digits)?, body))

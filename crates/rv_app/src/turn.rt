@@ -14,7 +14,7 @@ use std::alloc::Global;
 
 // The body that answers a line.
 #[derive(Drop)]
-pub(crate) enum Body {
+pub(crate) enum LineBody {
     // Of a line that says no message.
     BadText,
     // Of a line for which memory was refused.
@@ -23,7 +23,7 @@ pub(crate) enum Body {
     Text(String),
 }
 
-impl Body {
+impl LineBody {
     /// The bytes of the body.
     pub(crate) fn as_bytes(&self) -> &[u8]
         requires { HasTextOfBody self.now }
@@ -31,36 +31,36 @@ impl Body {
         ensures of_body { HasBodyLength result.now }
     {
         match self {
-            Body::BadText => bad_text_body(),
-            Body::NoMemory => no_memory_body(),
-            Body::Text(text) => text.as_bytes(),
+            LineBody::BadText => bad_text_body(),
+            LineBody::NoMemory => no_memory_body(),
+            LineBody::Text(text) => text.as_bytes(),
         }
     }
 }
 
 /// Answers a line: its message is handed to the book at its moment. Where memory is refused, the
 /// book may have taken the message's step or not.
-pub(crate) fn answer_line(alloc: Global, book: &mut Book, line: &[u8]) -> Body
+pub(crate) fn answer_line(alloc: Global, book: &mut Book, line: &[u8]) -> LineBody
     ensures answers { AnswersLine line.now book.old book.new (body_text result) }
     ensures of_body { HasTextOfBody result }
 {
     match read_line(alloc, line) {
         Ok((moment, message)) => answer_message(alloc, book, moment, message),
-        Err(LineFault::Bad) => Body::BadText,
-        Err(LineFault::NoMemory) => Body::NoMemory,
+        Err(LineFault::Bad) => LineBody::BadText,
+        Err(LineFault::NoMemory) => LineBody::NoMemory,
     }
 }
 
 // Hands the message to the book.
-fn answer_message(alloc: Global, book: &mut Book, moment: u64, message: Message) -> Body
+fn answer_message(alloc: Global, book: &mut Book, moment: u64, message: Message) -> LineBody
     requires { FitsMessage message }
     ensures says { SaysNext moment message book.old book.new (body_text result) }
     ensures of_body { HasTextOfBody result }
 {
     let verdict = book.handle(moment, message);
     match verdict_text(alloc, book, &verdict) {
-        Ok(text) => Body::Text(text),
-        Err(_) => Body::NoMemory,
+        Ok(text) => LineBody::Text(text),
+        Err(_) => LineBody::NoMemory,
     }
 }
 

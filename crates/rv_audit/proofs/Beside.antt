@@ -3,7 +3,7 @@ use Rattle.std.proofs.Common.{◌≡◌, ◌⊎◌, inl, inr, ℕ, ◌-◌, ◌<
 use Rattle.std.proofs.lemmas.Bool.{cases_lt, false≢true}
 use Rattle.rv_account.specs.Account.{Among}
 use Rattle.rv_book.proofs.Numbers.{same_or_not}
-use Rattle.rv_audit.specs.Marks.{GoesOnAt, IsLowest, IsNext, NoneBehind, NoneUnder, marked}
+use Rattle.rv_audit.specs.Marks.{GoesOnAt, IsLowest, IsNextMark, NoneBehind, NoneUnder, is_marked_under}
 use Rattle.rv_audit.specs.declared.marks.Marks.{Marks}
 
 -- how many places are left to be looked at
@@ -17,7 +17,7 @@ module _ (m : Marks) (number : ℕ) (places : List ℕ) where
   goes_first (Some q) some none = (some.there, λ p less there. absurd (false≢true (sym (some.lowest p less) ∙ there)))
 
   module _ (place : ℕ) (at : GoesOnAt m number places (Some place)) (own : Among places place) where
-    up_to : (p : ℕ) → marked m number p ≡ true → Among places p ⊎ (place < p)
+    up_to : (p : ℕ) → is_marked_under m number p ≡ true → Among places p ⊎ (place < p)
     up_to p there = elim (cases_lt p place) [
       | inl below ↦ inl (at.1 p below there)
       | inr above ↦ elim (same_or_not p place) [
@@ -26,7 +26,7 @@ module _ (m : Marks) (number : ℕ) (places : List ℕ) where
       ]
     ]
 
-    pub goes_on : (found : Option ℕ) → IfSome found (IsNext m number place) → IfNone found (NoneBehind m number place) → GoesOnAt m number places found
+    pub goes_on : (found : Option ℕ) → IfSome found (IsNextMark m number place) → IfNone found (NoneBehind m number place) → GoesOnAt m number places found
     goes_on None some none = λ p there. elim (up_to p there) [
       | inl among ↦ among
       | inr behind ↦ absurd (false≢true (sym (none p behind) ∙ there))
@@ -39,6 +39,6 @@ module _ (m : Marks) (number : ℕ) (places : List ℕ) where
       ],
     )
 
-    pub fewer_left : (found : Option ℕ) → place < 18446744073709551616 → IfSome found (IsNext m number place) → left_from found < left_from (Some place)
+    pub fewer_left : (found : Option ℕ) → place < 18446744073709551616 → IfSome found (IsNextMark m number place) → left_from found < left_from (Some place)
     fewer_left None fits some = omega arith
     fewer_left (Some q) fits some = let behind : place < q = some.behind in omega arith

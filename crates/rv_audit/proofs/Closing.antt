@@ -16,10 +16,10 @@ use Rattle.rv_book.proofs.Places.{get-take}
 use Rattle.rv_book.proofs.Sides.{one_side}
 use Rattle.rv_audit.proofs.Named.{all_first, first_back, first_on, first_own, none_first, one_at}
 use Rattle.rv_audit.specs.Lines.{Closes, stands_in}
-use Rattle.rv_audit.specs.Marks.{IsLeast, Loses, marked}
-use Rattle.rv_audit.specs.Passed.{AmongFirst, AreLimits, AreLines, AreMet, AreSessions, AreTables, ClosesIf, Gone, IsArrived, IsFitting, IsFront, IsTakingOut, LosesIf, SameRest, TakesEach, TakesOut, gone_at, none_gone, passed, with_gone, with_tables}
+use Rattle.rv_audit.specs.Marks.{IsLeast, Loses, is_marked_under}
+use Rattle.rv_audit.specs.Passed.{AmongFirst, AreAuditSessions, AreLimits, AreLines, AreMet, AreTables, ClosesIf, Gone, IsArrived, IsFitting, IsFront, IsTakingOut, LosesIf, SameRest, TakesEach, TakesOutPlace, gone_at, none_gone, passed, with_gone, with_tables}
 use Rattle.rv_audit.specs.declared.front.Front.{Front}
-use Rattle.rv_audit.specs.declared.lines.Lines.{Lines}
+use Rattle.rv_audit.specs.declared.lines.OpenLines.{OpenLines}
 use Rattle.rv_audit.specs.declared.marks.Marks.{Marks}
 
 -- ---- places that are gone
@@ -50,7 +50,7 @@ who_is_gone gone place r went = gone_by gone place r (nat_eq r place) refl went
 -- ---- lines
 
 module _ (es : List Entry) (gone : Gone) (place : ℕ) where
-  lines_by : (old new : Lines) (side : Side) → AreLines es gone old → Closes old new side place → SideAt es side place → AreLines es (with_gone gone place) new
+  lines_by : (old new : OpenLines) (side : Side) → AreLines es gone old → Closes old new side place → SideAt es side place → AreLines es (with_gone gone place) new
   lines_by old new side are closes at s r = (
     λ stands.
         let apart : r ≡ place → ⊥ = λ same. elim (same_side s side) [
@@ -66,7 +66,7 @@ module _ (es : List Entry) (gone : Gone) (place : ℕ) where
         closes.others s r (inr was.1) ∙ (are s r).1 (left.0, was.0),
   )
 
-  pub lines_closed : (old new : Lines) (side : Option Side) → AreLines es gone old → ClosesIf old new side place → IfSome side (λ s. SideAt es s place)
+  pub lines_closed : (old new : OpenLines) (side : Option Side) → AreLines es gone old → ClosesIf old new side place → IfSome side (λ s. SideAt es s place)
       → IfNone side ((s : Side) → SideAt es s place → ⊥) → IsArrived es place → AreLines es (with_gone gone place) new
   lines_closed old new (Some side) are closes some none arrived = lines_by old new side are closes some
   lines_closed old new None are closes some none arrived = absurd (none _ (record { call = arrived.0; arrived = arrived.1; is = refl }))
@@ -77,7 +77,7 @@ module _ (es : List Entry) (gone : Gone) (place : ℕ) where
   limits_by old new limit are loses has = record {
     are = λ l r there. elim (same_or_not r place) [
       | inl same ↦ elim (same_or_not l limit) [
-        | inl one ↦ absurd (false≢true (sym loses.own ∙ sym (ap (λ n. marked new n place) one) ∙ sym (ap (λ n. marked new l n) same) ∙ there))
+        | inl one ↦ absurd (false≢true (sym loses.own ∙ sym (ap (λ n. is_marked_under new n place) one) ∙ sym (ap (λ n. is_marked_under new l n) same) ∙ there))
         | inr other ↦
             let was = are.are l r (sym (loses.others l r (inl other)) ∙ there) in
             absurd (other (same_Some _ _ (sym was.has ∙ ap (limit_at es) same ∙ has)))
@@ -119,7 +119,7 @@ tables_with a gone left old new rest are lines limits = record {
   met = subst (λ (f : Front). AreMet a.entries f.met.items) (sym rest) are.met;
   lines = lines;
   limits = limits;
-  sessions = subst (λ (f : Front). AreSessions a.entries f.sessions) (sym rest) are.sessions;
+  sessions = subst (λ (f : Front). AreAuditSessions a.entries f.sessions) (sym rest) are.sessions;
 }
 
 pub same_rest : (one two three : Front) → SameRest one two → SameRest two three → SameRest one three
@@ -138,7 +138,7 @@ pub due_arrived : (es : List Entry) (moment r : ℕ) → IsDueAt es moment r →
 due_arrived es moment r due = (due.waits.is_open.call, due.waits.is_open.arrived)
 
 -- one turn of taking out
-pub took_out : (start old new : Front) (moment place : ℕ) → IsTakingOut start old moment → TakesOut old new place → IsDueAt (passed start).entries moment place → IsTakingOut start new moment
+pub took_out : (start old new : Front) (moment place : ℕ) → IsTakingOut start old moment → TakesOutPlace old new place → IsDueAt (passed start).entries moment place → IsTakingOut start new moment
 took_out start old new moment place is out due =
     let same : passed old ≡ passed start = same_passed start old is.rest in
     record {
@@ -198,7 +198,7 @@ gone_still gone place r went = by_value (nat_eq r place)
     by_value true = refl
     by_value false = went
 
-pub takes_next : (start old new : Front) (places : List ℕ) (n : ℕ) → n < length places → TakesEach (AmongFirst places n) start old → TakesOut old new (get_or places n 0)
+pub takes_next : (start old new : Front) (places : List ℕ) (n : ℕ) → n < length places → TakesEach (AmongFirst places n) start old → TakesOutPlace old new (get_or places n 0)
     → TakesEach (AmongFirst places (n + 1)) start new
 takes_next start old new places n inside is out =
     let place = get_or places n 0 in

@@ -19,10 +19,10 @@ use Rattle.rv_book.proofs.Places.{get-append_end}
 use Rattle.rv_book.proofs.SessionTable.{IsApart, IsAt, IsAt-on, named_at, other_apart}
 use Rattle.rv_book.proofs.Sides.{IsNewRequest, Waiting-back, WasWaiting, cancel_stops, hello_stops}
 use Rattle.rv_book.proofs.Waits.{one_waits, waiting_is_last}
-use Rattle.rv_audit.specs.Passed.{AreSessions, EntersIf, IsSession, IsSessionOf, session_after}
-use Rattle.rv_audit.specs.Sessions.{Enters, session_in}
-use Rattle.rv_audit.specs.declared.sessions.Session.{Session}
-use Rattle.rv_audit.specs.declared.sessions.Sessions.{Sessions}
+use Rattle.rv_audit.specs.Passed.{AreAuditSessions, EntersIf, IsAuditSession, IsAuditSessionOf, session_after}
+use Rattle.rv_audit.specs.Sessions.{EntersSession, session_in}
+use Rattle.rv_audit.specs.declared.sessions.AuditSession.{AuditSession}
+use Rattle.rv_audit.specs.declared.sessions.AuditSessions.{AuditSessions}
 
 -- ---- a session, with its last number
 
@@ -33,7 +33,7 @@ opened_by es client incarnation has = record { h = has.0; last = has.1; version_
 opened_in : (es : List Entry) (client incarnation : ℕ) (version : Version) → HasOpened es client incarnation version → HasIncarnation es client incarnation
 opened_in es client incarnation version opened = (opened.h, opened.last)
 
-is_at : (es : List Entry) (client : ℕ) (s : Session) (is : IsSession es client s) → IsAt es client s.incarnation is.incarnation.1.version s.last
+is_at : (es : List Entry) (client : ℕ) (s : AuditSession) (is : IsAuditSession es client s) → IsAt es client s.incarnation is.incarnation.1.version s.last
 is_at es client s is = record { opened = opened_by es client s.incarnation is.incarnation; number = is.number }
 
 -- who waits with one entry more, and isn't that entry, waited
@@ -55,7 +55,7 @@ no_hello_on es e client apart none said = elim (reads_back act_read refl es e sa
   | inr own ↦ apart.no_hello said.1 said.2 own.1
 ]
 
-session_on : (es : List Entry) (e : Entry) (client : ℕ) (s : Session) → NamesFreePartners es e → IsApart e.act client → IsSession es client s → IsSession (es ++ e ∷ []) client s
+session_on : (es : List Entry) (e : Entry) (client : ℕ) (s : AuditSession) → NamesFreePartners es e → IsApart e.act client → IsAuditSession es client s → IsAuditSession (es ++ e ∷ []) client s
 session_on es e client s free apart is =
     let version : Version = is.incarnation.1.version in
     let at = IsAt-on es e client s.incarnation version s.last apart (is_at es client s is) in
@@ -66,7 +66,7 @@ session_on es e client s free apart is =
       alone = λ r key waits names. let was = waited es e r client key free waits names apart in is.alone r key was.0 was.1;
     }
 
-session_of_on : (es : List Entry) (e : Entry) (client : ℕ) (s : Option Session) → NamesFreePartners es e → IsApart e.act client → IsSessionOf es client s → IsSessionOf (es ++ e ∷ []) client s
+session_of_on : (es : List Entry) (e : Entry) (client : ℕ) (s : Option AuditSession) → NamesFreePartners es e → IsApart e.act client → IsAuditSessionOf es client s → IsAuditSessionOf (es ++ e ∷ []) client s
 session_of_on es e client None free apart is = no_hello_on es e client apart is
 session_of_on es e client (Some s) free apart is = session_on es e client s free apart is
 
@@ -123,7 +123,7 @@ module _ (a : Account) (e : Entry) (legal : Legal a) (follows : MayFollow a e) w
   inside_of : (r : ℕ) → Waiting es r → r < length es
   inside_of r waits = reads_within call_read refl es r waits.is_open.call waits.is_open.arrived
 
-  hello_session : (client incarnation : ℕ) (version : Version) → e.act ≡ Hello client incarnation version → IsSession after client (record { incarnation = incarnation; last = 0; request = None })
+  hello_session : (client incarnation : ℕ) (version : Version) → e.act ≡ Hello client incarnation version → IsAuditSession after client (record { incarnation = incarnation; last = 0; request = None })
   hello_session client incarnation version says =
       let at = greeted es e client incarnation version says in
       record {
@@ -159,7 +159,7 @@ module _ (a : Account) (e : Entry) (legal : Legal a) (follows : MayFollow a e) w
       let at = named_at es e key key.incarnation version n names (record { opened = opened_by es key.client key.incarnation has; number = last }) most in
       record { has = opened_in after key.client key.incarnation version at.opened; number = at.number }
 
-  arrival_session : (key : Key) (call : Call) → e.act ≡ Arrive key call → IsSession after key.client (record { incarnation = key.incarnation; last = key.number; request = Some (length es) })
+  arrival_session : (key : Key) (call : Call) → e.act ≡ Arrive key call → IsAuditSession after key.client (record { incarnation = key.incarnation; last = key.number; request = Some (length es) })
   arrival_session key call arrives =
       let names : key_in e.act ≡ Some key = ap key_in arrives in
       let next : IsNextNumber es key = follows.numbers.counts_up key call arrives in
@@ -191,7 +191,7 @@ module _ (a : Account) (e : Entry) (legal : Legal a) (follows : MayFollow a e) w
       let arrived = subst (λ n. act_at es n ≡ Some (Arrive key under.call)) same under.arrived in
       was.unstopped (cancel_stops es e key r says (record { call = under.call; arrived = arrived; no_put = no_put r under.call key was.there arrived }))
 
-  cancel_session : (key : Key) → e.act ≡ Cancel key → IsSession after key.client (record { incarnation = key.incarnation; last = key.number; request = None })
+  cancel_session : (key : Key) → e.act ≡ Cancel key → IsAuditSession after key.client (record { incarnation = key.incarnation; last = key.number; request = None })
   cancel_session key says =
       let names : key_in e.act ≡ Some key = ap key_in says in
       let turn = follows.numbers.cancels key says in
@@ -208,11 +208,11 @@ module _ (a : Account) (e : Entry) (legal : Legal a) (follows : MayFollow a e) w
 
   -- ---- all
 
-  entered_by : (old new : Sessions) (client : ℕ) (s : Session) → AreSessions es old → Enters old new client s → ((other : ℕ) → (other ≡ client → ⊥) → IsApart e.act other)
-      → IsSession after client s → AreSessions after new
+  entered_by : (old new : AuditSessions) (client : ℕ) (s : AuditSession) → AreAuditSessions es old → EntersSession old new client s → ((other : ℕ) → (other ≡ client → ⊥) → IsApart e.act other)
+      → IsAuditSession after client s → AreAuditSessions after new
   entered_by old new client s are enters apart own other = elim (same_or_not other client) [
-    | inl same ↦ subst (λ n. IsSessionOf after n (session_in new n)) (sym same) (subst (IsSessionOf after client) (sym enters.own) own)
-    | inr differs ↦ subst (IsSessionOf after other) (sym (enters.others other differs)) (session_of_on es e other (session_in old other) free (apart other differs) (are other))
+    | inl same ↦ subst (λ n. IsAuditSessionOf after n (session_in new n)) (sym same) (subst (IsAuditSessionOf after client) (sym enters.own) own)
+    | inr differs ↦ subst (IsAuditSessionOf after other) (sym (enters.others other differs)) (session_of_on es e other (session_in old other) free (apart other differs) (are other))
   ]
 
   tick_apart : (client : ℕ) → e.act ≡ Tick → IsApart e.act client
@@ -227,7 +227,7 @@ module _ (a : Account) (e : Entry) (legal : Legal a) (follows : MayFollow a e) w
   others_apart : (client : ℕ) → client_of e.act ≡ client → (other : ℕ) → (other ≡ client → ⊥) → IsApart e.act other
   others_apart client is other differs = other_apart e.act other (λ same. differs (sym same ∙ is))
 
-  joined_by : (old new : Sessions) (does : Act) → e.act ≡ does → AreSessions es old → EntersIf old new (session_after does (length es)) → AreSessions after new
+  joined_by : (old new : AuditSessions) (does : Act) → e.act ≡ does → AreAuditSessions es old → EntersIf old new (session_after does (length es)) → AreAuditSessions after new
   joined_by old new (Hello client incarnation version) says are enters =
       entered_by old new client _ are enters (others_apart client (ap client_of says)) (hello_session client incarnation version says)
   joined_by old new (Arrive key call) says are enters =
@@ -235,8 +235,8 @@ module _ (a : Account) (e : Entry) (legal : Legal a) (follows : MayFollow a e) w
   joined_by old new (Cancel key) says are enters =
       entered_by old new key.client _ are enters (others_apart key.client (ap client_of says)) (cancel_session key says)
   joined_by old new Tick says are same = λ client.
-      subst (λ (t : Sessions). IsSessionOf after client (session_in t client)) (sym same)
+      subst (λ (t : AuditSessions). IsAuditSessionOf after client (session_in t client)) (sym same)
       (session_of_on es e client (session_in old client) free (tick_apart client says) (are client))
 
-  pub sessions_joined : (old new : Sessions) → AreSessions es old → EntersIf old new (session_after e.act (length es)) → AreSessions after new
+  pub sessions_joined : (old new : AuditSessions) → AreAuditSessions es old → EntersIf old new (session_after e.act (length es)) → AreAuditSessions after new
   sessions_joined old new are enters = joined_by old new e.act refl are enters

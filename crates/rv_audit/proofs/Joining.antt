@@ -20,16 +20,16 @@ use Rattle.rv_book.proofs.Keys.{act_called}
 use Rattle.rv_book.proofs.Numbers.{same_or_not}
 use Rattle.rv_book.proofs.Places.{get-append, get-append_cases, get-append_end}
 use Rattle.rv_book.proofs.Sides.{OpenAt-back, OpenAt-last, OpenAt-on, Waiting-back, Waiting-last, Waiting-on, last_unmet, names_last, waiting_is_open}
-use Rattle.rv_book.proofs.Waiters.{met_last, open_inside}
+use Rattle.rv_book.proofs.WaitersBySide.{met_last, open_inside}
 use Rattle.rv_audit.specs.Lines.{IsOpenable, stands_in}
-use Rattle.rv_audit.specs.Marks.{marked}
+use Rattle.rv_audit.specs.Marks.{is_marked_under}
 use Rattle.rv_audit.specs.Passed.{AreLimits, AreLines, AreMet, AreTouched, AreWithin, EntersIf, Flags, GainsIf, Gone, IsNewOn, IsNewRequest, OpensIf, OpensOn, SetsFlags, WaitsUntil, is_any, none_gone, session_after}
 use Rattle.rv_audit.specs.Passed.{AreTables, HasPassed, IsReadyFor, passed}
 use Rattle.rv_audit.specs.declared.front.Front.{Front}
 use Rattle.rv_audit.proofs.Entering.{sessions_joined}
 use Rattle.rv_audit.proofs.Named.{is_any_or_none, some_among}
 use Rattle.rv_book.proofs.Legality.{Legal-with_entry}
-use Rattle.rv_audit.specs.declared.lines.Lines.{Lines}
+use Rattle.rv_audit.specs.declared.lines.OpenLines.{OpenLines}
 use Rattle.rv_audit.specs.declared.marks.Marks.{Marks}
 
 -- ---- moments
@@ -142,12 +142,12 @@ module _ (a : Account) (e : Entry) (legal : Legal a) (follows : MayFollow a e) w
     not_openable (Exchanges exchanger) call is stays = tt
     not_openable (Looks queue) call is stays = let no_side = subst (λ s. IsSome (opposite s)) is stays.0 in absurd (false≢true no_side)
 
-    pub lines_joined : (old new : Lines) (on : Option Side) → AreLines es gone old → OpensOn e on → OpensIf old new on (length es) → AreLines after none_gone new
+    pub lines_joined : (old new : OpenLines) (on : Option Side) → AreLines es gone old → OpensOn e on → OpensIf old new on (length es) → AreLines after none_gone new
     lines_joined old new None are none same side r = (
       λ stands.
-          let was = (are side r).0 (ap (λ (l : Lines). stands_in l side r) (sym same) ∙ stands) in
+          let was = (are side r).0 (ap (λ (l : OpenLines). stands_in l side r) (sym same) ∙ stands) in
           (stays_open side r was.0 was.1, refl),
-      λ there. ap (λ (l : Lines). stands_in l side r) same ∙ elim (was_open side r there.0) [
+      λ there. ap (λ (l : OpenLines). stands_in l side r) same ∙ elim (was_open side r there.0) [
         | inl was ↦ (are side r).1 was
         | inr own ↦ absurd (none side (own_alone side (subst (OpenAt after side) own.0 there.0)) own.1)
       ],
@@ -196,9 +196,9 @@ module _ (a : Account) (e : Entry) (legal : Legal a) (follows : MayFollow a e) w
     pub limits_joined : (old new : Marks) (until : Option ℕ) → AreLimits es gone old → WaitsUntil e until → GainsIf old new until (length es) → AreLimits after none_gone new
     limits_joined old new None are none same = record {
       are = λ limit r there.
-          let was = are.are limit r (ap (λ (m : Marks). marked m limit r) (sym same) ∙ there) in
+          let was = are.are limit r (ap (λ (m : Marks). is_marked_under m limit r) (sym same) ∙ there) in
           record { waits = still_waits r was.waits was.left; left = refl; has = kept_limit r was.waits ∙ was.has; fits = was.fits };
-      each = λ limit r is. ap (λ (m : Marks). marked m limit r) same ∙ elim (was_waiting r is.waits) [
+      each = λ limit r is. ap (λ (m : Marks). is_marked_under m limit r) same ∙ elim (was_waiting r is.waits) [
         | inl was ↦ are.each limit r (record { waits = was.0; left = was.1; has = sym (kept_limit r was.0) ∙ is.has; fits = is.fits })
         | inr own ↦ absurd (none limit (record {
           alone = own_alone _ (subst (OpenAt after _) own.0 (waiting_is_open after r is.waits));
@@ -229,7 +229,7 @@ module _ (a : Account) (e : Entry) (legal : Legal a) (follows : MayFollow a e) w
         | inl was ↦ gains.others limit r (inr (waits_apart r was.0)) ∙ are.each limit r (record { waits = was.0; left = was.1; has = sym (kept_limit r was.0) ∙ is.has; fits = is.fits })
         | inr own ↦
             let one : limit ≡ until = same_Some _ _ (sym is.has ∙ ap (limit_at after) own.0 ∙ own_limit ∙ new_one.has) in
-            ap (λ n. marked new n r) one ∙ ap (marked new until) own.0 ∙ gains.own
+            ap (λ n. is_marked_under new n r) one ∙ ap (is_marked_under new until) own.0 ∙ gains.own
       ];
     }
 

@@ -11,7 +11,7 @@ use Rattle.std.specs.Cmp.{IsTotalOrder, nat_cmp_total, then_total, on_total, ran
 use Rattle.std.proofs.lemmas.Bool.{false≢true}
 use Rattle.rv_audit.specs.declared.marks.Marks.{Marks}
 use Rattle.std.specs.Bool.{IsTrue}
-use Rattle.rv_audit.specs.Marks.{Gains, IsLowest, IsNext, Loses, NoneBehind, NoneUnder, NoneUntil}
+use Rattle.rv_audit.specs.Marks.{Gains, IsLowest, IsNextMark, Loses, NoneBehind, NoneUnder, NoneUntil}
 
 abbrev pub Pair : Type 0
 Pair = ℕ × ℕ
@@ -189,7 +189,7 @@ nothing_behind s n last r range none p less = range.5 none (n, p) (behind_less n
 
 is_next : (s : BTreeSet Pair) (n last : ℕ) (k : Pair) → IsKeyInRange pair_cmp (Excluded (n, last)) Unbounded s k
     → ((q : Pair) → pair_cmp (n, last) q ≡ Less → IsTrue (contains pair_cmp s q) → is_gt (pair_cmp k q) ≡ false)
-    → k.0 ≡ n → IsNext (as_marks s) n last k.1
+    → k.0 ≡ n → IsNextMark (as_marks s) n last k.1
 is_next s n last k there least is = record {
   there = subst (λ m. contains pair_cmp s (m, k.1) ≡ true) is there.1;
   behind = elim (is_below (n, last) k there.0.0) [
@@ -214,7 +214,7 @@ none_behind s n last k from least apart p after = true_or_false _ (λ other. eli
 ])
 
 pub found_next : (s : BTreeSet Pair) (n last : ℕ) (r rest : List Pair) (k : Pair) (b : Bool) → RangeBehind s n last r → r ≡ k ∷ rest → nat_eq k.0 n ≡ b
-    → IfSome (then_some b k.1) (IsNext (as_marks s) n last)
+    → IfSome (then_some b k.1) (IsNextMark (as_marks s) n last)
 found_next s n last r rest k true range is same = is_next s n last k (found_behind s n last r rest k range is) (least_behind s n last r rest k range is) (grind (arith, nat_tests))
 found_next s n last r rest k false range is same = tt
 

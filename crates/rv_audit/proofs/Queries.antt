@@ -22,10 +22,10 @@ use Rattle.rv_book.proofs.Sides.{waiting_is_open}
 use Rattle.rv_book.proofs.Waits.{waiting_is_last}
 use Rattle.rv_audit.specs.Lines.{IsFirstBeside, NobodyBeside, stands_in}
 use Rattle.rv_audit.specs.Marks.{IsLeast, NoneUntil}
-use Rattle.rv_audit.specs.Passed.{AreLimits, AreLines, IsOldestBeside, IsSessionOf, WaitsOf, none_gone}
-use Rattle.rv_audit.specs.declared.lines.Lines.{Lines}
+use Rattle.rv_audit.specs.Passed.{AreLimits, AreLines, IsAuditSessionOf, IsOldestBeside, WaitsOf, none_gone}
+use Rattle.rv_audit.specs.declared.lines.OpenLines.{OpenLines}
 use Rattle.rv_audit.specs.declared.marks.Marks.{Marks}
-use Rattle.rv_audit.specs.declared.sessions.Session.{Session}
+use Rattle.rv_audit.specs.declared.sessions.AuditSession.{AuditSession}
 
 -- ---- limits
 
@@ -44,7 +44,7 @@ some_due es limits moment None are fits some none = (
 
 -- ---- lines
 
-module _ (es : List Entry) (lines : Lines) (side : Side) (places : List ℕ) where
+module _ (es : List Entry) (lines : OpenLines) (side : Side) (places : List ℕ) where
   pub oldest_there : (first : Option ℕ) → AreLines es none_gone lines → IfSome first (IsFirstBeside lines side places) → IfSome first (IsOldestBeside es side places)
   oldest_there None are some = tt
   oldest_there (Some p) are some = record {
@@ -75,7 +75,7 @@ module _ (whole : List Entry) (n r : ℕ) where
   called : (call other : Call) → Some call ≡ call_at whole r → call_at front r ≡ Some other → other ≡ call
   called call other there here = same_Some _ _ (sym (read_whole call_read refl whole n r other here).1 ∙ sym there)
 
-  pub waits_then : (lines : Lines) (call : Call) → AreLines front none_gone lines → Some call ≡ call_at whole r → is_some (wait_of call) ≡ true
+  pub waits_then : (lines : OpenLines) (call : Call) → AreLines front none_gone lines → Some call ≡ call_at whole r → is_some (wait_of call) ≡ true
       → (IsTrue (stands_in lines (side_of call) r) → Waiting front r) × (Waiting front r → IsTrue (stands_in lines (side_of call) r))
   waits_then lines call are there has = (
     λ stands.
@@ -102,10 +102,10 @@ module _ (whole : List Entry) (n r : ℕ) where
   )
 
 -- the client's request that waits is where its session says
-abbrev request_of : Option Session → Option ℕ
-request_of s = option_and_then (λ (x : Session). x.request) s
+abbrev request_of : Option AuditSession → Option ℕ
+request_of s = option_and_then (λ (x : AuditSession). x.request) s
 
-pub waits_at : (a : Account) (client : ℕ) (s : Option Session) → Legal a → IsSessionOf a.entries client s → (w : HasWaiting a.entries client) → request_of s ≡ Some w.place
+pub waits_at : (a : Account) (client : ℕ) (s : Option AuditSession) → Legal a → IsAuditSessionOf a.entries client s → (w : HasWaiting a.entries client) → request_of s ≡ Some w.place
 waits_at a client (Some s) legal is w = is.alone w.place w.key w.waits w.names
 waits_at a client None legal is w =
     let named = act_called (act_at a.entries w.place) w.waits.is_open.call w.waits.is_open.arrived in
@@ -114,21 +114,21 @@ waits_at a client None legal is w =
     let of_client : named.0.client ≡ client = ap (λ (k : Key). k.client) same ∙ w.names.of_client in
     absurd (is (has.0, named.0.incarnation, has.1.version, subst (λ c. act_at a.entries has.0 ≡ Some (Hello c named.0.incarnation has.1.version)) of_client has.1.hello))
 
-pub named_by : (es : List Entry) (client r : ℕ) (s : Option Session) → IsSessionOf es client s → request_of s ≡ Some r → (key : Key) × NamesKey es client r key
+pub named_by : (es : List Entry) (client r : ℕ) (s : Option AuditSession) → IsAuditSessionOf es client s → request_of s ≡ Some r → (key : Key) × NamesKey es client r key
 named_by es client r (Some s) is there = is.named r there
 named_by es client r None is there = absurd (none-some r there)
 
-pub some_waits : (es : List Entry) (client r : ℕ) (s : Option Session) (b : Bool) → IsSessionOf es client s → request_of s ≡ Some r → (IsTrue b → Waiting es r)
+pub some_waits : (es : List Entry) (client r : ℕ) (s : Option AuditSession) (b : Bool) → IsAuditSessionOf es client s → request_of s ≡ Some r → (IsTrue b → Waiting es r)
     → IfSome (then_some b r) (WaitsOf es client)
 some_waits es client r s true is there waits = let named = named_by es client r s is there in record { waits = waits refl; key = named.0; names = named.1 }
 some_waits es client r s false is there waits = tt
 
-pub none_waits : (a : Account) (client r : ℕ) (s : Option Session) (b : Bool) → Legal a → IsSessionOf a.entries client s → request_of s ≡ Some r → (Waiting a.entries r → IsTrue b)
+pub none_waits : (a : Account) (client r : ℕ) (s : Option AuditSession) (b : Bool) → Legal a → IsAuditSessionOf a.entries client s → request_of s ≡ Some r → (Waiting a.entries r → IsTrue b)
     → IfNone (then_some b r) (HasWaiting a.entries client → ⊥)
 none_waits a client r s true legal is there waits = tt
 none_waits a client r s false legal is there waits = λ w.
     let same : w.place ≡ r = same_Some _ _ (sym (waits_at a client s legal is w) ∙ there) in
     false≢true (waits (subst (Waiting a.entries) same w.waits))
 
-pub nobody_waits : (a : Account) (client : ℕ) (s : Option Session) → Legal a → IsSessionOf a.entries client s → request_of s ≡ None → HasWaiting a.entries client → ⊥
+pub nobody_waits : (a : Account) (client : ℕ) (s : Option AuditSession) → Legal a → IsAuditSessionOf a.entries client s → request_of s ≡ None → HasWaiting a.entries client → ⊥
 nobody_waits a client s legal is none w = none-some w.place (sym none ∙ waits_at a client s legal is w)

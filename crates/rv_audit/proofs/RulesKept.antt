@@ -19,8 +19,8 @@ use Rattle.rv_book.proofs.Growing.{call_read}
 use Rattle.rv_book.proofs.Histories.{one_last_number}
 use Rattle.rv_audit.specs.declared.rule.Rule.{Rule}
 use Rattle.rv_audit.specs.declared.rule.Rule.TheVariants.{M1, M2, M3, N1, N2, N3, P1, P2, P3, P4, S1, S2}
-use Rattle.rv_audit.specs.Breaking.{BreaksBehind, BreaksCount, FallsBack, IsNoFreePlace, IsOfNoSession, IsOutOfTurn, IsPaired, IsSwapped}
-use Rattle.rv_audit.specs.Breaking.{MeetsNobody, MeetsWrongly, NamesOne, NamesTaken, NamesTooMany, NamesWrongly, PassesLimit, PassesOver, StartsNoNewer, TicksForNothing, WasNamed}
+use Rattle.rv_audit.specs.Breaking.{BreaksBehind, BreaksCount, FallsBack, IsNoFreePlace, IsOfNoSession, IsOutOfOrder, IsPaired, IsSwapped}
+use Rattle.rv_audit.specs.Breaking.{MeetsWrongly, MissesPartner, NamesOne, NamesTaken, NamesTooMany, NamesWrongly, PassesLimit, PassesOver, StartsNoNewer, TicksForNothing, WasNamed}
 
 -- ---- moments
 
@@ -61,7 +61,7 @@ is_of_session a does session strange = elim strange.no_session [
   | inr incarnation ↦ incarnation (session strange.key strange.names).1
 ]
 
-next_in_turn : (es : List Entry) (key : Key) → IsNextNumber es key → IsOutOfTurn es key → ⊥
+next_in_turn : (es : List Entry) (key : Key) → IsNextNumber es key → IsOutOfOrder es key → ⊥
 next_in_turn es key next (inl not_next) = elim not_next.counts_to [
   | inl last ↦ not_next.other (next.next ∙ ap (λ n. n + 1) (one_last_number es key.client next.last not_next.last next.is_last last))
   | inr none ↦ none.0 (next.is_last.h, next.is_last.incarnation, next.is_last.hello.version, next.is_last.hello.hello)
@@ -131,7 +131,7 @@ module _ (Is : Side → Type 0) (es : List Entry) (e : Entry) where
       let own = wrongly.arrives in
       wrongly.no_opposite (pairs wrongly.partner wrongly.call wrongly.names own.arrives (meets (side_of wrongly.call) own.is))
 
-  pub meets_somebody : PairsWherePossible es e → MeetsNobody Is es e → ⊥
+  pub meets_somebody : PairsWherePossible es e → MissesPartner Is es e → ⊥
   meets_somebody possible nobody = nobody.unnamed (possible nobody.other nobody.call nobody.arrives.arrives nobody.fewer nobody.opposite_there)
 
 pub passes_nobody_over : (es : List Entry) (e : Entry) → PairsOldest es e → PassesOver es e → ⊥

@@ -36,8 +36,8 @@ use Rattle.rv_book.proofs.Sides.{one_side}
 use Rattle.rv_book.proofs.Ticking.{something_or_nothing}
 use Rattle.rv_audit.specs.declared.rule.Rule.{Rule}
 use Rattle.rv_audit.specs.declared.rule.Rule.TheVariants.{M1, M2, M3, N1, N2, N3, P1, P2, P3, P4, S1, S2}
-use Rattle.rv_audit.specs.Breaking.{BreaksBehind, BreaksCount, FallsBack, IsOfNoSession, IsOutOfTurn, IsPaired, IsSwapped}
-use Rattle.rv_audit.specs.Breaking.{MeetsNobody, MeetsWrongly, NamesOne, NamesTaken, NamesWrongly, PassesOver, StartsNoNewer, WasNamed}
+use Rattle.rv_audit.specs.Breaking.{BreaksBehind, BreaksCount, FallsBack, IsOfNoSession, IsOutOfOrder, IsPaired, IsSwapped}
+use Rattle.rv_audit.specs.Breaking.{MeetsWrongly, MissesPartner, NamesOne, NamesTaken, NamesWrongly, PassesOver, StartsNoNewer, WasNamed}
 
 -- ---- moments
 
@@ -104,7 +104,7 @@ of_session a does known key names = (
   ],
 )
 
-in_turn : (es : List Entry) (key : Key) → HasIncarnation es key.client key.incarnation → (IsOutOfTurn es key → ⊥) → IsNextNumber es key
+in_turn : (es : List Entry) (key : Key) → HasIncarnation es key.client key.incarnation → (IsOutOfOrder es key → ⊥) → IsNextNumber es key
 in_turn es key has turn =
     let last = find_last es key.client key.incarnation has.0 has.1 in record {
       last = last.0;
@@ -244,7 +244,7 @@ pairs_opposites es e pairs swaps p call names arrives meets = elim (opposite_or_
   ]
 ]
 
-pub pairs_where_possible : (es : List Entry) (e : Entry) → (MeetsNobody IsPaired es e → ⊥) → (MeetsNobody IsSwapped es e → ⊥) → PairsWherePossible es e
+pub pairs_where_possible : (es : List Entry) (e : Entry) → (MissesPartner IsPaired es e → ⊥) → (MissesPartner IsSwapped es e → ⊥) → PairsWherePossible es e
 pairs_where_possible es e pairs swaps r call arrives fewer there = elim (among_or_not e.partners r) [
   | inl named ↦ named
   | inr unnamed ↦ elim (paired_or_swapped (side_of call) (ap is_some there.opposes)) [

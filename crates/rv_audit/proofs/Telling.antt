@@ -21,12 +21,12 @@ use Rattle.rv_book.proofs.Growing.{act_read, call_read}
 use Rattle.rv_book.proofs.Histories.{hellos_at_most, one_last_number}
 use Rattle.rv_book.proofs.Sides.{one_side}
 use Rattle.rv_book.proofs.Waits.{one_waits}
-use Rattle.rv_audit.specs.Breaking.{ArrivesAs, CountsTo, IsNoFreePlace, IsNotNext, IsOutOfTurn, IsPaired, Meets, MeetsNobody, MeetsWrongly, NamesTaken, NamesTooMany, PassesOver, StartsNoNewer, TicksForNothing}
-use Rattle.rv_audit.specs.Passed.{ArrivesWith, FindsOne, HasAmong, HasOlder, HasOne, IsOldestBeside, IsPassedBy, IsSession, Leaves, Misses, WaitsOf, is_any}
+use Rattle.rv_audit.specs.Breaking.{ArrivesAs, ArrivesToMeet, CountsTo, IsNoFreePlace, IsNotNext, IsOutOfOrder, IsPaired, MeetsWrongly, MissesPartner, NamesTaken, NamesTooMany, PassesOver, StartsNoNewer, TicksForNothing}
+use Rattle.rv_audit.specs.Passed.{ArrivesWith, FindsOne, HasAmong, HasOlder, HasOne, IsAuditSession, IsOldestBeside, IsPassedBy, LeavesPartner, Misses, WaitsOf, is_any}
 use Rattle.rv_audit.proofs.Named.{any_among, some_among}
 use Rattle.rv_audit.proofs.RulesKept.{named_is_met}
 use Rattle.rv_audit.proofs.RulesSuffice.{met_is_named}
-use Rattle.rv_audit.specs.declared.sessions.Session.{Session}
+use Rattle.rv_audit.specs.declared.sessions.AuditSession.{AuditSession}
 
 abbrev pub Iff : Type 0 → Type 0 → Type 0
 Iff A B = (A → B) × (B → A)
@@ -106,7 +106,7 @@ over es e call b arrives is = (
   λ breaks. is.1 (breaks.partner, breaks.names, (breaks.side, breaks.of_queue, breaks.is_partners, (breaks.passed, breaks.earlier, breaks.there, breaks.unnamed))),
 )
 
-pub one_left : (es : List Entry) (call : Call) (partners : List ℕ) (b : Bool) → length partners < may_name call → Iff (IsTrue b) (FindsOne es call partners) → Iff (IsTrue b) (Leaves es call partners)
+pub one_left : (es : List Entry) (call : Call) (partners : List ℕ) (b : Bool) → length partners < may_name call → Iff (IsTrue b) (FindsOne es call partners) → Iff (IsTrue b) (LeavesPartner es call partners)
 one_left es call partners b fewer finds = (
   λ t. let one = finds.0 t in record { fewer = fewer; other = one.0; there = one.1; unnamed = one.2 },
   λ leaves. finds.1 (leaves.other, leaves.there, leaves.unnamed),
@@ -116,7 +116,7 @@ module _ (Is : Side → Type 0) (es : List Entry) (e : Entry) (call : Call) (b :
   own_call : (other : Call) → ArrivesAs Is e other → other ≡ call
   own_call other is = same_Some _ _ (sym is.arrives ∙ arrives.arrives)
 
-  pub nobody_met : Iff (IsTrue b) (Leaves es call e.partners) → Iff (IsTrue b) (MeetsNobody Is es e)
+  pub nobody_met : Iff (IsTrue b) (LeavesPartner es call e.partners) → Iff (IsTrue b) (MissesPartner Is es e)
   nobody_met is = (
     λ t. let leaves = is.0 t in record { call = call; arrives = arrives; fewer = leaves.fewer; other = leaves.other; opposite_there = leaves.there; unnamed = leaves.unnamed },
     λ breaks.
@@ -162,13 +162,13 @@ taken a p false legal met free = (λ t. by_met met, λ no_free. refl)
     by_met (inr unmet) = past (cases_lt p (length a.entries)) unmet
 
 -- who meets names what is taken, and who doesn't names anything
-pub who_meets : (es : List Entry) (e : Entry) (b : Bool) → Meets e → Iff (IsTrue b) (HasAmong (IsNoFreePlace es) e.partners) → Iff (IsTrue b) (NamesTaken es e)
+pub who_meets : (es : List Entry) (e : Entry) (b : Bool) → ArrivesToMeet e → Iff (IsTrue b) (HasAmong (IsNoFreePlace es) e.partners) → Iff (IsTrue b) (NamesTaken es e)
 who_meets es e b meets is = (
   λ t. let has = is.0 t in record { partner = has.0; names = has.1; wrong = inr has.2 },
   λ breaks. is.1 (breaks.partner, breaks.names, elim breaks.wrong [ inl meets_not ↦ absurd (meets_not meets) | inr no_free ↦ no_free ]),
 )
 
-pub who_meets_not : (es : List Entry) (e : Entry) → (Meets e → ⊥) → Iff (IsTrue (is_any e.partners)) (NamesTaken es e)
+pub who_meets_not : (es : List Entry) (e : Entry) → (ArrivesToMeet e → ⊥) → Iff (IsTrue (is_any e.partners)) (NamesTaken es e)
 who_meets_not es e meets_not = (
   λ t. let one = some_among e.partners t in record { partner = one.0; names = one.1; wrong = inl meets_not },
   λ breaks. any_among e.partners breaks.partner breaks.names,
@@ -193,7 +193,7 @@ for_nothing es e false ticks due = (λ t. record { ticks = ticks; nothing_due = 
 
 -- ---- sessions
 
-pub reached : (a : Account) (client incarnation : ℕ) (version : Version) (s : Session) (b : Bool) → nat_le incarnation s.incarnation ≡ b → Legal a → IsSession a.entries client s
+pub reached : (a : Account) (client incarnation : ℕ) (version : Version) (s : AuditSession) (b : Bool) → nat_le incarnation s.incarnation ≡ b → Legal a → IsAuditSession a.entries client s
     → Iff (IsTrue b) (StartsNoNewer a.entries (Hello client incarnation version))
 reached a client incarnation version s true most legal is = (
   λ t. record {
@@ -232,7 +232,7 @@ none_count : (es : List Entry) (client n : ℕ) → (SaidHello es client → ⊥
 none_count es client n none (inl last) = absurd (none (last.h, last.incarnation, last.hello.version, last.hello.hello))
 none_count es client n none (inr is) = is.1
 
-pub not_next : (es : List Entry) (key : Key) (s : Session) (b : Bool) → IsSession es key.client s → (b ≡ true → key.number ≢ s.last + 1) → (b ≡ false → key.number ≡ s.last + 1)
+pub not_next : (es : List Entry) (key : Key) (s : AuditSession) (b : Bool) → IsAuditSession es key.client s → (b ≡ true → key.number ≢ s.last + 1) → (b ≡ false → key.number ≡ s.last + 1)
     → Iff (IsTrue b) (IsNotNext es key)
 not_next es key s true is other own = (λ t. record { last = s.last; counts_to = inl is.number; other = other refl }, λ breaks. refl)
 not_next es key s false is other own = (
@@ -252,7 +252,7 @@ not_first es key false none other own = (
       absurd (breaks.other (own refl ∙ ap (λ n. n + 1) (sym same))),
 )
 
-pub not_next_low : (es : List Entry) (key : Key) (s : Session) → IsSession es key.client s → key.number ≤ s.last → Iff (IsTrue (nat_le key.number s.last)) (IsNotNext es key)
+pub not_next_low : (es : List Entry) (key : Key) (s : AuditSession) → IsAuditSession es key.client s → key.number ≤ s.last → Iff (IsTrue (nat_le key.number s.last)) (IsNotNext es key)
 not_next_low es key s is low = not_next es key s (nat_le key.number s.last) is (λ t same. omega arith) (λ f. absurd (let over : s.last < key.number = grind (arith, nat_tests) in omega arith))
 
 differs : (n : ℕ) → not (nat_eq n 1) ≡ true → n ≢ 1
@@ -265,7 +265,7 @@ agrees n f = by_value (nat_eq n 1) refl f
     by_value true is f = grind (arith, nat_tests)
     by_value false is f = absurd (false≢true (sym f))
 
-pub not_next_high : (es : List Entry) (key : Key) (s : Session) → IsSession es key.client s → s.last < key.number → Iff (IsTrue (not (nat_eq (key.number - s.last) 1))) (IsNotNext es key)
+pub not_next_high : (es : List Entry) (key : Key) (s : AuditSession) → IsAuditSession es key.client s → s.last < key.number → Iff (IsTrue (not (nat_eq (key.number - s.last) 1))) (IsNotNext es key)
 not_next_high es key s is high = not_next es key s (not (nat_eq (key.number - s.last) 1)) is
     (λ t same. differs (key.number - s.last) t (omega arith))
     (λ f. let one : key.number - s.last ≡ 1 = agrees (key.number - s.last) f in omega arith)
@@ -276,7 +276,7 @@ not_one es key none = not_first es key (not (nat_eq key.number 1)) none (differs
 -- ---- who waits
 
 pub out_of_turn : (es : List Entry) (key : Key) (b : Bool) → b ≡ false → Iff (IsTrue b) (IsNotNext es key) → (o : Option ℕ)
-    → IfSome o (WaitsOf es key.client) → IfNone o (HasWaiting es key.client → ⊥) → Iff (IsTrue (is_some o)) (IsOutOfTurn es key)
+    → IfSome o (WaitsOf es key.client) → IfNone o (HasWaiting es key.client → ⊥) → Iff (IsTrue (is_some o)) (IsOutOfOrder es key)
 out_of_turn es key b low next (Some place) some none = (λ t. inr (record { place = place; key = some.key; waits = some.waits; names = some.names }), λ out. refl)
 out_of_turn es key b low next None some none = (
   λ t. absurd (false≢true t),

@@ -75,21 +75,21 @@ pub record IsNotNext (entries : List Entry) (key : Key) : Type 0 where
   pub other : key.number ≢ last + 1
 
 -- that, or a request of its session waits
-abbrev pub IsOutOfTurn : List Entry → Key → Type 0
-IsOutOfTurn entries key = IsNotNext entries key ⊎ HasWaiting entries key.client
+abbrev pub IsOutOfOrder : List Entry → Key → Type 0
+IsOutOfOrder entries key = IsNotNext entries key ⊎ HasWaiting entries key.client
 
--- an arrival is out of turn; or a cancel is, and doesn't name the request that waits in its session
+-- an arrival is out of order; or a cancel is, and doesn't name the request that waits in its session
 abbrev pub BreaksCount : List Entry → Act → Type 0
 BreaksCount entries (Hello client incarnation version) = ⊥
-BreaksCount entries (Arrive key call) = IsOutOfTurn entries key
-BreaksCount entries (Cancel key) = (¬ WaitsUnder entries key) × IsOutOfTurn entries key
+BreaksCount entries (Arrive key call) = IsOutOfOrder entries key
+BreaksCount entries (Cancel key) = (¬ WaitsUnder entries key) × IsOutOfOrder entries key
 BreaksCount entries Tick = ⊥
 
 -- ---- partners
 
 -- the entry gives, takes or exchanges
-abbrev pub Meets : Entry → Type 0
-Meets e = (call : Call) × (call_in e.act ≡ Some call) × MayMeet call
+abbrev pub ArrivesToMeet : Entry → Type 0
+ArrivesToMeet e = (call : Call) × (call_in e.act ≡ Some call) × MayMeet call
 
 -- an entry names this place as a partner; the entry at this place names a partner
 abbrev pub WasNamed : List Entry → ℕ → Type 0
@@ -106,7 +106,7 @@ IsNoFreePlace entries place = (length entries ≤ place) ⊎ (WasNamed entries p
 pub record NamesTaken (entries : List Entry) (e : Entry) : Type 0 where
   pub partner : ℕ
   pub names : Names e partner
-  pub wrong : (¬ Meets e) ⊎ IsNoFreePlace entries partner
+  pub wrong : (¬ ArrivesToMeet e) ⊎ IsNoFreePlace entries partner
 
 -- the entry names more partners than its call may
 pub record NamesTooMany (e : Entry) : Type 0 where
@@ -162,7 +162,7 @@ pub record PassesOver (entries : List Entry) (e : Entry) : Type 0 where
 
 -- the entry is an arrival of such a side and names fewer partners than it may, though an open arrival which
 -- it meets is there and is none of them
-pub record MeetsNobody (Is : Side → Type 0) (entries : List Entry) (e : Entry) : Type 0 where
+pub record MissesPartner (Is : Side → Type 0) (entries : List Entry) (e : Entry) : Type 0 where
   pub call : Call
   pub arrives : ArrivesAs Is e call
   pub fewer : length e.partners < may_name call
@@ -183,9 +183,9 @@ BreaksBehind N3 a e = BreaksCount a.entries e.act
 BreaksBehind P1 a e = NamesWrongly a.entries e
 BreaksBehind P2 a e = MeetsWrongly IsPaired a.entries e
 BreaksBehind P3 a e = PassesOver a.entries e
-BreaksBehind P4 a e = MeetsNobody IsPaired a.entries e
+BreaksBehind P4 a e = MissesPartner IsPaired a.entries e
 BreaksBehind S1 a e = MeetsWrongly IsSwapped a.entries e
-BreaksBehind S2 a e = MeetsNobody IsSwapped a.entries e
+BreaksBehind S2 a e = MissesPartner IsSwapped a.entries e
 
 -- the entry at the place breaks the rule, behind those before it
 pub record Breaks (rule : Rule) (a : Account) (place : ℕ) : Type 0 where

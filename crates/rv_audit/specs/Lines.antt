@@ -3,15 +3,15 @@ use Rattle.std.specs.Prelude.{◌≡◌, ◌⊎◌, ◌≢◌, ◌<◌, ℕ, Boo
 use Rattle.rv_text.specs.declared.call.Side.{Side}
 use Rattle.rv_text.specs.declared.call.Side.TheVariants.{Gives, Takes, Looks, Exchanges}
 use Rattle.rv_account.specs.Account.{Among}
-use Rattle.rv_audit.specs.Marks.{marked}
-use Rattle.rv_audit.specs.declared.lines.Lines.{Lines}
+use Rattle.rv_audit.specs.Marks.{is_marked_under}
+use Rattle.rv_audit.specs.declared.lines.OpenLines.{OpenLines}
 
 -- whether the place stands on the side
-abbrev pub stands_in : Lines → Side → ℕ → Bool
-stands_in lines (Gives queue) place = marked lines.givers queue place
-stands_in lines (Takes queue) place = marked lines.takers queue place
+abbrev pub stands_in : OpenLines → Side → ℕ → Bool
+stands_in lines (Gives queue) place = is_marked_under lines.givers queue place
+stands_in lines (Takes queue) place = is_marked_under lines.takers queue place
 stands_in lines (Looks queue) place = false
-stands_in lines (Exchanges exchanger) place = marked lines.exchangers exchanger place
+stands_in lines (Exchanges exchanger) place = is_marked_under lines.exchangers exchanger place
 
 -- the side is one on which arrivals may be open
 abbrev pub IsOpenable : Side → Type 0
@@ -21,29 +21,29 @@ IsOpenable (Looks queue) = ⊥
 IsOpenable (Exchanges exchanger) = Unit {0}
 
 -- one more stands on the side
-pub record Opens (old new : Lines) (side : Side) (place : ℕ) : Type 0 where
+pub record Opens (old new : OpenLines) (side : Side) (place : ℕ) : Type 0 where
   pub own : IsOpenable side → stands_in new side place ≡ true
   pub others : (s : Side) (p : ℕ) → (s ≢ side) ⊎ (p ≢ place) → stands_in new s p ≡ stands_in old s p
 
 -- one no longer does
-pub record Closes (old new : Lines) (side : Side) (place : ℕ) : Type 0 where
+pub record Closes (old new : OpenLines) (side : Side) (place : ℕ) : Type 0 where
   pub own : stands_in new side place ≡ false
   pub others : (s : Side) (p : ℕ) → (s ≢ side) ⊎ (p ≢ place) → stands_in new s p ≡ stands_in old s p
 
 -- the place is the first on the side that is none of these; all that stand there are of these
-pub record IsFirstBeside (lines : Lines) (side : Side) (places : List ℕ) (place : ℕ) : Type 0 where
+pub record IsFirstBeside (lines : OpenLines) (side : Side) (places : List ℕ) (place : ℕ) : Type 0 where
   pub there : stands_in lines side place ≡ true
   pub beside : ¬ Among places place
   pub lowest : (p : ℕ) → p < place → stands_in lines side p ≡ true → Among places p
 
-abbrev pub NobodyBeside : Lines → Side → List ℕ → Type 0
+abbrev pub NobodyBeside : OpenLines → Side → List ℕ → Type 0
 NobodyBeside lines side places = (p : ℕ) → stands_in lines side p ≡ true → Among places p
 
 -- the same of a side, if one is handed in
-abbrev pub OpensIf : Lines → Lines → Option Side → ℕ → Type 0
+abbrev pub OpensIf : OpenLines → OpenLines → Option Side → ℕ → Type 0
 OpensIf old new None place = new ≡ old
 OpensIf old new (Some side) place = Opens old new side place
 
-abbrev pub ClosesIf : Lines → Lines → Option Side → ℕ → Type 0
+abbrev pub ClosesIf : OpenLines → OpenLines → Option Side → ℕ → Type 0
 ClosesIf old new None place = new ≡ old
 ClosesIf old new (Some side) place = Closes old new side place

@@ -18,15 +18,15 @@ use Rattle.rv_audit.specs.Breaking.{BreaksBehind, IsPaired, rank_of}
 use Rattle.rv_audit.specs.declared.rule.Rule.{Rule}
 use Rattle.rv_audit.specs.Lines.{stands_in}
 pub use Rattle.rv_audit.specs.Lines.{ClosesIf, OpensIf}
-use Rattle.rv_audit.specs.Marks.{count_of, marked}
+use Rattle.rv_audit.specs.Marks.{count_of, is_marked_under}
 pub use Rattle.rv_audit.specs.Marks.{GainsIf, LosesIf}
 use Rattle.rv_audit.specs.Sessions.{session_in}
 pub use Rattle.rv_audit.specs.Sessions.{EntersIf}
 use Rattle.rv_audit.specs.declared.front.Front.{Front}
-use Rattle.rv_audit.specs.declared.lines.Lines.{Lines}
+use Rattle.rv_audit.specs.declared.lines.OpenLines.{OpenLines}
 use Rattle.rv_audit.specs.declared.marks.Marks.{Marks}
-use Rattle.rv_audit.specs.declared.sessions.Session.{Session}
-use Rattle.rv_audit.specs.declared.sessions.Sessions.{Sessions}
+use Rattle.rv_audit.specs.declared.sessions.AuditSession.{AuditSession}
+use Rattle.rv_audit.specs.declared.sessions.AuditSessions.{AuditSessions}
 
 -- the account of the entries that were passed
 abbrev pub passed : Front → Account
@@ -45,7 +45,7 @@ pub record AreMet (entries : List Entry) (met : List Bool) : Type 0 where
   pub flags : (r : ℕ) → (slice_get met r ≡ Some true) ↔ Met entries r
 
 -- the places of a side's line are those of its open arrivals that weren't taken out
-abbrev pub AreLines : List Entry → Gone → Lines → Type 0
+abbrev pub AreLines : List Entry → Gone → OpenLines → Type 0
 AreLines entries gone lines =
     (side : Side) (r : ℕ) → (stands_in lines side r ≡ true) ↔ (OpenAt entries side r × (gone r ≡ false))
 
@@ -57,23 +57,23 @@ pub record IsLimitOf (entries : List Entry) (gone : Gone) (limit r : ℕ) : Type
   pub fits : limit < 2 ^ 64
 
 pub record AreLimits (entries : List Entry) (gone : Gone) (limits : Marks) : Type 0 where
-  pub are : (limit r : ℕ) → marked limits limit r ≡ true → IsLimitOf entries gone limit r
-  pub each : (limit r : ℕ) → IsLimitOf entries gone limit r → marked limits limit r ≡ true
+  pub are : (limit r : ℕ) → is_marked_under limits limit r ≡ true → IsLimitOf entries gone limit r
+  pub each : (limit r : ℕ) → IsLimitOf entries gone limit r → is_marked_under limits limit r ≡ true
 
 -- what a session has come to is what the entries say of its client: its incarnation, its last number, and
 -- where alone a request of it may wait
-pub record IsSession (entries : List Entry) (client : ℕ) (s : Session) : Type 0 where
+pub record IsAuditSession (entries : List Entry) (client : ℕ) (s : AuditSession) : Type 0 where
   pub incarnation : HasIncarnation entries client s.incarnation
   pub number : LastNumber entries client s.last
   pub named : (r : ℕ) → s.request ≡ Some r → (key : Key) × NamesKey entries client r key
   pub alone : (r : ℕ) (key : Key) → Waiting entries r → NamesKey entries client r key → s.request ≡ Some r
 
-abbrev pub IsSessionOf : List Entry → ℕ → Option Session → Type 0
-IsSessionOf entries client None = ¬ SaidHello entries client
-IsSessionOf entries client (Some s) = IsSession entries client s
+abbrev pub IsAuditSessionOf : List Entry → ℕ → Option AuditSession → Type 0
+IsAuditSessionOf entries client None = ¬ SaidHello entries client
+IsAuditSessionOf entries client (Some s) = IsAuditSession entries client s
 
-abbrev pub AreSessions : List Entry → Sessions → Type 0
-AreSessions entries t = (client : ℕ) → IsSessionOf entries client (session_in t client)
+abbrev pub AreAuditSessions : List Entry → AuditSessions → Type 0
+AreAuditSessions entries t = (client : ℕ) → IsAuditSessionOf entries client (session_in t client)
 
 -- a request of the client waits at the place
 pub record WaitsOf (entries : List Entry) (client r : ℕ) : Type 0 where
@@ -88,7 +88,7 @@ pub record AreTables (a : Account) (gone : Gone) (front : Front) : Type 0 where
   pub met : AreMet a.entries front.met.items
   pub lines : AreLines a.entries gone front.lines
   pub limits : AreLimits a.entries gone front.limits
-  pub sessions : AreSessions a.entries front.sessions
+  pub sessions : AreAuditSessions a.entries front.sessions
 
 -- the tables are what the entries say that were passed
 abbrev pub IsFront : Front → Type 0
@@ -137,7 +137,7 @@ abbrev pub Misses : List Entry → Call → List ℕ → Type 0
 Misses entries call partners = HasAmong (λ p. ¬ IsOpenOpposite entries call p) partners
 
 -- these partners are fewer than the call may name, and one that it may meet is there beside them
-pub record Leaves (entries : List Entry) (call : Call) (partners : List ℕ) : Type 0 where
+pub record LeavesPartner (entries : List Entry) (call : Call) (partners : List ℕ) : Type 0 where
   pub fewer : length partners < may_name call
   pub other : ℕ
   pub there : IsOpenOpposite entries call other
@@ -176,7 +176,7 @@ IsFitting has None = (limit : ℕ) → limit < 2 ^ 64 → ¬ (has ≡ Some limit
 IsFitting has (Some limit) = (has ≡ Some limit) × (limit < 2 ^ 64)
 
 -- nothing changed but the lines and the limits
-abbrev pub with_tables : Front → Lines → Marks → Front
+abbrev pub with_tables : Front → OpenLines → Marks → Front
 with_tables front lines limits = record {
   account = front.account;
   moment = front.moment;
@@ -190,12 +190,12 @@ abbrev pub SameRest : Front → Front → Type 0
 SameRest old new = new ≡ with_tables old new.lines new.limits
 
 -- the place was taken out
-pub record TakesOut (old new : Front) (place : ℕ) : Type 0 where
+pub record TakesOutPlace (old new : Front) (place : ℕ) : Type 0 where
   pub rest : SameRest old new
   pub tables : (gone : Gone) → AreTables (passed old) gone old
       → AreTables (passed old) (with_gone gone place) new
   pub fewer : (limit : ℕ) → limit < 2 ^ 64 → limit_at (passed old).entries place ≡ Some limit
-      → marked old.limits limit place ≡ true
+      → is_marked_under old.limits limit place ≡ true
       → count_of new.limits < count_of old.limits
 
 -- since a front requests were taken out that are due at the moment
@@ -276,7 +276,7 @@ WaitsUntil e None = (limit : ℕ) → ¬ WaitsFor e limit
 WaitsUntil e (Some limit) = WaitsFor e limit
 
 -- what an act makes of its client's session
-abbrev pub session_after : Act → ℕ → Option (ℕ × Session)
+abbrev pub session_after : Act → ℕ → Option (ℕ × AuditSession)
 session_after (Hello client incarnation version) place =
     Some (client, record { incarnation = incarnation; last = 0; request = None })
 session_after (Arrive key call) place =

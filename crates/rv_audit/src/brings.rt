@@ -6,7 +6,7 @@ ghost use Rattle.rv_account.specs.Calls.{Lasts, MayMeet, Stays};
 ghost use Rattle.rv_book.specs.Waiting.{limit_in};
 ghost use Rattle.rv_audit.specs.Passed.{IsFitting, OpensOn, WaitsUntil, session_after};
 
-use crate::sessions::Session;
+use crate::sessions::AuditSession;
 use rv_book::{Act, Entry, Place};
 use rv_text::{Call, Side, Wait};
 
@@ -85,7 +85,7 @@ pub(crate) fn waiting_until(entry: &Entry) -> Option<u64>
 }
 
 // What an act makes of its client's session.
-pub(crate) fn session_after(act: &Act, place: Place) -> Option<(u64, Session)>
+pub(crate) fn session_after(act: &Act, place: Place) -> Option<(u64, AuditSession)>
     ensures { result ≡ session_after act.now place }
 {
     match act {
@@ -95,7 +95,7 @@ pub(crate) fn session_after(act: &Act, place: Place) -> Option<(u64, Session)>
             ..
         } => Some((
             *client,
-            Session {
+            AuditSession {
                 incarnation: *incarnation,
                 last: 0,
                 request: None,
@@ -103,7 +103,7 @@ pub(crate) fn session_after(act: &Act, place: Place) -> Option<(u64, Session)>
         )),
         Act::Arrive { key, .. } => Some((
             key.client,
-            Session {
+            AuditSession {
                 incarnation: key.incarnation,
                 last: key.number,
                 request: Some(place),
@@ -111,7 +111,7 @@ pub(crate) fn session_after(act: &Act, place: Place) -> Option<(u64, Session)>
         )),
         Act::Cancel { key } => Some((
             key.client,
-            Session {
+            AuditSession {
                 incarnation: key.incarnation,
                 last: key.number,
                 request: None,

@@ -15,14 +15,14 @@ ghost use Rattle.rv_audit.specs.Passed.{AreTables, AreWithin, ArrivesWith, Flags
 ghost use Rattle.rv_audit.specs.Passed.{HasPassed, IsArrivalOf, IsArrived, IsFitting, IsFront, IsOfSessionOf};
 ghost use Rattle.rv_audit.specs.Passed.{IsOldestBeside, IsReadyFor, IsTakingOut, IsUnderway, MayPass};
 ghost use Rattle.rv_audit.specs.Passed.{SameRest};
-ghost use Rattle.rv_audit.specs.Passed.{SetsFlags, TakesEach, TakesOut, TakesTouched};
+ghost use Rattle.rv_audit.specs.Passed.{SetsFlags, TakesEach, TakesOutPlace, TakesTouched};
 ghost use Rattle.rv_audit.specs.Passed.{WaitsOf, WaitsWith, gone_at, passed};
 ghost use Rattle.rv_audit.specs.declared.front.Front.{Front as FrontOf};
 
 use crate::brings::{limit_of, opening, session_after, waiting_until};
-use crate::lines::{Lines, close_line, open_line};
+use crate::lines::{OpenLines, close_line, open_line};
 use crate::marks::{Marks, add_limit, drop_limit};
-use crate::sessions::{Sessions, enter_session};
+use crate::sessions::{AuditSessions, enter_session};
 use rv_book::{Account, Act, Entry, Place};
 use rv_text::{Call, Key, NoMemory, Side};
 use std::alloc::{AllocError, Global};
@@ -35,10 +35,10 @@ pub(crate) struct Front<'a> {
     moment: u64,
     // Of each place whether its arrival is in a pair or swap.
     met: Vec<bool>,
-    lines: Lines,
+    lines: OpenLines,
     // The places of those that wait, each under its limit, as far as a limit is below 2^64.
     limits: Marks,
-    sessions: Sessions,
+    sessions: AuditSessions,
 }
 
 // Whether the act is the arrival of a request with this key.
@@ -80,9 +80,9 @@ impl<'a> Front<'a> {
             account,
             moment: account.opened(),
             met: Vec::new(alloc),
-            lines: Lines::empty(alloc),
+            lines: OpenLines::empty(alloc),
             limits: Marks::empty(alloc),
-            sessions: Sessions::empty(alloc),
+            sessions: AuditSessions::empty(alloc),
         }
     }
 
@@ -281,7 +281,7 @@ impl<'a> Front<'a> {
     // Takes the arrival at a place out of the lines and the limits.
     fn close(&mut self, place: Place)
         requires { IsArrived (passed self.old).entries place }
-        ensures { TakesOut self.old self.new place }
+        ensures { TakesOutPlace self.old self.new place }
     {
         let side = self.side(place);
         let limit = self.limit(place);

@@ -10,20 +10,20 @@ use std::alloc::Global;
 
 // The places that are open, each on the side of its call.
 #[derive(Drop)]
-pub(crate) struct Lines {
+pub(crate) struct OpenLines {
     givers: Marks,
     takers: Marks,
     exchangers: Marks,
 }
 
-impl Lines {
+impl OpenLines {
     ghost use Rattle.rv_audit.specs.Lines.{Opens, Closes, IsFirstBeside, NobodyBeside, stands_in};
 
     // Nobody is open. It takes no memory yet.
-    pub(crate) fn empty(alloc: Global) -> Lines
+    pub(crate) fn empty(alloc: Global) -> OpenLines
         ensures { (side : Side) (place : ℕ) → stands_in result side place ≡ false }
     {
-        Lines {
+        OpenLines {
             givers: Marks::empty(alloc),
             takers: Marks::empty(alloc),
             exchangers: Marks::empty(alloc),
@@ -81,7 +81,7 @@ impl Lines {
 }
 
 // The place, if a side is handed in, is open on that side no more.
-pub(crate) fn close_line(lines: &mut Lines, side: Option<Side>, place: Place)
+pub(crate) fn close_line(lines: &mut OpenLines, side: Option<Side>, place: Place)
     ensures { ClosesIf lines.old lines.new side place }
 {
     if let Some(side) = side {
@@ -90,7 +90,11 @@ pub(crate) fn close_line(lines: &mut Lines, side: Option<Side>, place: Place)
 }
 
 // The place opens on the side, if one is handed in.
-pub(crate) fn open_line(lines: &mut Lines, side: Option<Side>, place: Place) -> Result<(), NoMemory>
+pub(crate) fn open_line(
+    lines: &mut OpenLines,
+    side: Option<Side>,
+    place: Place,
+) -> Result<(), NoMemory>
     ensures { OnOk result (OpensIf lines.old lines.new side place) }
 {
     match side {

@@ -1,9 +1,9 @@
 //! Sets of places, each under a number: that of a queue, of an exchanger, or a limit.
 ghost use Rattle.std.specs.Prelude.{◌≡◌, ◌<◌, ℕ, Some, false, true};
 ghost use Rattle.std.specs.Prelude.{IfNone, IfSome, OnErr, OnOk};
-ghost use Rattle.rv_audit.specs.Marks.{Gains, GainsIf, IsLeast, IsLowest, IsLowestBeside, IsNext};
+ghost use Rattle.rv_audit.specs.Marks.{Gains, GainsIf, IsLeast, IsLowest, IsLowestBeside, IsNextMark};
 ghost use Rattle.rv_audit.specs.Marks.{Loses, LosesIf, NoneBehind, NoneBeside};
-ghost use Rattle.rv_audit.specs.Marks.{NoneUnder, NoneUntil, count_of, marked};
+ghost use Rattle.rv_audit.specs.Marks.{NoneUnder, NoneUntil, count_of, is_marked_under};
 
 use rv_book::Place;
 use rv_text::NoMemory;
@@ -20,7 +20,7 @@ pub(crate) struct Marks {
 impl Marks {
     // No place is marked. It takes no memory yet.
     pub(crate) fn empty(alloc: Global) -> Marks
-        ensures { (number place : ℕ) → marked result number place ≡ false }
+        ensures { (number place : ℕ) → is_marked_under result number place ≡ false }
     {
         Marks {
             marks: BTreeSet::new(alloc),
@@ -29,7 +29,7 @@ impl Marks {
 
     // Whether the place is marked under the number.
     pub(crate) fn has(&self, number: u64, place: Place) -> bool
-        ensures { result ≡ marked self.now number place }
+        ensures { result ≡ is_marked_under self.now number place }
     {
         self.marks.contains(&(number, place))
     }
@@ -47,7 +47,7 @@ impl Marks {
     // The place is no longer marked under the number.
     pub(crate) fn remove(&mut self, number: u64, place: Place)
         ensures loses { Loses self.old self.new number place }
-        ensures fewer { marked self.old number place ≡ true → count_of self.new < count_of self.old }
+        ensures fewer { is_marked_under self.old number place ≡ true → count_of self.new < count_of self.old }
     {
         self.marks.remove(&(number, place));
     }
@@ -63,7 +63,7 @@ impl Marks {
 
     // The lowest place behind another that is marked under the number.
     fn next(&self, number: u64, last: Place) -> Option<Place>
-        ensures some { IfSome result (IsNext self.now number last) }
+        ensures some { IfSome result (IsNextMark self.now number last) }
         ensures none { IfNone result (NoneBehind self.now number last) }
     {
         let behind = (Bound::Excluded((number, last)), Bound::Unbounded);
@@ -99,7 +99,7 @@ impl Marks {
 // The place is no longer marked under the number, if one is handed in.
 pub(crate) fn drop_limit(limits: &mut Marks, limit: Option<u64>, place: Place)
     ensures loses { LosesIf limits.old limits.new limit place }
-    ensures fewer { (n : ℕ) → limit ≡ Some n → marked limits.old n place ≡ true
+    ensures fewer { (n : ℕ) → limit ≡ Some n → is_marked_under limits.old n place ≡ true
         → count_of limits.new < count_of limits.old }
 {
     if let Some(limit) = limit {

@@ -6,11 +6,13 @@ ghost use Rattle.rv_text.specs.declared.call.Call.{Call};
 ghost use Rattle.rv_account.specs.Account.{call_in};
 ghost use Rattle.rv_account.specs.Calls.{may_name, opposite};
 ghost use Rattle.rv_book.specs.Legal.{IsOpenOpposite, WaitsUnder};
-ghost use Rattle.rv_audit.specs.Breaking.{ArrivesAs, BreaksBehind, IsOutOfTurn, IsPaired, IsSwapped, Meets};
+ghost use Rattle.rv_audit.specs.Breaking.{ArrivesAs, ArrivesToMeet, BreaksBehind, IsOutOfOrder, IsPaired};
+ghost use Rattle.rv_audit.specs.Breaking.{IsSwapped};
 ghost use Rattle.rv_audit.specs.Breaking.{FallsBack, IsNoFreePlace, IsOfNoSession, PassesLimit};
-ghost use Rattle.rv_audit.specs.Breaking.{BreaksCount, MeetsNobody, MeetsWrongly, NamesTaken, NamesTooMany};
+ghost use Rattle.rv_audit.specs.Breaking.{BreaksCount, MeetsWrongly, MissesPartner, NamesTaken, NamesTooMany};
 ghost use Rattle.rv_audit.specs.Breaking.{NamesWrongly, PassesOver, StartsNoNewer, TicksForNothing};
-ghost use Rattle.rv_audit.specs.Passed.{FindsOne, HasAmong, IsFront, IsPassedBy, Leaves, Misses, passed};
+ghost use Rattle.rv_audit.specs.Passed.{FindsOne, HasAmong, IsFront, IsPassedBy, LeavesPartner, Misses};
+ghost use Rattle.rv_audit.specs.Passed.{passed};
 
 use crate::front::Front;
 use crate::rule::Rule;
@@ -77,7 +79,7 @@ fn is_of_no_session(front: &Front<'_>, act: &Act) -> bool
 // Whether the key's number isn't its session's next, or a request of the session waits.
 fn is_out_of_turn(front: &Front<'_>, key: &Key) -> bool
     requires { IsFront front.now }
-    ensures { IsTrue result ↔ IsOutOfTurn (passed front.now).entries key.now }
+    ensures { IsTrue result ↔ IsOutOfOrder (passed front.now).entries key.now }
 {
     front.is_not_next(key) || front.waiting(key.client).is_some()
 }
@@ -141,7 +143,7 @@ fn opposite(side: Side) -> Option<Side>
 
 // Whether the entry gives, takes or exchanges.
 fn meets(entry: &Entry) -> bool
-    ensures { IsTrue result ↔ Meets entry.now }
+    ensures { IsTrue result ↔ ArrivesToMeet entry.now }
 {
     match call_of(entry) {
         Some(call) => opposite(call.side()).is_some(),
@@ -272,7 +274,7 @@ fn misses(front: &Front<'_>, call: &Call, partners: &[Place]) -> bool
 // Whether the call names fewer partners than it may, where one more is there.
 fn leaves(front: &Front<'_>, call: &Call, partners: &[Place]) -> bool
     requires { IsFront front.now }
-    ensures { IsTrue result ↔ Leaves (passed front.now).entries call.now partners.now }
+    ensures { IsTrue result ↔ LeavesPartner (passed front.now).entries call.now partners.now }
 {
     partners.len() < may_name(call) && finds_one(front, call, partners)
 }
@@ -324,7 +326,7 @@ fn passes_over(front: &Front<'_>, entry: &Entry) -> bool
 
 fn pairs_nobody(front: &Front<'_>, entry: &Entry) -> bool
     requires { IsFront front.now }
-    ensures { IsTrue result ↔ MeetsNobody IsPaired (passed front.now).entries entry.now }
+    ensures { IsTrue result ↔ MissesPartner IsPaired (passed front.now).entries entry.now }
 {
     match paired(entry) {
         Some(call) => leaves(front, call, entry.partners.as_slice()),
@@ -344,7 +346,7 @@ fn swaps_wrongly(front: &Front<'_>, entry: &Entry) -> bool
 
 fn swaps_nobody(front: &Front<'_>, entry: &Entry) -> bool
     requires { IsFront front.now }
-    ensures { IsTrue result ↔ MeetsNobody IsSwapped (passed front.now).entries entry.now }
+    ensures { IsTrue result ↔ MissesPartner IsSwapped (passed front.now).entries entry.now }
 {
     match swapped(entry) {
         Some(call) => leaves(front, call, entry.partners.as_slice()),

@@ -9,7 +9,7 @@ use std::collections::BTreeMap;
 
 // The session of a client.
 #[derive(Clone, Copy)]
-pub(crate) struct Session {
+pub(crate) struct AuditSession {
     pub(crate) incarnation: u64,
     // The greatest number of the incarnation, or 0 where it has none.
     pub(crate) last: u64,
@@ -19,32 +19,32 @@ pub(crate) struct Session {
 
 // The sessions of all clients that said a hello.
 #[derive(Drop)]
-pub(crate) struct Sessions {
-    sessions: BTreeMap<u64, Session>,
+pub(crate) struct AuditSessions {
+    sessions: BTreeMap<u64, AuditSession>,
 }
 
-impl Sessions {
-    ghost use Rattle.rv_audit.specs.Sessions.{Enters, session_in};
+impl AuditSessions {
+    ghost use Rattle.rv_audit.specs.Sessions.{EntersSession, session_in};
 
     // No client said a hello. It takes no memory yet.
-    pub(crate) fn empty(alloc: Global) -> Sessions
+    pub(crate) fn empty(alloc: Global) -> AuditSessions
         ensures { (client : ℕ) → session_in result client ≡ None }
     {
-        Sessions {
+        AuditSessions {
             sessions: BTreeMap::new(alloc),
         }
     }
 
     // The client's session, if it said a hello.
-    pub(crate) fn of(&self, client: u64) -> Option<Session>
+    pub(crate) fn of(&self, client: u64) -> Option<AuditSession>
         ensures { result ≡ session_in self.now client }
     {
         self.sessions.get(&client).copied()
     }
 
     // The client's session is this one.
-    pub(crate) fn enter(&mut self, client: u64, session: Session) -> Result<(), NoMemory>
-        ensures { OnOk result (Enters self.old self.new client session) }
+    pub(crate) fn enter(&mut self, client: u64, session: AuditSession) -> Result<(), NoMemory>
+        ensures { OnOk result (EntersSession self.old self.new client session) }
     {
         match self.sessions.insert(client, session) {
             Ok(_) => Ok(()),
@@ -55,8 +55,8 @@ impl Sessions {
 
 // The client's session is this one, if one is handed in.
 pub(crate) fn enter_session(
-    sessions: &mut Sessions,
-    entry: Option<(u64, Session)>,
+    sessions: &mut AuditSessions,
+    entry: Option<(u64, AuditSession)>,
 ) -> Result<(), NoMemory>
     ensures { OnOk result (EntersIf sessions.old sessions.new entry) }
 {

@@ -8,9 +8,9 @@ use Rattle.rv_text.specs.declared.call.Wait.{Wait}
 use Rattle.rv_text.specs.declared.call.Wait.TheVariants.{Forever, Millis, Now}
 use Rattle.rv_text.specs.declared.message.Key.{Key}
 use Rattle.rv_text.specs.Calls.{side_of, wait_of}
-use Rattle.rv_session.specs.Owed.{Owed}
+use Rattle.rv_session.specs.OwedDuty.{OwedDuty}
 use Rattle.rv_account.specs.Account.{Account, Names, call_in, just}
-use Rattle.rv_book.specs.Arriving.{GoesOn}
+use Rattle.rv_book.specs.Arriving.{GoesOnWaiting}
 use Rattle.rv_account.specs.Calls.{IsPut, Lasts, Stays, limit_after, limit_of}
 use Rattle.rv_book.specs.Elapsing.{AreDeadlines, deadline_after, deadline_of, with_deadline, without_duty}
 use Rattle.rv_book.specs.Legal.{Legal, NamesFreePartners}
@@ -24,7 +24,7 @@ use Rattle.rv_book.proofs.Naming.{just_none, names_it, names_only}
 use Rattle.rv_book.proofs.Owing.{goes_not_on, goes_on, unowed_waits_not, waiting_inside}
 use Rattle.rv_book.proofs.Places.{get-append_end}
 use Rattle.rv_book.proofs.Sides.{IsNewRequest, Waiting-back, Waiting-last, Waiting-on, arrival_stops_nobody, waiting_is_open}
-use Rattle.rv_book.proofs.Waiters.{met_last}
+use Rattle.rv_book.proofs.WaitersBySide.{met_last}
 use Rattle.rv_book.proofs.Withdrawn.{owed_place}
 
 -- a deadline is the wait's limit
@@ -37,7 +37,7 @@ deadline_is_limit moment (Some Forever) limit is = absurd (none-some limit is)
 
 -- ---- a property but for a duty's place
 
-but_has : (P : ℕ → Type 0) (duty : Option Owed) (r : ℕ) → ButDuty P duty r → P r
+but_has : (P : ℕ → Type 0) (duty : Option OwedDuty) (r : ℕ) → ButDuty P duty r → P r
 but_has P None r but = but
 but_has P (Some d) r but = but.0
 
@@ -60,7 +60,7 @@ module _ (a : Account) (e : Entry) (key : Key) (call : Call) (legal : Legal a) (
 
   -- ---- the request that it met
 
-  unnamed : (partner : Option ℕ) (other : Option Owed) (r : ℕ) → e.partners ≡ just partner → PartnersDuty a.entries partner other → ButDuty Either other r → Waiting a.entries r → Names e r → ⊥
+  unnamed : (partner : Option ℕ) (other : Option OwedDuty) (r : ℕ) → e.partners ≡ just partner → PartnersDuty a.entries partner other → ButDuty Either other r → Waiting a.entries r → Names e r → ⊥
   unnamed None other r names is but waits named = just_none e r names named
   unnamed (Some p) None r names is but waits named =
       let same : p ≡ r = same_Some _ _ (names_only e (Some p) r names named) in
@@ -69,29 +69,29 @@ module _ (a : Account) (e : Entry) (key : Key) (call : Call) (legal : Legal a) (
       let same : p ≡ r = same_Some _ _ (names_only e (Some p) r names named) in
       but.1 (sym same ∙ sym (owed_place a.entries p d (sym is)))
 
-  but_other : (partner : Option ℕ) (other : Option Owed) (r : ℕ) → e.partners ≡ just partner → PartnersDuty a.entries partner other → Either r → (Names e r → ⊥) → ButDuty Either other r
+  but_other : (partner : Option ℕ) (other : Option OwedDuty) (r : ℕ) → e.partners ≡ just partner → PartnersDuty a.entries partner other → Either r → (Names e r → ⊥) → ButDuty Either other r
   but_other partner None r names is either apart = either
   but_other None (Some d) r names is either apart = absurd (none-some d (sym is))
   but_other (Some p) (Some d) r names is either apart = (either, λ here. apart (names_it e r (names ∙ ap (λ q. just (Some q)) (sym (here ∙ owed_place a.entries p d (sym is))))))
 
   -- a request that waits at its place met nobody
-  goes : (partner : Option ℕ) (new : IsNewRequest e) → e.partners ≡ just partner → Waiting after place → GoesOn call partner
+  goes : (partner : Option ℕ) (new : IsNewRequest e) → e.partners ≡ just partner → Waiting after place → GoesOnWaiting call partner
   goes None new names waits =
       let same : new.call ≡ call = same_Some _ _ (sym new.arrives ∙ ap call_in arrives) in
       record { unmet = refl; stays = subst Stays same new.stays; no_put = subst (λ c. IsPut c → ⊥) same new.no_put }
   goes (Some p) new names waits = absurd (met_last a.entries e _ p free (names_it e p names) (waiting_is_open after place waits))
 
-  module _ (partner : Option ℕ) (duty : Owed) (own other : Option Owed) (names : e.partners ≡ just partner) (at : duty.place ≡ place) (own_is : OwnDuty (side_of call) (wait_of call) partner duty own)
+  module _ (partner : Option ℕ) (duty : OwedDuty) (own other : Option OwedDuty) (names : e.partners ≡ just partner) (at : duty.place ≡ place) (own_is : OwnDuty (side_of call) (wait_of call) partner duty own)
       (other_is : PartnersDuty a.entries partner other) where
     -- ---- who is left waits
 
-    new_waits : (mine : Option Owed) → mine ≡ own → ButDuty (ButDuty Either other) mine place → Waiting after place
+    new_waits : (mine : Option OwedDuty) → mine ≡ own → ButDuty (ButDuty Either other) mine place → Waiting after place
     new_waits None same but =
         let is = goes_on call partner duty own own_is (sym same) in
         Waiting-last a e legal (names ∙ ap just is.unmet) (record { call = call; arrives = ap call_in arrives; stays = is.stays; no_put = is.no_put })
     new_waits (Some d) same but =
         let mine : OwnDuty (side_of call) (wait_of call) partner duty (Some d) = subst (OwnDuty (side_of call) (wait_of call) partner duty) (sym same) own_is in
-        absurd (but.1 (sym at ∙ ap (λ (x : Owed). x.place) (sym mine.0)))
+        absurd (but.1 (sym at ∙ ap (λ (x : OwedDuty). x.place) (sym mine.0)))
 
     left_waits : (r : ℕ) → ButDuty (ButDuty Either other) own r → Waiting after r
     left_waits r but =
@@ -103,18 +103,18 @@ module _ (a : Account) (e : Entry) (key : Key) (call : Call) (legal : Legal a) (
 
     -- ---- and who waits is left
 
-    old_left : (mine : Option Owed) (r : ℕ) → mine ≡ own → Waiting a.entries r → ButDuty Either other r → ButDuty (ButDuty Either other) mine r
+    old_left : (mine : Option OwedDuty) (r : ℕ) → mine ≡ own → Waiting a.entries r → ButDuty Either other r → ButDuty (ButDuty Either other) mine r
     old_left None r same waits left = left
     old_left (Some d) r same waits left =
         let mine : OwnDuty (side_of call) (wait_of call) partner duty (Some d) = subst (OwnDuty (side_of call) (wait_of call) partner duty) (sym same) own_is in (
           left,
           λ here.
-              let is : r ≡ place = here ∙ ap (λ (x : Owed). x.place) mine.0 ∙ at in
+              let is : r ≡ place = here ∙ ap (λ (x : OwedDuty). x.place) mine.0 ∙ at in
               let inside : r < place = waiting_inside a.entries r waits in
               omega arith,
         )
 
-    new_left : (mine : Option Owed) → mine ≡ own → GoesOn call partner → ButDuty Either other place → ButDuty (ButDuty Either other) mine place
+    new_left : (mine : Option OwedDuty) → mine ≡ own → GoesOnWaiting call partner → ButDuty Either other place → ButDuty (ButDuty Either other) mine place
     new_left None same on left = left
     new_left (Some d) same on left = absurd (goes_not_on call partner duty d own own_is (sym same) on)
 

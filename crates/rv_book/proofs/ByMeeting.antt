@@ -11,7 +11,7 @@ use Rattle.rv_session.specs.declared.kept.Kept.{Kept}
 use Rattle.rv_account.specs.declared.entry.Act.TheVariants.{Arrive}
 use Rattle.rv_account.specs.declared.entry.Entry.{Entry}
 use Rattle.rv_account.specs.Account.{Account, call_at, with_entry}
-use Rattle.rv_book.specs.Arriving.{GoesOn, IsKept, WillReply, entry}
+use Rattle.rv_book.specs.Arriving.{GoesOnWaiting, IsKept, WillReply, entry}
 use Rattle.rv_account.specs.Calls.{MayMeet, opposite}
 use Rattle.rv_book.specs.Legal.{Legal}
 use Rattle.rv_book.specs.Limits.{FitsAccount}
@@ -93,7 +93,7 @@ module _ (TellsMet : List Entry → ℕ → Reply → Type 0) (call : Call) (wai
   }
 
   -- an unmet request that does not go on is one whose wait does not last
-  pub unmet_by : (a : Account) (kept : Kept) → ((es : List Entry) → reply_of es kept ≡ Some alone) → ((v : Version) → told_in v kept ≡ kept) → (GoesOn call None → ⊥) → WillReply a call None (kept_at_once wait kept)
+  pub unmet_by : (a : Account) (kept : Kept) → ((es : List Entry) → reply_of es kept ≡ Some alone) → ((v : Version) → told_in v kept ≡ kept) → (GoesOnWaiting call None → ⊥) → WillReply a call None (kept_at_once wait kept)
   unmet_by a kept is same ends moment key v before after asked =
       let e = entry moment (Arrive key call) [] in
       let es = (with_entry a e).entries in

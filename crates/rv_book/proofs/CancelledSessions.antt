@@ -7,7 +7,7 @@ use Rattle.rv_text.specs.declared.call.Call.{Call}
 use Rattle.rv_text.specs.declared.message.Key.{Key}
 use Rattle.rv_session.specs.declared.kept.Kept as kept
 use Rattle.rv_session.specs.declared.session.Session.{Session}
-use Rattle.rv_session.specs.declared.session.State.TheVariants.{Settled}
+use Rattle.rv_session.specs.declared.session.RequestState.TheVariants.{Settled}
 use Rattle.rv_session.specs.Table.{Table, OnlyAdvances, OnlySettles, session_for, settled_session}
 use Rattle.rv_account.specs.declared.entry.Act.TheVariants.{Arrive, Cancel}
 use Rattle.rv_account.specs.declared.entry.Entry.{Entry}

@@ -3,8 +3,8 @@ use Rattle.std.proofs.Common.{◌≡◌, inl, inr, ℕ, ◌+◌, ◌≤◌, [], 
 use Rattle.std.proofs.lemmas.Option.{same_Some}
 use Rattle.rv_text.specs.declared.message.Key.{Key}
 use Rattle.rv_session.specs.Meanings.{HasLast, HasNext}
-use Rattle.rv_session.specs.declared.session.State.TheVariants as state
-use Rattle.rv_session.specs.Owed.{Owed}
+use Rattle.rv_session.specs.declared.session.RequestState.TheVariants as state
+use Rattle.rv_session.specs.OwedDuty.{OwedDuty}
 use Rattle.rv_session.specs.Table.{OnlyAdvances, OnlySettles}
 use Rattle.rv_session.specs.declared.kept.Kept.TheVariants as kept
 use Rattle.rv_account.specs.Account.{Account, call_in, key_in, with_entry}
@@ -12,7 +12,7 @@ use Rattle.rv_book.specs.Arriving.{IsCancelled, IsNext, entry}
 use Rattle.rv_account.specs.Calls.{IsPut}
 use Rattle.rv_account.specs.declared.entry.Act.TheVariants.{Cancel}
 use Rattle.rv_account.specs.declared.entry.Entry.{Entry}
-use Rattle.rv_book.specs.declared.state.State.{State}
+use Rattle.rv_book.specs.declared.state.BookState.{BookState}
 use Rattle.rv_book.specs.Legal.{MayFollow}
 use Rattle.rv_book.specs.Tables.{Comes, EndsAt, HasSpace, IsSound, account_of}
 use Rattle.rv_book.specs.Waiting.{Open, Waiting}
@@ -28,7 +28,7 @@ use Rattle.rv_book.proofs.Standing.{is_next, waits}
 use Rattle.rv_book.proofs.ToldCancelled.{next_replies, waiting_replies}
 use Rattle.rv_book.proofs.Waits.{waiting_is_last}
 
-module _ (old : State) (moment : ℕ) (key : Key) (comes : Comes old moment (Cancel key)) where
+module _ (old : BookState) (moment : ℕ) (key : Key) (comes : Comes old moment (Cancel key)) where
   abbrev pub before : Account
   before = account_of old
 
@@ -71,12 +71,12 @@ module _ (old : State) (moment : ℕ) (key : Key) (comes : Comes old moment (Can
         let last = waiting_is_last before place key there.call comes.sound.legal there.waits there.arrived in
         marks (cancel_follows before moment key comes.time comes.nothing_due last.epoch last.incarnation (inl (record { place = place; call = there.call; arrived = there.arrived; waits = there.waits })))
 
-    pub ended_sound : (mid new : State) → EndsAt old mid place kept.Cancelled → mid.account ≡ old.account → account_of new ≡ with_entry (account_of mid) own_entry → new.sessions ≡ mid.sessions → new.stations ≡ mid.stations
+    pub ended_sound : (mid new : BookState) → EndsAt old mid place kept.Cancelled → mid.account ≡ old.account → account_of new ≡ with_entry (account_of mid) own_entry → new.sessions ≡ mid.sessions → new.waiters ≡ mid.waiters
         → new.waiting ≡ mid.waiting → new.due ≡ mid.due → mid.account.room ≤ new.account.room + 1 → IsSound new
-    ended_sound mid new ends same pushed sessions stations waiting due room =
+    ended_sound mid new ends same pushed sessions waiters waiting due room =
         let legal = legal_after old moment (Cancel key) UnderKey ends_marks in
         let owed = waiting_owed before.entries place key there.call there.waits there.arrived in
-        let own : ends.duty.client ≡ key.client = ap (λ (d : Owed). d.client) (same_Some _ _ (sym ends.owed ∙ owed)) in
+        let own : ends.duty.client ≡ key.client = ap (λ (d : OwedDuty). d.client) (same_Some _ _ (sym ends.owed ∙ owed)) in
         let settled = subst (λ c. OnlySettles old.sessions mid.sessions c place kept.Cancelled) own ends.settles.settles in
         let tables = sessions_ended before own_entry old.sessions mid.sessions key there.call place comes.sound.sessions_are comes.sound.legal legal refl refl there.arrived there.waits settled in
         let request : UnderKey place = record {
@@ -87,7 +87,7 @@ module _ (old : State) (moment : ℕ) (key : Key) (comes : Comes old moment (Can
               there.waits.no_put (subst IsPut (sym called) put);
         } in
         marked_ended old moment (Cancel key) UnderKey ends_marks new (pushed ∙ ap (λ stored. with_entry stored.account own_entry) same) (subst (Rattle.rv_book.specs.Tables.AreSessions (with_entry before own_entry)) (sym sessions) tables)
-        mid place kept.Cancelled there.waits request ends stations waiting due (omega (arith, room, comes.sound.spare, ap (λ stored. stored.room) same))
+        mid place kept.Cancelled there.waits request ends waiters waiting due (omega (arith, room, comes.sound.spare, ap (λ stored. stored.room) same))
 
     pub ended_cancelled : IsCancelled before (with_entry before own_entry) moment key
     ended_cancelled =
@@ -106,14 +106,14 @@ module _ (old : State) (moment : ℕ) (key : Key) (comes : Comes old moment (Can
     bury_marks : Marks old moment (Cancel key) UnderKey
     bury_marks = marks (cancel_follows before moment key comes.time comes.nothing_due next.epoch next.incarnation (inr (record { last = next.last; is_last = next.is_last; next = next.next; idle = next.idle })))
 
-    pub buried_sound : (new : State) → account_of new ≡ with_entry before own_entry → OnlyAdvances old.sessions new.sessions key (state.Settled None kept.Cancelled) → new.stations ≡ old.stations
+    pub buried_sound : (new : BookState) → account_of new ≡ with_entry before own_entry → OnlyAdvances old.sessions new.sessions key (state.Settled None kept.Cancelled) → new.waiters ≡ old.waiters
         → new.waiting ≡ old.waiting → new.due ≡ old.due → HasSpace old 1 → old.waiting ≤ new.account.room → IsSound new
-    buried_sound new pushed advances stations waiting due space room =
+    buried_sound new pushed advances waiters waiting due space room =
         let legal = legal_after old moment (Cancel key) UnderKey bury_marks in
         marked_idle old moment (Cancel key) UnderKey bury_marks new pushed
         (sessions_buried before own_entry old.sessions new.sessions key comes.sound.sessions_are comes.sound.legal legal next refl refl advances)
         (λ r waits request. next.idle (record { place = r; key = key; waits = waits; names = record { named = ap (option_and_then key_in) request.arrived; of_client = refl } }))
-        stations waiting due space room
+        waiters waiting due space room
 
     pub buried_cancelled : IsCancelled before (with_entry before own_entry) moment key
     buried_cancelled =

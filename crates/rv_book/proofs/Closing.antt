@@ -15,7 +15,7 @@ use Rattle.rv_book.specs.Waiting.{Open, OpenAt, Waiting}
 use Rattle.rv_book.proofs.Growing.{Open-back, Open-on, call_read, reads_back, reads_on}
 use Rattle.rv_book.proofs.Naming.{just_none}
 use Rattle.rv_book.proofs.Sides.{SideAt-on, arrival_stops_nobody, names_last}
-use Rattle.rv_book.proofs.Waiters.{Stops}
+use Rattle.rv_book.proofs.WaitersBySide.{Stops}
 
 -- of the arrivals that were open these alone are so no more, and the entry is none
 pub record Closes (es : List Entry) (e : Entry) (P : ℕ → Type 0) : Type 0 where

@@ -8,7 +8,7 @@ use Rattle.std.proofs.lemmas.Option.{none-some, same_Some}
 use Rattle.std.proofs.lemmas.Cmp.{eq_by_cmp_equiv}
 use Rattle.rv_due.specs.Deadlines.{Deadline, Deadlines, by_moment}
 use Rattle.rv_due.proofs.Order.{by_moment_total, by_moment-IsAntisymmetric}
-use Rattle.rv_session.specs.Owed.{Owed}
+use Rattle.rv_session.specs.OwedDuty.{OwedDuty}
 use Rattle.rv_account.specs.declared.entry.Entry.{Entry}
 use Rattle.rv_book.specs.Elapsing.{AreDeadlinesOf, with_deadline, without_deadline, without_duty}
 use Rattle.rv_account.specs.Account.{act_at}
@@ -135,11 +135,11 @@ due_with es P due p are (Some own_limit) has = record {
     both a b c d first second = cc
 
 -- a property but for the place of a duty, if there is one
-abbrev pub ButDuty : (ℕ → Type 0) → Option Owed → ℕ → Type 0
+abbrev pub ButDuty : (ℕ → Type 0) → Option OwedDuty → ℕ → Type 0
 ButDuty P None r = P r
 ButDuty P (Some duty) r = P r × (r ≡ duty.place → ⊥)
 
-pub due_without_duty : (es : List Entry) (P : ℕ → Type 0) (due : Deadlines) (duty : Option Owed) → AreDeadlinesOf es P due → AreDeadlinesOf es (ButDuty P duty) (without_duty es duty due)
+pub due_without_duty : (es : List Entry) (P : ℕ → Type 0) (due : Deadlines) (duty : Option OwedDuty) → AreDeadlinesOf es P due → AreDeadlinesOf es (ButDuty P duty) (without_duty es duty due)
 due_without_duty es P due None are = are
 due_without_duty es P due (Some duty) are = due_without es P due duty.place are (limit_at es duty.place) refl
 

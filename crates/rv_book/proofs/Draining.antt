@@ -18,12 +18,12 @@ use Rattle.rv_book.specs.Meeting.{HasRoomToName}
 use Rattle.rv_session.specs.declared.kept.Kept.{Kept}
 use Rattle.rv_session.specs.declared.kept.Kept.TheVariants as kept
 use Rattle.rv_session.specs.declared.session.Session.{Session}
-use Rattle.rv_session.specs.declared.session.State.TheVariants.{Settled, Waits}
+use Rattle.rv_session.specs.declared.session.RequestState.TheVariants.{Settled, Waits}
 use Rattle.rv_account.specs.declared.entry.Act.TheVariants.{Arrive}
 use Rattle.rv_account.specs.declared.entry.Entry.{Entry}
 use Rattle.rv_account.specs.Account.{Account, Names, call_at, entry, limit_at, limit_in, with_entry}
 use Rattle.rv_account.specs.Calls.{IsPut, Lasts, MayMeet, Stays, limit_after, may_name, need_by, need_of, opposite}
-use Rattle.rv_book.specs.declared.state.State.{State}
+use Rattle.rv_book.specs.declared.state.BookState.{BookState}
 use Rattle.rv_book.specs.Arriving.{IsKept, IsNext, IsRecorded, WillTell}
 use Rattle.rv_book.specs.Counting.{NumberOf}
 use Rattle.rv_book.specs.Draining.{IsDraining, MayDrain, items_in}
@@ -31,7 +31,7 @@ use Rattle.rv_book.specs.Elapsing.{AreDeadlines, deadline_after, with_deadline, 
 use Rattle.rv_book.specs.Legal.{KeepsTime, Legal, MayFollow, NothingDue}
 use Rattle.rv_book.specs.Limits.{FitEntries}
 use Rattle.std.specs.Global.{Vec}
-use Rattle.rv_book.specs.Parked.{AreStations, IsLine}
+use Rattle.rv_book.specs.Parked.{AreWaiters, IsLine}
 use Rattle.rv_book.specs.Tables.{Comes, IsPrepared, IsSession, IsSound, SettlesAs, account_of, partners_reply, told_to, with_due}
 use Rattle.rv_book.specs.Sessions.{HasOpened}
 use Rattle.rv_book.specs.TakingOut.{IsLeft, Left}
@@ -49,7 +49,7 @@ use Rattle.rv_book.proofs.Replying.{recorded_kept, reply_laws}
 use Rattle.rv_book.proofs.SessionTable.{Changes, IsAt, named_at}
 use Rattle.rv_book.proofs.Standing.{is_next}
 use Rattle.rv_book.proofs.TakenSessions.{Tells, opened_while_left, sessions_changed_at_last}
-use Rattle.rv_book.proofs.TakenTables.{due_at_last, number_at_last, stations_at_last}
+use Rattle.rv_book.proofs.TakenTables.{due_at_last, number_at_last, waiters_at_last}
 use Rattle.rv_book.proofs.TakingOut.{same_state}
 use Rattle.rv_book.proofs.Versions.{asked_last}
 use Rattle.rv_book.proofs.WaitingTable.{version_told}
@@ -79,10 +79,10 @@ module _ (a : Account) (moment : ℕ) (key : Key) (call : Call) (side : Side) (p
 -- ---- the state
 
 -- the entry is within the limits
-pub fit_drained : (old : State) (moment : ℕ) (key : Key) (call : Call) (partners : List ℕ) → Comes old moment (Arrive key call) → FitEntries ((account_of old).entries ++ entry moment (Arrive key call) partners ∷ [])
+pub fit_drained : (old : BookState) (moment : ℕ) (key : Key) (call : Call) (partners : List ℕ) → Comes old moment (Arrive key call) → FitEntries ((account_of old).entries ++ entry moment (Arrive key call) partners ∷ [])
 fit_drained old moment key call partners comes = fit_with (account_of old).entries (entry moment (Arrive key call) partners) comes.sound.fits.entries (comes.moment_fits, comes.act_fits)
 
-module _ (old : State) (moment : ℕ) (key : Key) (call : Call) (queue max : ℕ) (room : Vec ℕ) (k : Kept) (may : MayDrain old moment key call queue max room k) where
+module _ (old : BookState) (moment : ℕ) (key : Key) (call : Call) (queue max : ℕ) (room : Vec ℕ) (k : Kept) (may : MayDrain old moment key call queue max room k) where
   abbrev pub before : Account
   before = account_of old
 
@@ -108,7 +108,7 @@ module _ (old : State) (moment : ℕ) (key : Key) (call : Call) (queue max : ℕ
   next = is_next before old.sessions sound.sessions_are sound.legal key may.next
 
   pub follows : MayFollow before own_entry
-  follows = front_follows before moment key call (Gives queue) (items_in old queue) opposes (sound.stations_are.lines (Gives queue)) may.comes.time may.comes.nothing_due next
+  follows = front_follows before moment key call (Gives queue) (items_in old queue) opposes (sound.waiters_are.lines (Gives queue)) may.comes.time may.comes.nothing_due next
 
   pub legal_after : Legal after
   legal_after = Legal-with_entry before own_entry sound.legal follows
@@ -118,7 +118,7 @@ module _ (old : State) (moment : ℕ) (key : Key) (call : Call) (queue max : ℕ
 
   pub tells : Tells before own_entry (Names own_entry) (kept.ReceivedBy place)
   tells = subst (Tells before own_entry (Names own_entry)) (ap (λ s. partners_reply s place) may.side)
-      (tells_named before moment key call (Gives queue) (items_in old queue) opposes (sound.stations_are.lines (Gives queue)) legal_after)
+      (tells_named before moment key call (Gives queue) (items_in old queue) opposes (sound.waiters_are.lines (Gives queue)) legal_after)
 
   -- what is kept for it, where its session has this version
   pub kept_is : (version : Version) → HasOpened before.entries key.client key.incarnation version → IsKept after.entries place call (told_in version k)
@@ -127,22 +127,22 @@ module _ (old : State) (moment : ℕ) (key : Key) (call : Call) (queue max : ℕ
       subst (λ partners. WillTell before call partners k) named may.will moment key version sound.legal legal_after (asked_last before.entries own_entry key key.incarnation version refl opened)
 
 -- the items were taken out, and the request's number began
-pub record Began (old mid : State) (begun : Table) (moment : ℕ) (key : Key) (call : Call) (queue max : ℕ) (room : Vec ℕ) (k : Kept) : Type 0 where
+pub record Began (old mid : BookState) (begun : Table) (moment : ℕ) (key : Key) (call : Call) (queue max : ℕ) (room : Vec ℕ) (k : Kept) : Type 0 where
   pub may : MayDrain old moment key call queue max room k
   pub draining : IsDraining mid (take (may_name call) (items_in old queue))
   pub same : mid.account ≡ old.account
   pub begins : OnlyAdvances mid.sessions begun key (Waits (length (account_of old).entries))
 
 -- then its entry was recorded, and it was settled with this
-pub record Drains (old mid new : State) (begun : Table) (moment : ℕ) (key : Key) (call : Call) (queue : ℕ) (k : Kept) : Type 0 where
+pub record Drains (old mid new : BookState) (begun : Table) (moment : ℕ) (key : Key) (call : Call) (queue : ℕ) (k : Kept) : Type 0 where
   pub settles : SettlesAs begun new.sessions key.client (length (account_of old).entries) k
   pub pushed : account_of new ≡ with_entry (account_of old) (entry moment (Arrive key call) (take (may_name call) (items_in old queue)))
   pub room_left : old.account.room ≤ new.account.room + 1
-  pub stations : new.stations ≡ mid.stations
+  pub waiters : new.waiters ≡ mid.waiters
   pub waiting : new.waiting ≡ mid.waiting
   pub due : new.due ≡ without_deadline (limit_at (account_of new).entries (length (account_of old).entries)) (length (account_of old).entries) mid.due
 
-module _ (old mid : State) (begun : Table) (moment : ℕ) (key : Key) (call : Call) (queue max : ℕ) (room : Vec ℕ) (k : Kept) (is : Began old mid begun moment key call queue max room k) where
+module _ (old mid : BookState) (begun : Table) (moment : ℕ) (key : Key) (call : Call) (queue max : ℕ) (room : Vec ℕ) (k : Kept) (is : Began old mid begun moment key call queue max room k) where
   abbrev was : Account
   was = account_of old
 
@@ -171,8 +171,8 @@ module _ (old mid : State) (begun : Table) (moment : ℕ) (key : Key) (call : Ca
   own_sound = is.may.comes.sound
 
   -- the state between, over the account as it was
-  abbrev left_state : State
-  left_state = record { account = old.account; sessions = mid.sessions; stations = mid.stations; waiting = mid.waiting; due = mid.due }
+  abbrev left_state : BookState
+  left_state = record { account = old.account; sessions = mid.sessions; waiters = mid.waiters; waiting = mid.waiting; due = mid.due }
 
   left : IsLeft left_state (Names new_entry) (kept.ReceivedBy at)
   left = subst (λ s. IsDraining s new_entry.partners) (same_state mid old.account is.same) is.draining
@@ -219,7 +219,7 @@ module _ (old mid : State) (begun : Table) (moment : ℕ) (key : Key) (call : Ca
   fewer : mid.waiting ≤ old.waiting
   fewer = number_at_most (Left (Names new_entry) (Waiting was.entries)) (Waiting was.entries) mid.waiting old.waiting (λ r both. both.0) left.waiting_is own_sound.waiting_is
 
-  module _ (new : State) (drains : Drains old mid new begun moment key call queue k) where
+  module _ (new : BookState) (drains : Drains old mid new begun moment key call queue k) where
     changes : Changes mid.sessions new.sessions key.client (session_for key v (Settled (Some at) (told_in v k)))
     changes =
         let settles = drains.settles.settles in
@@ -248,7 +248,7 @@ module _ (old mid : State) (begun : Table) (moment : ℕ) (key : Key) (call : Ca
           account = drains.pushed;
           sessions_are = sessions_changed_at_last was new_entry (Names new_entry) (kept.ReceivedBy at) own_legal (waits_on was.entries new_entry (Names new_entry) own_closes) own_tells mid.sessions new.sessions key.client
               (session_for key v (Settled (Some at) (told_in v k))) refl left.sessions_are changes own_session;
-          stations_are = subst (AreStations is_now.entries) (sym drains.stations) (stations_at_last was.entries new_entry (Names new_entry) own_closes mid.stations left.stations_are);
+          waiters_are = subst (AreWaiters is_now.entries) (sym drains.waiters) (waiters_at_last was.entries new_entry (Names new_entry) own_closes mid.waiters left.waiters_are);
           waiting_is = subst (NumberOf (Waiting is_now.entries)) (sym drains.waiting) (number_at_last was.entries new_entry (Names new_entry) own_closes mid.waiting left.waiting_is);
           due_are = subst (AreDeadlines is_now.entries) (sym due_is) (due_at_last was.entries new_entry (Names new_entry) own_closes mid.due left.due_are);
           clients = few_still was.entries new_entry (λ c i w own. absurd (no_hello key call c i w own)) own_sound.fits.clients;
@@ -258,8 +258,8 @@ module _ (old mid : State) (begun : Table) (moment : ℕ) (key : Key) (call : Ca
 
 -- ---- a drain for which all growths were made may be recorded
 
-pub may_drain : (old new : State) (moment : ℕ) (key : Key) (call : Call) (queue max : ℕ) (room : Vec ℕ) (k : Kept) → Comes old moment (Arrive key call) → standing_of old.sessions key ≡ standing.Next → HasNext old.sessions key
-    → side_of call ≡ Takes queue → wait_of call ≡ Some Now → max ≡ may_name call → IsPrepared old new moment call → HasRoomToName new.stations call room
+pub may_drain : (old new : BookState) (moment : ℕ) (key : Key) (call : Call) (queue max : ℕ) (room : Vec ℕ) (k : Kept) → Comes old moment (Arrive key call) → standing_of old.sessions key ≡ standing.Next → HasNext old.sessions key
+    → side_of call ≡ Takes queue → wait_of call ≡ Some Now → max ≡ may_name call → IsPrepared old new moment call → HasRoomToName new.waiters call room
     → WillTell (account_of new) call (take max (items_in new queue)) k → MayDrain new moment key call queue max room k
 may_drain old new moment key call queue max room k comes stands next side at_once most prepared names will =
     let ready = prepared.ready in

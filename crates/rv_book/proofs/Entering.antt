@@ -95,7 +95,7 @@ hello_in_front es n c i h less last = record {
 }
 
 -- the account has the arrival of the key's request
-pub record Arrived (a : Account) (key : Key) : Type 0 where
+pub record Arrival (a : Account) (key : Key) : Type 0 where
   pub place : ℕ
   pub call : Call
   pub arrived : act_at a.entries place ≡ Some (Arrive key call)
@@ -135,7 +135,7 @@ arrives_at es key r (Some (Arrive other call)) there = elim (key_or_other other 
 
 -- so its request arrived, or was cancelled before it came
 last_came : (a : Account) (key : Key) → Legal a → key.epoch ≡ a.epoch → HasIncarnation a.entries key.client key.incarnation → LastNumber a.entries key.client key.number → 1 ≤ key.number
-    → Arrived a key ⊎ CancelledFirst a.entries key
+    → Arrival a key ⊎ CancelledFirst a.entries key
 unfolding ArrivesAt
 last_came a key legal epoch has is positive =
     let named = last_named a key legal epoch has is positive in
@@ -187,14 +187,14 @@ room_or a need G goes_on =
       | inr room ↦ inr (room_left a waiting.0 need waiting.1 room, goes_on)
     ]
 
-no_other_call : (a : Account) (key : Key) (call : Call) (there : Arrived a key) → Legal a → there.call ≡ call → (refusal : Refusal) → OtherCallDue a key call refusal → ⊥
+no_other_call : (a : Account) (key : Key) (call : Call) (there : Arrival a key) → Legal a → there.call ≡ call → (refusal : Refusal) → OtherCallDue a key call refusal → ⊥
 no_other_call a key call there legal same refusal due =
     let place : due.place ≡ there.place = arrives_once a due.place there.place key due.other there.call legal due.arrived there.arrived in
     let other : due.other ≡ there.call = one_call key due.other there.call (sym due.arrived ∙ ap (act_at a.entries) place ∙ there.arrived) in
     due.differs (other ∙ same)
 
 -- what a repeat is told: its answer, or that it came with another call
-at_last : (a : Account) (key : Key) (call : Call) → Legal a → Arrived a key ⊎ CancelledFirst a.entries key → RefuseOr (OtherCallDue a key call) (λ refusal. Unit {0}) ((x : Answer) × Answers a key x)
+at_last : (a : Account) (key : Key) (call : Call) → Legal a → Arrival a key ⊎ CancelledFirst a.entries key → RefuseOr (OtherCallDue a key call) (λ refusal. Unit {0}) ((x : Answer) × Answers a key x)
 at_last a key call legal (inl there) = elim (same_call there.call call) [
   | inr differs ↦ inl (record { refusal = OtherCall; is_due = record { place = there.place; other = there.call; arrived = there.arrived; differs = differs; is = refl }; refuses_it = tt })
   | inl same ↦ inr (no_other_call a key call there legal same, answer_at a there.place key there.call legal there.arrived)
@@ -202,7 +202,7 @@ at_last a key call legal (inl there) = elim (same_call there.call call) [
 at_last a key call legal (inr first) = let told = first_told a key first in inr ((λ refusal due. first.not_arrived due.place due.other due.arrived), (told.0, inl told.1))
 
 -- the session of the key's client decides which line applies
-by_session : (a : Account) (key : Key) (L G : Type 0) → Legal a → key.epoch ≡ a.epoch → (Arrived a key ⊎ CancelledFirst a.entries key → L) → (IsNext a key → G) → KeyLines a key (λ refusal. Unit {0}) L G
+by_session : (a : Account) (key : Key) (L G : Type 0) → Legal a → key.epoch ≡ a.epoch → (Arrival a key ⊎ CancelledFirst a.entries key → L) → (IsNext a key → G) → KeyLines a key (λ refusal. Unit {0}) L G
 by_session a key L G legal epoch again goes_on =
     elim (find_hello a.entries key.client) [
       | inr none ↦ line_no_session (λ refusal. Unit {0}) L G a key epoch (λ r incarnation v hello. absurd (none r incarnation v hello)) tt
@@ -239,7 +239,7 @@ by_session a key L G legal epoch again goes_on =
       ]
     ]
 
-by_key : (a : Account) (key : Key) (L G : Type 0) → Legal a → (Arrived a key ⊎ CancelledFirst a.entries key → L) → (IsNext a key → G) → KeyLines a key (λ refusal. Unit {0}) L G
+by_key : (a : Account) (key : Key) (L G : Type 0) → Legal a → (Arrival a key ⊎ CancelledFirst a.entries key → L) → (IsNext a key → G) → KeyLines a key (λ refusal. Unit {0}) L G
 by_key a key L G legal again goes_on = elim (cases_order key.epoch a.epoch) [
   | inl same ↦ by_session a key L G legal same again goes_on
   | inr differ ↦ line_other_epoch (λ refusal. Unit {0}) L G a key (λ same. elim differ [ inl less ↦ omega arith | inr more ↦ omega arith ]) tt
@@ -276,7 +276,7 @@ cancels_next a moment key is next =
     can_cancel a moment key is.legal (cancel_follows a moment key is.time is.nothing_due next.epoch next.incarnation (inr number)) (next_replies a (entry moment (Cancel key) []) key is.legal next.incarnation number refl)
 
 -- what a cancel of the last number does: it ends the wait, or repeats the reply
-cancels_last : (a : Account) (moment : ℕ) (key : Key) → IsTicked a moment → Arrived a key ⊎ CancelledFirst a.entries key
+cancels_last : (a : Account) (moment : ℕ) (key : Key) → IsTicked a moment → Arrival a key ⊎ CancelledFirst a.entries key
     → WhereElse (WaitsUnder a.entries key) (CanCancel a moment key) ((x : Answer) × Replies a key x)
 cancels_last a moment key is (inr first) = inr ((λ waits. first.not_arrived waits.place waits.call waits.arrived), first_told a key first)
 cancels_last a moment key is (inl there) = elim ((reply_laws there.call).exists a there.place is.legal (ap (option_and_then call_in) there.arrived)) [

@@ -5,15 +5,15 @@ use Rattle.std.proofs.lemmas.Option.{none-some, same_Some}
 use Rattle.rv_text.specs.declared.call.Side.{Side}
 use Rattle.rv_text.specs.declared.call.Side.TheVariants.{Exchanges, Gives, Looks, Takes}
 use Rattle.rv_text.specs.declared.call.Wait.{Wait}
-use Rattle.rv_session.specs.Owed.{Owed}
+use Rattle.rv_session.specs.OwedDuty.{OwedDuty}
 use Rattle.rv_dual.specs.Offers.{places_of}
 use Rattle.rv_dual.specs.Queue.{SameLists}
 use Rattle.rv_account.specs.declared.entry.Entry.{Entry}
-use Rattle.rv_book.specs.declared.arrived.Arrived.{Arrived}
+use Rattle.rv_book.specs.declared.arrival.Arrival.{Arrival}
 use Rattle.rv_account.specs.Calls.{Lasts}
-use Rattle.rv_book.specs.Meeting.{ArrivedOn, Exchanged, FindsNobody, Leaves, LeftExchanger, StandsOn, SwappedNothing, SwappedWith, WaitsAlone}
+use Rattle.rv_book.specs.Meeting.{ArrivedOn, Exchanged, FindsNobody, LeavesSide, LeftExchanger, StandsOn, SwappedNothing, SwappedWith, WaitsAlone}
 use Rattle.rv_book.specs.Parked.{AreParked, IsParked, owed_at}
-use Rattle.rv_book.specs.Views.{AllFree, OnlyExchanger, SameStations, Stations, exchanger_at, place_of_duty, queue_at, takers_places, waiting_on}
+use Rattle.rv_book.specs.Views.{AllFree, OnlyExchanger, SameWaiters, Waiters, exchanger_at, place_of_duty, queue_at, takers_places, waiting_on}
 use Rattle.rv_book.proofs.Numbers.{same_or_not}
 use Rattle.rv_book.proofs.Withdrawn.{owed_place}
 use Rattle.std.proofs.lemmas.Bool.Decides.{nat_tests}
@@ -21,18 +21,18 @@ use Rattle.std.proofs.lemmas.Bool.Decides.{nat_tests}
 -- ---- one exchanger
 
 -- no other exchanger changed, and no queue
-pub record ExchangerChanged (old new : Stations) (exchanger : ℕ) : Type 0 where
+pub record ExchangerChanged (old new : Waiters) (exchanger : ℕ) : Type 0 where
   pub others : OnlyExchanger exchanger old.exchangers new.exchangers
   pub queues : new.queues ≡ old.queues
 
 some_is_none : {X : Type 0} (x : X) → Some x ≡ None → ⊥
 some_is_none x is = none-some x (sym is)
 
-module _ (old new : Stations) (exchanger : ℕ) (changed : ExchangerChanged old new exchanger) where
-  abbrev before : Option Owed
+module _ (old new : Waiters) (exchanger : ℕ) (changed : ExchangerChanged old new exchanger) where
+  abbrev before : Option OwedDuty
   before = exchanger_at old.exchangers exchanger
 
-  abbrev after : Option Owed
+  abbrev after : Option OwedDuty
   after = exchanger_at new.exchangers exchanger
 
   -- all sides stay but that of the exchanger
@@ -43,7 +43,7 @@ module _ (old new : Stations) (exchanger : ℕ) (changed : ExchangerChanged old 
   others_stay (Exchanges other) apart = ap place_of_duty (changed.others other (λ is. apart (ap Exchanges is)))
 
   -- who is parked, where what is parked at the exchanger is
-  parked_at : (es : List Entry) → AreParked es old → ((duty : Owed) → after ≡ Some duty → owed_at es duty.place ≡ Some duty) → AreParked es new
+  parked_at : (es : List Entry) → AreParked es old → ((duty : OwedDuty) → after ≡ Some duty → owed_at es duty.place ≡ Some duty) → AreParked es new
   parked_at es parked here = record {
     queues = λ queue. subst (λ l. IsParked es (queue_at l queue)) (sym changed.queues) (parked.queues queue);
     exchangers = λ other duty there. elim (same_or_not other exchanger) [
@@ -52,7 +52,7 @@ module _ (old new : Stations) (exchanger : ℕ) (changed : ExchangerChanged old 
     ];
   }
 
-  nothing_changed : after ≡ before → SameStations old new
+  nothing_changed : after ≡ before → SameWaiters old new
   nothing_changed same = record {
     queues = λ queue. subst (λ l. SameLists (queue_at old.queues queue) (queue_at l queue)) (sym changed.queues) (record { givers = refl; takers = refl });
     exchangers = λ other. elim (same_or_not other exchanger) [
@@ -66,7 +66,7 @@ module _ (old new : Stations) (exchanger : ℕ) (changed : ExchangerChanged old 
 
   -- ---- an arrival
 
-  swapped : (wait : Wait) (duty : Owed) (result : Arrived) → SwappedWith before after duty result → ArrivedOn old new (Exchanges exchanger) (Some wait) duty result
+  swapped : (wait : Wait) (duty : OwedDuty) (result : Arrival) → SwappedWith before after duty result → ArrivedOn old new (Exchanges exchanger) (Some wait) duty result
   swapped wait duty result swap = subst (ArrivedOn old new (Exchanges exchanger) (Some wait) duty) (sym swap.is) (record {
     meets = record {
       other = Exchanges exchanger;
@@ -79,7 +79,7 @@ module _ (old new : Stations) (exchanger : ℕ) (changed : ExchangerChanged old 
     parked = λ es parked owed. parked_at es parked (λ duty there. absurd (none-some duty (sym swap.left ∙ there)));
   })
 
-  waits_alone : (wait : Wait) (duty : Owed) (result : Arrived) → Lasts (Some wait) → WaitsAlone before after duty result → ArrivedOn old new (Exchanges exchanger) (Some wait) duty result
+  waits_alone : (wait : Wait) (duty : OwedDuty) (result : Arrival) → Lasts (Some wait) → WaitsAlone before after duty result → ArrivedOn old new (Exchanges exchanger) (Some wait) duty result
   waits_alone wait duty result lasts waits = subst (ArrivedOn old new (Exchanges exchanger) (Some wait) duty) (sym waits.is) (record {
     meets = inl (
       (refl, lasts),
@@ -91,10 +91,10 @@ module _ (old new : Stations) (exchanger : ℕ) (changed : ExchangerChanged old 
     );
     own = (refl, (refl, lasts), refl);
     other = λ es parked. refl;
-    parked = λ es parked owed. parked_at es parked (λ other there. subst (λ (d : Owed). owed_at es d.place ≡ Some d) (same_Some _ _ (sym waits.waits ∙ there)) owed);
+    parked = λ es parked owed. parked_at es parked (λ other there. subst (λ (d : OwedDuty). owed_at es d.place ≡ Some d) (same_Some _ _ (sym waits.waits ∙ there)) owed);
   })
 
-  swapped_nothing : (wait : Wait) (duty : Owed) (result : Arrived) → (Lasts (Some wait) → ⊥) → SwappedNothing before after duty result → ArrivedOn old new (Exchanges exchanger) (Some wait) duty result
+  swapped_nothing : (wait : Wait) (duty : OwedDuty) (result : Arrival) → (Lasts (Some wait) → ⊥) → SwappedNothing before after duty result → ArrivedOn old new (Exchanges exchanger) (Some wait) duty result
   swapped_nothing wait duty result goes nothing =
       let same : after ≡ before = nothing.none_waits ∙ sym nothing.nobody in
       subst (ArrivedOn old new (Exchanges exchanger) (Some wait) duty) (sym nothing.is) (record {
@@ -104,22 +104,22 @@ module _ (old new : Stations) (exchanger : ℕ) (changed : ExchangerChanged old 
         parked = λ es parked owed. parked_at es parked (λ other there. absurd (none-some other (sym nothing.none_waits ∙ there)));
       })
 
-  pub arrived_exchanges : (wait : Wait) (duty : Owed) (result : Arrived) → Exchanged before after wait duty result → ArrivedOn old new (Exchanges exchanger) (Some wait) duty result
+  pub arrived_exchanges : (wait : Wait) (duty : OwedDuty) (result : Arrival) → Exchanged before after wait duty result → ArrivedOn old new (Exchanges exchanger) (Some wait) duty result
   arrived_exchanges wait duty result (inl swap) = swapped wait duty result swap
   arrived_exchanges wait duty result (inr (inl waits)) = waits_alone wait duty result waits.0 waits.1
   arrived_exchanges wait duty result (inr (inr goes)) = swapped_nothing wait duty result goes.0 goes.1
 
   -- ---- a request that leaves
 
-  left_free : (place : ℕ) (es : List Entry) (duty : Owed) (result : Option Owed) → LeftExchanger before after place result → (earlier : Owed) → before ≡ Some earlier → earlier.place ≡ place
+  left_free : (place : ℕ) (es : List Entry) (duty : OwedDuty) (result : Option OwedDuty) → LeftExchanger before after place result → (earlier : OwedDuty) → before ≡ Some earlier → earlier.place ≡ place
       → AreParked es old → owed_at es place ≡ Some duty → (result ≡ Some duty) × (after ≡ None)
   left_free place es duty None left earlier waited there parked owed = absurd (left.0 earlier waited there)
   left_free place es duty (Some back) left earlier waited there parked owed =
       let own : owed_at es back.place ≡ Some back = parked.exchangers exchanger back left.waited in
       (sym (sym (ap (owed_at es) left.own) ∙ own) ∙ owed, left.left)
 
-  pub left_exchanger : (place : ℕ) (es : List Entry) (duty : Owed) (result : Option Owed) → LeftExchanger before after place result → AreParked es old → StandsOn old (Exchanges exchanger) place
-      → owed_at es place ≡ Some duty → Leaves old new (Exchanges exchanger) duty result
+  pub left_exchanger : (place : ℕ) (es : List Entry) (duty : OwedDuty) (result : Option OwedDuty) → LeftExchanger before after place result → AreParked es old → StandsOn old (Exchanges exchanger) place
+      → owed_at es place ≡ Some duty → LeavesSide old new (Exchanges exchanger) duty result
   left_exchanger place es duty result left parked stands owed =
       let earlier = who_waits before stands.i place stands.there in
       let gone = left_free place es duty result left earlier.0 earlier.1 earlier.2 parked owed in
@@ -131,7 +131,7 @@ module _ (old new : Stations) (exchanger : ℕ) (changed : ExchangerChanged old 
         parked = λ other was. parked_at other was (λ d there. absurd (none-some d (sym gone.1 ∙ there)));
       }
     where
-      who_waits : (o : Option Owed) (i place : ℕ) → slice_get (place_of_duty o) i ≡ Some place → (earlier : Owed) × (o ≡ Some earlier) × (earlier.place ≡ place)
+      who_waits : (o : Option OwedDuty) (i place : ℕ) → slice_get (place_of_duty o) i ≡ Some place → (earlier : OwedDuty) × (o ≡ Some earlier) × (earlier.place ≡ place)
       who_waits None i place at = absurd (none-some place at)
       who_waits (Some earlier) zero place at = (earlier, refl, same_Some _ _ at)
       who_waits (Some earlier) (suc i) place at = absurd (none-some place at)
@@ -148,7 +148,7 @@ pub none_free : AllFree []
 none_free exchanger = refl
 
 -- an exchanger more at which nobody waits
-pub append_free : (exchangers : List (Option Owed)) (at : Option Owed) → at ≡ None → AllFree exchangers → AllFree (exchangers ++ at ∷ [])
+pub append_free : (exchangers : List (Option OwedDuty)) (at : Option OwedDuty) → at ≡ None → AllFree exchangers → AllFree (exchangers ++ at ∷ [])
 append_free [] at none all zero = none
 append_free [] at none all (suc exchanger) = refl
 append_free (first ∷ exchangers) at none all zero = all zero

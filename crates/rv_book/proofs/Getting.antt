@@ -10,7 +10,7 @@ use Rattle.rv_account.specs.declared.entry.Entry.{Entry}
 use Rattle.rv_account.specs.Account.{Account, act_at, call_at, call_in}
 use Rattle.rv_book.specs.Legal.{Legal}
 use Rattle.rv_book.specs.Limits.{FitsAccount}
-use Rattle.rv_book.specs.Replies.{Gets, Meet}
+use Rattle.rv_book.specs.Replies.{GetsItem, Meet}
 use Rattle.rv_book.specs.Waiting.{Met}
 use Rattle.rv_book.proofs.Growing.{NamesPartner-on, call_read, reads_on}
 use Rattle.rv_book.proofs.Limits.{act_fits, act_there, call_of_act}
@@ -20,7 +20,7 @@ pub Meet-on : (es more : List Entry) (r s : ℕ) → Meet es r s → Meet (es ++
 Meet-on es more r s (inl names) = inl (NamesPartner-on es more r s names)
 Meet-on es more r s (inr names) = inr (NamesPartner-on es more s r names)
 
-pub gets_on : (es more : List Entry) (r : ℕ) (item : List ℕ) → Gets es r item → Gets (es ++ more) r item
+pub gets_on : (es more : List Entry) (r : ℕ) (item : List ℕ) → GetsItem es r item → GetsItem (es ++ more) r item
 gets_on es more r item gets = record {
   giver = gets.giver;
   call = gets.call;
@@ -33,17 +33,17 @@ pub meet_met : (es : List Entry) (r s : ℕ) → Meet es r s → Met es r
 meet_met es r s (inl names) = record { later = r; earlier = s; names = names; part = inl refl }
 meet_met es r s (inr names) = record { later = s; earlier = r; names = names; part = inr refl }
 
-pub gets_met : (es : List Entry) (r : ℕ) (item : List ℕ) → Gets es r item → Met es r
+pub gets_met : (es : List Entry) (r : ℕ) (item : List ℕ) → GetsItem es r item → Met es r
 gets_met es r item gets = elim gets.meet [ inl names ↦ meet_met es r gets.giver (inr names) | inr names ↦ meet_met es r gets.giver (inl names) ]
 
 -- what gets an item, and may name one, gets one item
-pub one_item : (b : Account) (r : ℕ) (call : Call) (x y : List ℕ) → Legal b → call_at b.entries r ≡ Some call → may_name call ≡ 1 → Gets b.entries r x → Gets b.entries r y → x ≡ y
+pub one_item : (b : Account) (r : ℕ) (call : Call) (x y : List ℕ) → Legal b → call_at b.entries r ≡ Some call → may_name call ≡ 1 → GetsItem b.entries r x → GetsItem b.entries r y → x ≡ y
 one_item b r call x y legal arrived single first second =
     let giver : first.giver ≡ second.giver = meets_one b r first.giver second.giver call legal arrived single first.meet second.meet in
     let same : first.call ≡ second.call = same_Some _ _ (sym first.arrived ∙ ap (call_at b.entries) giver ∙ second.arrived) in
     same_Some _ _ (sym first.hands_over ∙ ap item_of same ∙ second.hands_over)
 
-pub given_fits : (a : Account) (r : ℕ) (item : List ℕ) → FitsAccount a → Gets a.entries r item → FitsItem item
+pub given_fits : (a : Account) (r : ℕ) (item : List ℕ) → FitsAccount a → GetsItem a.entries r item → FitsItem item
 given_fits a r item fits gets =
     let does = act_there call_in (act_at a.entries gets.giver) gets.call gets.arrived in
     item_fits gets.call item (call_of_act does.0 gets.call (act_fits a gets.giver does.0 fits does.1) does.2) gets.hands_over

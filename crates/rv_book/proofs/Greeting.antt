@@ -4,7 +4,7 @@ use Rattle.std.proofs.lemmas.Option.{same_Some}
 use Rattle.rv_text.specs.declared.answer.Refusal.{Refusal}
 use Rattle.rv_text.specs.declared.call.Side.{Side}
 use Rattle.rv_text.specs.declared.version.Version.{Version}
-use Rattle.rv_session.specs.Owed.{Owed}
+use Rattle.rv_session.specs.OwedDuty.{OwedDuty}
 use Rattle.rv_session.specs.Table.{OnlySets, OnlySettles, fresh, session_of, waiting_of}
 use Rattle.rv_session.specs.declared.kept.Kept.{Kept}
 use Rattle.rv_session.specs.Kept.{told_in}
@@ -14,11 +14,11 @@ use Rattle.rv_account.specs.Calls.{IsPut}
 use Rattle.rv_account.specs.declared.entry.Act.{Act}
 use Rattle.rv_account.specs.declared.entry.Act.TheVariants.{Hello}
 use Rattle.rv_account.specs.declared.entry.Entry.{Entry}
-use Rattle.rv_book.specs.declared.state.State.{State}
+use Rattle.rv_book.specs.declared.state.BookState.{BookState}
 use Rattle.rv_book.specs.Legal.{HasWaiting, KeepsTime, NothingDue}
 use Rattle.rv_book.specs.Sessions.{HasOnlyLower}
 use Rattle.rv_book.specs.Steps.{ClientsFullDue}
-use Rattle.rv_book.specs.Tables.{AreSessions, Comes, EndsIf, HasSpace, IsReady, IsSound, account_of}
+use Rattle.rv_book.specs.Tables.{AreSessions, Comes, EndsIf, HasRoomReady, HasSpace, IsSound, account_of}
 use Rattle.rv_book.specs.Waiting.{Open, Waiting}
 use Rattle.rv_book.proofs.FewClients.{few_with}
 use Rattle.rv_book.proofs.Following.{hello_follows}
@@ -50,13 +50,13 @@ has_one es client r waits request = record {
 }
 
 -- where the session waits, the account has a request that waits
-pub waiting_if : (state : State) (client : ℕ) (waiting : Option ℕ) → IsSound state → waiting ≡ waiting_of state.sessions client → IfSome waiting (Waiting (account_of state).entries)
+pub waiting_if : (state : BookState) (client : ℕ) (waiting : Option ℕ) → IsSound state → waiting ≡ waiting_of state.sessions client → IfSome waiting (Waiting (account_of state).entries)
 waiting_if state client None sound is = tt
 waiting_if state client (Some place) sound is = (waiting_there (account_of state) state.sessions client place sound.sessions_are (sym is)).waits.waits
 
 -- a client that has a session has one still
-pub still_known : (old mid : State) (waiting : Option ℕ) (kept : Kept) (client : ℕ) (s : Session) → EndsIf old mid waiting kept → session_of old.sessions client ≡ Some s → IsSome (session_of mid.sessions client)
-still_known old mid None kept client s ends there = ap is_some (ap (λ (state : State). session_of state.sessions client) ends ∙ there)
+pub still_known : (old mid : BookState) (waiting : Option ℕ) (kept : Kept) (client : ℕ) (s : Session) → EndsIf old mid waiting kept → session_of old.sessions client ≡ Some s → IsSome (session_of mid.sessions client)
+still_known old mid None kept client s ends there = ap is_some (ap (λ (state : BookState). session_of state.sessions client) ends ∙ there)
 still_known old mid (Some place) kept client s ends there = elim (same_or_not client ends.duty.client) [
   | inl same ↦ ap is_some (ap (session_of mid.sessions) same ∙ ends.settles.settles.sets.own)
   | inr apart ↦ ap is_some (ends.settles.settles.sets.others client apart ∙ there)
@@ -64,7 +64,7 @@ still_known old mid (Some place) kept client s ends there = elim (same_or_not cl
 
 -- ---- a state that was made ready
 
-pub comes_ready : (old ready : State) (moment : ℕ) (does : Act) (need : ℕ) (side : Option Side) → Comes old moment does → IsReady old ready need side → Comes ready moment does
+pub comes_ready : (old ready : BookState) (moment : ℕ) (does : Act) (need : ℕ) (side : Option Side) → Comes old moment does → HasRoomReady old ready need side → Comes ready moment does
 comes_ready old ready moment does need side comes prepared = record {
   sound = sound_same old ready comes.sound prepared.same;
   time = subst (λ a. KeepsTime a moment) (sym prepared.same.account) comes.time;
@@ -73,14 +73,14 @@ comes_ready old ready moment does need side comes prepared = record {
   act_fits = comes.act_fits;
 }
 
-pub space_ready : (old ready : State) (need : ℕ) (side : Option Side) → IsReady old ready need side → HasSpace ready need
+pub space_ready : (old ready : BookState) (need : ℕ) (side : Option Side) → HasRoomReady old ready need side → HasSpace ready need
 space_ready old ready need side prepared =
     let entries = ap (λ (a : Account). length a.entries) prepared.same.account in
     omega (arith, prepared.space, entries, prepared.same.waiting)
 
 -- ---- a hello that is recorded
 
-module _ (old : State) (moment client incarnation : ℕ) (version : Version) (comes : Comes old moment (Hello client incarnation version)) (lower : HasOnlyLower (account_of old).entries client incarnation)
+module _ (old : BookState) (moment client incarnation : ℕ) (version : Version) (comes : Comes old moment (Hello client incarnation version)) (lower : HasOnlyLower (account_of old).entries client incarnation)
     (room_for : (refusal : Refusal) → ClientsFullDue (account_of old) client refusal → ⊥) where
   abbrev pub before : Account
   before = account_of old
@@ -109,27 +109,27 @@ module _ (old : State) (moment client incarnation : ℕ) (version : Version) (co
         (record { named = ap (option_and_then key_in) first.arrived; of_client = sym first.of_client }) (record { named = ap (option_and_then key_in) second.arrived; of_client = sym second.of_client });
   }
 
-  greeted : (new : State) → Changes old.sessions new.sessions client (fresh incarnation version) → AreSessions (with_entry before own_entry) new.sessions
+  greeted : (new : BookState) → Changes old.sessions new.sessions client (fresh incarnation version) → AreSessions (with_entry before own_entry) new.sessions
   greeted new changes = sessions_greeted before own_entry old.sessions new.sessions client incarnation version comes.sound.sessions_are comes.sound.legal (legal_after old moment (Hello client incarnation version) OfClient marks) refl refl changes
 
   -- nothing of the client waited
-  pub sound_idle : HasSpace old 1 → (new : State) → account_of new ≡ with_entry before own_entry → Changes old.sessions new.sessions client (fresh incarnation version) → waiting_of old.sessions client ≡ None
-      → new.stations ≡ old.stations → new.waiting ≡ old.waiting → new.due ≡ old.due → old.waiting ≤ new.account.room → IsSound new
-  sound_idle space new pushed changes none stations waiting due room =
+  pub sound_idle : HasSpace old 1 → (new : BookState) → account_of new ≡ with_entry before own_entry → Changes old.sessions new.sessions client (fresh incarnation version) → waiting_of old.sessions client ≡ None
+      → new.waiters ≡ old.waiters → new.waiting ≡ old.waiting → new.due ≡ old.due → old.waiting ≤ new.account.room → IsSound new
+  sound_idle space new pushed changes none waiters waiting due room =
       marked_idle old moment (Hello client incarnation version) OfClient marks new pushed (greeted new changes)
-      (λ r waits request. none_waits before old.sessions client comes.sound.legal comes.sound.sessions_are none (has_one before.entries client r waits request)) stations waiting due space room
+      (λ r waits request. none_waits before old.sessions client comes.sound.legal comes.sound.sessions_are none (has_one before.entries client r waits request)) waiters waiting due space room
 
   -- what waited in the client's session, if something did, was ended
-  pub sound_renewed : HasSpace old 1 → (waiting : Option ℕ) (mid new : State) (kept : Kept) → waiting ≡ waiting_of old.sessions client → EndsIf old mid waiting kept → mid.account ≡ old.account
-      → account_of new ≡ with_entry (account_of mid) own_entry → OnlySets mid.sessions new.sessions client (fresh incarnation version) → new.stations ≡ mid.stations → new.waiting ≡ mid.waiting
+  pub sound_renewed : HasSpace old 1 → (waiting : Option ℕ) (mid new : BookState) (kept : Kept) → waiting ≡ waiting_of old.sessions client → EndsIf old mid waiting kept → mid.account ≡ old.account
+      → account_of new ≡ with_entry (account_of mid) own_entry → OnlySets mid.sessions new.sessions client (fresh incarnation version) → new.waiters ≡ mid.waiters → new.waiting ≡ mid.waiting
       → new.due ≡ mid.due → old.waiting ≤ new.account.room → IsSound new
-  sound_renewed space None mid new kept waits ends same pushed sets stations waiting due room =
-      let changes = set_changes old.sessions new.sessions client (fresh incarnation version) (subst (λ (s : State). OnlySets s.sessions new.sessions client (fresh incarnation version)) ends sets) in
-      sound_idle space new (pushed ∙ ap (λ (s : State). with_entry (account_of s) own_entry) ends) changes (sym waits) (stations ∙ ap (λ (s : State). s.stations) ends) (waiting ∙ ap (λ (s : State). s.waiting) ends) (due ∙ ap (λ (s : State). s.due) ends) room
-  sound_renewed space (Some place) mid new kept waits ends same pushed sets stations waiting due room =
+  sound_renewed space None mid new kept waits ends same pushed sets waiters waiting due room =
+      let changes = set_changes old.sessions new.sessions client (fresh incarnation version) (subst (λ (s : BookState). OnlySets s.sessions new.sessions client (fresh incarnation version)) ends sets) in
+      sound_idle space new (pushed ∙ ap (λ (s : BookState). with_entry (account_of s) own_entry) ends) changes (sym waits) (waiters ∙ ap (λ (s : BookState). s.waiters) ends) (waiting ∙ ap (λ (s : BookState). s.waiting) ends) (due ∙ ap (λ (s : BookState). s.due) ends) room
+  sound_renewed space (Some place) mid new kept waits ends same pushed sets waiters waiting due room =
       let there = (waiting_there before old.sessions client place comes.sound.sessions_are (sym waits)).waits in
       let owed = waiting_owed before.entries place _ there.call there.waits there.arrived in
-      let own : ends.duty.client ≡ client = ap (λ (d : Owed). d.client) (same_Some _ _ (sym ends.owed ∙ owed)) in
+      let own : ends.duty.client ≡ client = ap (λ (d : OwedDuty). d.client) (same_Some _ _ (sym ends.owed ∙ owed)) in
       let settled = subst (λ c. OnlySettles old.sessions mid.sessions c place (told_in ends.settles.version kept)) own ends.settles.settles in
       let changes = settled_then_entered old.sessions mid.sessions new.sessions client place (told_in ends.settles.version kept) (fresh incarnation version) settled sets in
       let request : OfClient place = record {
@@ -141,5 +141,5 @@ module _ (old : State) (moment client incarnation : ℕ) (version : Version) (co
             let called : there.waits.is_open.call ≡ there.call = same_Some _ _ (sym there.waits.is_open.arrived ∙ ap (option_and_then call_in) there.arrived) in
             there.waits.no_put (subst IsPut (sym called) put);
       } in
-      marked_ended old moment (Hello client incarnation version) OfClient marks new (pushed ∙ ap (λ stored. with_entry stored.account own_entry) same) (greeted new changes) mid place kept there.waits request ends stations waiting due
+      marked_ended old moment (Hello client incarnation version) OfClient marks new (pushed ∙ ap (λ stored. with_entry stored.account own_entry) same) (greeted new changes) mid place kept there.waits request ends waiters waiting due
       (omega (arith, room))

@@ -16,7 +16,7 @@ use Rattle.rv_account.specs.Account.{Account, call_at, just, with_entry}
 use Rattle.rv_book.specs.Arriving.{IsKept, WillReply, entry}
 use Rattle.rv_account.specs.Calls.{may_name, opposite}
 use Rattle.rv_book.specs.Legal.{Legal}
-use Rattle.rv_book.specs.Replies.{Gets, RepliesAt}
+use Rattle.rv_book.specs.Replies.{GetsItem, RepliesAt}
 use Rattle.rv_book.specs.Tables.{partners_reply}
 use Rattle.rv_book.specs.Verdicts.{item_at, reply_of}
 use Rattle.rv_book.specs.Waiting.{Met, NamesPartner}
@@ -33,7 +33,7 @@ use Rattle.rv_book.proofs.ReplyLaws.{FitsIn, ReplyLaws}
 
 -- it meets one that hands over an item, and is told so
 abbrev pub TellsItem : (List ℕ → Reply) → List Entry → ℕ → Reply → Type 0
-TellsItem told_with es r told = (item : List ℕ) × Gets es r item × (told ≡ told_with item)
+TellsItem told_with es r told = (item : List ℕ) × GetsItem es r item × (told ≡ told_with item)
 
 -- a call that may wait is told the item of whom it meets, who is of the other side; so is kept what arrived at a place
 pub record IsHanded (call : Call) (wait : Wait) (alone : Reply) (other : Side) (told_with : List ℕ → Reply) (kept_from : ℕ → Kept) : Type 0 where
@@ -54,7 +54,7 @@ module _ (call : Call) (wait : Wait) (alone : Reply) (other : Side) (told_with :
   -- ---- each that is met gets an item
 
   -- from who names it
-  named_by : (a : Account) (r p : ℕ) → Legal a → call_at a.entries r ≡ Some call → NamesPartner a.entries p r → (item : List ℕ) × Gets a.entries r item
+  named_by : (a : Account) (r p : ℕ) → Legal a → call_at a.entries r ≡ Some call → NamesPartner a.entries p r → (item : List ℕ) × GetsItem a.entries r item
   named_by a r p legal arrived names =
       let partner = partner_open a p r legal names in
       let earlier = partner.there.of_side in
@@ -65,7 +65,7 @@ module _ (call : Call) (wait : Wait) (alone : Reply) (other : Side) (told_with :
       (gives.0, record { giver = p; call = names.call; meet = inl names; arrived = names.arrived; hands_over = gives.1 })
 
   -- from whom it names
-  names_giver : (a : Account) (r g : ℕ) → Legal a → call_at a.entries r ≡ Some call → NamesPartner a.entries r g → (item : List ℕ) × Gets a.entries r item
+  names_giver : (a : Account) (r g : ℕ) → Legal a → call_at a.entries r ≡ Some call → NamesPartner a.entries r g → (item : List ℕ) × GetsItem a.entries r item
   names_giver a r g legal arrived names =
       let partner = partner_open a r g legal names in
       let own : names.call ≡ call = same_Some _ _ (sym names.arrived ∙ arrived) in
@@ -75,7 +75,7 @@ module _ (call : Call) (wait : Wait) (alone : Reply) (other : Side) (told_with :
       let whole = read_whole call_read refl a.entries r g giver.call giver.arrived in
       (gives.0, record { giver = g; call = giver.call; meet = inr names; arrived = whole.1; hands_over = gives.1 })
 
-  gets_item : (a : Account) (r : ℕ) → Legal a → call_at a.entries r ≡ Some call → Met a.entries r → (item : List ℕ) × Gets a.entries r item
+  gets_item : (a : Account) (r : ℕ) → Legal a → call_at a.entries r ≡ Some call → Met a.entries r → (item : List ℕ) × GetsItem a.entries r item
   gets_item a r legal arrived met = elim met.part [
     | inr named ↦ named_by a r met.later legal arrived (subst (NamesPartner a.entries met.later) (sym named) met.names)
     | inl own ↦ names_giver a r met.earlier legal arrived (subst (λ p. NamesPartner a.entries p met.earlier) (sym own) met.names)
@@ -101,7 +101,7 @@ module _ (call : Call) (wait : Wait) (alone : Reply) (other : Side) (told_with :
   kept_item : (es : List Entry) (r place : ℕ) (giver : Call) → call_at es place ≡ Some giver → side_of giver ≡ other → NamesPartner es place r ⊎ NamesPartner es r place → IsKept es r call (kept_from place)
   kept_item es r place giver arrived side meet =
       let gives = handed.hands giver side in
-      let gets : Gets es r gives.0 = record { giver = place; call = giver; meet = meet; arrived = arrived; hands_over = gives.1 } in
+      let gets : GetsItem es r gives.0 = record { giver = place; call = giver; meet = meet; arrived = arrived; hands_over = gives.1 } in
       let item : item_at es place ≡ Some gives.0 = ap (option_and_then item_of) arrived ∙ gives.1 in
       record {
         reply = told_with gives.0;

@@ -9,14 +9,14 @@ use Rattle.rv_session.specs.Table.{Table, session_of}
 use Rattle.rv_account.specs.Account.{Account, with_entry}
 use Rattle.rv_book.specs.Counting.{NumberOf}
 use Rattle.rv_account.specs.declared.entry.Entry.{Entry}
-use Rattle.rv_book.specs.declared.state.State.{State}
+use Rattle.rv_book.specs.declared.state.BookState.{BookState}
 use Rattle.rv_book.specs.Legal.{Legal}
 use Rattle.rv_book.specs.Limits.{FitEntries, FitsAccount, FitsEntry}
 use Rattle.rv_due.specs.Deadlines.{by_moment}
 use Rattle.std.specs.FinSet.{contains, contains-empty}
 use Rattle.std.specs.FinSet.{empty as no_deadline}
 use Rattle.rv_book.specs.Elapsing.{AreDeadlines}
-use Rattle.rv_book.specs.Parked.{AreStations}
+use Rattle.rv_book.specs.Parked.{AreWaiters}
 use Rattle.rv_book.specs.Tables.{AreSessions, IsSame, IsSound, account_of}
 use Rattle.rv_book.specs.Views.{NobodyWaits}
 use Rattle.rv_book.specs.Waiting.{Waiting}
@@ -25,20 +25,20 @@ use Rattle.rv_book.proofs.FewClients.{FewClients, few_none}
 use Rattle.rv_book.proofs.Owing.{waiting_inside}
 use Rattle.rv_book.proofs.Places.{get-append_cases}
 use Rattle.rv_book.proofs.SessionTable.{no_sessions}
-use Rattle.rv_book.proofs.Waiters.{no_stations, stations_as_before}
+use Rattle.rv_book.proofs.WaitersBySide.{no_waiters, waiters_as_before}
 
 -- ---- with nothing changed
 
-pub sound_same : (old new : State) → IsSound old → IsSame old new → IsSound new
+pub sound_same : (old new : BookState) → IsSound old → IsSame old new → IsSound new
 sound_same old new sound same =
     let sessions = subst (AreSessions (account_of old)) (sym same.sessions) sound.sessions_are in
-    let stations = stations_as_before (account_of old).entries old.stations new.stations same.stations sound.stations_are in
+    let waiters = waiters_as_before (account_of old).entries old.waiters new.waiters same.waiters sound.waiters_are in
     let counted = subst (NumberOf (Waiting (account_of old).entries)) (sym same.waiting) sound.waiting_is in
     record {
       legal = subst Legal (sym same.account) sound.legal;
       fits = subst FitsAccount (sym same.account) sound.fits;
       sessions_are = subst (λ (a : Account). AreSessions a new.sessions) (sym same.account) sessions;
-      stations_are = subst (λ (a : Account). AreStations a.entries new.stations) (sym same.account) stations;
+      waiters_are = subst (λ (a : Account). AreWaiters a.entries new.waiters) (sym same.account) waiters;
       waiting_is = subst (λ (a : Account). NumberOf (Waiting a.entries) new.waiting) (sym same.account) counted;
       due_are = subst (λ (a : Account). AreDeadlines a.entries new.due) (sym same.account) (subst (AreDeadlines (account_of old).entries) (sym same.due) sound.due_are);
       spare = let room : old.account.room ≤ new.account.room = same.room in let spare : old.waiting ≤ old.account.room = sound.spare in let waiting : new.waiting ≡ old.waiting = same.waiting in omega arith;
@@ -47,12 +47,12 @@ sound_same old new sound same =
 -- ---- with one entry more
 
 -- the tables answer for the account with one entry more, and there is room
-pub record Answers (a : Account) (e : Entry) (new : State) : Type 0 where
+pub record Answers (a : Account) (e : Entry) (new : BookState) : Type 0 where
   pub legal : Legal (with_entry a e)
   pub entry_fits : FitsEntry e
   pub account : account_of new ≡ with_entry a e
   pub sessions_are : AreSessions (with_entry a e) new.sessions
-  pub stations_are : AreStations (a.entries ++ e ∷ []) new.stations
+  pub waiters_are : AreWaiters (a.entries ++ e ∷ []) new.waiters
   pub waiting_is : NumberOf (Waiting (a.entries ++ e ∷ [])) new.waiting
   pub due_are : AreDeadlines (a.entries ++ e ∷ []) new.due
   pub clients : FewClients (a.entries ++ e ∷ [])
@@ -62,7 +62,7 @@ pub record Answers (a : Account) (e : Entry) (new : State) : Type 0 where
 pub fit_with : (es : List Entry) (e : Entry) → FitEntries es → FitsEntry e → FitEntries (es ++ e ∷ [])
 fit_with es e fit own = λ r x there. elim (get-append_cases es e x r there) [ inl inside ↦ fit r x inside.1 | inr last ↦ subst FitsEntry last.1 own ]
 
-pub sound_with : (a : Account) (e : Entry) (new : State) → FitsAccount a → Answers a e new → IsSound new
+pub sound_with : (a : Account) (e : Entry) (new : BookState) → FitsAccount a → Answers a e new → IsSound new
 sound_with a e new fits is =
     let fitting : FitsAccount (with_entry a e) = record {
       epoch = fits.epoch;
@@ -78,7 +78,7 @@ sound_with a e new fits is =
       legal = subst Legal (sym is.account) is.legal;
       fits = subst FitsAccount (sym is.account) fitting;
       sessions_are = subst (λ (b : Account). AreSessions b new.sessions) (sym is.account) is.sessions_are;
-      stations_are = subst (λ (b : Account). AreStations b.entries new.stations) (sym is.account) is.stations_are;
+      waiters_are = subst (λ (b : Account). AreWaiters b.entries new.waiters) (sym is.account) is.waiters_are;
       waiting_is = subst (λ (b : Account). NumberOf (Waiting b.entries) new.waiting) (sym is.account) is.waiting_is;
       due_are = subst (λ (b : Account). AreDeadlines b.entries new.due) (sym is.account) is.due_are;
       spare = is.spare;
@@ -94,8 +94,8 @@ none_waits es none = record {
   is = refl;
 }
 
-pub sound_empty : (state : State) → FitsIdentifier (account_of state).epoch → (account_of state).opened ≤ 2 ^ 62 → (account_of state).entries ≡ []
-    → state.sessions ≡ record { epoch = (account_of state).epoch; sessions = empty } → NobodyWaits state.stations → state.waiting ≡ 0 → state.due ≡ no_deadline → IsSound state
+pub sound_empty : (state : BookState) → FitsIdentifier (account_of state).epoch → (account_of state).opened ≤ 2 ^ 62 → (account_of state).entries ≡ []
+    → state.sessions ≡ record { epoch = (account_of state).epoch; sessions = empty } → NobodyWaits state.waiters → state.waiting ≡ 0 → state.due ≡ no_deadline → IsSound state
 sound_empty state epoch opened none sessions no_places zero_wait no_due =
     let a = account_of state in
     let nothing = λ (r : ℕ) (e : Entry) (there : slice_get a.entries r ≡ Some e). none-some e (sym (ap (λ (es : List Entry). slice_get es r) none) ∙ there) in
@@ -110,7 +110,7 @@ sound_empty state epoch opened none sessions no_places zero_wait no_due =
         clients = few_none a.entries none;
       };
       sessions_are = no_sessions a state.sessions none (ap (λ (t : Table). t.epoch) sessions) (λ client. ap (λ (t : Table). session_of t client) sessions ∙ get-empty nat_cmp client);
-      stations_are = no_stations a.entries state.stations none no_places;
+      waiters_are = no_waiters a.entries state.waiters none no_places;
       waiting_is = subst (NumberOf (Waiting a.entries)) (sym zero_wait) counted;
       due_are = record {
         are = λ limit r there. absurd (false≢true (sym (contains-empty by_moment (limit, r)) ∙ ap (λ s. contains s (limit, r)) (sym no_due) ∙ there));

@@ -16,7 +16,7 @@ pub mod Slots
 pub mod Tabled
 pub mod Withdrawn
 pub mod Exchanging
-pub mod Waiters
+pub mod WaitersBySide
 pub mod Owing
 pub mod Following
 pub mod Lines

@@ -21,7 +21,7 @@ use Rattle.rv_book.specs.Waiting.{OpenAt}
 use Rattle.rv_book.proofs.Following.{arrival_numbers, keeps_moments}
 use Rattle.rv_book.proofs.Places.{get-take, within}
 use Rattle.rv_book.proofs.Sides.{one_side}
-use Rattle.rv_book.proofs.Waiters.{open_inside}
+use Rattle.rv_book.proofs.WaitersBySide.{open_inside}
 
 -- ---- the first so many of a line
 

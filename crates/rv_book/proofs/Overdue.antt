@@ -15,7 +15,7 @@ use Rattle.rv_book.proofs.Closing.{Closes, closes_same, stops_closes}
 use Rattle.rv_book.proofs.DeadlineTable.{left_in, stays_in, taken_out}
 use Rattle.rv_book.proofs.Sides.{IsRequestUntil, due_until, stopped_by_tick, tick_stops, until_due}
 use Rattle.rv_book.proofs.TakenTables.{OneMore}
-use Rattle.rv_book.proofs.Waiters.{Stops}
+use Rattle.rv_book.proofs.WaitersBySide.{Stops}
 
 -- a request that waits, has this limit and is among the deadlines was not taken out
 there_not_taken : (es : List Entry) (moment : ℕ) (due : Deadlines) (limit r : ℕ) → limit_at es r ≡ Some limit → contains due (limit, r) ≡ true → TakenOut es moment due r → ⊥

@@ -5,9 +5,9 @@ use Rattle.rv_text.specs.declared.call.Call.{Call}
 use Rattle.rv_text.specs.declared.call.Wait.{Wait}
 use Rattle.rv_text.specs.declared.message.Key.{Key}
 use Rattle.rv_text.specs.Calls.{side_of, wait_of}
-use Rattle.rv_session.specs.Owed.{Owed}
+use Rattle.rv_session.specs.OwedDuty.{OwedDuty}
 use Rattle.rv_account.specs.Account.{Account, act_at, call_in, just}
-use Rattle.rv_book.specs.Arriving.{GoesOn, MeetsOldest}
+use Rattle.rv_book.specs.Arriving.{GoesOnWaiting, MeetsOldest}
 use Rattle.rv_account.specs.Calls.{IsPut, MayMeet, Stays}
 use Rattle.rv_book.specs.Counting.{NumberOf}
 use Rattle.rv_account.specs.declared.entry.Act.TheVariants.{Arrive}
@@ -20,7 +20,7 @@ use Rattle.rv_book.proofs.Counting.{number_drop, number_push, same_number}
 use Rattle.rv_book.proofs.Keys.{act_called}
 use Rattle.rv_book.proofs.Naming.{just_none, names_it, names_only}
 use Rattle.rv_book.proofs.Sides.{Waiting-back, Waiting-last, Waiting-on, arrival_stops_nobody, waiting_is_open}
-use Rattle.rv_book.proofs.Waiters.{met_last, open_inside}
+use Rattle.rv_book.proofs.WaitersBySide.{met_last, open_inside}
 
 -- ---- one arrival
 
@@ -28,7 +28,7 @@ put_by : (call : Call) (place : ℕ) (key : Key) (wait : Option Wait) → wait_o
 put_by call place key None is meets owed = (meets, is)
 put_by call place key (Some wait) is meets owed = absurd (none-some _ (sym owed))
 
-no_put_by : (call : Call) (place : ℕ) (key : Key) (wait : Option Wait) (d : Owed) → wait_of call ≡ wait → owed_by place key wait ≡ Some d → IsPut call → ⊥
+no_put_by : (call : Call) (place : ℕ) (key : Key) (wait : Option Wait) (d : OwedDuty) → wait_of call ≡ wait → owed_by place key wait ≡ Some d → IsPut call → ⊥
 no_put_by call place key None d is owed put = none-some d owed
 no_put_by call place key (Some wait) d is owed put = none-some wait (sym put.1 ∙ is)
 
@@ -36,7 +36,7 @@ owed_arrival : (es : List Entry) (r : ℕ) (key : Key) (call : Call) → act_at 
 owed_arrival es r key call arrived = ap (option_and_then (owed_in r)) arrived
 
 -- an open arrival to which a reply is owed waits
-pub owed_waits : (es : List Entry) (r : ℕ) (d : Owed) → Open es r → owed_at es r ≡ Some d → Waiting es r
+pub owed_waits : (es : List Entry) (r : ℕ) (d : OwedDuty) → Open es r → owed_at es r ≡ Some d → Waiting es r
 owed_waits es r d opened owed =
     let there = act_called (act_at es r) opened.call opened.arrived in
     record { is_open = opened; no_put = no_put_by opened.call r there.0 (wait_of opened.call) d refl (sym (owed_arrival es r there.0 opened.call there.1) ∙ owed) }
@@ -77,11 +77,11 @@ has_wait : (wait : Option Wait) → IsSome wait → wait ≡ None → ⊥
 has_wait None is none = absurd (let no : ⊥ = cc in no)
 has_wait (Some wait) is none = none-some wait (sym none)
 
-pub goes_on : (call : Call) (partner : Option ℕ) (duty : Owed) (own : Option Owed) → OwnDuty (side_of call) (wait_of call) partner duty own → own ≡ None → GoesOn call partner
+pub goes_on : (call : Call) (partner : Option ℕ) (duty : OwedDuty) (own : Option OwedDuty) → OwnDuty (side_of call) (wait_of call) partner duty own → own ≡ None → GoesOnWaiting call partner
 goes_on call partner duty None is none = record { unmet = is.0; stays = is.1; no_put = λ put. has_wait (wait_of call) is.2 put.1 }
 goes_on call partner duty (Some own) is none = absurd (none-some own (sym none))
 
-pub goes_not_on : (call : Call) (partner : Option ℕ) (duty d : Owed) (own : Option Owed) → OwnDuty (side_of call) (wait_of call) partner duty own → own ≡ Some d → GoesOn call partner → ⊥
+pub goes_not_on : (call : Call) (partner : Option ℕ) (duty d : OwedDuty) (own : Option OwedDuty) → OwnDuty (side_of call) (wait_of call) partner duty own → own ≡ Some d → GoesOnWaiting call partner → ⊥
 goes_not_on call partner duty d None is some goes = none-some d some
 goes_not_on call partner duty d (Some own) is some goes = goes.no_put (goes.stays.0, is.1 goes.unmet goes.stays)
 
@@ -94,7 +94,7 @@ module _ (a : Account) (e : Entry) (key : Key) (call : Call) (legal : Legal a) (
   still : e.partners ≡ just None → (r : ℕ) → Waiting a.entries r → Waiting (a.entries ++ e ∷ []) r
   still none r waits = Waiting-on a.entries e r waits (just_none e r none) (unstopped r)
 
-  number_waits : (n : ℕ) → NumberOf (Waiting a.entries) n → GoesOn call None → e.partners ≡ just None → NumberOf (Waiting (a.entries ++ e ∷ [])) (n + 1)
+  number_waits : (n : ℕ) → NumberOf (Waiting a.entries) n → GoesOnWaiting call None → e.partners ≡ just None → NumberOf (Waiting (a.entries ++ e ∷ [])) (n + 1)
   number_waits n count goes none = number_push (Waiting a.entries) (Waiting (a.entries ++ e ∷ [])) n (length a.entries) count (waiting_inside a.entries) (λ r. (
     (λ waits. elim (Waiting-back a.entries e r free waits) [ inl was ↦ inl was.there | inr new ↦ inr new.0 ]),
     (λ either. elim either [
@@ -103,7 +103,7 @@ module _ (a : Account) (e : Entry) (key : Key) (call : Call) (legal : Legal a) (
     ]),
   ))
 
-  number_goes : (n : ℕ) → NumberOf (Waiting a.entries) n → (GoesOn call None → ⊥) → e.partners ≡ just None → NumberOf (Waiting (a.entries ++ e ∷ [])) n
+  number_goes : (n : ℕ) → NumberOf (Waiting a.entries) n → (GoesOnWaiting call None → ⊥) → e.partners ≡ just None → NumberOf (Waiting (a.entries ++ e ∷ [])) n
   number_goes n count goes none = same_number (Waiting a.entries) (Waiting (a.entries ++ e ∷ [])) n (λ r. (
     (λ waits. still none r waits),
     (λ waits. elim (Waiting-back a.entries e r free waits) [
@@ -134,7 +134,7 @@ module _ (a : Account) (e : Entry) (key : Key) (call : Call) (legal : Legal a) (
   )) count
 
   -- so many wait after it, as its own duty and its partner's tell
-  pub Waits-after : (n : ℕ) (partner : Option ℕ) (duty : Owed) (own other : Option Owed) → NumberOf (Waiting a.entries) n → e.partners ≡ just partner → MeetsOldest a.entries (side_of call) partner
+  pub Waits-after : (n : ℕ) (partner : Option ℕ) (duty : OwedDuty) (own other : Option OwedDuty) → NumberOf (Waiting a.entries) n → e.partners ≡ just partner → MeetsOldest a.entries (side_of call) partner
       → OwnDuty (side_of call) (wait_of call) partner duty own → PartnersDuty a.entries partner other → (k : ℕ) × (n + starts_waiting own ≡ k + ends_waiting other) × NumberOf (Waiting (a.entries ++ e ∷ [])) k
   Waits-after n None duty None other count named meets own_is other_is =
       (n + 1, subst (λ o. n + starts_waiting None ≡ n + 1 + ends_waiting o) (sym other_is) (omega arith), number_waits n count (goes_on call None duty None own_is refl) named)

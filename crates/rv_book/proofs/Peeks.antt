@@ -17,7 +17,7 @@ use Rattle.rv_account.specs.Account.{Account, act_at, call_at, call_in, just}
 use Rattle.rv_book.specs.Arriving.{WillReply, entry}
 use Rattle.rv_book.specs.Legal.{before}
 use Rattle.rv_book.specs.Limits.{FitsAccount}
-use Rattle.rv_book.specs.Replies.{HasNoItem, IsFront, RepliesAt}
+use Rattle.rv_book.specs.Replies.{HasNoItem, IsFrontItem, RepliesAt}
 use Rattle.rv_book.specs.Verdicts.{item_at}
 use Rattle.rv_book.specs.Waiting.{IsOldest}
 use Rattle.rv_book.proofs.CallKinds.{gives_item}
@@ -39,13 +39,13 @@ peek_replies a queue place partner oldest moment key version before after asked 
     let e = entry moment (Arrive key (Peek queue)) (just partner) in
     let es : List Entry = a.entries in
     let gives = front_of es queue place oldest in
-    let front : IsFront es queue gives.0 = record { place = place; oldest = oldest; hands_over = gives.1 } in
+    let front : IsFrontItem es queue gives.0 = record { place = place; oldest = oldest; hands_over = gives.1 } in
     let arrived : call_at (es ++ e ∷ []) place ≡ Some oldest.there.of_side.call = reads_on call_read refl es (e ∷ []) place oldest.there.of_side.call oldest.there.of_side.arrived in
     let item : item_at (es ++ e ∷ []) place ≡ Some gives.0 = ap (option_and_then item_of) arrived ∙ gives.1 in
     record {
       reply = reply.TheVariants.Peeked gives.0;
       is = ap (option_map reply.TheVariants.Peeked) item;
-      replies = inl (gives.0, subst (λ xs. IsFront xs queue gives.0) (sym (take-append_seam es (e ∷ []))) front, refl);
+      replies = inl (gives.0, subst (λ xs. IsFrontItem xs queue gives.0) (sym (take-append_seam es (e ∷ []))) front, refl);
     }
 
 pub peek_finds_none : (a : Account) (queue : ℕ) (partner : Option ℕ) → HasNoItem a.entries queue → WillReply a (Peek queue) partner kept.TheVariants.Empty
@@ -60,7 +60,7 @@ peek_finds_none a queue partner none moment key version before after asked =
 -- ---- the laws
 
 stays : (queue : ℕ) (es more : List Entry) (r : ℕ) (told : Reply) → call_at es r ≡ Some (Peek queue) → RepliesAt es r (Peek queue) told → RepliesAt (es ++ more) r (Peek queue) told
-stays queue es more r told arrived (inl front) = inl (front.0, subst (λ xs. IsFront xs queue front.0) (same_before es more r (Peek queue) arrived) front.1, front.2)
+stays queue es more r told arrived (inl front) = inl (front.0, subst (λ xs. IsFrontItem xs queue front.0) (same_before es more r (Peek queue) arrived) front.1, front.2)
 stays queue es more r told arrived (inr none) = inr (subst (λ xs. HasNoItem xs queue) (same_before es more r (Peek queue) arrived) none.0, none.1)
 
 one_oldest : (es : List Entry) (queue p q : ℕ) → IsOldest es (Gives queue) p → IsOldest es (Gives queue) q → p ≡ q
@@ -69,7 +69,7 @@ one_oldest es queue p q first second = elim (cases_order p q) [
   | inr differ ↦ elim differ [ inl less ↦ absurd (second.oldest p less first.there) | inr more ↦ absurd (first.oldest q more second.there) ]
 ]
 
-one_front : (es : List Entry) (queue : ℕ) (x y : List ℕ) → IsFront es queue x → IsFront es queue y → y ≡ x
+one_front : (es : List Entry) (queue : ℕ) (x y : List ℕ) → IsFrontItem es queue x → IsFrontItem es queue y → y ≡ x
 one_front es queue x y first second =
     let place : second.place ≡ first.place = one_oldest es queue second.place first.place second.oldest first.oldest in
     let one = first.oldest.there.of_side in
@@ -83,7 +83,7 @@ one queue es r x y (inl first) (inr second) = absurd (second.0 first.1.place fir
 one queue es r x y (inr first) (inl second) = absurd (first.0 second.1.place second.1.oldest.there)
 one queue es r x y (inr first) (inr second) = second.1 ∙ sym first.1
 
-front_fits : (a : Account) (r queue : ℕ) (item : List ℕ) → FitsAccount a → IsFront (take r a.entries) queue item → FitsItem item
+front_fits : (a : Account) (r queue : ℕ) (item : List ℕ) → FitsAccount a → IsFrontItem (take r a.entries) queue item → FitsItem item
 front_fits a r queue item fits front =
     let giver = front.oldest.there.of_side in
     let whole = read_whole call_read refl a.entries r front.place giver.call giver.arrived in

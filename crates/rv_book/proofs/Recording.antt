@@ -9,26 +9,26 @@ use Rattle.rv_text.specs.declared.call.Call.{Call}
 use Rattle.rv_text.specs.declared.message.Key.{Key}
 use Rattle.rv_text.specs.declared.version.Version.{Version}
 use Rattle.rv_text.specs.Calls.{side_of, wait_of}
-use Rattle.rv_session.specs.Owed.{Owed}
+use Rattle.rv_session.specs.OwedDuty.{OwedDuty}
 use Rattle.rv_session.specs.Kept.{told_in}
 use Rattle.rv_session.specs.Table.{OnlyAdvances, Table, session_for, version_in}
-use Rattle.rv_session.specs.declared.session.State.TheVariants.{Waits}
+use Rattle.rv_session.specs.declared.session.RequestState.TheVariants.{Waits}
 use Rattle.rv_session.specs.declared.session.Session.{Session}
 use Rattle.rv_session.specs.declared.kept.Kept.{Kept}
 use Rattle.rv_account.specs.Account.{Account, just, with_entry}
-use Rattle.rv_book.specs.Arriving.{GoesOn, IsKept, IsNext, IsRecorded, MeetsOldest, WillReply, entry}
+use Rattle.rv_book.specs.Arriving.{GoesOnWaiting, IsKept, IsNext, IsRecorded, MeetsOldest, WillReply, entry}
 use Rattle.rv_account.specs.Calls.{MayMeet, may_name, need_of, opposite}
 use Rattle.rv_book.specs.Elapsing.{AreDeadlines, without_duty}
 use Rattle.rv_book.specs.Counting.{NumberOf}
 use Rattle.rv_account.specs.declared.entry.Act.{Act}
 use Rattle.rv_account.specs.declared.entry.Act.TheVariants.{Arrive}
 use Rattle.rv_account.specs.declared.entry.Entry.{Entry}
-use Rattle.rv_book.specs.declared.arrived.Arrived.{Arrived}
-use Rattle.rv_book.specs.declared.state.State.{State}
+use Rattle.rv_book.specs.declared.arrival.Arrival.{Arrival}
+use Rattle.rv_book.specs.declared.state.BookState.{BookState}
 use Rattle.rv_book.specs.Legal.{Legal, MayFollow}
 use Rattle.rv_book.specs.Limits.{FitEntries}
-use Rattle.rv_book.specs.Meeting.{ArrivedOn, Meets, OwnDuty, PartnersDuty, ends_waiting, opposed_by, starts_waiting}
-use Rattle.rv_book.specs.Parked.{AreStations}
+use Rattle.rv_book.specs.Meeting.{ArrivedOn, MeetsOrWaits, OwnDuty, PartnersDuty, ends_waiting, opposed_by, starts_waiting}
+use Rattle.rv_book.specs.Parked.{AreWaiters}
 use Rattle.rv_book.specs.Tables.{AreSessions, IsSound, MayRecord, SettlesIf, account_of, partners_reply, told_to, with_due}
 use Rattle.rv_book.specs.Sessions.{HasOpened}
 use Rattle.rv_book.specs.Waiting.{Waiting}
@@ -44,13 +44,13 @@ use Rattle.rv_book.proofs.Replying.{recorded_kept, recorded_waits}
 use Rattle.rv_book.proofs.Settling.{own_stays, sessions_recorded}
 use Rattle.rv_book.proofs.Standing.{is_next}
 use Rattle.rv_book.proofs.Versions.{asked_last}
-use Rattle.rv_book.proofs.Waiters.{meets_partner, stations_after, stations_as_before}
+use Rattle.rv_book.proofs.WaitersBySide.{meets_partner, waiters_after, waiters_as_before}
 use Rattle.rv_book.proofs.WaitingTable.{opened_in_table}
-use Rattle.rv_book.specs.Views.{Stations, waiting_on}
+use Rattle.rv_book.specs.Views.{Waiters, waiting_on}
 
 -- ---- what an arrival may come to need
 
-need_covers : (call : Call) (partner : Option ℕ) (duty : Owed) (own : Option Owed) → OwnDuty (side_of call) (wait_of call) partner duty own → 1 + starts_waiting own ≤ need_of call
+need_covers : (call : Call) (partner : Option ℕ) (duty : OwedDuty) (own : Option OwedDuty) → OwnDuty (side_of call) (wait_of call) partner duty own → 1 + starts_waiting own ≤ need_of call
 need_covers call partner duty None is = let two : need_of call ≡ 2 = lasting_need (wait_of call) is.2 is.1.1 in omega arith
 need_covers call partner duty (Some own) is = let one : 1 ≤ need_of call = need_positive (wait_of call) in omega arith
 
@@ -61,16 +61,16 @@ pub named_entry : (a b : Account) (moment : ℕ) (does : Act) (partners : List �
 named_entry a b moment does partners partner pushed is = pushed ∙ ap (λ (places : List ℕ). with_entry a (entry moment does places)) is
 
 -- the duty of the request that is recorded
-abbrev pub duty_of_new : State → Key → Owed
+abbrev pub duty_of_new : BookState → Key → OwedDuty
 duty_of_new old key = record { place = length (account_of old).entries; client = key.client }
 
 -- a request comes to a state in which it may be recorded, and has arrived in its queue
-pub record Arrives (old : State) (moment : ℕ) (key : Key) (call : Call) (stations : Stations) (arrived : Arrived) : Type 0 where
+pub record Arrives (old : BookState) (moment : ℕ) (key : Key) (call : Call) (waiters : Waiters) (arrived : Arrival) : Type 0 where
   pub places : Vec ℕ
   pub may : MayRecord old moment key call places
-  pub on : ArrivedOn old.stations stations (side_of call) (wait_of call) (duty_of_new old key) arrived
+  pub on : ArrivedOn old.waiters waiters (side_of call) (wait_of call) (duty_of_new old key) arrived
 
-module _ (old : State) (moment : ℕ) (key : Key) (call : Call) (stations : Stations) (arrived : Arrived) (is : Arrives old moment key call stations arrived) where
+module _ (old : BookState) (moment : ℕ) (key : Key) (call : Call) (waiters : Waiters) (arrived : Arrival) (is : Arrives old moment key call waiters arrived) where
   abbrev pub before : Account
   before = account_of old
 
@@ -84,7 +84,7 @@ module _ (old : State) (moment : ℕ) (key : Key) (call : Call) (stations : Stat
   next = is_next before old.sessions sound.sessions_are sound.legal key is.may.next
 
   pub meets : MeetsOldest (account_of old).entries (side_of call) arrived.partner
-  meets = meets_partner before.entries old.stations stations (side_of call) (wait_of call) (length before.entries) arrived.partner sound.stations_are is.on.meets
+  meets = meets_partner before.entries old.waiters waiters (side_of call) (wait_of call) (length before.entries) arrived.partner sound.waiters_are is.on.meets
 
   pub follows : MayFollow before own_entry
   follows = arrival_follows before moment key call arrived.partner is.may.comes.time is.may.comes.nothing_due next is.may.meets_one meets
@@ -96,7 +96,7 @@ module _ (old : State) (moment : ℕ) (key : Key) (call : Call) (stations : Stat
   fit_after = fit_with before.entries own_entry sound.fits.entries (is.may.comes.moment_fits, is.may.comes.act_fits)
 
   other_is : PartnersDuty before.entries arrived.partner arrived.other
-  other_is = is.on.other before.entries sound.stations_are.parked
+  other_is = is.on.other before.entries sound.waiters_are.parked
 
   pub count_after : (k : ℕ) × (old.waiting + starts_waiting arrived.own ≡ k + ends_waiting arrived.other) × NumberOf (Waiting (before.entries ++ own_entry ∷ [])) k
   count_after = Waits-after before own_entry key call sound.legal follows.pairs.names_free_partners refl old.waiting arrived.partner (duty_of_new old key) arrived.own arrived.other sound.waiting_is refl meets is.on.own other_is
@@ -104,8 +104,8 @@ module _ (old : State) (moment : ℕ) (key : Key) (call : Call) (stations : Stat
   pub least : ends_waiting arrived.other ≤ old.waiting + starts_waiting arrived.own
   least = let h = count_after in let k = h.0 in let same : old.waiting + starts_waiting arrived.own ≡ k + ends_waiting arrived.other = h.1 in omega arith
 
-  pub stations_are : AreStations (before.entries ++ own_entry ∷ []) stations
-  stations_are = stations_after before own_entry old.stations stations key call sound.legal sound.stations_are follows.pairs.names_free_partners refl (duty_of_new old key) arrived refl refl is.on
+  pub waiters_are : AreWaiters (before.entries ++ own_entry ∷ []) waiters
+  waiters_are = waiters_after before own_entry old.waiters waiters key call sound.legal sound.waiters_are follows.pairs.names_free_partners refl (duty_of_new old key) arrived refl refl is.on
 
   due_are : AreDeadlines (before.entries ++ own_entry ∷ []) (without_duty (before.entries ++ own_entry ∷ []) arrived.own (without_duty (before.entries ++ own_entry ∷ []) arrived.other old.due))
   due_are =
@@ -113,28 +113,28 @@ module _ (old : State) (moment : ℕ) (key : Key) (call : Call) (stations : Stat
       (due_arrived before own_entry key call sound.legal follows.pairs.names_free_partners refl arrived.partner (duty_of_new old key) arrived.own arrived.other refl refl is.on.own other_is is.may.deadlines sound.due_are)
 
   -- what a call that looks sees, once it has arrived
-  pub sees : (MayMeet call → ⊥) → AreStations before.entries stations
+  pub sees : (MayMeet call → ⊥) → AreWaiters before.entries waiters
   sees looks = by_partner arrived.partner is.on.meets
     where
-      by_partner : (partner : Option ℕ) → Meets old.stations stations (side_of call) (wait_of call) (length before.entries) partner → AreStations before.entries stations
+      by_partner : (partner : Option ℕ) → MeetsOrWaits old.waiters waiters (side_of call) (wait_of call) (length before.entries) partner → AreWaiters before.entries waiters
       by_partner (Some p) first = absurd (looks (ap is_some first.opposes))
       by_partner None (inl waits) = absurd (looks waits.0.0)
-      by_partner None (inr goes) = stations_as_before before.entries old.stations stations goes.2 sound.stations_are
+      by_partner None (inr goes) = waiters_as_before before.entries old.waiters waiters goes.2 sound.waiters_are
 
   -- the partner that it met has its room
   pub room_named : IfSome arrived.partner (λ p. 0 < vec_capacity is.places)
   room_named = by_partner arrived.partner is.on.meets
     where
-      by_partner : (partner : Option ℕ) → Meets old.stations stations (side_of call) (wait_of call) (length before.entries) partner → IfSome partner (λ p. 0 < vec_capacity is.places)
+      by_partner : (partner : Option ℕ) → MeetsOrWaits old.waiters waiters (side_of call) (wait_of call) (length before.entries) partner → IfSome partner (λ p. 0 < vec_capacity is.places)
       by_partner None nobody = tt
       by_partner (Some p) first =
-          let there : opposed_by old.stations (opposite (side_of call)) ≡ suc (length (waiting_on stations first.other)) = ap (opposed_by old.stations) first.opposes ∙ ap length first.first in
+          let there : opposed_by old.waiters (opposite (side_of call)) ≡ suc (length (waiting_on waiters first.other)) = ap (opposed_by old.waiters) first.opposes ∙ ap length first.first in
           let one : may_name call ≡ 1 = is.may.meets_one in
-          let least : 1 ≤ min (may_name call) (opposed_by old.stations (opposite (side_of call))) = le-min (omega arith) (omega arith) in
-          let room : min (may_name call) (opposed_by old.stations (opposite (side_of call))) ≤ vec_capacity is.places = is.may.names.room in
+          let least : 1 ≤ min (may_name call) (opposed_by old.waiters (opposite (side_of call))) = le-min (omega arith) (omega arith) in
+          let room : min (may_name call) (opposed_by old.waiters (opposite (side_of call))) ≤ vec_capacity is.places = is.may.names.room in
           omega arith
 
-  module _ (kept others : Kept) (will : (GoesOn call arrived.partner → ⊥) → WillReply before call arrived.partner kept) (begun : Table) (begins : OnlyAdvances old.sessions begun key (Waits (length before.entries)))
+  module _ (kept others : Kept) (will : (GoesOnWaiting call arrived.partner → ⊥) → WillReply before call arrived.partner kept) (begun : Table) (begins : OnlyAdvances old.sessions begun key (Waits (length before.entries)))
       (others_is : others ≡ partners_reply (side_of call) (length before.entries)) where
     -- the version of its own session
     abbrev v : Version
@@ -143,23 +143,23 @@ module _ (old : State) (moment : ℕ) (key : Key) (call : Call) (stations : Stat
     opened : HasOpened before.entries key.client key.incarnation v
     opened = opened_in_table before old.sessions key.client key.incarnation v sound.sessions_are next.incarnation begins.was
 
-    pub kept_is : (own : Option Owed) → own ≡ arrived.own → (own ≡ None → ⊥) → IsKept (before.entries ++ own_entry ∷ []) (length before.entries) call (told_in v kept)
+    pub kept_is : (own : Option OwedDuty) → own ≡ arrived.own → (own ≡ None → ⊥) → IsKept (before.entries ++ own_entry ∷ []) (length before.entries) call (told_in v kept)
     kept_is None same settled = absurd (settled refl)
     kept_is (Some own) same settled =
         will (goes_not_on call arrived.partner (duty_of_new old key) own arrived.own is.on.own (sym same)) moment key v sound.legal legal_after (asked_last before.entries own_entry key key.incarnation v refl opened)
 
     -- where it waits or was settled, it is told so
-    told_by : (own : Option Owed) → own ≡ arrived.own → IsRecorded before (with_entry before own_entry) moment key call (option_map (λ d. told_in v kept) own)
+    told_by : (own : Option OwedDuty) → own ≡ arrived.own → IsRecorded before (with_entry before own_entry) moment key call (option_map (λ d. told_in v kept) own)
     told_by None same = recorded_waits before (with_entry before own_entry) moment key call arrived.partner (goes_on call arrived.partner (duty_of_new old key) arrived.own is.on.own (sym same)) sound.legal legal_after refl
     told_by (Some own) same = recorded_kept before moment key call (just arrived.partner) (told_in v kept) legal_after (kept_is (Some own) same (λ none. none-some own (sym none)))
 
     -- its session has its version still where the request that it met was settled
-    told_is : (mid : Table) → SettlesIf begun mid arrived.other others → (own : Option Owed) → OwnDuty (side_of call) (wait_of call) arrived.partner (duty_of_new old key) own
+    told_is : (mid : Table) → SettlesIf begun mid arrived.other others → (own : Option OwedDuty) → OwnDuty (side_of call) (wait_of call) arrived.partner (duty_of_new old key) own
         → told_to mid own kept ≡ option_map (λ d. told_in v kept) own
     told_is mid settles None duty = refl
     told_is mid settles (Some d) duty =
         let there = own_stays before old.sessions begun mid key call arrived.partner (session_for key v (Waits (length before.entries))) arrived.other others next meets begins.sets settles other_is in
-        let client = ap (λ (x : Owed). version_in mid x.client) duty.0 in
+        let client = ap (λ (x : OwedDuty). version_in mid x.client) duty.0 in
         ap (option_map (λ w. told_in w kept)) (client ∙ ap (option_map (λ (s : Session). s.version)) there)
 
     pub told : (mid : Table) → SettlesIf begun mid arrived.other others → IsRecorded before (with_entry before own_entry) moment key call (told_to mid arrived.own kept)
@@ -170,10 +170,10 @@ module _ (old : State) (moment : ℕ) (key : Key) (call : Call) (stations : Stat
       sessions_are = sessions_recorded before own_entry key call arrived.partner sound.legal legal_after next refl refl meets old.sessions begun mid last others kept sound.sessions_are begins others_is
           arrived.other arrived.own settles ends other_is is.on.own (kept_is arrived.own refl)
 
-      pub sound_after : (new : State) → account_of new ≡ with_entry before own_entry → new.sessions ≡ last → new.stations ≡ stations
+      pub sound_after : (new : BookState) → account_of new ≡ with_entry before own_entry → new.sessions ≡ last → new.waiters ≡ waiters
           → new.due ≡ without_duty (before.entries ++ own_entry ∷ []) arrived.own (without_duty (before.entries ++ own_entry ∷ []) arrived.other old.due) → new.waiting + ends_waiting arrived.other ≡ old.waiting + starts_waiting arrived.own
           → old.account.room ≤ new.account.room + 1 → IsSound new
-      sound_after new pushed same_sessions same_stations same_due counted room =
+      sound_after new pushed same_sessions same_waiters same_due counted room =
           let k = count_after.0 in
           let told_count : old.waiting + starts_waiting arrived.own ≡ k + ends_waiting arrived.other = count_after.1 in
           let same : new.waiting ≡ k = omega arith in
@@ -185,7 +185,7 @@ module _ (old : State) (moment : ℕ) (key : Key) (call : Call) (stations : Stat
             entry_fits = (is.may.comes.moment_fits, is.may.comes.act_fits);
             account = pushed;
             sessions_are = subst (AreSessions (with_entry before own_entry)) (sym same_sessions) sessions_are;
-            stations_are = subst (AreStations (before.entries ++ own_entry ∷ [])) (sym same_stations) stations_are;
+            waiters_are = subst (AreWaiters (before.entries ++ own_entry ∷ [])) (sym same_waiters) waiters_are;
             waiting_is = subst (NumberOf (Waiting (before.entries ++ own_entry ∷ []))) (sym same) count_after.2;
             due_are = subst (AreDeadlines (before.entries ++ own_entry ∷ [])) (sym same_due) due_are;
             clients = few_still before.entries own_entry (λ c i w own. absurd (no_hello key call c i w own)) sound.fits.clients;

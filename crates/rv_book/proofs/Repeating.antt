@@ -3,8 +3,8 @@ use Rattle.rv_text.specs.declared.message.Message.TheVariants.{Hello, Request, C
 use Rattle.rv_text.specs.declared.answer.Refusal.TheVariants.{OldIncarnation, OtherCall, OtherVersion, ClientsFull}
 use Rattle.rv_text.specs.declared.answer.Answer.TheVariants.{Welcome, Replied, Refused, Waiting}
 use Rattle.rv_account.specs.declared.entry.Act as act
-use Rattle.rv_book.specs.declared.verdict.Said as said
-use Rattle.rv_session.specs.declared.session.State as state
+use Rattle.rv_book.specs.declared.verdict.KeptAnswer as said
+use Rattle.rv_session.specs.declared.session.RequestState as state
 use Rattle.rv_session.specs.Table.{Table, session_of, session_count}
 use Rattle.rv_session.specs.Meanings.{HasNext, HasLast, RefusalMeans, IsOlder, IsNewer}
 use Rattle.rv_session.specs.Meanings as means
@@ -32,7 +32,7 @@ use Rattle.rv_book.proofs.OnePartner.{arrives_once}
 use Rattle.rv_book.proofs.WaitingTable.{known}
 use Rattle.rv_account.specs.Calls.{need_of}
 use Rattle.rv_book.proofs.Staying.{one_call, one_told}
-use Rattle.rv_session.specs.declared.session.State.{State as StateOf}
+use Rattle.rv_session.specs.declared.session.RequestState.{RequestState as StateOf}
 use Rattle.std.proofs.lemmas.Option.{same_Some}
 
 module _ (a : Account) (t : Table) (moment : ℕ) (are : AreSessions a t) (legal : Legal a) where
@@ -182,7 +182,7 @@ module _ (a : Account) (t : Table) (moment : ℕ) (are : AreSessions a t) (legal
   -- ---- hellos
 
   -- the session that the table tells of the client was opened so
-  opened_so : (client incarnation : ℕ) (version : Version) → means.HasOpened t client incarnation version → HasOpened a.entries client incarnation version
+  opened_so : (client incarnation : ℕ) (version : Version) → means.HasSession t client incarnation version → HasOpened a.entries client incarnation version
   opened_so client incarnation version is =
       let opened = (known a t client is.session are is.there).opened in
       subst (HasOpened a.entries client incarnation) is.version_is (subst (λ i. HasOpened a.entries client i is.session.version) is.same opened)
@@ -197,7 +197,7 @@ module _ (a : Account) (t : Table) (moment : ℕ) (are : AreSessions a t) (legal
       let opened = opened_so client incarnation current is.opened in
       line_other_version (Refuses a a (Refused (OtherVersion current))) _ _ a client incarnation version current opened (λ same. is.other (sym same)) (refl, refl)
 
-  pub hello_again : (client incarnation : ℕ) (version : Version) → means.HasOpened t client incarnation version → NextAt a moment (Hello client incarnation version) a (Welcome a.epoch client incarnation version)
+  pub hello_again : (client incarnation : ℕ) (version : Version) → means.HasSession t client incarnation version → NextAt a moment (Hello client incarnation version) a (Welcome a.epoch client incarnation version)
   hello_again client incarnation version is =
       line_again (Refuses a a (Welcome a.epoch client incarnation version)) _ _ a client incarnation version (opened_so client incarnation version is) (refl, refl)
 

@@ -9,7 +9,7 @@ use Rattle.rv_account.specs.declared.entry.Entry.{Entry}
 use Rattle.rv_session.specs.Kept.{told_in}
 use Rattle.rv_session.specs.declared.kept.Kept.{Kept}
 use Rattle.rv_account.specs.Account.{Account, act_at, just, with_entry}
-use Rattle.rv_book.specs.Arriving.{GoesOn, IsKept, IsRecorded, WillTell, entry}
+use Rattle.rv_book.specs.Arriving.{GoesOnWaiting, IsKept, IsRecorded, WillTell, entry}
 use Rattle.rv_book.specs.Legal.{Legal}
 use Rattle.rv_book.specs.Replies.{HasReply}
 use Rattle.rv_book.specs.Sessions.{AskedIn}
@@ -62,7 +62,7 @@ recorded a b moment key call partners said v will before after follows asked =
     subst P (sym follows) (recorded_kept a moment key call partners (told_in v said) legal (will moment key v before legal own))
 
 -- a request that goes on is told that it waits
-pub recorded_waits : (a b : Account) (moment : ℕ) (key : Key) (call : Call) (partner : Option ℕ) → GoesOn call partner → Legal a → Legal b
+pub recorded_waits : (a b : Account) (moment : ℕ) (key : Key) (call : Call) (partner : Option ℕ) → GoesOnWaiting call partner → Legal a → Legal b
     → b ≡ with_entry a (entry moment (Arrive key call) (just partner)) → IsRecorded a b moment key call None
 recorded_waits a b moment key call partner goes before after follows =
     let e = entry moment (Arrive key call) (just partner) in

@@ -10,14 +10,14 @@ use Rattle.rv_text.specs.declared.answer.Reply.{Reply}
 use Rattle.rv_session.specs.declared.kept.Kept.{Kept}
 use Rattle.rv_account.specs.declared.entry.Entry.{Entry}
 use Rattle.rv_account.specs.Account.{Account}
-use Rattle.rv_book.specs.declared.verdict.Said.{Said}
-use Rattle.rv_book.specs.declared.verdict.Said.TheVariants.{Welcome, Replied, Waiting, Refused}
+use Rattle.rv_book.specs.declared.verdict.KeptAnswer.{KeptAnswer}
+use Rattle.rv_book.specs.declared.verdict.KeptAnswer.TheVariants.{Welcome, Replied, Waiting, Refused}
 use Rattle.rv_book.specs.Saying.{answer_of, kept_of, said_in}
 use Rattle.rv_book.specs.Verdicts.{IsAsKept, reply_of}
 use Rattle.rv_book.proofs.Staying.{mapped}
 
 -- what is said to a message is as it is kept
-pub said_kept : (entries : List Entry) (said : Said) (told : Answer) → answer_of entries said ≡ Some told → IsAsKept entries (kept_of said) told
+pub said_kept : (entries : List Entry) (said : KeptAnswer) (told : Answer) → answer_of entries said ≡ Some told → IsAsKept entries (kept_of said) told
 said_kept entries (Welcome epoch client incarnation version) told is = subst (IsAsKept entries None) (same_Some _ _ is) tt
 said_kept entries (Replied key kept) told is =
     let reply = mapped (answer.Replied key) (reply_of entries kept) told is in

@@ -1,13 +1,13 @@
 -- The table of sessions is what the account says: each session stays with one more entry of another client, and after a
 -- hello the client's own is fresh.
-use Rattle.rv_session.specs.declared.session.State as state
-use Rattle.rv_session.specs.declared.session.State.{State as StateOf}
+use Rattle.rv_session.specs.declared.session.RequestState as state
+use Rattle.rv_session.specs.declared.session.RequestState.{RequestState as StateOf}
 use Rattle.rv_text.specs.declared.version.Version.{Version}
 use Rattle.rv_session.specs.declared.session.Session.{Session}
 use Rattle.rv_session.specs.declared.kept.Kept.{Kept}
 use Rattle.rv_session.specs.Table.{Table, OnlySets, OnlySettles, fresh, session_of}
 use Rattle.rv_account.specs.Account.{Account, act_at, call_at, call_in, key_at, key_in, with_entry}
-use Rattle.rv_book.specs.Tables.{AreSessions, IsSession, IsSessionOf, IsSettledAt, Stands, last_key}
+use Rattle.rv_book.specs.Tables.{AreSessions, IsSession, IsSessionOf, IsSettledAt, StandsInAccount, last_key}
 use Rattle.rv_book.specs.Replies.{CancelledFirst}
 use Rattle.rv_account.specs.declared.entry.Act.{Act}
 use Rattle.rv_account.specs.declared.entry.Act.TheVariants.{Arrive, Hello}
@@ -143,8 +143,8 @@ settled_on a e client s r k legal is = record {
   kept_is = IsKept-on a e r is.call k legal (ap (option_and_then call_in) is.arrived) is.kept_is;
 }
 
-Stands-on : (a : Account) (e : Entry) (client : ℕ) (s : Session) (stands : StateOf) → Legal (with_entry a e) → IsApart e.act client → StillWaits a e client → Stands a client s stands
-    → Stands (with_entry a e) client s stands
+Stands-on : (a : Account) (e : Entry) (client : ℕ) (s : Session) (stands : StateOf) → Legal (with_entry a e) → IsApart e.act client → StillWaits a e client → StandsInAccount a client s stands
+    → StandsInAccount (with_entry a e) client s stands
 Stands-on a e client s state.TheVariants.Fresh legal apart still is = is
 Stands-on a e client s (state.TheVariants.Waits r) legal apart still is = record {
   call = is.call;

@@ -7,10 +7,10 @@ use Rattle.rv_text.specs.declared.call.Wait.{Wait}
 use Rattle.rv_text.specs.declared.message.Key.{Key}
 use Rattle.rv_text.specs.declared.version.Version.{Version}
 use Rattle.rv_text.specs.Calls.{side_of, wait_of}
-use Rattle.rv_session.specs.Owed.{Owed}
+use Rattle.rv_session.specs.OwedDuty.{OwedDuty}
 use Rattle.rv_session.specs.declared.kept.Kept.{Kept}
 use Rattle.rv_session.specs.declared.session.Session.{Session}
-use Rattle.rv_session.specs.declared.session.State.TheVariants.{Settled, Waits}
+use Rattle.rv_session.specs.declared.session.RequestState.TheVariants.{Settled, Waits}
 use Rattle.rv_session.specs.Kept.{told_in}
 use Rattle.rv_session.specs.Table.{Table, OnlyAdvances, OnlySets, session_for, session_of, settled_session, version_in, waiting_of, waiting_place}
 use Rattle.rv_account.specs.declared.entry.Entry.{Entry}
@@ -38,7 +38,7 @@ use Rattle.rv_book.proofs.WaitingTable.{opened_in_table, version_told, waiting_t
 -- ---- the request that an arrival meets
 
 -- the duty is that of the request which the arrival meets
-pub record IsMet (a : Account) (call : Call) (partner : Option ℕ) (d : Owed) : Type 0 where
+pub record IsMet (a : Account) (call : Call) (partner : Option ℕ) (d : OwedDuty) : Type 0 where
   pub named : partner ≡ Some d.place
   pub key : Key
   pub met : Call
@@ -52,11 +52,11 @@ no_wait : (wait : Option Wait) → IsSome wait → wait ≡ None → ⊥
 no_wait None some none = let no : ⊥ = cc in no
 no_wait (Some wait) some none = none-some wait (sym none)
 
-owed_waits : (place : ℕ) (key : Key) (wait : Option Wait) (d : Owed) → Some d ≡ owed_by place key wait → IsSome wait × (record { place = place; client = key.client } ≡ d)
+owed_waits : (place : ℕ) (key : Key) (wait : Option Wait) (d : OwedDuty) → Some d ≡ owed_by place key wait → IsSome wait × (record { place = place; client = key.client } ≡ d)
 owed_waits place key None d is = absurd (none-some d (sym is))
 owed_waits place key (Some wait) d is = (refl, same_Some _ _ (sym is))
 
-pub partner_met : (a : Account) (call : Call) (partner : Option ℕ) (d : Owed) → MeetsOldest a.entries (side_of call) partner → PartnersDuty a.entries partner (Some d) → IsMet a call partner d
+pub partner_met : (a : Account) (call : Call) (partner : Option ℕ) (d : OwedDuty) → MeetsOldest a.entries (side_of call) partner → PartnersDuty a.entries partner (Some d) → IsMet a call partner d
 partner_met a call None d meets is = absurd (none-some d (sym is))
 partner_met a call (Some p) d (side, opposes, oldest) is =
     let there = oldest.there in
@@ -88,7 +88,7 @@ partner_unowed a p none w =
 
 module _ (a : Account) (key : Key) (call : Call) (partner : Option ℕ) (next : IsNext a key) where
   -- whom a request meets is of another client, since nothing of its own session waits
-  apart : (d : Owed) → IsMet a call partner d → (d.client ≡ key.client) → ⊥
+  apart : (d : OwedDuty) → IsMet a call partner d → (d.client ≡ key.client) → ⊥
   apart d met same = next.idle (record {
     place = d.place;
     key = met.key;
@@ -97,11 +97,11 @@ module _ (a : Account) (key : Key) (call : Call) (partner : Option ℕ) (next : 
   })
 
 -- what the table told of who waits
-told_waiting : (a : Account) (old : Table) (call : Call) (partner : Option ℕ) (d : Owed) → Legal a → AreSessions a old → IsMet a call partner d → waiting_of old d.client ≡ Some d.place
+told_waiting : (a : Account) (old : Table) (call : Call) (partner : Option ℕ) (d : OwedDuty) → Legal a → AreSessions a old → IsMet a call partner d → waiting_of old d.client ≡ Some d.place
 told_waiting a old call partner d legal are met = ap (waiting_of old) (sym met.of_client) ∙ waits_in_table a old d.place met.key met.met legal are met.waits met.arrived
 
 -- once the arrival's own session waits, the session of the request that it met waits still
-pub partner_due : (a : Account) (old begun : Table) (key : Key) (call : Call) (partner : Option ℕ) (s : Session) (other : Option Owed) → Legal a → AreSessions a old → IsNext a key
+pub partner_due : (a : Account) (old begun : Table) (key : Key) (call : Call) (partner : Option ℕ) (s : Session) (other : Option OwedDuty) → Legal a → AreSessions a old → IsNext a key
     → MeetsOldest a.entries (side_of call) partner → OnlySets old begun key.client s → PartnersDuty a.entries partner other → IfSome other (IsOwedIn begun)
 partner_due a old begun key call partner s None legal are next meets begins duty = tt
 partner_due a old begun key call partner s (Some d) legal are next meets begins duty =
@@ -109,7 +109,7 @@ partner_due a old begun key call partner s (Some d) legal are next meets begins 
     ap (option_and_then (λ (x : Session). waiting_place x.state)) (begins.others d.client (apart a key call partner next d met)) ∙ told_waiting a old call partner d legal are met
 
 -- the arrival's own session stays, where that of the request that it met was settled
-pub own_stays : (a : Account) (old begun mid : Table) (key : Key) (call : Call) (partner : Option ℕ) (s : Session) (other : Option Owed) (others : Kept) → IsNext a key
+pub own_stays : (a : Account) (old begun mid : Table) (key : Key) (call : Call) (partner : Option ℕ) (s : Session) (other : Option OwedDuty) (others : Kept) → IsNext a key
     → MeetsOldest a.entries (side_of call) partner → OnlySets old begun key.client s → SettlesIf begun mid other others → PartnersDuty a.entries partner other → session_of mid key.client ≡ Some s
 own_stays a old begun mid key call partner s None others next meets begins settles duty = ap (λ t. session_of t key.client) settles ∙ begins.own
 own_stays a old begun mid key call partner s (Some d) others next meets begins settles duty =
@@ -117,7 +117,7 @@ own_stays a old begun mid key call partner s (Some d) others next meets begins s
     settles.settles.sets.others key.client (λ same. apart a key call partner next d met (sym same)) ∙ begins.own
 
 -- once the partner's session was settled, the arrival's own waits still
-pub own_due : (a : Account) (old begun mid : Table) (key : Key) (call : Call) (partner : Option ℕ) (place : ℕ) (other own : Option Owed) (others : Kept) → IsNext a key
+pub own_due : (a : Account) (old begun mid : Table) (key : Key) (call : Call) (partner : Option ℕ) (place : ℕ) (other own : Option OwedDuty) (others : Kept) → IsNext a key
     → MeetsOldest a.entries (side_of call) partner → OnlyAdvances old begun key (Waits place) → SettlesIf begun mid other others
     → PartnersDuty a.entries partner other → OwnDuty (side_of call) (wait_of call) partner (record { place = place; client = key.client }) own → IfSome own (IsOwedIn mid)
 own_due a old begun mid key call partner place other None others next meets begins settles duty own = tt
@@ -140,7 +140,7 @@ module _ (a : Account) (e : Entry) (key : Key) (call : Call) (partner : Option �
 
   -- ---- the partner's session
 
-  met_kept : (d : Owed) (met : IsMet a call partner d) (version : Version) → AskedIn b.entries d.place version → IsKept b.entries d.place met.met (told_in version (partners_reply (side_of call) place))
+  met_kept : (d : OwedDuty) (met : IsMet a call partner d) (version : Version) → AskedIn b.entries d.place version → IsKept b.entries d.place met.met (told_in version (partners_reply (side_of call) place))
   met_kept d met version asked =
       let names_it : NamesPartner b.entries place d.place = record {
         call = call;
@@ -152,7 +152,7 @@ module _ (a : Account) (e : Entry) (key : Key) (call : Call) (partner : Option �
       (reply_laws met.met).met b d.place place call version after earlier (ap (option_and_then call_in) arrived_here) names_it met.opposes met.may_wait asked
 
   -- the session of the request that was met, settled
-  partner_session : (old : Table) (d : Owed) → AreSessions a old → IsMet a call partner d → (s : Session) → session_of old d.client ≡ Some s
+  partner_session : (old : Table) (d : OwedDuty) → AreSessions a old → IsMet a call partner d → (s : Session) → session_of old d.client ≡ Some s
       → IsSession b d.client (settled_session s (Some d.place) (told_in s.version (partners_reply (side_of call) place)))
   partner_session old d are met s there =
       let found = waiting_there a old d.client d.place are (told_waiting a old call partner d before are met) in
@@ -189,7 +189,7 @@ module _ (a : Account) (e : Entry) (key : Key) (call : Call) (partner : Option �
       by_partner (Some p) none r other at of_client arrived w named = partner_unowed a r (none ∙ ap (owed_at a.entries) (same_Some _ _ named)) w
 
   -- where the partner is of another client
-  other_met : (d : Owed) → IsMet a call partner d → (client : ℕ) → (d.client ≡ client → ⊥) → StillWaits a e client
+  other_met : (d : OwedDuty) → IsMet a call partner d → (client : ℕ) → (d.client ≡ client → ⊥) → StillWaits a e client
   other_met d met client differs = still client (λ r other at of_client arrived w named.
       let same : d.place ≡ r = same_Some _ _ (sym met.named ∙ named) in
       let one : Arrive met.key met.met ≡ Arrive other at = same_Some _ _ (sym met.arrived ∙ ap (act_at a.entries) same ∙ arrived) in
@@ -235,7 +235,7 @@ module _ (a : Account) (e : Entry) (key : Key) (call : Call) (partner : Option �
     own_opened = opened_in_table a old key.client key.incarnation v are next.incarnation begins.was
 
     -- a client whose own request this is not
-    others_mid : (other : Option Owed) → SettlesIf begun mid other others → PartnersDuty a.entries partner other → (c : ℕ) → (c ≡ key.client → ⊥) → IsSessionOf b c (session_of mid c)
+    others_mid : (other : Option OwedDuty) → SettlesIf begun mid other others → PartnersDuty a.entries partner other → (c : ℕ) → (c ≡ key.client → ⊥) → IsSessionOf b c (session_of mid c)
     others_mid None settles duty c differs =
         let same : session_of mid c ≡ session_of old c = ap (λ t. session_of t c) settles ∙ begins.sets.others c differs in
         subst (IsSessionOf b c) (sym same) (session_on a e c (session_of old c) after (other_apart e.act c (λ here. differs (sym here ∙ ap client_of says))) (nobody_met duty c) (are.each c))
@@ -255,11 +255,11 @@ module _ (a : Account) (e : Entry) (key : Key) (call : Call) (partner : Option �
               (session_on a e c (session_of old c) after (other_apart e.act c (λ here. differs (sym here ∙ ap client_of says))) (other_met d met c (λ is. others_too (sym is))) (are.each c))
         ]
 
-    epoch_mid : (other : Option Owed) → SettlesIf begun mid other others → mid.epoch ≡ old.epoch
+    epoch_mid : (other : Option OwedDuty) → SettlesIf begun mid other others → mid.epoch ≡ old.epoch
     epoch_mid None settles = ap (λ (t : Table). t.epoch) settles ∙ begins.sets.epoch
     epoch_mid (Some d) settles = settles.settles.sets.epoch ∙ begins.sets.epoch
 
-    each_new : (other own : Option Owed) → SettlesIf begun mid other others → SettlesIf mid new own k → PartnersDuty a.entries partner other
+    each_new : (other own : Option OwedDuty) → SettlesIf begun mid other others → SettlesIf mid new own k → PartnersDuty a.entries partner other
         → OwnDuty (side_of call) (wait_of call) partner (record { place = place; client = key.client }) own → ((own ≡ None → ⊥) → IsKept b.entries place call (told_in v k))
         → (c : ℕ) → IsSessionOf b c (session_of new c)
     each_new other None settles ends duty own kept c =
@@ -270,8 +270,8 @@ module _ (a : Account) (e : Entry) (key : Key) (call : Call) (partner : Option �
         ])
     each_new other (Some d) settles ends duty own kept c =
         let own_there = own_stays a old begun mid key call partner (session_for key v (Waits place)) other others next meets begins.sets settles duty in
-        let client : d.client ≡ key.client = ap (λ (x : Owed). x.client) own.0 in
-        let at : d.place ≡ place = ap (λ (x : Owed). x.place) own.0 in
+        let client : d.client ≡ key.client = ap (λ (x : OwedDuty). x.client) own.0 in
+        let at : d.place ≡ place = ap (λ (x : OwedDuty). x.place) own.0 in
         let session : session_for key v (Waits place) ≡ ends.settles.session = same_Some _ _ (sym own_there ∙ ap (session_of mid) (sym client) ∙ ends.settles.there) in
         let version = version_told mid key.client (session_for key v (Waits place)) ends.version own_there (ap (version_in mid) (sym client) ∙ ends.was) in
         let is : session_of new key.client ≡ Some (session_for key v (Settled (Some place) (told_in v k))) =
@@ -283,12 +283,12 @@ module _ (a : Account) (e : Entry) (key : Key) (call : Call) (partner : Option �
           | inr differs ↦ subst (IsSessionOf b c) (sym (ends.settles.sets.others c (λ same. differs (same ∙ client)))) (others_mid other settles duty c differs)
         ]
 
-    epoch_new : (own : Option Owed) → SettlesIf mid new own k → new.epoch ≡ mid.epoch
+    epoch_new : (own : Option OwedDuty) → SettlesIf mid new own k → new.epoch ≡ mid.epoch
     epoch_new None ends = ap (λ (t : Table). t.epoch) ends
     epoch_new (Some d) ends = ends.settles.sets.epoch
 
     -- after an arrival the table is what the account says
-    pub sessions_recorded : (other own : Option Owed) → SettlesIf begun mid other others → SettlesIf mid new own k → PartnersDuty a.entries partner other
+    pub sessions_recorded : (other own : Option OwedDuty) → SettlesIf begun mid other others → SettlesIf mid new own k → PartnersDuty a.entries partner other
         → OwnDuty (side_of call) (wait_of call) partner (record { place = place; client = key.client }) own → ((own ≡ None → ⊥) → IsKept b.entries place call (told_in v k))
         → AreSessions b new
     sessions_recorded other own settles ends duty own_duty kept = record {

@@ -7,8 +7,8 @@ use Rattle.rv_text.specs.declared.answer.Answer as answer
 use Rattle.rv_text.specs.declared.answer.Refusal.TheVariants as refusal
 use Rattle.rv_text.specs.Limits.{FitsAnswer, FitsMessage}
 use Rattle.rv_account.specs.declared.entry.Entry.{Entry}
-use Rattle.rv_book.specs.declared.state.State.{State}
-use Rattle.rv_book.specs.declared.verdict.Said.{Said}
+use Rattle.rv_book.specs.declared.state.BookState.{BookState}
+use Rattle.rv_book.specs.declared.verdict.KeptAnswer.{KeptAnswer}
 use Rattle.rv_account.specs.Account.{Account, Extends, Stored}
 use Rattle.rv_book.specs.Legal.{Legal, before}
 use Rattle.rv_book.specs.Laws.{VerdictsStay}
@@ -16,7 +16,7 @@ use Rattle.rv_book.specs.Limits.{FitsAccount}
 use Rattle.rv_book.specs.Steps.{Next, step_moment}
 use Rattle.rv_book.specs.Tables.{BecomesAfterTicks, IsSound, account_of}
 use Rattle.rv_book.specs.Saying.{said_in, stamp_of}
-use Rattle.rv_book.specs.Verdicts.{IsOfStep, Stamp, WasGiven}
+use Rattle.rv_book.specs.Verdicts.{IsOfStep, VerdictView, WasGiven}
 use Rattle.rv_book.proofs.Fitting.{step_fits}
 use Rattle.rv_book.proofs.Staying.{still_kept, steps_extend}
 use Rattle.rv_book.proofs.Saying.{said_kept}
@@ -65,13 +65,13 @@ verdicts_stay a b v extends given =
     }
 
 -- a step of the message between the accounts gives this stamp
-pub record GivesStamp (a : Account) (now : ℕ) (m : Message) (b : Account) (v : Stamp) : Type 0 where
+pub record GivesStamp (a : Account) (now : ℕ) (m : Message) (b : Account) (v : VerdictView) : Type 0 where
   pub step : Next a now m b v.said
   pub fits : FitsAnswer v.said
   pub of_step : IsOfStep v
   pub given : WasGiven b v
 
-step_gives : (a b : Account) (now : ℕ) (m : Message) (kept : Said) → Legal a → Legal b → FitsAccount b → FitsMessage m → BecomesAfterTicks a now m b kept → GivesStamp a now m b (stamp_of m a b kept)
+step_gives : (a b : Account) (now : ℕ) (m : Message) (kept : KeptAnswer) → Legal a → Legal b → FitsAccount b → FitsMessage m → BecomesAfterTicks a now m b kept → GivesStamp a now m b (stamp_of m a b kept)
 step_gives a b now m kept legal after fits message became =
     let x : Answer = became.becomes.answer in
     let said : said_in b kept ≡ x = ap (λ (o : Option Answer). unwrap_or o (answer.TheVariants.Refused refusal.NoMemory)) became.becomes.is in
@@ -93,7 +93,7 @@ step_gives a b now m kept legal after fits message became =
     }
 
 -- the same of what snapshots took of the message, of the account before and of that after
-pub gives_stamp : {s t : State} {first last : Stored} {now : ℕ} {m asked : Message} {kept : Said} → asked ≡ m → first ≡ s.account → last ≡ t.account
+pub gives_stamp : {s t : BookState} {first last : Stored} {now : ℕ} {m asked : Message} {kept : KeptAnswer} → asked ≡ m → first ≡ s.account → last ≡ t.account
     → IsSound s → IsSound t → FitsMessage m → BecomesAfterTicks (account_of s) now m (account_of t) kept
     → GivesStamp (account_of s) now m (account_of t) (stamp_of asked first.account last.account kept)
 gives_stamp {s} {t} {first} {last} {now} {m} {asked} {kept} asked_is first_is last_is before_sound after_sound fits became =
@@ -105,5 +105,5 @@ gives_stamp {s} {t} {first} {last} {now} {m} {asked} {kept} asked_is first_is la
     subst (GivesStamp (account_of s) now m (account_of t)) (sym same) gives
 
 -- a verdict that was given before the step was given after it
-pub still_given : {a b : Account} {now : ℕ} {m : Message} {v : Stamp} → GivesStamp a now m b v → (w : Stamp) → WasGiven a w → WasGiven b w
+pub still_given : {a b : Account} {now : ℕ} {m : Message} {v : VerdictView} → GivesStamp a now m b v → (w : VerdictView) → WasGiven a w → WasGiven b w
 still_given {a} {b} {now} {m} {v} gives w given = verdicts_stay a b w (steps_extend a b now m v.said gives.step) given

@@ -3,8 +3,8 @@ use Rattle.rv_book.specs.Counting.{NumberOf}
 use Rattle.rv_text.specs.declared.answer.Refusal as refusal
 use Rattle.rv_account.specs.declared.entry.Act as act
 use Rattle.rv_session.specs.declared.session.Session.{Session}
-use Rattle.rv_session.specs.declared.session.State as state
-use Rattle.rv_session.specs.declared.session.State.{State as StateOf}
+use Rattle.rv_session.specs.declared.session.RequestState as state
+use Rattle.rv_session.specs.declared.session.RequestState.{RequestState as StateOf}
 use Rattle.rv_session.specs.declared.kept.Kept.{Kept}
 use Rattle.rv_session.specs.declared.kept.Kept as kept
 use Rattle.rv_book.specs.Replies.{CancelledFirst}
@@ -15,7 +15,7 @@ use Rattle.rv_book.proofs.Lines.{line_other_epoch, line_no_session, line_old_inc
 use Rattle.rv_session.specs.Meanings.{HasNext, HasLast, RefusalMeans}
 use Rattle.rv_session.proofs.Clients.{clients_of, clients_rise, clients_are, length-clients}
 use Rattle.rv_account.specs.Account.{Account, act_at}
-use Rattle.rv_book.specs.Tables.{AreSessions, IsSessionOf, Stands, last_key}
+use Rattle.rv_book.specs.Tables.{AreSessions, IsSessionOf, StandsInAccount, last_key}
 use Rattle.rv_text.specs.declared.call.Call.{Call}
 use Rattle.rv_book.specs.Steps.{ClientsFullDue, KeyLines}
 use Rattle.rv_book.specs.Sessions.{HasIncarnation, HasOnlyLower, LastNumber, SaidHello}
@@ -94,7 +94,7 @@ module _ (a : Account) (t : Table) (are : AreSessions a t) (legal : Legal a) whe
       old_number : (key.number < last) ⊎ ((key.number ≡ last) × (is.session.state ≡ state.TheVariants.Fresh)) → (key.number < last) ⊎ (key.number ≡ 0)
       old_number (inl below) = inl below
       old_number (inr (same, fresh)) =
-          let zero_last : is.session.last ≡ 0 = subst (Stands a key.client is.session) fresh (known a t key.client is.session are is.of_key.there).stands in
+          let zero_last : is.session.last ≡ 0 = subst (StandsInAccount a key.client is.session) fresh (known a t key.client is.session are is.of_key.there).stands in
           inr (same ∙ is.last_is ∙ zero_last)
   refused_lines R L G key (refusal.TheVariants.Busy last) is refuses =
       let number = subst (LastNumber a.entries key.client) (sym is.last_is) (known a t key.client is.session are is.of_key.there).number in
@@ -126,8 +126,8 @@ module _ (a : Account) (t : Table) (are : AreSessions a t) (legal : Legal a) whe
       let number : has.session.last ≡ key.number = sym has.number in
       same_parts _ _ _ _ _ _ key.client epoch incarnation number
 
-  stood : (key : Key) (stands : StateOf) (has : HasLast t key stands) → Stands a key.client has.session stands
-  stood key stands has = subst (Stands a key.client has.session) has.state (known a t key.client has.session are has.of_key.there).stands
+  stood : (key : Key) (stands : StateOf) (has : HasLast t key stands) → StandsInAccount a key.client has.session stands
+  stood key stands has = subst (StandsInAccount a key.client has.session) has.state (known a t key.client has.session are has.of_key.there).stands
 
   pub settled : (key : Key) (at : ℕ) (k : Kept) → HasLast t key (state.TheVariants.Settled (Some at) k) → Settled key at k
   settled key at k has =

@@ -1,5 +1,5 @@
 -- From what the parts of a step answer to the step itself.
-use Rattle.rv_book.specs.declared.verdict.Said as said
+use Rattle.rv_book.specs.declared.verdict.KeptAnswer as said
 use Rattle.rv_text.specs.declared.answer.Answer.TheVariants.{Refused}
 use Rattle.std.specs.Prelude.{Result, Ok, Err, IsOk}
 use Rattle.rv_account.specs.Account.{Account}

@@ -8,7 +8,7 @@ use Rattle.rv_text.specs.declared.call.Wait.{Wait}
 use Rattle.rv_text.proofs.Kept.{swapped_fits, timed_out_fits}
 use Rattle.rv_session.specs.declared.kept.Kept as kept
 use Rattle.rv_account.specs.Account.{Account}
-use Rattle.rv_book.specs.Arriving.{GoesOn, WillReply}
+use Rattle.rv_book.specs.Arriving.{GoesOnWaiting, WillReply}
 use Rattle.rv_book.specs.Tables.{kept_at_once}
 use Rattle.rv_book.proofs.ByMeeting.{unmet_by}
 use Rattle.rv_book.proofs.CallKinds.{exchanges_item}
@@ -34,7 +34,7 @@ module _ (exchanger : ℕ) (item : List ℕ) (wait : Wait) where
     back = λ es r told replies. replies;
   }
 
-  pub swap_unmet : (a : Account) → (GoesOn own None → ⊥) → WillReply a own None (kept_at_once wait kept.TheVariants.TimedOut)
+  pub swap_unmet : (a : Account) → (GoesOnWaiting own None → ⊥) → WillReply a own None (kept_at_once wait kept.TheVariants.TimedOut)
   swap_unmet a = unmet_by (TellsItem reply.TheVariants.Swapped) own wait reply.TheVariants.TimedOut
       (handed_by own wait reply.TheVariants.TimedOut (Exchanges exchanger) reply.TheVariants.Swapped kept.TheVariants.Swapped swap_handed) a kept.TheVariants.TimedOut (λ es. refl) (λ v. refl)
 

@@ -6,17 +6,17 @@ use Rattle.std.proofs.lemmas.Option.{none-some, slice_get-map, slice_get-get_or}
 use Rattle.rv_text.specs.declared.call.Side.{Side}
 use Rattle.rv_text.specs.declared.call.Side.TheVariants.{Exchanges, Gives, Looks, Takes}
 use Rattle.rv_text.specs.declared.call.Wait.{Wait}
-use Rattle.rv_session.specs.Owed.{Owed}
+use Rattle.rv_session.specs.OwedDuty.{OwedDuty}
 use Rattle.rv_dual.specs.Offers.{duty_of, place_of, places_of}
 use Rattle.rv_dual.specs.Meanings.{TakenFront}
 use Rattle.rv_dual.specs.Queue.{IsAbove, Queue, SameLists}
 use Rattle.rv_dual.specs.declared.giver.Offer.{Offer}
 use Rattle.rv_account.specs.declared.entry.Entry.{Entry}
-use Rattle.rv_book.specs.declared.arrived.Arrived.{Arrived}
+use Rattle.rv_book.specs.declared.arrival.Arrival.{Arrival}
 use Rattle.rv_account.specs.Calls.{Lasts}
 use Rattle.rv_book.specs.Meeting.{ArrivedOn, FindsNobody, Gave, GaveNobody, GaveTo, LaysDown, LeavesFirst, LeftFront, StaysBy, OwnDuty, StandsBy, Took, TookFrom, TookNothing, offer_by, own_by}
 use Rattle.rv_book.specs.Parked.{AreParked, IsParked, owed_at}
-use Rattle.rv_book.specs.Views.{AllEmpty, AreBelow, OnlyQueue, SameStations, Stations, exchanger_at, place_of_duty, queue_at, takers_places, waiting_on}
+use Rattle.rv_book.specs.Views.{AllEmpty, AreBelow, OnlyQueue, SameWaiters, Waiters, exchanger_at, place_of_duty, queue_at, takers_places, waiting_on}
 use Rattle.rv_book.proofs.Numbers.{same_or_not}
 use Rattle.rv_book.proofs.Opposites.{looks_alone, one_opposite}
 use Rattle.rv_book.proofs.Places.{get-append_cases}
@@ -25,13 +25,13 @@ use Rattle.std.proofs.lemmas.List.{map-append}
 -- ---- one queue
 
 -- no other queue changed, and no exchanger
-pub record ChangedAt (old new : Stations) (queue : ℕ) : Type 0 where
+pub record ChangedAt (old new : Waiters) (queue : ℕ) : Type 0 where
   pub others : OnlyQueue queue old.queues new.queues
   pub exchangers : new.exchangers ≡ old.exchangers
 
 -- ---- sides
 
-module _ (old new : Stations) (queue : ℕ) (changed : ChangedAt old new queue) where
+module _ (old new : Waiters) (queue : ℕ) (changed : ChangedAt old new queue) where
   abbrev was : Queue
   was = queue_at old.queues queue
 
@@ -72,7 +72,7 @@ module _ (old new : Stations) (queue : ℕ) (changed : ChangedAt old new queue) 
   givers_change same (Looks other) apart = refl
   givers_change same (Exchanges other) apart = exchangers_same other
 
-  pub nothing_changed : SameLists was is_now → SameStations old new
+  pub nothing_changed : SameLists was is_now → SameWaiters old new
   nothing_changed same = record {
     queues = λ other. elim (same_or_not other queue) [
       | inl is ↦ subst (λ n. SameLists (queue_at old.queues n) (queue_at new.queues n)) (sym is) same
@@ -92,7 +92,7 @@ module _ (old new : Stations) (queue : ℕ) (changed : ChangedAt old new queue) 
 
 -- ---- with nothing changed
 
-pub same_waiting : (old new : Stations) → SameStations old new → (side : Side) → waiting_on new side ≡ waiting_on old side
+pub same_waiting : (old new : Waiters) → SameWaiters old new → (side : Side) → waiting_on new side ≡ waiting_on old side
 same_waiting old new same (Gives queue) = ap places_of (same.queues queue).givers
 same_waiting old new same (Takes queue) = ap takers_places (same.queues queue).takers
 same_waiting old new same (Looks queue) = refl
@@ -101,10 +101,10 @@ same_waiting old new same (Exchanges exchanger) = ap place_of_duty (same.exchang
 parked_lists : (es : List Entry) (p q : Queue) → SameLists p q → IsParked es p → IsParked es q
 parked_lists es p q same is = record {
   givers = λ i offer at. is.givers i offer (sym (ap (λ (xs : List Offer). slice_get xs i) same.givers) ∙ at);
-  takers = λ i duty at. is.takers i duty (sym (ap (λ (xs : List Owed). slice_get xs i) same.takers) ∙ at);
+  takers = λ i duty at. is.takers i duty (sym (ap (λ (xs : List OwedDuty). slice_get xs i) same.takers) ∙ at);
 }
 
-pub same_parked : (es : List Entry) (old new : Stations) → SameStations old new → AreParked es old → AreParked es new
+pub same_parked : (es : List Entry) (old new : Waiters) → SameWaiters old new → AreParked es old → AreParked es new
 same_parked es old new same parked = record {
   queues = λ queue. parked_lists es (queue_at old.queues queue) (queue_at new.queues queue) (same.queues queue) (parked.queues queue);
   exchangers = λ exchanger duty there. parked.exchangers exchanger duty (sym (same.exchangers exchanger) ∙ there);
@@ -112,30 +112,30 @@ same_parked es old new same parked = record {
 
 -- ---- above all that wait
 
-pub above : (stations : Stations) (queue place : ℕ) → AreBelow stations place → IsAbove (queue_at stations.queues queue) place
-above stations queue place below =
-    let q = queue_at stations.queues queue in
+pub above : (waiters : Waiters) (queue place : ℕ) → AreBelow waiters place → IsAbove (queue_at waiters.queues queue) place
+above waiters queue place below =
+    let q = queue_at waiters.queues queue in
     record {
       givers = λ k d inside. below (Gives queue) k _ (slice_get-map place_of q.givers k ∙ ap (λ o. option_map place_of o) (slice_get-get_or q.givers k d inside));
-      takers = λ k d inside. below (Takes queue) k _ (slice_get-map (λ (duty : Owed). duty.place) q.takers k ∙ ap (λ o. option_map (λ (duty : Owed). duty.place) o) (slice_get-get_or q.takers k d inside));
+      takers = λ k d inside. below (Takes queue) k _ (slice_get-map (λ (duty : OwedDuty). duty.place) q.takers k ∙ ap (λ o. option_map (λ (duty : OwedDuty). duty.place) o) (slice_get-get_or q.takers k d inside));
     }
 
 -- ---- an arrival that gives
 
-no_takers : (stations : Stations) (queue : ℕ) → (queue_at stations.queues queue).takers ≡ [] → FindsNobody stations (Gives queue)
-no_takers stations queue none other opposes = subst (λ side. waiting_on stations side ≡ []) (sym (one_opposite (Gives queue) (Takes queue) other refl opposes)) (ap takers_places none)
+no_takers : (waiters : Waiters) (queue : ℕ) → (queue_at waiters.queues queue).takers ≡ [] → FindsNobody waiters (Gives queue)
+no_takers waiters queue none other opposes = subst (λ side. waiting_on waiters side ≡ []) (sym (one_opposite (Gives queue) (Takes queue) other refl opposes)) (ap takers_places none)
 
-no_givers : (stations : Stations) (queue : ℕ) → (queue_at stations.queues queue).givers ≡ [] → FindsNobody stations (Takes queue)
-no_givers stations queue none other opposes = subst (λ side. waiting_on stations side ≡ []) (sym (one_opposite (Takes queue) (Gives queue) other refl opposes)) (ap places_of none)
+no_givers : (waiters : Waiters) (queue : ℕ) → (queue_at waiters.queues queue).givers ≡ [] → FindsNobody waiters (Takes queue)
+no_givers waiters queue none other opposes = subst (λ side. waiting_on waiters side ≡ []) (sym (one_opposite (Takes queue) (Gives queue) other refl opposes)) (ap places_of none)
 
 some_is_none : {X : Type 0} (x : X) → Some x ≡ None → ⊥
 some_is_none x is = none-some x (sym is)
 
-duty_of_offer_by : (wait : Option Wait) (duty : Owed) → duty_of (offer_by wait duty) ≡ option_and_then (λ w. Some duty) wait
+duty_of_offer_by : (wait : Option Wait) (duty : OwedDuty) → duty_of (offer_by wait duty) ≡ option_and_then (λ w. Some duty) wait
 duty_of_offer_by None duty = refl
 duty_of_offer_by (Some wait) duty = refl
 
-place_of_offer_by : (wait : Option Wait) (duty : Owed) → place_of (offer_by wait duty) ≡ duty.place
+place_of_offer_by : (wait : Option Wait) (duty : OwedDuty) → place_of (offer_by wait duty) ≡ duty.place
 place_of_offer_by None duty = refl
 place_of_offer_by (Some wait) duty = refl
 
@@ -145,7 +145,7 @@ first_of xs ys x is = ap (λ l. slice_get l 0) is
 
 -- ---- the first item leaves
 
-module _ (old new : Stations) (queue : ℕ) (changed : ChangedAt old new queue) where
+module _ (old new : Waiters) (queue : ℕ) (changed : ChangedAt old new queue) where
   first_leaves : (offer : Offer) → (queue_at old.queues queue).givers ≡ offer ∷ (queue_at new.queues queue).givers → (queue_at new.queues queue).takers ≡ (queue_at old.queues queue).takers
       → LeavesFirst old new (Gives queue) (duty_of offer) (place_of offer)
   first_leaves offer oldest takers = record {
@@ -159,7 +159,7 @@ module _ (old new : Stations) (queue : ℕ) (changed : ChangedAt old new queue) 
   }
 
   -- if there is one
-  pub front_left : (o : Option (Option Owed × ℕ)) → TakenFront (queue_at old.queues queue) (queue_at new.queues queue) o → LeftFront old new (Gives queue) o
+  pub front_left : (o : Option (Option OwedDuty × ℕ)) → TakenFront (queue_at old.queues queue) (queue_at new.queues queue) o → LeftFront old new (Gives queue) o
   front_left None none = (
     ap places_of none.nobody,
     nothing_changed old new queue changed (record { givers = ap (λ (q : Queue). q.givers) none.same; takers = ap (λ (q : Queue). q.takers) none.same }),
@@ -170,14 +170,14 @@ module _ (old new : Stations) (queue : ℕ) (changed : ChangedAt old new queue) 
 
 -- ---- an arrival
 
-module _ (old new : Stations) (queue : ℕ) (changed : ChangedAt old new queue) (duty : Owed) where
+module _ (old new : Waiters) (queue : ℕ) (changed : ChangedAt old new queue) (duty : OwedDuty) where
   abbrev pub before : Queue
   before = queue_at old.queues queue
 
   abbrev pub after : Queue
   after = queue_at new.queues queue
 
-  gave_to : (wait : Option Wait) (result : Arrived) → GaveTo before after duty result → ArrivedOn old new (Gives queue) wait duty result
+  gave_to : (wait : Option Wait) (result : Arrival) → GaveTo before after duty result → ArrivedOn old new (Gives queue) wait duty result
   gave_to wait result gave = subst (ArrivedOn old new (Gives queue) wait duty) (sym gave.is) (record {
     meets = record {
       other = Takes queue;
@@ -206,7 +206,7 @@ module _ (old new : Stations) (queue : ℕ) (changed : ChangedAt old new queue) 
     takers = λ i other at. was.takers i other (sym (ap (λ l. slice_get l i) takers) ∙ at);
   }
 
-  lays_down : (wait : Option Wait) (result : Arrived) → Lasts wait → LaysDown before after wait duty result → ArrivedOn old new (Gives queue) wait duty result
+  lays_down : (wait : Option Wait) (result : Arrival) → Lasts wait → LaysDown before after wait duty result → ArrivedOn old new (Gives queue) wait duty result
   lays_down wait result lasts lays = subst (ArrivedOn old new (Gives queue) wait duty) (sym lays.is) (record {
     meets = inl (
       (refl, lasts),
@@ -221,7 +221,7 @@ module _ (old new : Stations) (queue : ℕ) (changed : ChangedAt old new queue) 
     parked = λ es parked owed. parked_changed old new queue changed es parked (pushed_givers es wait owed lays.givers lays.takers);
   })
 
-  gave_nobody : (wait : Option Wait) (result : Arrived) → (Lasts wait → ⊥) → GaveNobody before after duty result → ArrivedOn old new (Gives queue) wait duty result
+  gave_nobody : (wait : Option Wait) (result : Arrival) → (Lasts wait → ⊥) → GaveNobody before after duty result → ArrivedOn old new (Gives queue) wait duty result
   gave_nobody wait result goes gave =
       let same = nothing_changed old new queue changed gave.same in
       subst (ArrivedOn old new (Gives queue) wait duty) (sym gave.is) (record {
@@ -231,14 +231,14 @@ module _ (old new : Stations) (queue : ℕ) (changed : ChangedAt old new queue) 
         parked = λ es parked owed. same_parked es old new same parked;
       })
 
-  pub arrived_gives : (wait : Option Wait) (result : Arrived) → Gave before after wait duty result → ArrivedOn old new (Gives queue) wait duty result
+  pub arrived_gives : (wait : Option Wait) (result : Arrival) → Gave before after wait duty result → ArrivedOn old new (Gives queue) wait duty result
   arrived_gives wait result (inl gave) = gave_to wait result gave
   arrived_gives wait result (inr (inl lays)) = lays_down wait result lays.0 lays.1
   arrived_gives wait result (inr (inr goes)) = gave_nobody wait result goes.0 goes.1
 
   -- ---- an arrival that takes
 
-  took_from : (wait : Option Wait) (result : Arrived) → TookFrom before after duty result → ArrivedOn old new (Takes queue) wait duty result
+  took_from : (wait : Option Wait) (result : Arrival) → TookFrom before after duty result → ArrivedOn old new (Takes queue) wait duty result
   took_from wait result took =
       let leaves = first_leaves old new queue changed took.offer took.oldest took.takers in
       subst (ArrivedOn old new (Takes queue) wait duty) (sym took.is) (record {
@@ -253,17 +253,17 @@ module _ (old new : Stations) (queue : ℕ) (changed : ChangedAt old new queue) 
     givers = λ i offer at. was.givers i offer (sym (ap (λ l. slice_get l i) givers) ∙ at);
     takers = λ i other at. elim (get-append_cases before.takers duty other i (sym (ap (λ l. slice_get l i) takers) ∙ at)) [
       | inl inside ↦ was.takers i other inside.1
-      | inr last ↦ subst (λ (d : Owed). owed_at es d.place ≡ Some d) last.1 owed
+      | inr last ↦ subst (λ (d : OwedDuty). owed_at es d.place ≡ Some d) last.1 owed
     ];
   }
 
-  stands_by : (wait : Wait) (result : Arrived) → Lasts (Some wait) → StandsBy before after duty result → ArrivedOn old new (Takes queue) (Some wait) duty result
+  stands_by : (wait : Wait) (result : Arrival) → Lasts (Some wait) → StandsBy before after duty result → ArrivedOn old new (Takes queue) (Some wait) duty result
   stands_by wait result lasts stands = subst (ArrivedOn old new (Takes queue) (Some wait) duty) (sym stands.is) (record {
     meets = inl (
       (refl, lasts),
       record {
         nobody = no_givers old queue stands.nobody;
-        last = ap takers_places stands.takers ∙ map-append (λ (d : Owed). d.place) before.takers (duty ∷ []);
+        last = ap takers_places stands.takers ∙ map-append (λ (d : OwedDuty). d.place) before.takers (duty ∷ []);
         others = takers_change old new queue changed stands.givers;
       },
     );
@@ -272,7 +272,7 @@ module _ (old new : Stations) (queue : ℕ) (changed : ChangedAt old new queue) 
     parked = λ es parked owed. parked_changed old new queue changed es parked (pushed_takers es owed stands.takers stands.givers);
   })
 
-  took_nothing : (wait : Option Wait) (result : Arrived) → (Lasts wait → ⊥) → TookNothing before after duty result → ArrivedOn old new (Takes queue) wait duty result
+  took_nothing : (wait : Option Wait) (result : Arrival) → (Lasts wait → ⊥) → TookNothing before after duty result → ArrivedOn old new (Takes queue) wait duty result
   took_nothing wait result goes took =
       let same = nothing_changed old new queue changed took.same in
       subst (ArrivedOn old new (Takes queue) wait duty) (sym took.is) (record {
@@ -282,19 +282,19 @@ module _ (old new : Stations) (queue : ℕ) (changed : ChangedAt old new queue) 
         parked = λ es parked owed. same_parked es old new same parked;
       })
 
-  pub arrived_takes : (wait : Wait) (result : Arrived) → Took before after (Some wait) duty result → ArrivedOn old new (Takes queue) (Some wait) duty result
+  pub arrived_takes : (wait : Wait) (result : Arrival) → Took before after (Some wait) duty result → ArrivedOn old new (Takes queue) (Some wait) duty result
   arrived_takes wait result (inl took) = took_from (Some wait) result took
   arrived_takes wait result (inr (inl stands)) = stands_by wait result stands.0 stands.1
   arrived_takes wait result (inr (inr goes)) = took_nothing (Some wait) result goes.0 goes.1
 
 -- ---- an arrival that looks
 
-pub looked_on : (stations : Stations) (queue : ℕ) (wait : Option Wait) (duty : Owed) (result : Arrived) → result ≡ record { partner = None; own = Some duty; other = None }
-    → ArrivedOn stations stations (Looks queue) wait duty result
-looked_on stations queue wait duty result is =
+pub looked_on : (waiters : Waiters) (queue : ℕ) (wait : Option Wait) (duty : OwedDuty) (result : Arrival) → result ≡ record { partner = None; own = Some duty; other = None }
+    → ArrivedOn waiters waiters (Looks queue) wait duty result
+looked_on waiters queue wait duty result is =
     let no_wait = λ (may : StaysBy (Looks queue) wait). looks_alone queue may.0 in
-    let same : SameStations stations stations = record { queues = λ other. record { givers = refl; takers = refl }; exchangers = λ exchanger. refl } in
-    subst (ArrivedOn stations stations (Looks queue) wait duty) (sym is) (record {
+    let same : SameWaiters waiters waiters = record { queues = λ other. record { givers = refl; takers = refl }; exchangers = λ exchanger. refl } in
+    subst (ArrivedOn waiters waiters (Looks queue) wait duty) (sym is) (record {
       meets = inr (no_wait, (λ other opposes. absurd (none-some other opposes)), same);
       own = (refl, λ unmet may. absurd (no_wait may));
       other = λ es parked. refl;

@@ -8,15 +8,15 @@ use Rattle.rv_text.specs.declared.version.Version.{Version}
 use Rattle.rv_session.specs.declared.kept.Kept.{Kept}
 use Rattle.rv_session.specs.Kept.{told_in}
 use Rattle.rv_session.specs.declared.session.Session.{Session}
-use Rattle.rv_session.specs.declared.session.State.TheVariants as state
-use Rattle.rv_session.specs.declared.session.State.{State as StateOf}
+use Rattle.rv_session.specs.declared.session.RequestState.TheVariants as state
+use Rattle.rv_session.specs.declared.session.RequestState.{RequestState as StateOf}
 use Rattle.rv_session.specs.Table.{Table, session_of, version_in, waiting_of, waiting_place}
 use Rattle.rv_account.specs.declared.entry.Act.TheVariants.{Arrive}
 use Rattle.rv_account.specs.declared.entry.Entry.{Entry}
 use Rattle.rv_account.specs.Account.{Account, act_at, call_at, call_in, with_entry}
 use Rattle.rv_book.specs.Arriving.{IsKept}
 use Rattle.rv_book.specs.Legal.{Legal}
-use Rattle.rv_book.specs.Tables.{AreSessions, IsSession, IsSessionOf, IsSettledAt, IsWaitingAt, SettlesAs, Stands, last_key}
+use Rattle.rv_book.specs.Tables.{AreSessions, IsSession, IsSessionOf, IsSettledAt, IsWaitingAt, SettlesAs, StandsInAccount, last_key}
 use Rattle.rv_book.specs.TakingOut.{AreSessionsLeft, IsSessionLeft, IsSessionLeftOf, IsToldAt, Left, StandsLeft}
 use Rattle.rv_book.specs.Sessions.{AskedIn, HasIncarnation, HasOpened}
 use Rattle.rv_book.specs.Waiting.{Waiting}
@@ -34,7 +34,7 @@ use Rattle.rv_book.proofs.Waits.{arrival, waiting_is_last}
 -- ---- while nothing was taken out
 
 module _ (a : Account) (taken : ℕ → Type 0) (told : Kept) (none : (r : ℕ) → taken r → ⊥) where
-  stands_at_first : (client : ℕ) (s : Session) (stands : StateOf) → Stands a client s stands → StandsLeft a taken told client s stands
+  stands_at_first : (client : ℕ) (s : Session) (stands : StateOf) → StandsInAccount a client s stands → StandsLeft a taken told client s stands
   stands_at_first client s state.Fresh is = is
   stands_at_first client s (state.Waits r) is = (is, none r)
   stands_at_first client s (state.Settled (Some r) k) is = inl is
@@ -179,7 +179,7 @@ module _ (a : Account) (e : Entry) (taken : ℕ → Type 0) (told : Kept) (after
       })
 
   stands_at_last : (client : ℕ) (s : Session) (stands : StateOf) → IsApart e.act client → HasOpened a.entries client s.incarnation s.version → StandsLeft a taken told client s stands
-      → Stands (with_entry a e) client s stands
+      → StandsInAccount (with_entry a e) client s stands
   stands_at_last client s state.Fresh apart opened is = is
   stands_at_last client s (state.Waits r) apart opened is = record {
     call = is.0.call;

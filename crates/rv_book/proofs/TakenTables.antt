@@ -2,29 +2,29 @@
 -- entry that closes those that were.
 use Rattle.std.proofs.Common.{◌≡◌, inl, inr, ℕ, ◌+◌, List, [], ◌∷◌, ◌++◌, Option, refl, sym, subst, arith}
 use Rattle.rv_text.specs.declared.call.Side.{Side}
-use Rattle.rv_session.specs.Owed.{Owed}
+use Rattle.rv_session.specs.OwedDuty.{OwedDuty}
 use Rattle.rv_due.specs.Deadlines.{Deadlines}
 use Rattle.rv_account.specs.declared.entry.Entry.{Entry}
 use Rattle.rv_book.specs.Counting.{NumberOf}
 use Rattle.rv_book.specs.Elapsing.{AreDeadlines, AreDeadlinesOf, without_deadline}
-use Rattle.rv_book.specs.Meeting.{Leaves}
-use Rattle.rv_book.specs.Parked.{AreParked, AreStations, IsLineOf}
-use Rattle.rv_book.specs.TakingOut.{AreStationsLeft, Left}
-use Rattle.rv_book.specs.Views.{Stations, waiting_on}
+use Rattle.rv_book.specs.Meeting.{LeavesSide}
+use Rattle.rv_book.specs.Parked.{AreParked, AreWaiters, IsLineOf}
+use Rattle.rv_book.specs.TakingOut.{AreWaitersLeft, Left}
+use Rattle.rv_book.specs.Views.{Waiters, waiting_on}
 use Rattle.rv_book.specs.Waiting.{OpenAt, SideAt, Waiting, limit_at}
 use Rattle.rv_book.proofs.Closing.{Closes, opened_back, opened_on, waits_back, waits_on}
 use Rattle.rv_book.proofs.Counting.{number_drop, same_number}
 use Rattle.rv_book.proofs.Deciding.{same_side}
 use Rattle.rv_book.proofs.DeadlineTable.{But, due_on, due_same, due_without, limit_waits}
 use Rattle.rv_book.proofs.Sides.{one_side}
-use Rattle.rv_book.proofs.Waiters.{line_but, line_front, line_to, open_inside, parked_below}
+use Rattle.rv_book.proofs.WaitersBySide.{line_but, line_front, line_to, open_inside, parked_below}
 
 -- ---- while nothing was taken out
 
 module _ (es : List Entry) (taken : ℕ → Type 0) (none : (r : ℕ) → taken r → ⊥) where
-  pub stations_at_first : (stations : Stations) → AreStations es stations → AreStationsLeft es taken stations
-  stations_at_first stations is = record {
-    lines = λ side. line_to (OpenAt es side) (Left taken (OpenAt es side)) (waiting_on stations side) (is.lines side) (λ r opened. (opened, none r)) (λ r left. left.0);
+  pub waiters_at_first : (waiters : Waiters) → AreWaiters es waiters → AreWaitersLeft es taken waiters
+  waiters_at_first waiters is = record {
+    lines = λ side. line_to (OpenAt es side) (Left taken (OpenAt es side)) (waiting_on waiters side) (is.lines side) (λ r opened. (opened, none r)) (λ r left. left.0);
     parked = is.parked;
   }
 
@@ -55,9 +55,9 @@ module _ (es : List Entry) (taken more : ℕ → Type 0) (place : ℕ) (one : On
   same_left P r other left = left_after P r (left, λ same. other (subst P same left.0))
 
   -- the line of its side lost it, and the other lines are as they were
-  stations_less : (old new : Stations) (side : Side) → AreStationsLeft es taken old → IsLineOf (But (Left taken (OpenAt es side)) place) (waiting_on new side)
-      → ((other : Side) → (other ≡ side → ⊥) → waiting_on new other ≡ waiting_on old other) → AreParked es new → SideAt es side place → AreStationsLeft es more new
-  stations_less old new side are less others parked of_side = record {
+  waiters_less : (old new : Waiters) (side : Side) → AreWaitersLeft es taken old → IsLineOf (But (Left taken (OpenAt es side)) place) (waiting_on new side)
+      → ((other : Side) → (other ≡ side → ⊥) → waiting_on new other ≡ waiting_on old other) → AreParked es new → SideAt es side place → AreWaitersLeft es more new
+  waiters_less old new side are less others parked of_side = record {
     lines = λ other. elim (same_side other side) [
       | inl same ↦
           subst (λ s. IsLineOf (Left more (OpenAt es s)) (waiting_on new s)) (sym same)
@@ -72,20 +72,20 @@ module _ (es : List Entry) (taken more : ℕ → Type 0) (place : ℕ) (one : On
   }
 
   -- it was withdrawn from its side
-  pub stations_turn : (old new : Stations) (side : Side) (duty : Owed) (result : Option Owed) → AreStationsLeft es taken old → Leaves old new side duty result → duty.place ≡ place → SideAt es side place
-      → AreStationsLeft es more new
-  stations_turn old new side duty result are leaves at of_side =
-      stations_less old new side are
+  pub waiters_turn : (old new : Waiters) (side : Side) (duty : OwedDuty) (result : Option OwedDuty) → AreWaitersLeft es taken old → LeavesSide old new side duty result → duty.place ≡ place → SideAt es side place
+      → AreWaitersLeft es more new
+  waiters_turn old new side duty result are leaves at of_side =
+      waiters_less old new side are
       (subst (λ p. IsLineOf (But (Left taken (OpenAt es side)) p) (waiting_on new side)) at
       (subst (IsLineOf (But (Left taken (OpenAt es side)) duty.place)) (sym leaves.places) (line_but (Left taken (OpenAt es side)) (waiting_on old side) duty.place (are.lines side))))
       leaves.others (leaves.parked es are.parked) of_side
 
   -- it was the first of its side
-  pub stations_front : (old new : Stations) (side : Side) → AreStationsLeft es taken old → waiting_on old side ≡ place ∷ waiting_on new side
-      → ((other : Side) → (other ≡ side → ⊥) → waiting_on new other ≡ waiting_on old other) → AreParked es new → AreStationsLeft es more new
-  stations_front old new side are first others parked =
+  pub waiters_front : (old new : Waiters) (side : Side) → AreWaitersLeft es taken old → waiting_on old side ≡ place ∷ waiting_on new side
+      → ((other : Side) → (other ≡ side → ⊥) → waiting_on new other ≡ waiting_on old other) → AreParked es new → AreWaitersLeft es more new
+  waiters_front old new side are first others parked =
       let line = subst (IsLineOf (Left taken (OpenAt es side))) first (are.lines side) in
-      stations_less old new side are (line_front (Left taken (OpenAt es side)) place (waiting_on new side) line) others parked (line.are 0 place refl).0.of_side
+      waiters_less old new side are (line_front (Left taken (OpenAt es side)) place (waiting_on new side) line) others parked (line.are 0 place refl).0.of_side
 
   -- it was a request
   pub number_turn : (n m : ℕ) → NumberOf (Left taken (Waiting es)) n → Left taken (Waiting es) place → n ≡ m + 1 → NumberOf (Left more (Waiting es)) m
@@ -113,10 +113,10 @@ module _ (es : List Entry) (taken more : ℕ → Type 0) (place : ℕ) (one : On
 -- ---- with the entry that closes those that were taken out
 
 module _ (es : List Entry) (e : Entry) (taken : ℕ → Type 0) (closes : Closes es e taken) where
-  pub stations_at_last : (stations : Stations) → AreStationsLeft es taken stations → AreStations (es ++ e ∷ []) stations
-  stations_at_last stations are = record {
-    lines = λ side. line_to (Left taken (OpenAt es side)) (OpenAt (es ++ e ∷ []) side) (waiting_on stations side) (are.lines side) (opened_on es e taken closes side) (opened_back es e taken closes side);
-    parked = parked_below es e stations (λ side i r at. open_inside es side r ((are.lines side).are i r at).0) are.parked;
+  pub waiters_at_last : (waiters : Waiters) → AreWaitersLeft es taken waiters → AreWaiters (es ++ e ∷ []) waiters
+  waiters_at_last waiters are = record {
+    lines = λ side. line_to (Left taken (OpenAt es side)) (OpenAt (es ++ e ∷ []) side) (waiting_on waiters side) (are.lines side) (opened_on es e taken closes side) (opened_back es e taken closes side);
+    parked = parked_below es e waiters (λ side i r at. open_inside es side r ((are.lines side).are i r at).0) are.parked;
   }
 
   pub number_at_last : (n : ℕ) → NumberOf (Left taken (Waiting es)) n → NumberOf (Waiting (es ++ e ∷ [])) n

@@ -8,7 +8,7 @@ use Rattle.rv_text.specs.declared.call.Wait.{Wait}
 use Rattle.rv_text.proofs.Kept.{empty_fits}
 use Rattle.rv_session.specs.declared.kept.Kept as kept
 use Rattle.rv_account.specs.Account.{Account}
-use Rattle.rv_book.specs.Arriving.{GoesOn, WillReply}
+use Rattle.rv_book.specs.Arriving.{GoesOnWaiting, WillReply}
 use Rattle.rv_book.specs.Tables.{kept_at_once}
 use Rattle.rv_book.proofs.ByMeeting.{unmet_by}
 use Rattle.rv_book.proofs.CallKinds.{gives_item}
@@ -34,7 +34,7 @@ module _ (queue : ℕ) (wait : Wait) where
     back = λ es r told replies. replies;
   }
 
-  pub take_unmet : (a : Account) → (GoesOn own None → ⊥) → WillReply a own None (kept_at_once wait kept.TheVariants.Empty)
+  pub take_unmet : (a : Account) → (GoesOnWaiting own None → ⊥) → WillReply a own None (kept_at_once wait kept.TheVariants.Empty)
   take_unmet a = unmet_by (TellsItem reply.TheVariants.Item) own wait reply.TheVariants.Empty
       (handed_by own wait reply.TheVariants.Empty (Gives queue) reply.TheVariants.Item kept.TheVariants.Item take_handed) a kept.TheVariants.Empty (λ es. refl) (λ v. refl)
 

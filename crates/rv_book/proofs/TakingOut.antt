@@ -5,35 +5,35 @@ use Rattle.rv_text.specs.declared.call.Side.{Side}
 use Rattle.rv_text.specs.declared.message.Key.{Key}
 use Rattle.rv_text.specs.Calls.{side_of}
 use Rattle.rv_due.specs.Deadlines.{Deadlines}
-use Rattle.rv_session.specs.Owed.{Owed}
+use Rattle.rv_session.specs.OwedDuty.{OwedDuty}
 use Rattle.rv_session.specs.declared.kept.Kept.{Kept}
 use Rattle.rv_account.specs.declared.entry.Act.TheVariants.{Arrive}
 use Rattle.rv_account.specs.declared.entry.Entry.{Entry}
-use Rattle.rv_book.specs.declared.state.State.{State}
+use Rattle.rv_book.specs.declared.state.BookState.{BookState}
 use Rattle.rv_account.specs.Account.{Account, Stored, act_at}
 use Rattle.rv_book.specs.Elapsing.{AreDeadlinesOf}
 use Rattle.rv_book.specs.Meeting.{StandsOn}
 use Rattle.rv_book.specs.Parked.{IsLineOf}
 use Rattle.rv_book.specs.Tables.{EndsAt, IsSound, MayEnd, SettlesAs, account_of, with_due}
 use Rattle.rv_book.specs.TakingOut.{IsLeft, Left}
-use Rattle.rv_book.specs.Views.{Stations, waiting_on}
+use Rattle.rv_book.specs.Views.{Waiters, waiting_on}
 use Rattle.rv_book.specs.Waiting.{OpenAt, SideAt, Waiting, limit_at}
 use Rattle.rv_book.proofs.Keys.{act_called}
 use Rattle.rv_book.proofs.Owing.{some_has, waiting_owed}
 use Rattle.rv_book.proofs.Sides.{one_side, waiting_is_open}
 use Rattle.rv_book.proofs.TakenSessions.{sessions_at_first, sessions_turn, waits_and_left}
-use Rattle.rv_book.proofs.TakenTables.{OneMore, due_at_first, due_turn, number_at_first, number_turn, stations_at_first, stations_turn}
+use Rattle.rv_book.proofs.TakenTables.{OneMore, due_at_first, due_turn, number_at_first, number_turn, waiters_at_first, waiters_turn}
 
 -- ---- while nothing was taken out
 
-pub left_at_first : (state : State) (taken : ℕ → Type 0) (told : Kept) → ((r : ℕ) → taken r → ⊥) → IsSound state → IsLeft state taken told
+pub left_at_first : (state : BookState) (taken : ℕ → Type 0) (told : Kept) → ((r : ℕ) → taken r → ⊥) → IsSound state → IsLeft state taken told
 left_at_first state taken told none sound =
     let a = account_of state in
     record {
       legal = sound.legal;
       fits = sound.fits;
       sessions_are = sessions_at_first a taken told none state.sessions sound.sessions_are;
-      stations_are = stations_at_first a.entries taken none state.stations sound.stations_are;
+      waiters_are = waiters_at_first a.entries taken none state.waiters sound.waiters_are;
       waiting_is = number_at_first a.entries taken none state.waiting sound.waiting_is;
       due_are = due_at_first a.entries taken none state.due sound.due_are;
       spare = sound.spare;
@@ -42,9 +42,9 @@ left_at_first state taken told none sound =
 -- ---- a turn
 
 -- who stands in the line of a side stands in no other
-stands_on : (es : List Entry) (stations : Stations) (P : Side → ℕ → Type 0) → ((side : Side) (r : ℕ) → P side r → SideAt es side r) → ((side : Side) → IsLineOf (P side) (waiting_on stations side))
-    → (side : Side) (place : ℕ) → P side place → StandsOn stations side place
-stands_on es stations P of_side lines side place has =
+stands_on : (es : List Entry) (waiters : Waiters) (P : Side → ℕ → Type 0) → ((side : Side) (r : ℕ) → P side r → SideAt es side r) → ((side : Side) → IsLineOf (P side) (waiting_on waiters side))
+    → (side : Side) (place : ℕ) → P side place → StandsOn waiters side place
+stands_on es waiters P of_side lines side place has =
     let at = (lines side).each place has in
     record {
       i = at.0;
@@ -53,11 +53,11 @@ stands_on es stations P of_side lines side place has =
     }
 
 -- a state with the same account
-pub same_state : (s : State) (account : Stored) → s.account ≡ account → s ≡ record { account = account; sessions = s.sessions; stations = s.stations; waiting = s.waiting; due = s.due }
+pub same_state : (s : BookState) (account : Stored) → s.account ≡ account → s ≡ record { account = account; sessions = s.sessions; waiters = s.waiters; waiting = s.waiting; due = s.due }
 same_state s account same =
-    ap (λ (x : Stored). let with : State = record { account = x; sessions = s.sessions; stations = s.stations; waiting = s.waiting; due = s.due } in with) same
+    ap (λ (x : Stored). let with : BookState = record { account = x; sessions = s.sessions; waiters = s.waiters; waiting = s.waiting; due = s.due } in with) same
 
-module _ (old : State) (taken : ℕ → Type 0) (told : Kept) (is : IsLeft old taken told) (place : ℕ) (left : Left taken (Waiting (account_of old).entries) place) where
+module _ (old : BookState) (taken : ℕ → Type 0) (told : Kept) (is : IsLeft old taken told) (place : ℕ) (left : Left taken (Waiting (account_of old).entries) place) where
   abbrev a : Account
   a = account_of old
 
@@ -77,17 +77,17 @@ module _ (old : State) (taken : ℕ → Type 0) (told : Kept) (is : IsLeft old t
     due_in = waits_and_left a taken told old.sessions place request.0 waits.is_open.call is.legal is.sessions_are left request.1;
     call = waits.is_open.call;
     arrived = waits.is_open.arrived;
-    parked = is.stations_are.parked;
-    stands = stands_on a.entries old.stations (λ side. Left taken (OpenAt a.entries side)) (λ side r also. also.0.of_side) is.stations_are.lines (side_of waits.is_open.call) place
+    parked = is.waiters_are.parked;
+    stands = stands_on a.entries old.waiters (λ side. Left taken (OpenAt a.entries side)) (λ side r also. also.0.of_side) is.waiters_are.lines (side_of waits.is_open.call) place
         (waiting_is_open a.entries place waits, left.1);
     counted = some_has (Left taken (Waiting a.entries)) old.waiting place is.waiting_is left;
   }
 
   -- when it was ended it is taken out too
-  pub left_ended : (more : ℕ → Type 0) (new : State) → OneMore taken more place → new.account ≡ old.account → EndsAt old new place told → IsLeft new more told
+  pub left_ended : (more : ℕ → Type 0) (new : BookState) → OneMore taken more place → new.account ≡ old.account → EndsAt old new place told → IsLeft new more told
   left_ended more new one same ends =
       let owed = waiting_owed a.entries place request.0 waits.is_open.call waits request.1 in
-      let client : ends.duty.client ≡ request.0.client = ap (λ (d : Owed). d.client) (same_Some _ _ (sym ends.owed ∙ owed)) in
+      let client : ends.duty.client ≡ request.0.client = ap (λ (d : OwedDuty). d.client) (same_Some _ _ (sym ends.owed ∙ owed)) in
       let settles = subst (λ n. SettlesAs old.sessions new.sessions n place told) client ends.settles in
       let of_side : SideAt a.entries (side_of ends.call) place = record { call = ends.call; arrived = ends.arrived; is = refl } in
       let spare : old.waiting ≤ old.account.room = is.spare in
@@ -96,7 +96,7 @@ module _ (old : State) (taken : ℕ → Type 0) (told : Kept) (is : IsLeft old t
         legal = is.legal;
         fits = is.fits;
         sessions_are = sessions_turn a taken more told place one request.0 waits.is_open.call is.legal waits request.1 old.sessions new.sessions is.sessions_are settles;
-        stations_are = stations_turn a.entries taken more place one old.stations new.stations (side_of ends.call) ends.duty (Some ends.duty) is.stations_are ends.leaves ends.is_at of_side;
+        waiters_are = waiters_turn a.entries taken more place one old.waiters new.waiters (side_of ends.call) ends.duty (Some ends.duty) is.waiters_are ends.leaves ends.is_at of_side;
         waiting_is = number_turn a.entries taken more place one old.waiting new.waiting is.waiting_is left counted;
         due_are = subst (AreDeadlinesOf a.entries (Left more (Waiting a.entries))) (sym ends.due) (due_turn a.entries taken more place one old.due (limit_at a.entries place) refl is.due_are);
         spare = omega arith;

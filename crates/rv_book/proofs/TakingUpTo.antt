@@ -6,7 +6,7 @@ use Rattle.std.proofs.lemmas.List.{append-nil, append_assoc, take_all}
 use Rattle.std.proofs.lemmas.Option.{none-some}
 use Rattle.std.specs.List.{slice_get}
 use Rattle.rv_session.specs.declared.kept.Kept.TheVariants as kept
-use Rattle.rv_book.specs.declared.state.State.{State}
+use Rattle.rv_book.specs.declared.state.BookState.{BookState}
 use Rattle.rv_account.specs.Account.{Among}
 use Rattle.rv_book.specs.Draining.{IsDraining, SameIdle, TookItem, items_in}
 use Rattle.rv_book.specs.Tables.{IsSound, account_of}
@@ -14,7 +14,7 @@ use Rattle.rv_book.proofs.TakingItems.{idle_on}
 use Rattle.rv_book.proofs.TakingOut.{left_at_first}
 
 -- of these items the first so many wait no more, and they are listed
-pub record TookSome (first now : State) (queue max : ℕ) (places : Vec ℕ Global) : Type 0 where
+pub record TookSome (first now : BookState) (queue max : ℕ) (places : Vec ℕ Global) : Type 0 where
   pub draining : IsDraining now places.items
   pub account : now.account ≡ first.account
   pub idle : SameIdle first.sessions now.sessions
@@ -22,7 +22,7 @@ pub record TookSome (first now : State) (queue max : ℕ) (places : Vec ℕ Glob
   pub few : length places.items ≤ max
   pub room : min max (length (items_in first queue)) ≤ vec_capacity places
 
-pub took_none : (state : State) (queue max : ℕ) (places : Vec ℕ Global) → IsSound state → places.items ≡ [] → min max (length (items_in state queue)) ≤ vec_capacity places → TookSome state state queue max places
+pub took_none : (state : BookState) (queue max : ℕ) (places : Vec ℕ Global) → IsSound state → places.items ≡ [] → min max (length (items_in state queue)) ≤ vec_capacity places → TookSome state state queue max places
 took_none state queue max places sound empty room = record {
   draining = left_at_first state (Among places.items) (kept.ReceivedBy (length (account_of state).entries)) (λ r there. none-some r (sym (ap (λ (l : List ℕ). slice_get l there.0) empty) ∙ there.1)) sound;
   account = refl;
@@ -32,9 +32,9 @@ took_none state queue max places sound empty room = record {
   room = room;
 }
 
-module _ (first now : State) (queue max : ℕ) (places : Vec ℕ Global) (some : TookSome first now queue max places) where
+module _ (first now : BookState) (queue max : ℕ) (places : Vec ℕ Global) (some : TookSome first now queue max places) where
   -- with an item more its place is listed more
-  pub one_longer : (new : State) (more : Vec ℕ Global) → TookItem now new queue places.items more.items → vec_len more ≡ vec_len places + 1
+  pub one_longer : (new : BookState) (more : Vec ℕ Global) → TookItem now new queue places.items more.items → vec_len more ≡ vec_len places + 1
   one_longer new more item =
       let old_long : vec_len places ≡ length places.items = places.ok.0 in
       let new_long : vec_len more ≡ length more.items = more.ok.0 in
@@ -52,7 +52,7 @@ module _ (first now : State) (queue max : ℕ) (places : Vec ℕ Global) (some :
       omega arith
 
   -- one more
-  pub took_one : (new : State) (more : Vec ℕ Global) → vec_len places < max → IsDraining new more.items → new.account ≡ now.account → SameIdle now.sessions new.sessions → vec_capacity places ≤ vec_capacity more
+  pub took_one : (new : BookState) (more : Vec ℕ Global) → vec_len places < max → IsDraining new more.items → new.account ≡ now.account → SameIdle now.sessions new.sessions → vec_capacity places ≤ vec_capacity more
       → TookItem now new queue places.items more.items → TookSome first new queue max more
   took_one new more fewer draining account idle capacity item = record {
     draining = draining;

@@ -8,14 +8,14 @@ use Rattle.rv_session.specs.declared.kept.Kept.TheVariants as kept
 use Rattle.rv_text.specs.declared.answer.Reply.TheVariants.{TimedOut}
 use Rattle.rv_account.specs.declared.entry.Act.TheVariants.{Tick}
 use Rattle.rv_account.specs.declared.entry.Entry.{Entry}
-use Rattle.rv_book.specs.declared.state.State.{State}
+use Rattle.rv_book.specs.declared.state.BookState.{BookState}
 use Rattle.rv_account.specs.Account.{Account, Stored, with_entry}
 use Rattle.rv_book.specs.Arriving.{entry}
 use Rattle.rv_book.specs.Counting.{NumberOf}
 use Rattle.rv_book.specs.Elapsing.{AreDeadlines, without_deadline}
 use Rattle.rv_book.specs.Ending.{IsEnding, TakenOut}
 use Rattle.rv_book.specs.Legal.{IsDueAt, KeepsTime, Legal, MayFollow, NothingDue, SomethingDue}
-use Rattle.rv_book.specs.Parked.{AreStations}
+use Rattle.rv_book.specs.Parked.{AreWaiters}
 use Rattle.rv_book.specs.Steps.{Ticks}
 use Rattle.rv_book.specs.Tables.{AreSessions, EndsAt, IsSound, IsTime, MayEnd, account_of, with_due}
 use Rattle.rv_book.specs.TakingOut.{IsLeft, Left}
@@ -32,20 +32,20 @@ use Rattle.rv_book.proofs.SessionTable.{IsApart}
 use Rattle.rv_book.proofs.Sides.{due_until}
 use Rattle.rv_book.proofs.StoppedReplies.{timed_out_reply}
 use Rattle.rv_book.proofs.TakenSessions.{Tells, sessions_at_last}
-use Rattle.rv_book.proofs.TakenTables.{due_at_last, number_at_last, stations_at_last}
+use Rattle.rv_book.proofs.TakenTables.{due_at_last, number_at_last, waiters_at_last}
 use Rattle.rv_book.proofs.TakingOut.{left_at_first, left_ended, left_may_end}
 use Rattle.rv_book.proofs.Ticking.{tick_ends, with_tick}
 
 -- ---- before the first turn
 
-pub ending_at_first : (state : State) (moment : ℕ) → IsSound state → IsEnding state moment
+pub ending_at_first : (state : BookState) (moment : ℕ) → IsSound state → IsEnding state moment
 ending_at_first state moment sound =
     let es = (account_of state).entries in
     left_at_first state (TakenOut es moment state.due) kept.TimedOut (λ r taken. nothing_taken es moment state.due r sound.due_are taken) sound
 
 -- ---- a turn
 
-module _ (old : State) (moment limit place : ℕ) (is : IsEnding old moment) (least : IsLeastUntil old.due moment (limit, place)) where
+module _ (old : BookState) (moment limit place : ℕ) (is : IsEnding old moment) (least : IsLeastUntil old.due moment (limit, place)) where
   abbrev a : Account
   a = account_of old
 
@@ -64,7 +64,7 @@ module _ (old : State) (moment limit place : ℕ) (is : IsEnding old moment) (le
   pub turn_may_end : MayEnd (with_due old rest) place
   turn_may_end = left_may_end old taken kept.TimedOut is place found.0 rest
 
-  pub turn_ends : (new : State) → new.account ≡ old.account → EndsAt (with_due old rest) new place kept.TimedOut → IsEnding new moment
+  pub turn_ends : (new : BookState) → new.account ≡ old.account → EndsAt (with_due old rest) new place kept.TimedOut → IsEnding new moment
   turn_ends new same ends =
       let due : new.due ≡ rest = ends.due ∙ ap (λ o. without_deadline o place rest) found.1 ∙ sym (remove_absent rest (limit, place) (taken_out old.due (limit, place))) in
       let ended : EndsAt old new place kept.TimedOut = record {
@@ -85,7 +85,7 @@ module _ (old : State) (moment limit place : ℕ) (is : IsEnding old moment) (le
 
 -- ---- where nothing is due
 
-pub none_due : (state : State) (moment : ℕ) → IsSound state → AllAbove state.due moment → NothingDue (account_of state).entries moment
+pub none_due : (state : BookState) (moment : ℕ) → IsSound state → AllAbove state.due moment → NothingDue (account_of state).entries moment
 none_due state moment sound above r due =
     let there = sound.due_are.each due.limit r due.waits due.has in
     let later : moment < due.limit = above (due.limit, r) there in
@@ -104,7 +104,7 @@ tick_apart client = record {
   no_key = λ key names of_client. none-some key names;
 }
 
-module _ (old mid : State) (moment : ℕ) (is : IsTime old moment) (ending : IsEnding mid moment) (same : mid.account ≡ old.account) (fewer : mid.waiting < old.waiting) (above : AllAbove mid.due moment)
+module _ (old mid : BookState) (moment : ℕ) (is : IsTime old moment) (ending : IsEnding mid moment) (same : mid.account ≡ old.account) (fewer : mid.waiting < old.waiting) (above : AllAbove mid.due moment)
     (something : SomethingDue (account_of old).entries moment) where
   abbrev before : Account
   before = account_of mid
@@ -132,7 +132,7 @@ module _ (old mid : State) (moment : ℕ) (is : IsTime old moment) (ending : IsE
     replies = timed_out_reply before.entries own_entry r call waits arrived refl refl (due_until before.entries moment r taken.is_due);
   }
 
-  pub ticks : (new : State) → account_of new ≡ with_entry before own_entry → Ticks (account_of old) moment (account_of new)
+  pub ticks : (new : BookState) → account_of new ≡ with_entry before own_entry → Ticks (account_of old) moment (account_of new)
   ticks new pushed = inl (
     something,
     record {
@@ -144,12 +144,12 @@ module _ (old mid : State) (moment : ℕ) (is : IsTime old moment) (ending : IsE
     },
   )
 
-  pub none_due_after : (new : State) → account_of new ≡ with_entry before own_entry → NothingDue (account_of new).entries moment
+  pub none_due_after : (new : BookState) → account_of new ≡ with_entry before own_entry → NothingDue (account_of new).entries moment
   none_due_after new pushed = subst (λ (b : Account). NothingDue b.entries moment) (sym pushed) (tick_ends before.entries own_entry follows.pairs.names_free_partners refl)
 
-  pub time_after : (new : State) → account_of new ≡ with_entry before own_entry → new.sessions ≡ mid.sessions → new.stations ≡ mid.stations → new.waiting ≡ mid.waiting → new.due ≡ mid.due
+  pub time_after : (new : BookState) → account_of new ≡ with_entry before own_entry → new.sessions ≡ mid.sessions → new.waiters ≡ mid.waiters → new.waiting ≡ mid.waiting → new.due ≡ mid.due
       → mid.account.room ≤ new.account.room + 1 → IsTime new moment
-  time_after new pushed sessions stations waiting due room =
+  time_after new pushed sessions waiters waiting due room =
       let filled : length (account_of old).entries + old.waiting ≤ 100000 = is.sound.fits.room old.waiting is.sound.waiting_is in
       let spare : old.waiting ≤ old.account.room = is.sound.spare in
       let length_same : length before.entries ≡ length (account_of old).entries = ap (λ (s : Stored). length s.account.entries) same in
@@ -164,7 +164,7 @@ module _ (old mid : State) (moment : ℕ) (is : IsTime old moment) (ending : IsE
           account = pushed;
           sessions_are = subst (AreSessions (with_entry before own_entry)) (sym sessions)
               (sessions_at_last before own_entry overdue kept.TimedOut legal_after (waits_on before.entries own_entry overdue closes) tells mid.sessions tick_apart ending.sessions_are);
-          stations_are = subst (AreStations (before.entries ++ own_entry ∷ [])) (sym stations) (stations_at_last before.entries own_entry overdue closes mid.stations ending.stations_are);
+          waiters_are = subst (AreWaiters (before.entries ++ own_entry ∷ [])) (sym waiters) (waiters_at_last before.entries own_entry overdue closes mid.waiters ending.waiters_are);
           waiting_is = subst (NumberOf (Waiting (before.entries ++ own_entry ∷ []))) (sym waiting) (number_at_last before.entries own_entry overdue closes mid.waiting ending.waiting_is);
           due_are = subst (AreDeadlines (before.entries ++ own_entry ∷ [])) (sym due) (due_at_last before.entries own_entry overdue closes mid.due ending.due_are);
           clients = few_still before.entries own_entry (λ c i v own. absurd (tick_no_hello c i v own)) ending.fits.clients;

@@ -13,7 +13,7 @@ use Rattle.rv_session.specs.declared.kept.Kept as kept
 use Rattle.rv_account.specs.declared.entry.Act.TheVariants.{Arrive}
 use Rattle.rv_account.specs.declared.entry.Entry.{Entry}
 use Rattle.rv_account.specs.Account.{Account, just, with_entry}
-use Rattle.rv_book.specs.Arriving.{GoesOn, IsKept, WillReply, entry}
+use Rattle.rv_book.specs.Arriving.{GoesOnWaiting, IsKept, WillReply, entry}
 use Rattle.rv_book.specs.Replies.{RepliesMet}
 use Rattle.rv_book.specs.Tables.{kept_at_once, partners_reply}
 use Rattle.rv_book.specs.Waiting.{Met, NamesPartner}
@@ -49,7 +49,7 @@ module _ (queue : ℕ) (item : List ℕ) (wait : Wait) where
 
   -- ---- what is kept
 
-  pub transfer_unmet : (a : Account) → (GoesOn own None → ⊥) → WillReply a own None (kept_at_once wait kept.TheVariants.Nobody)
+  pub transfer_unmet : (a : Account) → (GoesOnWaiting own None → ⊥) → WillReply a own None (kept_at_once wait kept.TheVariants.Nobody)
   transfer_unmet a = unmet_by TellsReceived own wait reply.TheVariants.Nobody transfer_by a kept.TheVariants.Nobody (λ es. refl) (λ v. refl)
 
   pub received_replies : (a : Account) (place : ℕ) → WillReply a own (Some place) (kept.TheVariants.ReceivedBy place)

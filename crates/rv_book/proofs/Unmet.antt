@@ -16,7 +16,7 @@ use Rattle.rv_account.specs.declared.entry.Entry.{Entry}
 use Rattle.rv_account.specs.Account.{Account, call_at}
 use Rattle.rv_session.specs.Kept.{told_in}
 use Rattle.rv_session.specs.declared.kept.Kept.{Kept}
-use Rattle.rv_book.specs.Arriving.{GoesOn}
+use Rattle.rv_book.specs.Arriving.{GoesOnWaiting}
 use Rattle.rv_book.specs.Tables.{kept_at_once}
 use Rattle.rv_book.specs.Verdicts.{reply_of}
 use Rattle.rv_account.specs.Calls.{Lasts, MayMeet}
@@ -196,5 +196,5 @@ same_at_once v (Millis n) kept same = refl
 same_at_once v Forever kept same = same
 
 -- a wait that lasts goes on
-pub passes_by : (call : Call) (wait : Wait) → MayMeet call → wait_of call ≡ Some wait → (GoesOn call None → ⊥) → Lasts (Some wait) → ⊥
+pub passes_by : (call : Call) (wait : Wait) → MayMeet call → wait_of call ≡ Some wait → (GoesOnWaiting call None → ⊥) → Lasts (Some wait) → ⊥
 passes_by call wait meets is ends lasts = ends (record { unmet = refl; stays = (meets, subst Lasts (sym is) lasts); no_put = λ put. none-some wait (sym put.1 ∙ is) })

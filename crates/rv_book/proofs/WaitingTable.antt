@@ -6,14 +6,14 @@ use Rattle.rv_text.specs.declared.message.Key.{Key}
 use Rattle.rv_text.specs.declared.version.Version.{Version}
 use Rattle.rv_session.specs.declared.kept.Kept.{Kept}
 use Rattle.rv_session.specs.declared.session.Session.{Session}
-use Rattle.rv_session.specs.declared.session.State as state
-use Rattle.rv_session.specs.declared.session.State.{State as StateOf}
+use Rattle.rv_session.specs.declared.session.RequestState as state
+use Rattle.rv_session.specs.declared.session.RequestState.{RequestState as StateOf}
 use Rattle.rv_session.specs.Table.{Table, session_of, version_in, waiting_of, waiting_place}
 use Rattle.rv_account.specs.declared.entry.Act.TheVariants.{Arrive}
 use Rattle.rv_account.specs.Account.{Account, act_at, call_in, key_in}
 use Rattle.rv_account.specs.declared.entry.Entry.{Entry}
 use Rattle.rv_book.specs.Legal.{HasWaiting, Legal}
-use Rattle.rv_book.specs.Tables.{AreSessions, IsSession, IsSessionOf, IsSettledAt, IsWaitingAt, Stands, last_key}
+use Rattle.rv_book.specs.Tables.{AreSessions, IsSession, IsSessionOf, IsSettledAt, IsWaitingAt, StandsInAccount, last_key}
 use Rattle.rv_book.specs.Waiting.{Waiting}
 use Rattle.rv_book.proofs.Histories.{one_incarnation, one_last_number}
 use Rattle.rv_book.proofs.Keys.{act_called}
@@ -43,7 +43,7 @@ module _ (a : Account) (r : ℕ) (key : Key) (call : Call) (legal : Legal a) (w 
       let place : r ≡ at = arrives_once a r at key call is.call legal arrived there in
       (reply_laws is.call).waits_not a at is.kept_is.reply legal (ap (option_and_then call_in) there) (subst (Waiting a.entries) place w) is.kept_is.replies
 
-  by_state : (s : Session) (stands : StateOf) → last_key a key.client s ≡ key → 1 ≤ s.last → Stands a key.client s stands → waiting_place stands ≡ Some r
+  by_state : (s : Session) (stands : StateOf) → last_key a key.client s ≡ key → 1 ≤ s.last → StandsInAccount a key.client s stands → waiting_place stands ≡ Some r
   by_state s state.TheVariants.Fresh same positive is = let zero_last : s.last ≡ 0 = is in absurd (omega arith)
   by_state s (state.TheVariants.Waits place) same positive is =
       ap Some (arrives_once a place r key is.call call legal (is.arrived ∙ ap (λ x. Some (Arrive x is.call)) same) arrived)
@@ -99,7 +99,7 @@ pub record WaitsThere (a : Account) (t : Table) (client r : ℕ) : Type 0 where
   pub is : IsSession a client session
   pub waits : IsWaitingAt a client session r
 
-found_waiting : (a : Account) (client r : ℕ) (s : Session) (stands : StateOf) → Stands a client s stands → waiting_place stands ≡ Some r → IsWaitingAt a client s r
+found_waiting : (a : Account) (client r : ℕ) (s : Session) (stands : StateOf) → StandsInAccount a client s stands → waiting_place stands ≡ Some r → IsWaitingAt a client s r
 found_waiting a client r s state.TheVariants.Fresh is waits = absurd (none-some r waits)
 found_waiting a client r s (state.TheVariants.Waits place) is waits = subst (IsWaitingAt a client s) (same_Some _ _ waits) is
 found_waiting a client r s (state.TheVariants.Settled at k) is waits = absurd (none-some r waits)

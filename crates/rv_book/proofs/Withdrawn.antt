@@ -8,7 +8,7 @@ use Rattle.rv_text.specs.declared.call.Wait.{Wait}
 use Rattle.rv_text.specs.declared.message.Key.{Key}
 use Rattle.rv_text.specs.declared.call.Side.TheVariants.{Gives, Takes}
 use Rattle.rv_text.specs.Calls.{wait_of}
-use Rattle.rv_session.specs.Owed.{Owed}
+use Rattle.rv_session.specs.OwedDuty.{OwedDuty}
 use Rattle.rv_dual.specs.Offers.{duty_of, is_at, place_of, places_of, waits_at}
 use Rattle.rv_dual.specs.Queue.{Queue}
 use Rattle.rv_dual.specs.Withdrawing.{WaitsAt, Withdraws, without_giver, without_taker}
@@ -18,9 +18,9 @@ use Rattle.rv_account.specs.declared.entry.Act.{Act}
 use Rattle.rv_account.specs.declared.entry.Act.TheVariants.{Arrive, Cancel, Hello, Tick}
 use Rattle.rv_account.specs.declared.entry.Entry.{Entry}
 use Rattle.rv_account.specs.Account.{act_at}
-use Rattle.rv_book.specs.Meeting.{Leaves, StandsOn}
+use Rattle.rv_book.specs.Meeting.{LeavesSide, StandsOn}
 use Rattle.rv_book.specs.Parked.{AreParked, IsParked, owed_at, owed_by, owed_in}
-use Rattle.rv_book.specs.Views.{Stations, queue_at, takers_places}
+use Rattle.rv_book.specs.Views.{Waiters, queue_at, takers_places}
 use Rattle.rv_book.proofs.Tabled.{ChangedAt, givers_change, parked_changed, takers_change}
 
 -- ---- lists of which some are left
@@ -88,11 +88,11 @@ differs m n apart = elim (eqb_tells m n) [
 
 -- ---- duties
 
-by_wait : (place : ℕ) (key : Key) (wait : Option Wait) (d : Owed) → owed_by place key wait ≡ Some d → d.place ≡ place
+by_wait : (place : ℕ) (key : Key) (wait : Option Wait) (d : OwedDuty) → owed_by place key wait ≡ Some d → d.place ≡ place
 by_wait place key None d is = absurd (none-some d is)
-by_wait place key (Some wait) d is = ap (λ (o : Owed). o.place) (sym (same_Some _ _ is))
+by_wait place key (Some wait) d is = ap (λ (o : OwedDuty). o.place) (sym (same_Some _ _ is))
 
-by_act : (place : ℕ) (o : Option Act) (d : Owed) → option_and_then (owed_in place) o ≡ Some d → d.place ≡ place
+by_act : (place : ℕ) (o : Option Act) (d : OwedDuty) → option_and_then (owed_in place) o ≡ Some d → d.place ≡ place
 by_act place None d is = absurd (none-some d is)
 by_act place (Some (Hello client incarnation version)) d is = absurd (none-some d is)
 by_act place (Some (Cancel key)) d is = absurd (none-some d is)
@@ -100,12 +100,12 @@ by_act place (Some Tick) d is = absurd (none-some d is)
 by_act place (Some (Arrive key call)) d is = by_wait place key (wait_of call) d is
 
 -- a duty is owed at its own place
-pub owed_place : (es : List Entry) (place : ℕ) (d : Owed) → owed_at es place ≡ Some d → d.place ≡ place
+pub owed_place : (es : List Entry) (place : ℕ) (d : OwedDuty) → owed_at es place ≡ Some d → d.place ≡ place
 owed_place es place d is = by_act place (act_at es place) d is
 
 -- ---- one queue
 
-module _ (es : List Entry) (q : Queue) (place : ℕ) (duty : Owed) (parked : IsParked es q) (owed : owed_at es place ≡ Some duty) where
+module _ (es : List Entry) (q : Queue) (place : ℕ) (duty : OwedDuty) (parked : IsParked es q) (owed : owed_at es place ≡ Some duty) where
   offer_of_duty : (offer : Offer) → duty_of offer ≡ Some duty → offer ≡ Waits duty
   offer_of_duty (Put other) is = absurd (none-some duty is)
   offer_of_duty (Waits other) is = ap Waits (same_Some _ _ is)
@@ -114,11 +114,11 @@ module _ (es : List Entry) (q : Queue) (place : ℕ) (duty : Owed) (parked : IsP
   pub gives_there : (i : ℕ) (offer : Offer) → slice_get q.givers i ≡ Some offer → place_of offer ≡ place → offer ≡ Waits duty
   gives_there i offer at is = offer_of_duty offer (sym (parked.givers i offer at) ∙ ap (owed_at es) is ∙ owed)
 
-  pub takes_there : (i : ℕ) (d : Owed) → slice_get q.takers i ≡ Some d → d.place ≡ place → d ≡ duty
+  pub takes_there : (i : ℕ) (d : OwedDuty) → slice_get q.takers i ≡ Some d → d.place ≡ place → d ≡ duty
   takes_there i d at is = same_Some _ _ (sym (parked.takers i d at) ∙ ap (owed_at es) is ∙ owed)
 
   -- whoever waits there has this duty
-  waits_with : (d : Owed) → WaitsAt q place d → d ≡ duty
+  waits_with : (d : OwedDuty) → WaitsAt q place d → d ≡ duty
   waits_with d (inl gives) =
       let k = gives.0.0 in
       let at = slice_get-get_or q.givers k (Waits d) gives.0.1 ∙ ap Some gives.0.2 in
@@ -128,15 +128,15 @@ module _ (es : List Entry) (q : Queue) (place : ℕ) (duty : Owed) (parked : IsP
       let k = takes.0.0 in
       takes_there k d (slice_get-get_or q.takers k d takes.0.1 ∙ ap Some takes.0.2) takes.1
 
-  given_back : (result : Option Owed) → WaitsAt q place duty → IfSome result (WaitsAt q place) → IfNone result ((d : Owed) → WaitsAt q place d → ⊥) → result ≡ Some duty
+  given_back : (result : Option OwedDuty) → WaitsAt q place duty → IfSome result (WaitsAt q place) → IfNone result ((d : OwedDuty) → WaitsAt q place d → ⊥) → result ≡ Some duty
   given_back None waits some none = absurd (none duty waits)
   given_back (Some d) waits some none = ap Some (waits_with d some)
 
-  pub giver_back : (new : Queue) (result : Option Owed) → Withdraws q new place result → (i : ℕ) × (offer : Offer) × (slice_get q.givers i ≡ Some offer) × (place_of offer ≡ place) → result ≡ Some duty
+  pub giver_back : (new : Queue) (result : Option OwedDuty) → Withdraws q new place result → (i : ℕ) × (offer : Offer) × (slice_get q.givers i ≡ Some offer) × (place_of offer ≡ place) → result ≡ Some duty
   giver_back new result w (i, offer, at, is) =
       given_back result (inl (contains q.givers i (Waits duty) (at ∙ ap Some (gives_there i offer at is)), owed_place es place duty owed)) w.some w.none
 
-  pub taker_back : (new : Queue) (result : Option Owed) → Withdraws q new place result → (i : ℕ) × (d : Owed) × (slice_get q.takers i ≡ Some d) × (d.place ≡ place) → result ≡ Some duty
+  pub taker_back : (new : Queue) (result : Option OwedDuty) → Withdraws q new place result → (i : ℕ) × (d : OwedDuty) × (slice_get q.takers i ≡ Some d) × (d.place ≡ place) → result ≡ Some duty
   taker_back new result w (i, d, at, is) =
       given_back result (inr (contains q.takers i duty (at ∙ ap Some (takes_there i d at is)), owed_place es place duty owed)) w.some w.none
 
@@ -152,36 +152,36 @@ module _ (es : List Entry) (q : Queue) (place : ℕ) (duty : Owed) (parked : IsP
   givers_left = map_filter place_of (λ offer. not (waits_at place offer)) (λ r. not (r == duty.place)) q.givers stays_by
 
   pub takers_left : takers_places (without_taker place q.takers) ≡ filter (λ r. not (r == duty.place)) (takers_places q.takers)
-  takers_left = map_filter (λ (d : Owed). d.place) (λ (d : Owed). not (is_at place d)) (λ r. not (r == duty.place)) q.takers (λ i d at. ap (λ n. not (d.place == n)) (sym (owed_place es place duty owed)))
+  takers_left = map_filter (λ (d : OwedDuty). d.place) (λ (d : OwedDuty). not (is_at place d)) (λ r. not (r == duty.place)) q.takers (λ i d at. ap (λ n. not (d.place == n)) (sym (owed_place es place duty owed)))
 
-pub parked_left : (es : List Entry) (q new : Queue) (place : ℕ) (result : Option Owed) → Withdraws q new place result → IsParked es q → IsParked es new
+pub parked_left : (es : List Entry) (q new : Queue) (place : ℕ) (result : Option OwedDuty) → Withdraws q new place result → IsParked es q → IsParked es new
 parked_left es q new place result w parked = record {
   givers = λ i offer at.
       let old = filter_get (λ (o : Offer). not (waits_at place o)) q.givers i offer (sym (ap (λ l. slice_get l i) w.givers) ∙ at) in
       parked.givers old.0 offer old.1;
   takers = λ i d at.
-      let old = filter_get (λ (o : Owed). not (is_at place o)) q.takers i d (sym (ap (λ l. slice_get l i) w.takers) ∙ at) in
+      let old = filter_get (λ (o : OwedDuty). not (is_at place o)) q.takers i d (sym (ap (λ l. slice_get l i) w.takers) ∙ at) in
       parked.takers old.0 d old.1;
 }
 
 -- ---- all who wait
 
-module _ (old new : Stations) (queue : ℕ) (changed : ChangedAt old new queue) (place : ℕ) (result : Option Owed) (w : Withdraws (queue_at old.queues queue) (queue_at new.queues queue) place result)
-    (es : List Entry) (duty : Owed) (parked : AreParked es old) (owed : owed_at es place ≡ Some duty) where
+module _ (old new : Waiters) (queue : ℕ) (changed : ChangedAt old new queue) (place : ℕ) (result : Option OwedDuty) (w : Withdraws (queue_at old.queues queue) (queue_at new.queues queue) place result)
+    (es : List Entry) (duty : OwedDuty) (parked : AreParked es old) (owed : owed_at es place ≡ Some duty) where
   abbrev pub was : Queue
   was = queue_at old.queues queue
 
   abbrev pub is_now : Queue
   is_now = queue_at new.queues queue
 
-  pub left_givers : StandsOn old (Gives queue) place → Leaves old new (Gives queue) duty result
+  pub left_givers : StandsOn old (Gives queue) place → LeavesSide old new (Gives queue) duty result
   left_givers stands =
-      let none = λ (i : ℕ) (d : Owed) (at : slice_get was.takers i ≡ Some d).
+      let none = λ (i : ℕ) (d : OwedDuty) (at : slice_get was.takers i ≡ Some d).
       differs d.place place (λ is.
-      let there = slice_get-map (λ (o : Owed). o.place) was.takers i ∙ ap (option_map (λ (o : Owed). o.place)) at in
+      let there = slice_get-map (λ (o : OwedDuty). o.place) was.takers i ∙ ap (option_map (λ (o : OwedDuty). o.place)) at in
       let sides : Takes queue ≡ Gives queue = stands.only (Takes queue) i (there ∙ ap Some is) in
       absurd (cc)) in
-      let takers : is_now.takers ≡ was.takers = w.takers ∙ filter_all (λ (d : Owed). not (is_at place d)) was.takers none in
+      let takers : is_now.takers ≡ was.takers = w.takers ∙ filter_all (λ (d : OwedDuty). not (is_at place d)) was.takers none in
       record {
         is = giver_back es was place duty (parked.queues queue) owed is_now result w (got place_of was.givers place (stands.i, stands.there));
         places = ap places_of w.givers ∙ givers_left es was place duty (parked.queues queue) owed;
@@ -189,7 +189,7 @@ module _ (old new : Stations) (queue : ℕ) (changed : ChangedAt old new queue) 
         parked = λ other before. parked_changed old new queue changed other before (parked_left other was is_now place result w);
       }
 
-  pub left_takers : StandsOn old (Takes queue) place → Leaves old new (Takes queue) duty result
+  pub left_takers : StandsOn old (Takes queue) place → LeavesSide old new (Takes queue) duty result
   left_takers stands =
       let none = λ (i : ℕ) (o : Offer) (at : slice_get was.givers i ≡ Some o). passes o
       (λ is.
@@ -198,7 +198,7 @@ module _ (old new : Stations) (queue : ℕ) (changed : ChangedAt old new queue) 
       absurd (cc)) in
       let givers : is_now.givers ≡ was.givers = w.givers ∙ filter_all (λ (o : Offer). not (waits_at place o)) was.givers none in
       record {
-        is = taker_back es was place duty (parked.queues queue) owed is_now result w (got (λ (d : Owed). d.place) was.takers place (stands.i, stands.there));
+        is = taker_back es was place duty (parked.queues queue) owed is_now result w (got (λ (d : OwedDuty). d.place) was.takers place (stands.i, stands.there));
         places = ap takers_places w.takers ∙ takers_left es was place duty (parked.queues queue) owed;
         others = takers_change old new queue changed givers;
         parked = λ other before. parked_changed old new queue changed other before (parked_left other was is_now place result w);

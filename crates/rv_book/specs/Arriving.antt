@@ -8,8 +8,8 @@ use Rattle.rv_text.specs.declared.answer.Reply.{Reply}
 use Rattle.rv_text.specs.declared.answer.Reply.TheVariants as reply
 use Rattle.rv_text.specs.declared.answer.Answer.{Answer}
 use Rattle.rv_text.specs.declared.answer.Answer as answer
-use Rattle.rv_book.specs.declared.verdict.Said.{Said}
-use Rattle.rv_book.specs.declared.verdict.Said as said
+use Rattle.rv_book.specs.declared.verdict.KeptAnswer.{KeptAnswer}
+use Rattle.rv_book.specs.declared.verdict.KeptAnswer as said
 use Rattle.rv_account.specs.declared.entry.Entry.{Entry}
 use Rattle.rv_account.specs.declared.entry.Act.TheVariants.{Arrive, Cancel}
 use Rattle.rv_session.specs.declared.kept.Kept.{Kept}
@@ -46,7 +46,7 @@ pub record IsKept (entries : List Entry) (r : ℕ) (call : Call) (kept : Kept) :
   pub replies : RepliesAt entries r call reply
 
 -- such a call waits where it arrives with this partner or with none, and a reply is told later
-pub record GoesOn (call : Call) (partner : Option ℕ) : Type 0 where
+pub record GoesOnWaiting (call : Call) (partner : Option ℕ) : Type 0 where
   pub unmet : partner ≡ None
   pub stays : Stays call
   pub no_put : ¬ IsPut call
@@ -64,7 +64,7 @@ abbrev pub WillReply : Account → Call → Option ℕ → Kept → Type 0
 WillReply a call partner kept = WillTell a call (just partner) kept
 
 -- what is said to a request: the reply that is kept for it, or that it waits
-abbrev pub said_of : Key → Option Kept → Said
+abbrev pub said_of : Key → Option Kept → KeptAnswer
 said_of key None = said.TheVariants.Waiting key
 said_of key (Some kept) = said.TheVariants.Replied key kept
 

@@ -19,7 +19,7 @@ use Rattle.rv_account.specs.Calls.{may_name}
 use Rattle.rv_book.specs.Arriving.{WillTell}
 use Rattle.rv_book.specs.Meeting.{HasRoomToName}
 use Rattle.rv_book.specs.Tables.{Comes, HasSpace, account_of}
-use Rattle.rv_book.specs.declared.state.State.{State}
+use Rattle.rv_book.specs.declared.state.BookState.{BookState}
 use Rattle.rv_book.specs.TakingOut.{IsLeft}
 use Rattle.rv_book.specs.Views.{waiting_on}
 
@@ -28,17 +28,17 @@ abbrev pub IsTaker : Side → Type 0
 IsTaker side = (queue : ℕ) × (side ≡ Takes queue)
 
 -- the places of the items that wait in a queue, the oldest first
-abbrev pub items_in : State → ℕ → List ℕ
-items_in state queue = waiting_on state.stations (Gives queue)
+abbrev pub items_in : BookState → ℕ → List ℕ
+items_in state queue = waiting_on state.waiters (Gives queue)
 
 -- the tables are what the account says, but for what was taken out at these places and was received by the
 -- request that is recorded next
-abbrev pub IsDraining : State → List ℕ → Type 0
+abbrev pub IsDraining : BookState → List ℕ → Type 0
 IsDraining state places =
     IsLeft state (Among places) (kept.ReceivedBy (length (account_of state).entries))
 
 -- the oldest item of the queue was taken out, and its place is listed behind the others
-pub record TookItem (old new : State) (queue : ℕ) (before after : List ℕ) : Type 0 where
+pub record TookItem (old new : BookState) (queue : ℕ) (before after : List ℕ) : Type 0 where
   pub place : ℕ
   pub first : items_in old queue ≡ place ∷ items_in new queue
   pub listed : after ≡ before ++ place ∷ []
@@ -50,7 +50,8 @@ pub record SameIdle (old new : Table) : Type 0 where
 
 -- a request that has its session's next number, takes up to so many items of a queue at once and never waits
 -- comes to a sound state; all that it adds has room, and this will be its reply
-pub record MayDrain (state : State) (moment : ℕ) (key : Key) (call : Call) (queue max : ℕ) (places : Vec ℕ)
+pub record MayDrain (state : BookState) (moment : ℕ) (key : Key) (call : Call) (queue max : ℕ)
+    (places : Vec ℕ)
     (kept : Kept) : Type 0 where
   pub comes : Comes state moment (Arrive key call)
   pub stands : standing_of state.sessions key ≡ standing.Next
@@ -58,7 +59,7 @@ pub record MayDrain (state : State) (moment : ℕ) (key : Key) (call : Call) (qu
   pub side : side_of call ≡ Takes queue
   pub at_once : wait_of call ≡ Some Now
   pub most : max ≡ may_name call
-  pub names : HasRoomToName state.stations call places
+  pub names : HasRoomToName state.waiters call places
   pub room : state.waiting + 1 ≤ state.account.room
   pub space : HasSpace state 1
   pub will : WillTell (account_of state) call (take max (items_in state queue)) kept

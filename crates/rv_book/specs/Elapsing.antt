@@ -6,7 +6,7 @@ use Rattle.rv_text.specs.declared.call.Wait.TheVariants.{Now, Millis, Forever}
 use Rattle.rv_text.specs.declared.call.Call.{Call}
 use Rattle.rv_text.specs.Calls.{wait_of}
 use Rattle.rv_due.specs.Deadlines.{Deadlines}
-use Rattle.rv_session.specs.Owed.{Owed}
+use Rattle.rv_session.specs.OwedDuty.{OwedDuty}
 use Rattle.rv_account.specs.declared.entry.Entry.{Entry}
 use Rattle.rv_book.specs.Waiting.{limit_at, Waiting}
 
@@ -30,7 +30,7 @@ without_deadline None place due = due
 without_deadline (Some limit) place due = remove due (limit, place)
 
 -- the deadlines without that of the request of a duty, if there is one
-abbrev pub without_duty : List Entry → Option Owed → Deadlines → Deadlines
+abbrev pub without_duty : List Entry → Option OwedDuty → Deadlines → Deadlines
 without_duty entries None due = due
 without_duty entries (Some duty) due = without_deadline (limit_at entries duty.place) duty.place due
 

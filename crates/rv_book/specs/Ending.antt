@@ -5,7 +5,7 @@ use Rattle.std.specs.FinSet.{contains}
 use Rattle.rv_due.specs.Deadlines.{Deadlines}
 use Rattle.rv_session.specs.declared.kept.Kept.TheVariants as kept
 use Rattle.rv_account.specs.declared.entry.Entry.{Entry}
-use Rattle.rv_book.specs.declared.state.State.{State}
+use Rattle.rv_book.specs.declared.state.BookState.{BookState}
 use Rattle.rv_book.specs.Legal.{IsDueAt, SomethingDue}
 use Rattle.rv_book.specs.Tables.{account_of}
 use Rattle.rv_book.specs.TakingOut.{IsLeft}
@@ -16,10 +16,10 @@ pub record TakenOut (entries : List Entry) (moment : ℕ) (due : Deadlines) (r :
   pub gone : contains due (is_due.limit, r) ≡ false
 
 -- the tables are what the account says, but for what is due at the moment and was taken out as timed out
-abbrev pub IsEnding : State → ℕ → Type 0
+abbrev pub IsEnding : BookState → ℕ → Type 0
 IsEnding state moment = IsLeft state (TakenOut (account_of state).entries moment state.due) kept.TimedOut
 
 -- a request that is due at the moment was ended: fewer wait
-pub record EndedOne (old new : State) (moment : ℕ) : Type 0 where
+pub record EndedOne (old new : BookState) (moment : ℕ) : Type 0 where
   pub is_due : SomethingDue (account_of old).entries moment
   pub fewer : new.waiting < old.waiting

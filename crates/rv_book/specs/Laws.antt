@@ -16,7 +16,7 @@ use Rattle.rv_book.specs.Replies.{HasReply}
 use Rattle.rv_book.specs.Steps.{CancelLines, HelloLines, RequestLines, Adds, Answers, Replies, Next, Ticks}
 use Rattle.rv_book.specs.Steps.{step_moment}
 use Rattle.rv_book.specs.Order.{InOrder}
-use Rattle.rv_book.specs.Verdicts.{Stamp, WasGiven}
+use Rattle.rv_book.specs.Verdicts.{VerdictView, WasGiven}
 
 -- a reply that stands in a legal account stands in every legal account that extends it, and no other does
 abbrev pub RepliesStay : Type 0
@@ -77,7 +77,7 @@ StepsExtend = (a b : Account) (now : ℕ) (m : Message) (x : Answer) → Next a 
 
 -- a verdict that was given in an account was given in every account that extends it
 abbrev pub VerdictsStay : Type 0
-VerdictsStay = (a b : Account) (v : Stamp) → Extends a b → WasGiven a v → WasGiven b v
+VerdictsStay = (a b : Account) (v : VerdictView) → Extends a b → WasGiven a v → WasGiven b v
 
 -- a step leaves no choice, want of memory aside: one account after it and one answer
 abbrev pub OneNext : Type 0

@@ -8,67 +8,67 @@ use Rattle.rv_text.specs.declared.call.Call.{Call}
 use Rattle.rv_text.specs.declared.call.Wait.{Wait}
 use Rattle.rv_text.specs.declared.call.Side.{Side}
 use Rattle.rv_text.specs.declared.call.Side.TheVariants.{Gives, Takes, Looks, Exchanges}
-use Rattle.rv_session.specs.Owed.{Owed}
+use Rattle.rv_session.specs.OwedDuty.{OwedDuty}
 use Rattle.rv_dual.specs.Offers.{duty_of, place_of}
 use Rattle.rv_dual.specs.Queue.{Queue, SameLists}
 use Rattle.rv_dual.specs.declared.giver.Offer.{Offer}
 use Rattle.rv_dual.specs.declared.giver.Offer.TheVariants.{Put, Waits}
-use Rattle.rv_swap.specs.Exchange.{NotWaiting, Withdraws}
+use Rattle.rv_swap.specs.Exchange.{LeavesExchanger, NotWaiting}
 use Rattle.rv_account.specs.declared.entry.Entry.{Entry}
-use Rattle.rv_book.specs.declared.arrived.Arrived.{Arrived}
+use Rattle.rv_book.specs.declared.arrival.Arrival.{Arrival}
 use Rattle.rv_book.specs.Parked.{AreParked, owed_at}
 use Rattle.rv_text.specs.Calls.{side_of}
 use Rattle.rv_account.specs.Calls.{Lasts, may_name, opposite}
-use Rattle.rv_book.specs.Views.{SameStations, Stations, queue_at, waiting_on}
+use Rattle.rv_book.specs.Views.{SameWaiters, Waiters, queue_at, waiting_on}
 
 -- ---- one queue
 
 -- the duty with which an item waits; a put has none
-abbrev pub offer_by : Option Wait → Owed → Offer
+abbrev pub offer_by : Option Wait → OwedDuty → Offer
 offer_by None duty = Put duty.place
 offer_by (Some wait) duty = Waits duty
 
 -- the duty that comes back to an arrival that waits: a put's, which is settled at once
-abbrev pub own_by : Option Wait → Owed → Option Owed
+abbrev pub own_by : Option Wait → OwedDuty → Option OwedDuty
 own_by None duty = Some duty
 own_by (Some wait) duty = None
 
 -- it gave to the first of the consumers, which left
-pub record GaveTo (old new : Queue) (duty : Owed) (result : Arrived) : Type 0 where
-  pub taker : Owed
+pub record GaveTo (old new : Queue) (duty : OwedDuty) (result : Arrival) : Type 0 where
+  pub taker : OwedDuty
   pub oldest : old.takers ≡ taker ∷ new.takers
   pub givers : new.givers ≡ old.givers
   pub is : result ≡ record { partner = Some taker.place; own = Some duty; other = Some taker }
 
 -- no consumer is there: its item waits behind the others
-pub record LaysDown (old new : Queue) (wait : Option Wait) (duty : Owed) (result : Arrived) : Type 0 where
+pub record LaysDown (old new : Queue) (wait : Option Wait) (duty : OwedDuty) (result : Arrival) : Type 0 where
   pub nobody : old.takers ≡ []
   pub givers : new.givers ≡ old.givers ++ offer_by wait duty ∷ []
   pub takers : new.takers ≡ old.takers
   pub is : result ≡ record { partner = None; own = own_by wait duty; other = None }
 
 -- no consumer is there, and it leaves nothing
-pub record GaveNobody (old new : Queue) (duty : Owed) (result : Arrived) : Type 0 where
+pub record GaveNobody (old new : Queue) (duty : OwedDuty) (result : Arrival) : Type 0 where
   pub nobody : old.takers ≡ []
   pub same : SameLists old new
   pub is : result ≡ record { partner = None; own = Some duty; other = None }
 
 -- it took the first of the items, which left
-pub record TookFrom (old new : Queue) (duty : Owed) (result : Arrived) : Type 0 where
+pub record TookFrom (old new : Queue) (duty : OwedDuty) (result : Arrival) : Type 0 where
   pub offer : Offer
   pub oldest : old.givers ≡ offer ∷ new.givers
   pub takers : new.takers ≡ old.takers
   pub is : result ≡ record { partner = Some (place_of offer); own = Some duty; other = duty_of offer }
 
 -- no item is there: it waits behind the other consumers
-pub record StandsBy (old new : Queue) (duty : Owed) (result : Arrived) : Type 0 where
+pub record StandsBy (old new : Queue) (duty : OwedDuty) (result : Arrival) : Type 0 where
   pub nobody : old.givers ≡ []
   pub takers : new.takers ≡ old.takers ++ duty ∷ []
   pub givers : new.givers ≡ old.givers
   pub is : result ≡ record { partner = None; own = None; other = None }
 
 -- no item is there, and it goes
-pub record TookNothing (old new : Queue) (duty : Owed) (result : Arrived) : Type 0 where
+pub record TookNothing (old new : Queue) (duty : OwedDuty) (result : Arrival) : Type 0 where
   pub nobody : old.givers ≡ []
   pub same : SameLists old new
   pub is : result ≡ record { partner = None; own = Some duty; other = None }
@@ -77,12 +77,12 @@ pub record TookNothing (old new : Queue) (duty : Owed) (result : Arrived) : Type
 abbrev pub ByWait : Option Wait → Type 0 → Type 0 → Type 0
 ByWait wait stays goes = (Lasts wait × stays) ⊎ ((¬ Lasts wait) × goes)
 
-abbrev pub Gave : Queue → Queue → Option Wait → Owed → Arrived → Type 0
+abbrev pub Gave : Queue → Queue → Option Wait → OwedDuty → Arrival → Type 0
 Gave old new wait duty result =
     GaveTo old new duty result
     ⊎ ByWait wait (LaysDown old new wait duty result) (GaveNobody old new duty result)
 
-abbrev pub Took : Queue → Queue → Option Wait → Owed → Arrived → Type 0
+abbrev pub Took : Queue → Queue → Option Wait → OwedDuty → Arrival → Type 0
 Took old new wait duty result =
     TookFrom old new duty result
     ⊎ ByWait wait (StandsBy old new duty result) (TookNothing old new duty result)
@@ -90,33 +90,33 @@ Took old new wait duty result =
 -- ---- one exchanger
 
 -- it met the request that waited, which left
-pub record SwappedWith (old new : Option Owed) (duty : Owed) (result : Arrived) : Type 0 where
-  pub earlier : Owed
+pub record SwappedWith (old new : Option OwedDuty) (duty : OwedDuty) (result : Arrival) : Type 0 where
+  pub earlier : OwedDuty
   pub waited : old ≡ Some earlier
   pub left : new ≡ None
   pub is : result ≡ record { partner = Some earlier.place; own = Some duty; other = Some earlier }
 
 -- nobody waits, and it waits from now on
-pub record WaitsAlone (old new : Option Owed) (duty : Owed) (result : Arrived) : Type 0 where
+pub record WaitsAlone (old new : Option OwedDuty) (duty : OwedDuty) (result : Arrival) : Type 0 where
   pub nobody : old ≡ None
   pub waits : new ≡ Some duty
   pub is : result ≡ record { partner = None; own = None; other = None }
 
 -- nobody waits, and it goes
-pub record SwappedNothing (old new : Option Owed) (duty : Owed) (result : Arrived) : Type 0 where
+pub record SwappedNothing (old new : Option OwedDuty) (duty : OwedDuty) (result : Arrival) : Type 0 where
   pub nobody : old ≡ None
   pub none_waits : new ≡ None
   pub is : result ≡ record { partner = None; own = Some duty; other = None }
 
-abbrev pub Exchanged : Option Owed → Option Owed → Wait → Owed → Arrived → Type 0
+abbrev pub Exchanged : Option OwedDuty → Option OwedDuty → Wait → OwedDuty → Arrival → Type 0
 Exchanged old new wait duty result =
     SwappedWith old new duty result
     ⊎ ByWait (Some wait) (WaitsAlone old new duty result) (SwappedNothing old new duty result)
 
 -- the request that waits leaves, if it arrived at this place, and its duty comes back
-abbrev pub LeftExchanger : Option Owed → Option Owed → ℕ → Option Owed → Type 0
+abbrev pub LeftExchanger : Option OwedDuty → Option OwedDuty → ℕ → Option OwedDuty → Type 0
 LeftExchanger old new place None = NotWaiting old place × (new ≡ old)
-LeftExchanger old new place (Some duty) = Withdraws old place new duty
+LeftExchanger old new place (Some duty) = LeavesExchanger old place new duty
 
 -- ---- what an arrival does
 
@@ -125,55 +125,55 @@ abbrev pub StaysBy : Side → Option Wait → Type 0
 StaysBy side wait = IsSome (opposite side) × Lasts wait
 
 -- it met the first of the other side, which left
-pub record MeetsFirst (old new : Stations) (side : Side) (place : ℕ) : Type 0 where
+pub record MeetsFirst (old new : Waiters) (side : Side) (place : ℕ) : Type 0 where
   pub other : Side
   pub opposes : opposite side ≡ Some other
   pub first : waiting_on old other ≡ place ∷ waiting_on new other
   pub others : (third : Side) → third ≢ other → waiting_on new third ≡ waiting_on old third
 
 -- nobody waits on the side that it meets
-abbrev pub FindsNobody : Stations → Side → Type 0
-FindsNobody stations side = (other : Side) → opposite side ≡ Some other → waiting_on stations other ≡ []
+abbrev pub FindsNobody : Waiters → Side → Type 0
+FindsNobody waiters side = (other : Side) → opposite side ≡ Some other → waiting_on waiters other ≡ []
 
 -- it waits behind all others of its side
-pub record StartsToWait (old new : Stations) (side : Side) (place : ℕ) : Type 0 where
+pub record StartsToWait (old new : Waiters) (side : Side) (place : ℕ) : Type 0 where
   pub nobody : FindsNobody old side
   pub last : waiting_on new side ≡ waiting_on old side ++ place ∷ []
   pub others : (third : Side) → third ≢ side → waiting_on new third ≡ waiting_on old third
 
 -- what became of all that wait, where the arrival at the place met this partner or nobody
-abbrev pub Meets : Stations → Stations → Side → Option Wait → ℕ → Option ℕ → Type 0
-Meets old new side wait place (Some partner) = MeetsFirst old new side partner
-Meets old new side wait place None =
+abbrev pub MeetsOrWaits : Waiters → Waiters → Side → Option Wait → ℕ → Option ℕ → Type 0
+MeetsOrWaits old new side wait place (Some partner) = MeetsFirst old new side partner
+MeetsOrWaits old new side wait place None =
     (StaysBy side wait × StartsToWait old new side place)
-    ⊎ ((¬ StaysBy side wait) × FindsNobody old side × SameStations old new)
+    ⊎ ((¬ StaysBy side wait) × FindsNobody old side × SameWaiters old new)
 
 -- its own duty comes back, but where it is a request that waits now
-abbrev pub OwnDuty : Side → Option Wait → Option ℕ → Owed → Option Owed → Type 0
+abbrev pub OwnDuty : Side → Option Wait → Option ℕ → OwedDuty → Option OwedDuty → Type 0
 OwnDuty side wait partner duty None = (partner ≡ None) × StaysBy side wait × IsSome wait
 OwnDuty side wait partner duty (Some own) =
     (own ≡ duty) × ((partner ≡ None) → StaysBy side wait → wait ≡ None)
 
 -- how many requests start to wait with an arrival whose own duty is this, and how many stop with one that met
 -- the request of this duty
-abbrev pub starts_waiting : Option Owed → ℕ
+abbrev pub starts_waiting : Option OwedDuty → ℕ
 starts_waiting None = 1
 starts_waiting (Some own) = 0
 
-abbrev pub ends_waiting : Option Owed → ℕ
+abbrev pub ends_waiting : Option OwedDuty → ℕ
 ends_waiting None = 0
 ends_waiting (Some other) = 1
 
 -- the partner's duty, if it is a request
-abbrev pub PartnersDuty : List Entry → Option ℕ → Option Owed → Type 0
+abbrev pub PartnersDuty : List Entry → Option ℕ → Option OwedDuty → Type 0
 PartnersDuty entries None other = other ≡ None
 PartnersDuty entries (Some partner) other = other ≡ owed_at entries partner
 
 -- what the arrival of a request with this duty did; what the parked duties are to the entries holds after it
 -- too, where it holds of those before and of this one
-pub record ArrivedOn (old new : Stations) (side : Side) (wait : Option Wait) (duty : Owed)
-    (result : Arrived) : Type 0 where
-  pub meets : Meets old new side wait duty.place result.partner
+pub record ArrivedOn (old new : Waiters) (side : Side) (wait : Option Wait) (duty : OwedDuty)
+    (result : Arrival) : Type 0 where
+  pub meets : MeetsOrWaits old new side wait duty.place result.partner
   pub own : OwnDuty side wait result.partner duty result.own
   pub other : (entries : List Entry) → AreParked entries old
       → PartnersDuty entries result.partner result.other
@@ -183,7 +183,8 @@ pub record ArrivedOn (old new : Stations) (side : Side) (wait : Option Wait) (du
 -- ---- what is taken out
 
 -- the request that waits on the side left it, and its duty came back
-pub record Leaves (old new : Stations) (side : Side) (duty : Owed) (result : Option Owed) : Type 0 where
+pub record LeavesSide (old new : Waiters) (side : Side) (duty : OwedDuty) (result : Option OwedDuty)
+    : Type 0 where
   pub is : result ≡ Some duty
   pub places : waiting_on new side ≡ filter (λ r. not (r == duty.place)) (waiting_on old side)
   pub others : (third : Side) → third ≢ side → waiting_on new third ≡ waiting_on old third
@@ -191,46 +192,46 @@ pub record Leaves (old new : Stations) (side : Side) (duty : Owed) (result : Opt
 
 -- the first that waits on the side left it, and its duty came out, if it is a request; the duties of those
 -- who stay are parked as they were
-pub record LeavesFirst (old new : Stations) (side : Side) (duty : Option Owed) (place : ℕ) : Type 0 where
+pub record LeavesFirst (old new : Waiters) (side : Side) (duty : Option OwedDuty) (place : ℕ) : Type 0 where
   pub first : waiting_on old side ≡ place ∷ waiting_on new side
   pub others : (third : Side) → third ≢ side → waiting_on new third ≡ waiting_on old third
   pub duty_is : (entries : List Entry) → AreParked entries old → duty ≡ owed_at entries place
   pub parked : (entries : List Entry) → AreParked entries old → AreParked entries new
 
 -- the first that waits on the side, if one does, left it; where none does all that wait stay
-abbrev pub LeftFront : Stations → Stations → Side → Option (Option Owed × ℕ) → Type 0
+abbrev pub LeftFront : Waiters → Waiters → Side → Option (Option OwedDuty × ℕ) → Type 0
 LeftFront old new side (Some (duty, place)) = LeavesFirst old new side duty place
-LeftFront old new side None = (waiting_on old side ≡ []) × SameStations old new
+LeftFront old new side None = (waiting_on old side ≡ []) × SameWaiters old new
 
 -- the place waits on the side, and on no other
-pub record StandsOn (stations : Stations) (side : Side) (place : ℕ) : Type 0 where
+pub record StandsOn (waiters : Waiters) (side : Side) (place : ℕ) : Type 0 where
   pub i : ℕ
-  pub there : slice_get (waiting_on stations side) i ≡ Some place
-  pub only : (other : Side) (j : ℕ) → slice_get (waiting_on stations other) j ≡ Some place → other ≡ side
+  pub there : slice_get (waiting_on waiters side) i ≡ Some place
+  pub only : (other : Side) (j : ℕ) → slice_get (waiting_on waiters other) j ≡ Some place → other ≡ side
 
 -- whose duty is parked at the place, by whatever entries the duties are those of, left its side
-abbrev pub Withdrew : Stations → Stations → Side → ℕ → Option Owed → Type 0
-Withdrew old new side place result = (entries : List Entry) (duty : Owed) → AreParked entries old
-    → StandsOn old side place → owed_at entries place ≡ Some duty → Leaves old new side duty result
+abbrev pub Withdrew : Waiters → Waiters → Side → ℕ → Option OwedDuty → Type 0
+Withdrew old new side place result = (entries : List Entry) (duty : OwedDuty) → AreParked entries old
+    → StandsOn old side place → owed_at entries place ≡ Some duty → LeavesSide old new side duty result
 
 -- ---- room
 
-abbrev pub room_of : Stations → Side → ℕ
-room_of stations (Gives queue) = (queue_at stations.queues queue).room
-room_of stations (Takes queue) = (queue_at stations.queues queue).room
-room_of stations (Looks queue) = 1
-room_of stations (Exchanges exchanger) = 1
+abbrev pub room_of : Waiters → Side → ℕ
+room_of waiters (Gives queue) = (queue_at waiters.queues queue).room
+room_of waiters (Takes queue) = (queue_at waiters.queues queue).room
+room_of waiters (Looks queue) = 1
+room_of waiters (Exchanges exchanger) = 1
 
 -- an arrival of the side that stays has room
-abbrev pub HasRoomOn : Stations → Side → Type 0
-HasRoomOn stations side = 0 < room_of stations side
+abbrev pub HasRoomOn : Waiters → Side → Type 0
+HasRoomOn waiters side = 0 < room_of waiters side
 
 -- how many wait on this side, which an arrival meets, if it meets any
-abbrev pub opposed_by : Stations → Option Side → ℕ
-opposed_by stations None = 0
-opposed_by stations (Some other) = length (waiting_on stations other)
+abbrev pub opposed_by : Waiters → Option Side → ℕ
+opposed_by waiters None = 0
+opposed_by waiters (Some other) = length (waiting_on waiters other)
 
 -- nothing is listed, and there is room for all partners that the call can meet
-pub record HasRoomToName (stations : Stations) (call : Call) (places : Vec ℕ) : Type 0 where
+pub record HasRoomToName (waiters : Waiters) (call : Call) (places : Vec ℕ) : Type 0 where
   pub none : places.items ≡ []
-  pub room : min (may_name call) (opposed_by stations (opposite (side_of call))) ≤ vec_capacity places
+  pub room : min (may_name call) (opposed_by waiters (opposite (side_of call))) ≤ vec_capacity places

@@ -25,7 +25,7 @@ abbrev pub Meet : List Entry → ℕ → ℕ → Type 0
 Meet entries r s = NamesPartner entries r s ⊎ NamesPartner entries s r
 
 -- the arrival at r meets one that hands over this item
-pub record Gets (entries : List Entry) (r : ℕ) (item : List ℕ) : Type 0 where
+pub record GetsItem (entries : List Entry) (r : ℕ) (item : List ℕ) : Type 0 where
   pub giver : ℕ
   pub call : Call
   pub meet : Meet entries giver r
@@ -78,7 +78,7 @@ pub record Counts (entries : List Entry) (queue items consumers : ℕ) : Type 0 
   pub consumers_are : NumberOf (OpenAt entries (Takes queue)) consumers
 
 -- the queue's oldest open item
-pub record IsFront (entries : List Entry) (queue : ℕ) (item : List ℕ) : Type 0 where
+pub record IsFrontItem (entries : List Entry) (queue : ℕ) (item : List ℕ) : Type 0 where
   pub place : ℕ
   pub oldest : IsOldest entries (Gives queue) place
   pub hands_over : item_of oldest.there.of_side.call ≡ Some item
@@ -98,15 +98,15 @@ RepliesAt entries r (call.Transfer queue item wait) told =
     (Met entries r × RepliesMet entries r told)
     ⊎ ((¬ Met entries r) × RepliesUnmet entries r wait reply.Nobody told)
 RepliesAt entries r (call.Take queue wait) told =
-    ((item : List ℕ) × Gets entries r item × (told ≡ reply.Item item))
+    ((item : List ℕ) × GetsItem entries r item × (told ≡ reply.Item item))
     ⊎ ((¬ Met entries r) × RepliesUnmet entries r wait reply.Empty told)
 RepliesAt entries r (call.Swap exchanger item wait) told =
-    ((other : List ℕ) × Gets entries r other × (told ≡ reply.Swapped other))
+    ((other : List ℕ) × GetsItem entries r other × (told ≡ reply.Swapped other))
     ⊎ ((¬ Met entries r) × RepliesUnmet entries r wait reply.TimedOut told)
 RepliesAt entries r (call.Count queue) told = (items consumers : ℕ)
     × Counts (take r entries) queue items consumers × (told ≡ reply.Counted items consumers)
 RepliesAt entries r (call.Peek queue) told =
-    ((item : List ℕ) × IsFront (take r entries) queue item × (told ≡ reply.Peeked item))
+    ((item : List ℕ) × IsFrontItem (take r entries) queue item × (told ≡ reply.Peeked item))
     ⊎ (HasNoItem (take r entries) queue × (told ≡ reply.Empty))
 RepliesAt entries r (call.Drain queue max) told =
     (items : List (List ℕ)) × Drains entries r items × (told ≡ reply.Drained items)

@@ -15,8 +15,8 @@ use Rattle.rv_text.specs.declared.answer.Refusal.TheVariants.{NoMemory}
 use Rattle.rv_text.specs.Calls.{side_of}
 use Rattle.rv_session.specs.declared.kept.Kept.{Kept}
 use Rattle.rv_session.specs.declared.session.Session.{Session}
-use Rattle.rv_session.specs.declared.session.State as state
-use Rattle.rv_session.specs.declared.session.State.{State as StateOf}
+use Rattle.rv_session.specs.declared.session.RequestState as state
+use Rattle.rv_session.specs.declared.session.RequestState.{RequestState as StateOf}
 use Rattle.rv_session.specs.Meanings.{HasNext}
 use Rattle.rv_session.specs.Standings.{standing_of}
 use Rattle.rv_session.specs.Kept.{told_in}
@@ -26,9 +26,9 @@ use Rattle.rv_session.specs.declared.kept.Kept.TheVariants as kept
 use Rattle.rv_account.specs.declared.entry.Act.{Act}
 use Rattle.rv_account.specs.declared.entry.Act.TheVariants.{Arrive}
 use Rattle.rv_book.specs.Replies.{CancelledFirst}
-use Rattle.rv_book.specs.declared.state.State.{State}
-use Rattle.rv_book.specs.declared.verdict.Said.{Said}
-use Rattle.rv_book.specs.declared.verdict.Said.TheVariants.{Refused}
+use Rattle.rv_book.specs.declared.state.BookState.{BookState}
+use Rattle.rv_book.specs.declared.verdict.KeptAnswer.{KeptAnswer}
+use Rattle.rv_book.specs.declared.verdict.KeptAnswer.TheVariants.{Refused}
 use Rattle.rv_account.specs.declared.entry.Entry.{Entry}
 use Rattle.rv_account.specs.Account.{Account, act_at, call_at, with_entry}
 use Rattle.rv_book.specs.Arriving.{IsKept}
@@ -36,14 +36,14 @@ use Rattle.rv_book.specs.Legal.{Legal, KeepsTime, NothingDue}
 use Rattle.rv_book.specs.Limits.{FitEntries, FitsAccount, FitsAct}
 use Rattle.rv_account.specs.Calls.{MayMeet, may_name, need_of}
 use Rattle.rv_book.specs.Counting.{NumberOf}
-use Rattle.rv_book.specs.Meeting.{HasRoomOn, HasRoomToName, Leaves, StandsOn}
-use Rattle.rv_book.specs.Parked.{AreParked, AreStations, owed_at}
+use Rattle.rv_book.specs.Meeting.{HasRoomOn, HasRoomToName, LeavesSide, StandsOn}
+use Rattle.rv_book.specs.Parked.{AreParked, AreWaiters, owed_at}
 use Rattle.rv_book.specs.Elapsing.{AreDeadlines, deadline_of, with_deadline, without_deadline}
 use Rattle.rv_book.specs.Sessions.{HasOpened, LastNumber, SaidHello}
 use Rattle.rv_book.specs.Steps.{EpochFullDue, NextAt, Ticks, max_entries, max_moment, step_moment}
 use Rattle.rv_book.specs.Saying.{answer_of}
-use Rattle.rv_book.specs.Views.{SameStations}
-use Rattle.rv_session.specs.Owed.{Owed}
+use Rattle.rv_book.specs.Views.{SameWaiters}
+use Rattle.rv_session.specs.OwedDuty.{OwedDuty}
 use Rattle.rv_book.specs.Waiting.{Waiting, limit_at}
 use Rattle.rv_due.specs.Deadlines.{Deadlines}
 
@@ -67,18 +67,18 @@ pub record IsSettledAt (a : Account) (client : ℕ) (s : Session) (place : ℕ) 
   pub kept_is : IsKept a.entries place call kept
 
 -- what stands of the session's last number is what the account says of it
-abbrev pub Stands : Account → ℕ → Session → StateOf → Type 0
-Stands a client s state.TheVariants.Fresh = s.last ≡ 0
-Stands a client s (state.TheVariants.Waits place) = IsWaitingAt a client s place
-Stands a client s (state.TheVariants.Settled (Some place) kept) = IsSettledAt a client s place kept
-Stands a client s (state.TheVariants.Settled None told) =
+abbrev pub StandsInAccount : Account → ℕ → Session → StateOf → Type 0
+StandsInAccount a client s state.TheVariants.Fresh = s.last ≡ 0
+StandsInAccount a client s (state.TheVariants.Waits place) = IsWaitingAt a client s place
+StandsInAccount a client s (state.TheVariants.Settled (Some place) kept) = IsSettledAt a client s place kept
+StandsInAccount a client s (state.TheVariants.Settled None told) =
     CancelledFirst a.entries (last_key a client s) × (told ≡ kept.Cancelled)
 
 -- the session is what the account says of its client
 pub record IsSession (a : Account) (client : ℕ) (s : Session) : Type 0 where
   pub opened : HasOpened a.entries client s.incarnation s.version
   pub number : LastNumber a.entries client s.last
-  pub stands : Stands a client s s.state
+  pub stands : StandsInAccount a client s s.state
 
 -- the client's session, or none where it said no hello
 abbrev pub IsSessionOf : Account → ℕ → Option Session → Type 0
@@ -93,28 +93,28 @@ pub record AreSessions (a : Account) (t : Table) : Type 0 where
 -- ---- the state
 
 -- the state's account
-abbrev pub account_of : State → Account
+abbrev pub account_of : BookState → Account
 account_of state = state.account.account
 
 -- the account is legal and within the limits, and each table is what the account says; there is room for an
 -- entry of each request that waits
-pub record IsSound (state : State) : Type 0 where
+pub record IsSound (state : BookState) : Type 0 where
   pub legal : Legal (account_of state)
   pub fits : FitsAccount (account_of state)
   pub sessions_are : AreSessions (account_of state) state.sessions
-  pub stations_are : AreStations (account_of state).entries state.stations
+  pub waiters_are : AreWaiters (account_of state).entries state.waiters
   pub waiting_is : NumberOf (Waiting (account_of state).entries) state.waiting
   pub due_are : AreDeadlines (account_of state).entries state.due
   pub spare : state.waiting ≤ state.account.room
 
 -- a moment comes to a sound state: it keeps time, and is within its limit
-pub record IsTime (state : State) (moment : ℕ) : Type 0 where
+pub record IsTime (state : BookState) (moment : ℕ) : Type 0 where
   pub sound : IsSound state
   pub time : KeepsTime (account_of state) moment
   pub fits : moment ≤ max_moment
 
 -- an act comes to a sound state, at a moment at which nothing is due, and within the limits
-pub record Comes (state : State) (moment : ℕ) (does : Act) : Type 0 where
+pub record Comes (state : BookState) (moment : ℕ) (does : Act) : Type 0 where
   pub sound : IsSound state
   pub time : KeepsTime (account_of state) moment
   pub moment_fits : moment ≤ max_moment
@@ -122,58 +122,58 @@ pub record Comes (state : State) (moment : ℕ) (does : Act) : Type 0 where
   pub act_fits : FitsAct does
 
 -- an arrival of the side that waits has room there; a hello needs none
-abbrev pub HasRoomFor : State → Option Side → Type 0
+abbrev pub HasRoomFor : BookState → Option Side → Type 0
 HasRoomFor state None = Unit {0}
-HasRoomFor state (Some side) = HasRoomOn state.stations side
+HasRoomFor state (Some side) = HasRoomOn state.waiters side
 
 -- the account and what the tables hold are as they were; their room may have grown
-pub record IsSame (old new : State) : Type 0 where
+pub record IsSame (old new : BookState) : Type 0 where
   pub due : new.due ≡ old.due
   pub account : account_of new ≡ account_of old
   pub room : old.account.room ≤ new.account.room
   pub sessions : new.sessions ≡ old.sessions
-  pub stations : SameStations old.stations new.stations
+  pub waiters : SameWaiters old.waiters new.waiters
   pub waiting : new.waiting ≡ old.waiting
 
 -- the entry was recorded, and the tables are as they were
-pub record IsPushed (old new : State) (e : Entry) : Type 0 where
+pub record IsPushed (old new : BookState) (e : Entry) : Type 0 where
   pub entry : account_of new ≡ with_entry (account_of old) e
   pub room : old.account.room ≤ new.account.room + 1
   pub sessions : new.sessions ≡ old.sessions
-  pub stations : new.stations ≡ old.stations
+  pub waiters : new.waiters ≡ old.waiters
   pub waiting : new.waiting ≡ old.waiting
   pub due : new.due ≡ old.due
 
 -- the epoch has room for so many entries more, beside one for each request that waits
-abbrev pub HasSpace : State → ℕ → Type 0
+abbrev pub HasSpace : BookState → ℕ → Type 0
 HasSpace state need = length (account_of state).entries + state.waiting + need ≤ max_entries
 
 -- nothing changed but the room: so many entries have their own, each request that waits has too, and so has
 -- an arrival of the side that waits
-pub record IsReady (old new : State) (need : ℕ) (side : Option Side) : Type 0 where
+pub record HasRoomReady (old new : BookState) (need : ℕ) (side : Option Side) : Type 0 where
   pub same : IsSame old new
   pub room : old.waiting + need ≤ new.account.room
   pub side_room : HasRoomFor new side
   pub space : HasSpace old need
 
 -- the state with other deadlines
-abbrev pub with_due : State → Deadlines → State
+abbrev pub with_due : BookState → Deadlines → BookState
 with_due state due = record {
   account = state.account;
   sessions = state.sessions;
-  stations = state.stations;
+  waiters = state.waiters;
   waiting = state.waiting;
   due = due;
 }
 
 -- all that a request adds has room, and if it may wait its deadline is there already
-pub record IsPrepared (old new : State) (moment : ℕ) (call : Call) : Type 0 where
-  pub ready : IsReady old (with_due new old.due) (need_of call) (Some (side_of call))
+pub record IsPrepared (old new : BookState) (moment : ℕ) (call : Call) : Type 0 where
+  pub ready : HasRoomReady old (with_due new old.due) (need_of call) (Some (side_of call))
   pub due : new.due ≡ with_deadline (deadline_of moment call) (length (account_of old).entries) old.due
 
 -- a request that has its session's next number comes to a state that is sound but for the deadline of the
 -- request itself, and all that it adds has room
-pub record MayRecord (state : State) (moment : ℕ) (key : Key) (call : Call) (places : Vec ℕ) : Type 0
+pub record MayRecord (state : BookState) (moment : ℕ) (key : Key) (call : Call) (places : Vec ℕ) : Type 0
   where
     pub deadlines : Deadlines
     pub comes : Comes (with_due state deadlines) moment (Arrive key call)
@@ -182,19 +182,19 @@ pub record MayRecord (state : State) (moment : ℕ) (key : Key) (call : Call) (p
     pub stands : standing_of state.sessions key ≡ standing.Next
     pub next : HasNext state.sessions key
     pub room : state.waiting + need_of call ≤ state.account.room
-    pub side_room : HasRoomOn state.stations (side_of call)
+    pub side_room : HasRoomOn state.waiters (side_of call)
     pub space : HasSpace state (need_of call)
     pub meets_one : may_name call ≡ 1
-    pub names : HasRoomToName state.stations call places
+    pub names : HasRoomToName state.waiters call places
 
 -- what a call that looks at its queue sees there is what the account says
-abbrev pub Sees : State → Call → Type 0
-Sees state call = ¬ MayMeet call → AreStations (account_of state).entries state.stations
+abbrev pub Sees : BookState → Call → Type 0
+Sees state call = ¬ MayMeet call → AreWaiters (account_of state).entries state.waiters
 
 -- ---- who is settled
 
 -- the session of the duty waits at the duty's place
-abbrev pub IsOwedIn : Table → Owed → Type 0
+abbrev pub IsOwedIn : Table → OwedDuty → Type 0
 IsOwedIn t duty = waiting_of t duty.client ≡ Some duty.place
 
 -- the client's session was settled with this, as its version tells it
@@ -204,12 +204,12 @@ pub record SettlesAs (old new : Table) (client place : ℕ) (kept : Kept) : Type
   pub settles : OnlySettles old new client place (told_in version kept)
 
 -- the request of the duty was settled with this, if there is one
-abbrev pub SettlesIf : Table → Table → Option Owed → Kept → Type 0
+abbrev pub SettlesIf : Table → Table → Option OwedDuty → Kept → Type 0
 SettlesIf old new None kept = new ≡ old
 SettlesIf old new (Some duty) kept = SettlesAs old new duty.client duty.place kept
 
 -- what the session of the duty is told of this, if there is one
-abbrev pub told_to : Table → Option Owed → Kept → Option Kept
+abbrev pub told_to : Table → Option OwedDuty → Kept → Option Kept
 told_to t None kept = None
 told_to t (Some duty) kept = option_map (λ version. told_in version kept) (version_in t duty.client)
 
@@ -222,16 +222,16 @@ partners_reply (Looks queue) place = kept.ReceivedBy place
 partners_reply (Exchanges exchanger) place = kept.Swapped place
 
 -- a request waits at the place, by the tables: on its side, with the duty to settle it, and in its session
-pub record MayEnd (state : State) (place : ℕ) : Type 0 where
+pub record MayEnd (state : BookState) (place : ℕ) : Type 0 where
   pub entries_fit : FitEntries (account_of state).entries
-  pub duty : Owed
+  pub duty : OwedDuty
   pub is_at : duty.place ≡ place
   pub owed : owed_at (account_of state).entries place ≡ Some duty
   pub due_in : IsOwedIn state.sessions duty
   pub call : Call
   pub arrived : call_at (account_of state).entries place ≡ Some call
-  pub parked : AreParked (account_of state).entries state.stations
-  pub stands : StandsOn state.stations (side_of call) place
+  pub parked : AreParked (account_of state).entries state.waiters
+  pub stands : StandsOn state.waiters (side_of call) place
   pub counted : 1 ≤ state.waiting
 
 -- what is kept as the reply of a request that met nobody and doesn't wait, where this is said of nobody there
@@ -241,26 +241,26 @@ kept_at_once (Millis millis) alone = kept.TimedOut
 kept_at_once Forever alone = alone
 
 -- the request that waited at the place left its side and was settled with this
-pub record EndsAt (old new : State) (place : ℕ) (kept : Kept) : Type 0 where
-  pub duty : Owed
+pub record EndsAt (old new : BookState) (place : ℕ) (kept : Kept) : Type 0 where
+  pub duty : OwedDuty
   pub is_at : duty.place ≡ place
   pub owed : owed_at (account_of old).entries place ≡ Some duty
   pub call : Call
   pub arrived : call_at (account_of old).entries place ≡ Some call
-  pub leaves : Leaves old.stations new.stations (side_of call) duty (Some duty)
+  pub leaves : LeavesSide old.waiters new.waiters (side_of call) duty (Some duty)
   pub settles : SettlesAs old.sessions new.sessions duty.client place kept
   pub counted : old.waiting ≡ new.waiting + 1
   pub due : new.due ≡ without_deadline (limit_at (account_of old).entries place) place old.due
 
 -- the request that waited there was, if one did
-abbrev pub EndsIf : State → State → Option ℕ → Kept → Type 0
+abbrev pub EndsIf : BookState → BookState → Option ℕ → Kept → Type 0
 EndsIf old new None kept = new ≡ old
 EndsIf old new (Some place) kept = EndsAt old new place kept
 
 -- ---- what became of a message
 
 -- the account stayed, and perhaps has room for more
-abbrev pub SameAccount : State → State → Type 0
+abbrev pub SameAccount : BookState → BookState → Type 0
 SameAccount old new = account_of new ≡ account_of old
 
 -- why an entry that needs so many places was refused: the epoch is full; or it is not, and memory was refused
@@ -269,14 +269,15 @@ NoEntryDue a need refusal = EpochFullDue a need refusal
     ⊎ (((other : Refusal) → ¬ EpochFullDue a need other) × (refusal ≡ NoMemory))
 
 -- what became of a message: this answer, by one step from the one account to the other
-pub record Becomes (a : Account) (moment : ℕ) (m : Message) (b : Account) (said : Said) : Type 0 where
+pub record Becomes (a : Account) (moment : ℕ) (m : Message) (b : Account) (said : KeptAnswer) : Type 0 where
   pub answer : Answer
   pub is : answer_of b.entries said ≡ Some answer
   pub step : NextAt a moment m b answer
 
 -- what became of a message that came with this moment: this answer, by the time-outs that were due and one
 -- step
-pub record BecomesAfterTicks (a : Account) (now : ℕ) (m : Message) (b : Account) (said : Said) : Type 0 where
+pub record BecomesAfterTicks (a : Account) (now : ℕ) (m : Message) (b : Account) (said : KeptAnswer)
+    : Type 0 where
   pub ticked : Account
   pub ticks : Ticks a (step_moment a now) ticked
   pub fits : FitsAccount ticked

@@ -5,11 +5,11 @@ use Rattle.rv_text.specs.declared.call.Side.{Side}
 use Rattle.rv_session.specs.declared.kept.Kept.{Kept}
 use Rattle.rv_session.specs.Kept.{told_in}
 use Rattle.rv_session.specs.declared.session.Session.{Session}
-use Rattle.rv_session.specs.declared.session.State.TheVariants as state
-use Rattle.rv_session.specs.declared.session.State.{State as StateOf}
+use Rattle.rv_session.specs.declared.session.RequestState.TheVariants as state
+use Rattle.rv_session.specs.declared.session.RequestState.{RequestState as StateOf}
 use Rattle.rv_session.specs.Table.{Table, session_of}
 use Rattle.rv_account.specs.declared.entry.Entry.{Entry}
-use Rattle.rv_book.specs.declared.state.State.{State}
+use Rattle.rv_book.specs.declared.state.BookState.{BookState}
 use Rattle.rv_account.specs.Account.{Account}
 use Rattle.rv_book.specs.Counting.{NumberOf}
 use Rattle.rv_book.specs.Elapsing.{AreDeadlinesOf}
@@ -17,8 +17,8 @@ use Rattle.rv_book.specs.Legal.{Legal}
 use Rattle.rv_book.specs.Limits.{FitsAccount}
 use Rattle.rv_book.specs.Parked.{AreParked, IsLineOf}
 use Rattle.rv_book.specs.Sessions.{HasOpened, LastNumber, SaidHello}
-use Rattle.rv_book.specs.Tables.{IsSettledAt, IsWaitingAt, Stands, account_of}
-use Rattle.rv_book.specs.Views.{Stations, waiting_on}
+use Rattle.rv_book.specs.Tables.{IsSettledAt, IsWaitingAt, StandsInAccount, account_of}
+use Rattle.rv_book.specs.Views.{Waiters, waiting_on}
 use Rattle.rv_book.specs.Waiting.{OpenAt, Waiting}
 
 -- what has a property, but for what was taken out
@@ -27,9 +27,9 @@ Left taken P r = P r × ¬ taken r
 
 -- each side's line is that of its open arrivals that are left, and parked with them are the duties to settle
 -- them
-pub record AreStationsLeft (entries : List Entry) (taken : ℕ → Type 0) (stations : Stations) : Type 0 where
-  pub lines : (side : Side) → IsLineOf (Left taken (OpenAt entries side)) (waiting_on stations side)
-  pub parked : AreParked entries stations
+pub record AreWaitersLeft (entries : List Entry) (taken : ℕ → Type 0) (waiters : Waiters) : Type 0 where
+  pub lines : (side : Side) → IsLineOf (Left taken (OpenAt entries side)) (waiting_on waiters side)
+  pub parked : AreParked entries waiters
 
 -- the request of the session's last number waited at the place, was taken out there, and is told what all are
 -- that were, as its session's version tells it
@@ -41,11 +41,12 @@ pub record IsToldAt (a : Account) (taken : ℕ → Type 0) (told : Kept) (client
 
 -- what stands of the session's last number is what the account says of it, or it was taken out
 abbrev pub StandsLeft : Account → (ℕ → Type 0) → Kept → ℕ → Session → StateOf → Type 0
-StandsLeft a taken told client s state.Fresh = Stands a client s state.Fresh
+StandsLeft a taken told client s state.Fresh = StandsInAccount a client s state.Fresh
 StandsLeft a taken told client s (state.Waits place) = IsWaitingAt a client s place × ¬ taken place
 StandsLeft a taken told client s (state.Settled (Some place) kept) =
     IsSettledAt a client s place kept ⊎ IsToldAt a taken told client s place kept
-StandsLeft a taken told client s (state.Settled None kept) = Stands a client s (state.Settled None kept)
+StandsLeft a taken told client s (state.Settled None kept) = StandsInAccount a client s
+    (state.Settled None kept)
 
 pub record IsSessionLeft (a : Account) (taken : ℕ → Type 0) (told : Kept) (client : ℕ) (s : Session)
     : Type 0 where
@@ -62,15 +63,15 @@ pub record AreSessionsLeft (a : Account) (taken : ℕ → Type 0) (told : Kept) 
   pub each : (client : ℕ) → IsSessionLeftOf a taken told client (session_of t client)
 
 -- the requests that wait and are left
-abbrev pub WaitingLeft : State → (ℕ → Type 0) → ℕ → Type 0
+abbrev pub WaitingLeft : BookState → (ℕ → Type 0) → ℕ → Type 0
 WaitingLeft state taken r = Left taken (Waiting (account_of state).entries) r
 
 -- the tables are what the account says, but for what was taken out, and each request that was is told this
-pub record IsLeft (state : State) (taken : ℕ → Type 0) (told : Kept) : Type 0 where
+pub record IsLeft (state : BookState) (taken : ℕ → Type 0) (told : Kept) : Type 0 where
   pub legal : Legal (account_of state)
   pub fits : FitsAccount (account_of state)
   pub sessions_are : AreSessionsLeft (account_of state) taken told state.sessions
-  pub stations_are : AreStationsLeft (account_of state).entries taken state.stations
+  pub waiters_are : AreWaitersLeft (account_of state).entries taken state.waiters
   pub waiting_is : NumberOf (WaitingLeft state taken) state.waiting
   pub due_are : AreDeadlinesOf (account_of state).entries (WaitingLeft state taken) state.due
   pub spare : state.waiting ≤ state.account.room

@@ -54,7 +54,7 @@ HasText _ = ⊥
 
 -- what a verdict shows: the message that it was given for, the answer that it stands for, the number of the
 -- account's entries before and after that step, and what is kept of the reply, if it is one
-pub record Stamp : Type 0 where
+pub record VerdictView : Type 0 where
   pub asked : Message
   pub said : Answer
   pub before : ℕ
@@ -62,7 +62,7 @@ pub record Stamp : Type 0 where
   pub kept : Option Kept
 
 -- the stamp is of a step from some legal account
-pub record IsOfStep (v : Stamp) : Type 0 where
+pub record IsOfStep (v : VerdictView) : Type 0 where
   pub account : Account
   pub legal : Legal account
   pub account_has : length account.entries ≡ v.before
@@ -73,7 +73,7 @@ pub record IsOfStep (v : Stamp) : Type 0 where
 
 -- the stamp was given in the account: a step leads from its entries before to those after, and the account has
 -- the reply of that step as the stamp keeps it
-pub record WasGiven (a : Account) (v : Stamp) : Type 0 where
+pub record WasGiven (a : Account) (v : VerdictView) : Type 0 where
   pub moment : ℕ
   pub step : Next (before a v.before) moment v.asked (before a v.length) v.said
   pub grows : v.before ≤ v.length

@@ -2,7 +2,7 @@
 use Rattle.std.specs.Prelude.{◌≡◌, ◌≢◌, ◌<◌, ℕ, List, [], ◌∷◌, Option, Some, None, map, unwrap_or, slice_get}
 use Rattle.rv_text.specs.declared.call.Side.{Side}
 use Rattle.rv_text.specs.declared.call.Side.TheVariants.{Gives, Takes, Looks, Exchanges}
-use Rattle.rv_session.specs.Owed.{Owed}
+use Rattle.rv_session.specs.OwedDuty.{OwedDuty}
 use Rattle.rv_dual.specs.Offers.{places_of}
 use Rattle.rv_dual.specs.Queue.{Queue, SameLists}
 
@@ -16,8 +16,8 @@ abbrev pub queue_at : List Queue → ℕ → Queue
 queue_at queues queue = unwrap_or (slice_get queues queue) empty_queue
 
 -- where the consumers arrived, in their order
-abbrev pub takers_places : List Owed → List ℕ
-takers_places takers = map (λ (duty : Owed). duty.place) takers
+abbrev pub takers_places : List OwedDuty → List ℕ
+takers_places takers = map (λ (duty : OwedDuty). duty.place) takers
 
 -- nobody waits in any queue
 abbrev pub AllEmpty : List Queue → Type 0
@@ -34,52 +34,52 @@ OnlyQueue queue old new = (other : ℕ) → other ≢ queue → queue_at new oth
 -- ---- exchangers
 
 -- the duty that waits at the exchanger of this number, if one does
-abbrev pub exchanger_at : List (Option Owed) → ℕ → Option Owed
+abbrev pub exchanger_at : List (Option OwedDuty) → ℕ → Option OwedDuty
 exchanger_at exchangers exchanger = unwrap_or (slice_get exchangers exchanger) None
 
 -- the place where it arrived
-abbrev pub place_of_duty : Option Owed → List ℕ
+abbrev pub place_of_duty : Option OwedDuty → List ℕ
 place_of_duty None = []
 place_of_duty (Some duty) = duty.place ∷ []
 
 -- nobody waits at any exchanger
-abbrev pub AllFree : List (Option Owed) → Type 0
+abbrev pub AllFree : List (Option OwedDuty) → Type 0
 AllFree exchangers = (exchanger : ℕ) → exchanger_at exchangers exchanger ≡ None
 
 -- all that wait stay, at each exchanger
-abbrev pub SameExchangers : List (Option Owed) → List (Option Owed) → Type 0
+abbrev pub SameExchangers : List (Option OwedDuty) → List (Option OwedDuty) → Type 0
 SameExchangers old new = (exchanger : ℕ) → exchanger_at new exchanger ≡ exchanger_at old exchanger
 
 -- no other exchanger changed
-abbrev pub OnlyExchanger : ℕ → List (Option Owed) → List (Option Owed) → Type 0
+abbrev pub OnlyExchanger : ℕ → List (Option OwedDuty) → List (Option OwedDuty) → Type 0
 OnlyExchanger exchanger old new =
     (other : ℕ) → other ≢ exchanger → exchanger_at new other ≡ exchanger_at old other
 
 -- ---- both
 
 -- where requests wait for each other: the queues, and the exchangers with the duty that waits at each
-pub record Stations : Type 0 where
+pub record Waiters : Type 0 where
   pub queues : List Queue
-  pub exchangers : List (Option Owed)
+  pub exchangers : List (Option OwedDuty)
 
 -- the places that wait on a side, the oldest first
-abbrev pub waiting_on : Stations → Side → List ℕ
-waiting_on stations (Gives queue) = places_of (queue_at stations.queues queue).givers
-waiting_on stations (Takes queue) = takers_places (queue_at stations.queues queue).takers
-waiting_on stations (Looks queue) = []
-waiting_on stations (Exchanges exchanger) = place_of_duty (exchanger_at stations.exchangers exchanger)
+abbrev pub waiting_on : Waiters → Side → List ℕ
+waiting_on waiters (Gives queue) = places_of (queue_at waiters.queues queue).givers
+waiting_on waiters (Takes queue) = takers_places (queue_at waiters.queues queue).takers
+waiting_on waiters (Looks queue) = []
+waiting_on waiters (Exchanges exchanger) = place_of_duty (exchanger_at waiters.exchangers exchanger)
 
 -- all that wait stay
-pub record SameStations (old new : Stations) : Type 0 where
+pub record SameWaiters (old new : Waiters) : Type 0 where
   pub queues : SameQueues old.queues new.queues
   pub exchangers : SameExchangers old.exchangers new.exchangers
 
 -- nobody waits
-pub record NobodyWaits (stations : Stations) : Type 0 where
-  pub queues : AllEmpty stations.queues
-  pub exchangers : AllFree stations.exchangers
+pub record NobodyWaits (waiters : Waiters) : Type 0 where
+  pub queues : AllEmpty waiters.queues
+  pub exchangers : AllFree waiters.exchangers
 
 -- whoever waits, waits at a place below this one
-abbrev pub AreBelow : Stations → ℕ → Type 0
-AreBelow stations place =
-    (side : Side) (i r : ℕ) → slice_get (waiting_on stations side) i ≡ Some r → r < place
+abbrev pub AreBelow : Waiters → ℕ → Type 0
+AreBelow waiters place =
+    (side : Side) (i r : ℕ) → slice_get (waiting_on waiters side) i ≡ Some r → r < place

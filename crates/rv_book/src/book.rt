@@ -3,10 +3,11 @@ ghost use Rattle.std.specs.Prelude.{◌≡◌, ◌≤◌, ◌^◌, [], Some, IsS
 ghost use Rattle.rv_text.specs.Limits.{FitsAnswer, FitsIdentifier, FitsMessage};
 ghost use Rattle.rv_book.specs.Legal.{Legal};
 ghost use Rattle.rv_book.specs.Steps.{Next};
-ghost use Rattle.rv_book.specs.Verdicts.{HasText, ReplyHasText, Stamp, WasGiven, reply_of as kept_reply};
+ghost use Rattle.rv_book.specs.Verdicts.{HasText, ReplyHasText, VerdictView, WasGiven};
+ghost use Rattle.rv_book.specs.Verdicts.{reply_of as kept_reply};
 
-use crate::state::{MAX_MOMENT, State};
-use crate::verdict::{Said, Verdict};
+use crate::state::{BookState, MAX_MOMENT};
+use crate::verdict::{KeptAnswer, Verdict};
 use rv_account::Account;
 use rv_session::Kept;
 use rv_text::{Answer, Message, NoMemory, Reply};
@@ -20,7 +21,7 @@ use std::snapshot::Snapshot;
 /// each client, 64 queues and 64 exchangers of who waits, and their limits, is what the account says.
 #[derive(Drop)]
 pub struct Book {
-    state: State,
+    state: BookState,
 }
 
 impl Model for Book {
@@ -55,7 +56,7 @@ impl Book {
         ensures opened { IfOk result (λ book. book.opened ≡ min now (2 ^ 62)) }
         ensures empty { IfOk result (λ book. book.entries ≡ []) }
     {
-        let state = State::open(alloc, epoch, now.min(MAX_MOMENT))?;
+        let state = BookState::open(alloc, epoch, now.min(MAX_MOMENT))?;
         Ok(Book { state })
     }
 
@@ -76,7 +77,7 @@ impl Book {
         ensures length { result.length ≡ length self.new.entries }
         ensures fits { FitsAnswer result.said }
         ensures given { WasGiven self.new result }
-        ensures still { (v : Stamp) → WasGiven self.old v → WasGiven self.new v }
+        ensures still { (v : VerdictView) → WasGiven self.old v → WasGiven self.new v }
     {
         let asked = Snapshot::of(&message);
         let before = Snapshot::of(self.state.account());
@@ -96,18 +97,18 @@ impl Book {
         ensures err { OnErr result (HasText verdict.now.said) }
     {
         match verdict.said {
-            Said::Welcome(epoch, client, incarnation, version) => Ok(Answer::Welcome {
+            KeptAnswer::Welcome(epoch, client, incarnation, version) => Ok(Answer::Welcome {
                 epoch,
                 client,
                 incarnation,
                 version,
             }),
-            Said::Replied { key, kept } => {
+            KeptAnswer::Replied { key, kept } => {
                 let reply = reply_of(alloc, self.state.account(), kept)?;
                 Ok(Answer::Replied { key, reply })
             }
-            Said::Waiting { key } => Ok(Answer::Waiting { key }),
-            Said::Refused(refusal) => Ok(Answer::Refused(refusal)),
+            KeptAnswer::Waiting { key } => Ok(Answer::Waiting { key }),
+            KeptAnswer::Refused(refusal) => Ok(Answer::Refused(refusal)),
         }
     }
 }

@@ -5,28 +5,28 @@ ghost use Rattle.rv_text.specs.declared.call.Side.TheVariants.{Exchanges};
 ghost use Rattle.rv_book.specs.Meeting.{Exchanged, LeftExchanger};
 ghost use Rattle.rv_book.specs.Views.{AllFree, OnlyExchanger, exchanger_at, place_of_duty};
 
-use crate::arrived::{Arrived, lasts};
+use crate::arrival::{Arrival, lasts};
 use rv_session::{Duty, Place};
-use rv_swap::{Swap, Tried};
+use rv_swap::{Swap, SwapTry};
 use rv_text::{MAX_EXCHANGER, NoMemory, Wait};
 use std::alloc::Global;
 use std::marker::Model;
 
 // A request arrives at an exchanger: where nobody is there it waits, or goes.
-fn exchange(exchanger: &mut Swap, wait: Wait, duty: Duty) -> Arrived
+fn exchange(exchanger: &mut Swap, wait: Wait, duty: Duty) -> Arrival
     ensures { Exchanged exchanger.old exchanger.new wait duty result }
 {
     if lasts(wait) {
         match exchanger.arrive(duty) {
-            rv_swap::Arrived::Met(earlier, later) => {
-                Arrived::met(earlier.place(), Some(later), Some(earlier))
+            rv_swap::SwapOutcome::Met(earlier, later) => {
+                Arrival::met(earlier.place(), Some(later), Some(earlier))
             }
-            rv_swap::Arrived::Parked => Arrived::alone(None),
+            rv_swap::SwapOutcome::Parked => Arrival::alone(None),
         }
     } else {
         match exchanger.try_arrive(duty) {
-            Tried::Met(earlier, later) => Arrived::met(earlier.place(), Some(later), Some(earlier)),
-            Tried::Alone(duty) => Arrived::alone(Some(duty)),
+            SwapTry::Met(one, other) => Arrival::met(one.place(), Some(other), Some(one)),
+            SwapTry::Alone(duty) => Arrival::alone(Some(duty)),
         }
     }
 }
@@ -38,10 +38,10 @@ pub(crate) struct Exchangers {
 }
 
 impl Model for Exchangers {
-    ghost use Rattle.rv_session.specs.Owed.{Owed};
+    ghost use Rattle.rv_session.specs.OwedDuty.{OwedDuty};
     ghost use Rattle.std.specs.Prelude.{◌≡◌, List, Option, length};
 
-    ghost Value = { List (Option Owed) };
+    ghost Value = { List (Option OwedDuty) };
 
     ghost view = { λ e. e.exchangers.items };
 
@@ -70,7 +70,7 @@ impl Exchangers {
     }
 
     /// An arrival meets the one that waits at the exchanger, which leaves; else it waits, if its wait lasts.
-    pub(crate) fn exchange(&mut self, exchanger: u64, wait: Wait, duty: Duty) -> Arrived
+    pub(crate) fn exchange(&mut self, exchanger: u64, wait: Wait, duty: Duty) -> Arrival
         requires { FitsSide (Exchanges exchanger) }
         ensures exchanged { Exchanged (exchanger_at self.old exchanger) (exchanger_at self.new exchanger) wait
             duty result }

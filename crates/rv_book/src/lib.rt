@@ -1,14 +1,14 @@
 //! The book: sessions and all that waits in one epoch, and the account of what happened to them.
 #![tactic(auto)]
 
-mod arrived;
+mod arrival;
 mod book;
 mod exchangers;
 pub mod laws;
 mod queues;
 mod state;
-mod stations;
 mod verdict;
+mod waiters;
 
 pub use book::Book;
 pub use rv_account::{Account, Act, Entry, Partners, Place};

@@ -8,34 +8,34 @@ ghost use Rattle.rv_dual.specs.Withdrawing.{Withdraws};
 ghost use Rattle.rv_book.specs.Meeting.{Gave, Took};
 ghost use Rattle.rv_book.specs.Views.{AllEmpty, OnlyQueue, SameQueues, queue_at};
 
-use crate::arrived::{Arrived, lasts};
-use rv_dual::{Dual, Given, Giver, Pair, Taken, Tried};
+use crate::arrival::{Arrival, lasts};
+use rv_dual::{Dual, GiveOutcome, Giver, Pair, TakeOutcome, TryOutcome};
 use rv_session::{Duty, Place};
 use rv_text::{MAX_QUEUE, NoMemory, Wait};
 use std::alloc::Global;
 use std::marker::Model;
 
 // A put arrives: its duty comes back, whether a consumer waits or not.
-fn put(queue: &mut Dual, duty: Duty) -> Arrived
+fn put(queue: &mut Dual, duty: Duty) -> Arrival
     requires room { 0 < queue.old.room }
     requires above { IsAbove queue.old duty.place }
     ensures { Gave queue.old queue.new None duty result }
 {
     match queue.give(Giver::Put(duty.place())) {
-        Given::Met(pair) => {
+        GiveOutcome::Met(pair) => {
             let (giver, taker, _) = pair.part();
             let own = match giver {
                 None => duty,
                 Some(_giver) => unreachable!(),
             };
-            Arrived::met(taker.place(), Some(own), Some(taker))
+            Arrival::met(taker.place(), Some(own), Some(taker))
         }
-        Given::Parked => Arrived::alone(Some(duty)),
+        GiveOutcome::Parked => Arrival::alone(Some(duty)),
     }
 }
 
 // What became of a giver that met a consumer.
-fn gave(pair: Pair) -> Arrived
+fn gave(pair: Pair) -> Arrival
     ensures { result ≡ record {
       partner = Some pair.taker.place;
       own = duty_of pair.giver;
@@ -43,11 +43,11 @@ fn gave(pair: Pair) -> Arrived
     } }
 {
     let (own, taker, _) = pair.part();
-    Arrived::met(taker.place(), own, Some(taker))
+    Arrival::met(taker.place(), own, Some(taker))
 }
 
 // What became of a taker that met a giver.
-fn took(pair: Pair) -> Arrived
+fn took(pair: Pair) -> Arrival
     ensures { result ≡ record {
       partner = Some (place_of pair.giver);
       own = Some pair.taker;
@@ -55,43 +55,43 @@ fn took(pair: Pair) -> Arrived
     } }
 {
     let (other, own, place) = pair.part();
-    Arrived::met(place, Some(own), other)
+    Arrival::met(place, Some(own), other)
 }
 
 // A request that gives arrives: where no consumer is there it waits, or goes.
-fn transfer(queue: &mut Dual, wait: Wait, duty: Duty) -> Arrived
+fn transfer(queue: &mut Dual, wait: Wait, duty: Duty) -> Arrival
     requires room { 0 < queue.old.room }
     requires above { IsAbove queue.old duty.place }
     ensures { Gave queue.old queue.new (Some wait) duty result }
 {
     if lasts(wait) {
         match queue.give(Giver::Waits(duty)) {
-            Given::Met(pair) => gave(pair),
-            Given::Parked => Arrived::alone(None),
+            GiveOutcome::Met(pair) => gave(pair),
+            GiveOutcome::Parked => Arrival::alone(None),
         }
     } else {
         match queue.try_give(duty) {
-            Tried::Met(pair) => gave(pair),
-            Tried::Alone(duty) => Arrived::alone(Some(duty)),
+            TryOutcome::Met(pair) => gave(pair),
+            TryOutcome::Alone(duty) => Arrival::alone(Some(duty)),
         }
     }
 }
 
 // Who takes arrives: where no item is there it waits, or goes.
-fn receive(queue: &mut Dual, wait: Wait, duty: Duty) -> Arrived
+fn receive(queue: &mut Dual, wait: Wait, duty: Duty) -> Arrival
     requires room { 0 < queue.old.room }
     requires above { IsAbove queue.old duty.place }
     ensures { Took queue.old queue.new (Some wait) duty result }
 {
     if lasts(wait) {
         match queue.take(duty) {
-            Taken::Met(pair) => took(pair),
-            Taken::Parked => Arrived::alone(None),
+            TakeOutcome::Met(pair) => took(pair),
+            TakeOutcome::Parked => Arrival::alone(None),
         }
     } else {
         match queue.try_take(duty) {
-            Tried::Met(pair) => took(pair),
-            Tried::Alone(duty) => Arrived::alone(Some(duty)),
+            TryOutcome::Met(pair) => took(pair),
+            TryOutcome::Alone(duty) => Arrival::alone(Some(duty)),
         }
     }
 }
@@ -155,7 +155,7 @@ impl Queues {
 
     /// Who gives arrives in a queue: it meets the oldest consumer, which leaves; or, where none is there,
     /// waits behind the other items, if its wait lasts.
-    pub(crate) fn give(&mut self, queue: u64, wait: Option<Wait>, duty: Duty) -> Arrived
+    pub(crate) fn give(&mut self, queue: u64, wait: Option<Wait>, duty: Duty) -> Arrival
         requires fits { FitsQueue queue }
         requires room { 0 < (queue_at self.old queue).room }
         requires above { IsAbove (queue_at self.old queue) duty.place }
@@ -171,7 +171,7 @@ impl Queues {
 
     /// Who takes arrives in a queue: it meets the oldest item, which leaves; or, where none is there, waits
     /// behind the other consumers, if its wait lasts.
-    pub(crate) fn receive(&mut self, queue: u64, wait: Wait, duty: Duty) -> Arrived
+    pub(crate) fn receive(&mut self, queue: u64, wait: Wait, duty: Duty) -> Arrival
         requires fits { FitsQueue queue }
         requires room { 0 < (queue_at self.old queue).room }
         requires above { IsAbove (queue_at self.old queue) duty.place }

@@ -9,8 +9,8 @@ mod endings;
 mod growth;
 mod hellos;
 
-use crate::stations::Stations;
-use crate::verdict::Said;
+use crate::verdict::KeptAnswer;
+use crate::waiters::Waiters;
 use rv_account::{Account, Act};
 use rv_due::Due;
 use rv_session::Sessions;
@@ -24,32 +24,32 @@ pub(crate) const MAX_ENTRIES: usize = 100_000;
 pub const MAX_MOMENT: u64 = 4_611_686_018_427_387_904;
 
 #[derive(Drop)]
-pub(crate) struct State {
+pub(crate) struct BookState {
     account: Account,
     sessions: Sessions,
-    stations: Stations,
+    waiters: Waiters,
     // How many requests wait.
     waiting: usize,
     // The limits of those that have one, with their places.
     due: Due,
 }
 
-impl State {
+impl BookState {
     ghost use Rattle.rv_book.specs.Legal.{KeepsTime, NothingDue};
     ghost use Rattle.rv_book.specs.Tables.{Becomes, BecomesAfterTicks, IsPushed, IsTime, IsSound, account_of};
 
     /// An empty account of an epoch, opened at a moment, and tables with nothing in them.
-    pub(crate) fn open(alloc: Global, epoch: u64, opened: u64) -> Result<State, NoMemory>
+    pub(crate) fn open(alloc: Global, epoch: u64, opened: u64) -> Result<BookState, NoMemory>
         requires epoch { FitsIdentifier epoch }
         requires opened { opened ≤ max_moment }
         ensures sound { IfOk result IsSound }
         ensures account { IfOk result (λ state. account_of state
             ≡ record { epoch = epoch; opened = opened; entries = [] }) }
     {
-        Ok(State {
+        Ok(BookState {
             account: Account::empty(alloc, epoch, opened),
             sessions: Sessions::open(alloc, epoch),
-            stations: Stations::empty(alloc)?,
+            waiters: Waiters::empty(alloc)?,
             waiting: 0,
             due: Due::new(alloc),
         })
@@ -63,7 +63,7 @@ impl State {
     }
 
     /// Times out what is due, takes a step with a message that came at a moment, and says what became of it.
-    pub(crate) fn step(&mut self, now: u64, message: Message) -> Said
+    pub(crate) fn step(&mut self, now: u64, message: Message) -> KeptAnswer
         requires sound { IsSound self.old }
         requires fits { FitsMessage message }
         ensures sound { IsSound self.new }
@@ -75,7 +75,7 @@ impl State {
     }
 
     // Takes the message's own step at a moment at which nothing is due, and says what became of it.
-    fn answer(&mut self, moment: u64, message: Message) -> Said
+    fn answer(&mut self, moment: u64, message: Message) -> KeptAnswer
         requires time { IsTime self.old moment }
         requires nothing_due { NothingDue (account_of self.old).entries moment }
         requires fits { FitsMessage message }
@@ -89,16 +89,16 @@ impl State {
                 incarnation,
                 version,
             } => match self.greet(moment, client, incarnation, version) {
-                Ok(()) => Said::Welcome(epoch, client, incarnation, version),
-                Err(refusal) => Said::Refused(refusal),
+                Ok(()) => KeptAnswer::Welcome(epoch, client, incarnation, version),
+                Err(refusal) => KeptAnswer::Refused(refusal),
             },
             Message::Request { key, call } => match self.request(moment, key, call) {
-                Ok(kept) => Said::of(key, kept),
-                Err(refusal) => Said::Refused(refusal),
+                Ok(kept) => KeptAnswer::of(key, kept),
+                Err(refusal) => KeptAnswer::Refused(refusal),
             },
             Message::Cancel { key } => match self.cancel(moment, key) {
-                Ok(kept) => Said::Replied { key, kept },
-                Err(refusal) => Said::Refused(refusal),
+                Ok(kept) => KeptAnswer::Replied { key, kept },
+                Err(refusal) => KeptAnswer::Refused(refusal),
             },
         }
     }

@@ -6,7 +6,7 @@ use std::marker::Model;
 use std::snapshot::Snapshot;
 
 #[derive(Clone, Copy)]
-pub(crate) enum Said {
+pub(crate) enum KeptAnswer {
     // The session of this epoch, client, incarnation and version is open.
     Welcome(u64, u64, u64, Version),
     Replied { key: Key, kept: Kept },
@@ -14,17 +14,17 @@ pub(crate) enum Said {
     Refused(Refusal),
 }
 
-impl Said {
+impl KeptAnswer {
     ghost use Rattle.rv_book.specs.Arriving.{said_of};
     ghost use Rattle.std.specs.Prelude.{◌≡◌};
 
     // What is said to a request: the reply that is kept for it, or that it waits.
-    pub(crate) fn of(key: Key, kept: Option<Kept>) -> Said
+    pub(crate) fn of(key: Key, kept: Option<Kept>) -> KeptAnswer
         ensures { result ≡ said_of key kept }
     {
         match kept {
-            Some(kept) => Said::Replied { key, kept },
-            None => Said::Waiting { key },
+            Some(kept) => KeptAnswer::Replied { key, kept },
+            None => KeptAnswer::Waiting { key },
         }
     }
 }
@@ -33,7 +33,7 @@ impl Said {
 /// the answer of it. It takes no memory: contracts see its message and the account's length before and after.
 #[derive(Drop)]
 pub struct Verdict {
-    pub(crate) said: Said,
+    pub(crate) said: KeptAnswer,
     pub(crate) asked: Snapshot<Message>,
     pub(crate) before: Snapshot<Account>,
     pub(crate) after: Snapshot<Account>,
@@ -41,9 +41,9 @@ pub struct Verdict {
 
 impl Model for Verdict {
     ghost use Rattle.rv_book.specs.Saying.{stamp_of};
-    ghost use Rattle.rv_book.specs.Verdicts.{IsOfStep, Stamp};
+    ghost use Rattle.rv_book.specs.Verdicts.{IsOfStep, VerdictView};
 
-    ghost Value = { Stamp };
+    ghost Value = { VerdictView };
 
     ghost view = { λ v. stamp_of v.asked.value v.before.value.account v.after.value.account v.said };
 

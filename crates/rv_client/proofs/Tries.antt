@@ -9,8 +9,8 @@ use Rattle.rv_text.specs.declared.call.Call.{Call}
 use Rattle.rv_text.specs.declared.message.Key.{Key}
 use Rattle.rv_frame.specs.Cut.{frame_bytes, row_bytes}
 use Rattle.rv_frame.proofs.Cuts.{row_append}
-use Rattle.rv_client.specs.declared.calling.Called.{Called}
-use Rattle.rv_client.specs.declared.calling.Called.TheVariants as called
+use Rattle.rv_client.specs.declared.calling.CallOutcome.{CallOutcome}
+use Rattle.rv_client.specs.declared.calling.CallOutcome.TheVariants as called
 use Rattle.rv_client.specs.Calls.{AsksInVain, Calls, Decides, EndsWithin, IsIgnored}
 use Rattle.rv_client.specs.Link.{Link}
 use Rattle.rv_client.specs.Process.{Asking, Ignored, Outstanding, request_of}
@@ -54,7 +54,7 @@ module _ {R W : Type 0} (remaining : R → Option (List ℕ)) (contents : W → 
         nothing = λ none. absurd (omega arith);
       }
 
-  pub ended : (asking : Asking) (tries : ℕ) (before after : Link R W) (outcome : Called) → EndsWithin remaining contents asking tries before after outcome
+  pub ended : (asking : Asking) (tries : ℕ) (before after : Link R W) (outcome : CallOutcome) → EndsWithin remaining contents asking tries before after outcome
       → Calls remaining contents asking tries before after outcome
   ended asking tries before after (called.Settled next reply) within = within
   ended asking tries before after (called.EpochEnded key current) within = within
@@ -63,7 +63,7 @@ module _ {R W : Type 0} (remaining : R → Option (List ℕ)) (contents : W → 
   ended asking tries before after (called.Unsettled same None) within = absurd within.ends
 
   -- the same of the request that an idle client began
-  pub ended_call : (idle : Option Key) (call : Call) (asking : Asking) (tries : ℕ) (before after : Link R W) (outcome : Called) → idle ≡ Some asking.key → asking.call ≡ call
+  pub ended_call : (idle : Option Key) (call : Call) (asking : Asking) (tries : ℕ) (before after : Link R W) (outcome : CallOutcome) → idle ≡ Some asking.key → asking.call ≡ call
       → EndsWithin remaining contents asking tries before after outcome → IfSome idle (λ key. Calls remaining contents (record { key = key; call = call }) tries before after outcome)
   ended_call idle call asking tries before after outcome begun same within =
       let Told : Call → Type 0 = λ c. Calls remaining contents (record { key = asking.key; call = c }) tries before after outcome in

@@ -6,8 +6,8 @@ use Rattle.rv_text.specs.declared.answer.Answer.{Answer}
 use Rattle.rv_frame.specs.Cut.{row_bytes}
 use Rattle.rv_frame.specs.Sink.{sink_failed}
 use Rattle.rv_frame.specs.Source.{source_failed}
-use Rattle.rv_client.specs.declared.calling.Called.{Called}
-use Rattle.rv_client.specs.declared.calling.Called.TheVariants as called
+use Rattle.rv_client.specs.declared.calling.CallOutcome.{CallOutcome}
+use Rattle.rv_client.specs.declared.calling.CallOutcome.TheVariants as called
 use Rattle.rv_client.specs.Link.{Asks, Link, Moves, message_frame}
 use Rattle.rv_client.specs.Process.{Asking, Hears, Outcome, SaysNothingFinal, request_of}
 use Rattle.rv_client.specs.Process as process
@@ -36,7 +36,7 @@ module _ {R W : Type 0} (remaining : R → Option (List ℕ)) (contents : W → 
     pub hears : Hears (process.Outstanding asking) answer outcome
 
   -- the request was asked once, and that is the end of the call
-  abbrev pub EndsBy : Asking → Link R W → Link R W → Called → Type 0
+  abbrev pub EndsBy : Asking → Link R W → Link R W → CallOutcome → Type 0
   EndsBy asking before after (called.Settled next reply) =
       Decides asking before after (process.Settled next reply)
   EndsBy asking before after (called.EpochEnded key current) =
@@ -48,7 +48,7 @@ module _ {R W : Type 0} (remaining : R → Option (List ℕ)) (contents : W → 
   EndsBy asking before after (called.Unsettled same None) = ⊥
 
   -- after fewer tries than there may be, which said nothing final, one more ends the call
-  pub record EndsWithin (asking : Asking) (tries : ℕ) (before after : Link R W) (outcome : Called)
+  pub record EndsWithin (asking : Asking) (tries : ℕ) (before after : Link R W) (outcome : CallOutcome)
       : Type 0 where
     pub times : ℕ
     pub fewer : times < tries
@@ -58,7 +58,7 @@ module _ {R W : Type 0} (remaining : R → Option (List ℕ)) (contents : W → 
 
   -- a call is unsettled with no fault after as many answers as there may be tries, which all said nothing
   -- final; else one of the tries ends it
-  abbrev pub Calls : Asking → ℕ → Link R W → Link R W → Called → Type 0
+  abbrev pub Calls : Asking → ℕ → Link R W → Link R W → CallOutcome → Type 0
   Calls asking tries before after (called.Unsettled same None) =
       (same ≡ asking) × AsksInVain asking before after tries
   Calls asking tries before after outcome = EndsWithin asking tries before after outcome

@@ -4,7 +4,7 @@ use Rattle.std.specs.Io.KnownBytes.{Consumes, IsAtEnd}
 use Rattle.rv_text.specs.Bodies.{IsAnswerBody, message_text}
 use Rattle.rv_text.specs.declared.answer.Answer.{Answer}
 use Rattle.rv_text.specs.declared.message.Message.{Message}
-use Rattle.rv_frame.specs.Cut.{FitsLength, IsBody, IsUnfinished, frame_bytes, length_bytes}
+use Rattle.rv_frame.specs.Cut.{FitsLength, IsFrameBody, IsUnfinished, frame_bytes, length_bytes}
 use Rattle.rv_frame.specs.Sink.{SinkTakes, sink_failed}
 use Rattle.rv_frame.specs.Source.{source_failed, source_remaining}
 use Rattle.rv_frame.specs.declared.sink.Sink.{Sink}
@@ -31,7 +31,7 @@ link source sink = record { source = source; sink = sink }
 
 module _ {R W : Type 0} where
   -- no read and no write failed, before and after
-  pub record Works (before after : Link R W) : Type 0 where
+  pub record LinkHolds (before after : Link R W) : Type 0 where
     pub read_before : source_failed before.source ≡ false
     pub read_after : source_failed after.source ≡ false
     pub write_before : sink_failed before.sink ≡ false
@@ -54,10 +54,10 @@ module _ {R W : Type 0} (remaining : R → Option (List ℕ)) (contents : W → 
   -- the whole request went out, and the frame of a body with a property came in
   pub record ReadsBody (request : List ℕ) (before after : Link R W) (Has : List ℕ → Type 0) : Type 0 where
     pub body : List ℕ
-    pub is_body : IsBody body
+    pub is_body : IsFrameBody body
     pub has : Has body
     pub moves : Moves before after request (frame_bytes body)
-    pub works : Works before after
+    pub works : LinkHolds before after
 
   -- the whole request went out, and no whole frame came in: these bytes alone, and a read failed; a source
   -- that had failed before gives nothing
@@ -76,14 +76,14 @@ module _ {R W : Type 0} (remaining : R → Option (List ℕ)) (contents : W → 
     pub unfinished : IsUnfinished bytes
     pub moves : Moves before after request bytes
     pub ended : HasEnded remaining after.source
-    pub works : Works before after
+    pub works : LinkHolds before after
 
   -- the whole request went out, and the two bytes that came in are a bad length
   pub record MeetsBadLength (request : List ℕ) (before after : Link R W) : Type 0 where
     pub n : ℕ
     pub is_bad : ¬ FitsLength n
     pub moves : Moves before after request (length_bytes n)
-    pub works : Works before after
+    pub works : LinkHolds before after
 
   -- of the request these first bytes alone went out, not all, and a write failed; a sink that had failed
   -- before takes none; nothing was read

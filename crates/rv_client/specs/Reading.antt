@@ -1,6 +1,6 @@
 -- What stands of a source after one frame was read of it, or a part of one; for the proofs.
 use Rattle.std.specs.Prelude.{ℕ, ◌≡◌, ◌<◌, List, Option, Result, Ok, Err, true, false, length}
-use Rattle.rv_frame.specs.Cut.{FitsLength, IsBody, IsUnfinished, frame_bytes, length_bytes}
+use Rattle.rv_frame.specs.Cut.{FitsLength, IsFrameBody, IsUnfinished, frame_bytes, length_bytes}
 use Rattle.rv_frame.specs.Source.{source_failed}
 use Rattle.rv_frame.specs.declared.source.Source.{Source}
 use Rattle.rv_client.specs.declared.fault.LinkFault.{LinkFault}
@@ -52,7 +52,7 @@ module _ {R : Type 0} (remaining : R → Option (List ℕ)) where
 
   -- the source gave the frame of this body
   pub record GivesFrame (old new : Source R) (body : List ℕ) : Type 0 where
-    pub is_body : IsBody body
+    pub is_body : IsFrameBody body
     pub given : Gives remaining old new (frame_bytes body)
     pub unfailed : Unfailed old new
 

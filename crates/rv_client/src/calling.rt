@@ -7,14 +7,14 @@ ghost use Rattle.rv_client.specs.Process as process;
 
 use crate::fault::LinkFault;
 use crate::link::ask;
-use crate::request::{Heard, Idle, Outstanding};
+use crate::request::{HearOutcome, Idle, Outstanding};
 use rv_frame::{Sink, Source};
 use rv_text::{Answer, Call, Key, Reply};
 use std::alloc::Global;
 use std::io::{Read, Write};
 
 /// What came of a call.
-pub enum Called {
+pub enum CallOutcome {
     /// The request has this reply, and the client is idle at the next number.
     Settled(Idle, Reply),
     /// Nothing final was heard: the last try met this fault, or all tries were made, and there is none.
@@ -37,7 +37,7 @@ pub fn call<R: Read, W: Write>(
     sink: &mut Sink<W>,
     call: Call,
     tries: u32,
-) -> Called
+) -> CallOutcome
     requires next { IsSome idle }
     requires key { IfSome idle FitsKey }
     requires call { FitsCall call }
@@ -51,7 +51,7 @@ pub fn call<R: Read, W: Write>(
             Err(called) => return called,
         }
     }
-    Called::Unsettled(outstanding, None)
+    CallOutcome::Unsettled(outstanding, None)
 }
 
 // Asks the request once. The request comes back where the answer says nothing final about it.
@@ -60,7 +60,7 @@ fn try_once<R: Read, W: Write>(
     outstanding: Outstanding,
     source: &mut Source<R>,
     sink: &mut Sink<W>,
-) -> Result<Outstanding, Called>
+) -> Result<Outstanding, CallOutcome>
     requires key { FitsKey outstanding.key }
     requires call { FitsCall outstanding.call }
     ensures still { IfOk result (λ same. (same ≡ outstanding) × Decides R.remaining W.contents outstanding
@@ -71,12 +71,12 @@ fn try_once<R: Read, W: Write>(
 {
     match ask_for(alloc, &outstanding, source, sink) {
         Ok(answer) => match outstanding.hear(answer) {
-            Heard::Settled(idle, reply) => Err(Called::Settled(idle, reply)),
-            Heard::Still(same) => Ok(same),
-            Heard::EpochEnded(key, current) => Err(Called::EpochEnded(key, current)),
-            Heard::Replaced(key, current) => Err(Called::Replaced(key, current)),
+            HearOutcome::Settled(idle, reply) => Err(CallOutcome::Settled(idle, reply)),
+            HearOutcome::Still(same) => Ok(same),
+            HearOutcome::EpochEnded(key, current) => Err(CallOutcome::EpochEnded(key, current)),
+            HearOutcome::Replaced(key, current) => Err(CallOutcome::Replaced(key, current)),
         },
-        Err(fault) => Err(Called::Unsettled(outstanding, Some(fault))),
+        Err(fault) => Err(CallOutcome::Unsettled(outstanding, Some(fault))),
     }
 }
 

@@ -28,7 +28,7 @@ impl Model for New {
 
 /// What an answer is to a client that has not been welcomed.
 #[derive(Debug, Drop)]
-pub enum Greeted {
+pub enum WelcomeOutcome {
     /// It is welcome, and idle.
     Idle(Idle),
     /// The answer says nothing to it.
@@ -69,7 +69,7 @@ impl New {
     /// Hears an answer. A welcome of its client, incarnation and version makes it idle, at number 1 in the
     /// welcome's epoch. A refusal turns it away, also one of an earlier request of its client; it stays as it
     /// is. All else it passes by.
-    pub fn welcome(self, answer: &Answer) -> Greeted
+    pub fn welcome(self, answer: &Answer) -> WelcomeOutcome
         ensures { process.Hears (process.New self) answer.now (greeted_as result) }
     {
         match answer {
@@ -83,13 +83,13 @@ impl New {
                     && *incarnation == self.incarnation
                     && *version == self.version
                 {
-                    Greeted::Idle(Idle::first(*epoch, *client, *incarnation))
+                    WelcomeOutcome::Idle(Idle::first(*epoch, *client, *incarnation))
                 } else {
-                    Greeted::Again(self)
+                    WelcomeOutcome::Again(self)
                 }
             }
-            Answer::Refused(refusal) => Greeted::Refused(self, *refusal),
-            _ => Greeted::Again(self),
+            Answer::Refused(refusal) => WelcomeOutcome::Refused(self, *refusal),
+            _ => WelcomeOutcome::Again(self),
         }
     }
 }

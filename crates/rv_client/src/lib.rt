@@ -9,8 +9,8 @@ pub mod laws;
 mod link;
 mod request;
 
-pub use calling::{Called, call};
+pub use calling::{CallOutcome, call};
 pub use fault::LinkFault;
-pub use hello::{Greeted, New};
+pub use hello::{New, WelcomeOutcome};
 pub use link::ask;
-pub use request::{Heard, Idle, Outstanding, Resting};
+pub use request::{HearOutcome, Idle, Outstanding, Resting};

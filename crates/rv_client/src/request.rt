@@ -59,7 +59,7 @@ impl Model for Resting {
 }
 
 /// What an answer is to a request that was begun.
-pub enum Heard {
+pub enum HearOutcome {
     /// The request has this reply, and the client is idle at the next number.
     Settled(Idle, Reply),
     /// The answer says nothing final about it.
@@ -157,41 +157,41 @@ impl Outstanding {
     /// Hears an answer. A reply of its own key settles it. It ends by the refusal *other epoch* with an
     /// epoch above its key's, and by *old incarnation* with an incarnation above its key's. All else it
     /// ignores: a reply of another number, a stale refusal, an answer to another client.
-    pub fn hear(self, answer: Answer) -> Heard
+    pub fn hear(self, answer: Answer) -> HearOutcome
         ensures { process.Hears (process.Outstanding self) answer (heard_as result) }
     {
         match answer {
             Answer::Replied { key, reply } => {
                 if key == self.key {
-                    Heard::Settled(Idle::after(self.abandon()), reply)
+                    HearOutcome::Settled(Idle::after(self.abandon()), reply)
                 } else {
-                    Heard::Still(self)
+                    HearOutcome::Still(self)
                 }
             }
             Answer::Refused(refusal) => self.hear_refusal(refusal),
-            _ => Heard::Still(self),
+            _ => HearOutcome::Still(self),
         }
     }
 
-    fn hear_refusal(self, refusal: Refusal) -> Heard
+    fn hear_refusal(self, refusal: Refusal) -> HearOutcome
         ensures { process.Hears (process.Outstanding self) (Answer.Refused refusal) (heard_as result) }
     {
         match refusal {
             Refusal::OtherEpoch(current) => {
                 if current > self.key.epoch {
-                    Heard::EpochEnded(self.abandon(), current)
+                    HearOutcome::EpochEnded(self.abandon(), current)
                 } else {
-                    Heard::Still(self)
+                    HearOutcome::Still(self)
                 }
             }
             Refusal::OldIncarnation(current) => {
                 if current > self.key.incarnation {
-                    Heard::Replaced(self.abandon(), current)
+                    HearOutcome::Replaced(self.abandon(), current)
                 } else {
-                    Heard::Still(self)
+                    HearOutcome::Still(self)
                 }
             }
-            _ => Heard::Still(self),
+            _ => HearOutcome::Still(self),
         }
     }
 

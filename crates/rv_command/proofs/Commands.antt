@@ -6,7 +6,7 @@ use Rattle.clap.specs.Words.{Row, Text, subcommand_of}
 use Rattle.rv_text.specs.Versions.{number_of_version, version_of}
 use Rattle.rv_text.specs.declared.version.Version.{Version}
 use Rattle.rv_text.specs.declared.version.Version.TheVariants.{One, Two}
-use Rattle.rv_command.specs.Command.{GivesBetween, GivesIdentifier, GivesVersion, Says, rv_app}
+use Rattle.rv_command.specs.Command.{GivesBetween, GivesIdentifier, GivesVersion, SaysCommand, rv_app}
 use Rattle.rv_command.specs.Laws.{OneCommand, SameCommand}
 use Rattle.rv_command.proofs.Options.{first_letter, letter_of}
 use Rattle.rv_command.specs.declared.command.Command.{Command}
@@ -35,10 +35,10 @@ text_one : (value : Option Text) (a b : Text) → value ≡ Some a → value ≡
 text_one value a b first second = cc
 
 -- a subcommand is no two commands of two words
-one_letter : (s : Text × List Row) (c d : Command) → Says s c → Says s d → letter_of c ≡ letter_of d
+one_letter : (s : Text × List Row) (c d : Command) → SaysCommand s c → SaysCommand s d → letter_of c ≡ letter_of d
 one_letter s c d a b = sym (first_letter s.0 s.1 c a) ∙ first_letter s.0 s.1 d b
 
-says_one : (s : Text × List Row) (c d : Command) → Says s c → Says s d → SameCommand c d
+says_one : (s : Text × List Row) (c d : Command) → SaysCommand s c → SaysCommand s d → SameCommand c d
 says_one s (Book m) (Book n) a b = ap Book (number_one _ m n a.1 b.1)
 says_one s (Book m) d a b = let same : 98 ≡ letter_of d = one_letter s (Book m) d a b in absurd (omega (arith, same))
 says_one s Play Play a b = refl
@@ -61,7 +61,7 @@ says_one s (Call connect client incarnation tries speak) (Call other client' inc
 )
 says_one s (Call connect client incarnation tries speak) d a b = let same : 99 ≡ letter_of d = one_letter s (Call connect client incarnation tries speak) d a b in absurd (omega (arith, same))
 
-said_one : (subcommand : Option (Text × List Row)) (c d : Command) → IsSomeAnd subcommand (λ s. Says s c) → IsSomeAnd subcommand (λ s. Says s d) → SameCommand c d
+said_one : (subcommand : Option (Text × List Row)) (c d : Command) → IsSomeAnd subcommand (λ s. SaysCommand s c) → IsSomeAnd subcommand (λ s. SaysCommand s d) → SameCommand c d
 said_one None c d a b = absurd a
 said_one (Some s) c d a b = says_one s c d a b
 

@@ -4,7 +4,7 @@ use Rattle.clap.proofs.WalkLemmas.{first_value-rows}
 use Rattle.clap.specs.Words.{Row, Text, first_of, first_value, rows_of}
 use Rattle.clap.specs.declared.parser.matches.Found.{Found}
 use Rattle.rv_text.specs.declared.version.Version.{Version}
-use Rattle.rv_command.specs.Command.{GivesIdentifier, Says, SaysCall, SaysServe}
+use Rattle.rv_command.specs.Command.{GivesIdentifier, SaysCall, SaysCommand, SaysServe}
 use Rattle.rv_command.specs.declared.command.Command.{Command}
 use Rattle.rv_command.specs.declared.command.Command.TheVariants.{Audit, Book, Call, Play, Serve}
 
@@ -29,7 +29,7 @@ letter_of Audit = 97
 letter_of (Serve listen epoch workers connections) = 115
 letter_of (Call connect client incarnation tries speak) = 99
 
-pub first_letter : (name : Text) (options : List Row) (command : Command) → Says (name, options) command → get_or name 0 0 ≡ letter_of command
+pub first_letter : (name : Text) (options : List Row) (command : Command) → SaysCommand (name, options) command → get_or name 0 0 ≡ letter_of command
 first_letter name options (Book epoch) said = ap (λ (letters : List ℕ). get_or letters 0 0) said.0
 first_letter name options Play said = ap (λ (letters : List ℕ). get_or letters 0 0) said
 first_letter name options Audit said = ap (λ (letters : List ℕ). get_or letters 0 0) said
@@ -37,19 +37,19 @@ first_letter name options (Serve listen epoch workers connections) said = ap (λ
 first_letter name options (Call connect client incarnation tries speak) said = ap (λ (letters : List ℕ). get_or letters 0 0) said.0
 
 -- the subcommand `book` is no other command
-pub book_alone : (options : List Row) (command : Command) → Says (codes "book", options) command
+pub book_alone : (options : List Row) (command : Command) → SaysCommand (codes "book", options) command
     → (epoch : ℕ) × GivesIdentifier (first_of (codes "epoch") options) epoch
 book_alone options (Book epoch) said = (epoch, said.1)
 book_alone options command said = let same : 98 ≡ letter_of command = first_letter (codes "book") options command said in absurd (omega (arith, same))
 
 -- nor is `serve`
-pub serve_alone : (options : List Row) (command : Command) → Says (codes "serve", options) command
+pub serve_alone : (options : List Row) (command : Command) → SaysCommand (codes "serve", options) command
     → (listen : Text) × (epoch : ℕ) × (workers : ℕ) × (connections : ℕ) × SaysServe options listen epoch workers connections
 serve_alone options (Serve listen epoch workers connections) said = (listen.now, epoch, workers, connections, said.1)
 serve_alone options command said = let same : 115 ≡ letter_of command = first_letter (codes "serve") options command said in absurd (omega (arith, same))
 
 -- nor is `call`
-pub call_alone : (options : List Row) (command : Command) → Says (codes "call", options) command
+pub call_alone : (options : List Row) (command : Command) → SaysCommand (codes "call", options) command
     → (connect : Text) × (client : ℕ) × (incarnation : ℕ) × (tries : ℕ) × (speak : Version) × SaysCall options connect client incarnation tries speak
 call_alone options (Call connect client incarnation tries speak) said = (connect.now, client, incarnation, tries, speak, said.1)
 call_alone options command said = let same : 99 ≡ letter_of command = first_letter (codes "call") options command said in absurd (omega (arith, same))

@@ -92,25 +92,25 @@ pub record SaysCall (rows : List Row) (connect : Text) (client incarnation tries
   pub to_speak : GivesVersion (first_of (codes "speak") rows) speak
 
 -- a subcommand, by its name and its options, is the command
-abbrev pub Says : Text × List Row → Command → Type 0
-Says subcommand (Book epoch) = (subcommand.0 ≡ codes "book")
+abbrev pub SaysCommand : Text × List Row → Command → Type 0
+SaysCommand subcommand (Book epoch) = (subcommand.0 ≡ codes "book")
     × GivesIdentifier (first_of (codes "epoch") subcommand.1) epoch
-Says subcommand Play = subcommand.0 ≡ codes "play"
-Says subcommand Audit = subcommand.0 ≡ codes "audit"
-Says subcommand (Serve listen epoch workers connections) = (subcommand.0 ≡ codes "serve")
+SaysCommand subcommand Play = subcommand.0 ≡ codes "play"
+SaysCommand subcommand Audit = subcommand.0 ≡ codes "audit"
+SaysCommand subcommand (Serve listen epoch workers connections) = (subcommand.0 ≡ codes "serve")
     × SaysServe subcommand.1 listen.now epoch workers connections
-Says subcommand (Call connect client incarnation tries speak) = (subcommand.0 ≡ codes "call")
+SaysCommand subcommand (Call connect client incarnation tries speak) = (subcommand.0 ≡ codes "call")
     × SaysCall subcommand.1 connect.now client incarnation tries speak
 
 -- the words, the program's name first, name the command: `clap` finds no fault in them, and the
 -- subcommand that it finds is the command
-pub record Names (words : List Text) (command : Command) : Type 0 where
+pub record NamesCommand (words : List Text) (command : Command) : Type 0 where
   pub taken : fault_of rv_app words ≡ []
-  pub said : IsSomeAnd (subcommand_of rv_app words) (λ subcommand. Says subcommand command)
+  pub said : IsSomeAnd (subcommand_of rv_app words) (λ subcommand. SaysCommand subcommand command)
 
 -- the words name no command
 abbrev pub NamesNone : List Text → Type 0
-NamesNone words = (command : Command) → ¬ Names words command
+NamesNone words = (command : Command) → ¬ NamesCommand words command
 
 -- the numbers of the command keep their limits
 abbrev pub FitsCommand : Command → Type 0

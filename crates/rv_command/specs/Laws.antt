@@ -1,7 +1,7 @@
 -- What holds of the words of a command line as such.
 use Rattle.std.specs.Prelude.{codes, List, [], ◌∷◌, ◌≡◌}
 use Rattle.clap.specs.Words.{Text}
-use Rattle.rv_command.specs.Command.{Names}
+use Rattle.rv_command.specs.Command.{NamesCommand}
 use Rattle.rv_command.specs.declared.command.Command.{Command}
 use Rattle.rv_command.specs.declared.command.Command.TheVariants.{Audit, Book, Call, Play, Serve}
 
@@ -21,11 +21,12 @@ SameCommand Audit d = Audit ≡ d
 
 -- words name at most one command
 abbrev pub OneCommand : Type 0
-OneCommand = (words : List Text) (c d : Command) → Names words c → Names words d → SameCommand c d
+OneCommand = (words : List Text) (c d : Command) → NamesCommand words c → NamesCommand words d
+    → SameCommand c d
 
 -- the words of `rv book --epoch 1`
 abbrev pub book_one : List Text
 book_one = codes "rv" ∷ codes "book" ∷ codes "--epoch" ∷ codes "1" ∷ []
 
 abbrev pub BookOneIsNamed : Type 0
-BookOneIsNamed = Names book_one (Book 1)
+BookOneIsNamed = NamesCommand book_one (Book 1)

@@ -7,8 +7,8 @@ ghost use Rattle.clap.specs.Words.{shape_of, subcommand_of, subcommand_rows_of};
 ghost use Rattle.clap.specs.declared.Command.TheViews.{out-Command};
 ghost use Rattle.clap.specs.Walk.{texts};
 ghost use Rattle.rv_command.specs.Command.{FitsCommand, GivesBetween, GivesIdentifier, GivesVersion};
-ghost use Rattle.rv_command.specs.Command.{Names, NamesNone};
-ghost use Rattle.rv_command.specs.Command.{Says, audit_app, book_app, call_app, caller_app, local_app};
+ghost use Rattle.rv_command.specs.Command.{NamesCommand, NamesNone};
+ghost use Rattle.rv_command.specs.Command.{SaysCommand, audit_app, book_app, call_app, caller_app, local_app};
 ghost use Rattle.rv_command.specs.Command.{play_app, required_option, rv_app, serve_app};
 ghost use Rattle.rv_command.specs.declared.command.CommandFault.TheVariants.{Bad, NoMemory};
 ghost use Rattle.clap.specs.declared.error.ErrorKind.TheVariants.{OutOfMemory};
@@ -98,7 +98,7 @@ impl From<clap::Error> for CommandFault {
 /// The command that the words name, as `clap` reads them. The first word is the program's name. A
 /// number is 1 to 19 ASCII digits, read in decimal.
 pub fn read_command<'a>(alloc: Global, words: &'a [&'a str]) -> Result<Command<'a>, CommandFault>
-    ensures ok { IfOk result (λ command. Names (texts words.entry.now) command) }
+    ensures ok { IfOk result (λ command. NamesCommand (texts words.entry.now) command) }
     ensures bad { IsErrOf result CommandFault.Bad → NamesNone (texts words.entry.now) }
     ensures fits { IfOk result FitsCommand }
 {
@@ -109,9 +109,9 @@ pub fn read_command<'a>(alloc: Global, words: &'a [&'a str]) -> Result<Command<'
 // The command that the subcommand is.
 fn command_of<'a>(matches: &ArgMatches<'a>) -> Option<Command<'a>>
     ensures some { IfSome result (λ command.
-        IsSomeAnd (subcommand_rows_of matches.now) (λ s. Says s command)) }
+        IsSomeAnd (subcommand_rows_of matches.now) (λ s. SaysCommand s command)) }
     ensures none { result ≡ None → (command : Command)
-        → ¬ IsSomeAnd (subcommand_rows_of matches.now) (λ s. Says s command) }
+        → ¬ IsSomeAnd (subcommand_rows_of matches.now) (λ s. SaysCommand s command) }
 {
     let (name, options) = matches.subcommand()?;
     match name {
@@ -126,9 +126,9 @@ fn command_of<'a>(matches: &ArgMatches<'a>) -> Option<Command<'a>>
 
 // The command `book` with these options.
 fn book_of<'a>(options: &ArgMatches<'a>) -> Option<Command<'a>>
-    ensures some { IfSome result (Says (codes "book", rows_of (found_of options.now))) }
+    ensures some { IfSome result (SaysCommand (codes "book", rows_of (found_of options.now))) }
     ensures none { result ≡ None → (command : Command)
-        → ¬ Says (codes "book", rows_of (found_of options.now)) command }
+        → ¬ SaysCommand (codes "book", rows_of (found_of options.now)) command }
 {
     let epoch = identifier_of(options, "epoch")?;
     Some(Command::Book(epoch))
@@ -136,9 +136,9 @@ fn book_of<'a>(options: &ArgMatches<'a>) -> Option<Command<'a>>
 
 // The command `serve` with these options.
 fn serve_of<'a>(options: &ArgMatches<'a>) -> Option<Command<'a>>
-    ensures some { IfSome result (Says (codes "serve", rows_of (found_of options.now))) }
+    ensures some { IfSome result (SaysCommand (codes "serve", rows_of (found_of options.now))) }
     ensures none { result ≡ None → (command : Command)
-        → ¬ Says (codes "serve", rows_of (found_of options.now)) command }
+        → ¬ SaysCommand (codes "serve", rows_of (found_of options.now)) command }
 {
     let listen = text_of(options, "listen")?;
     let epoch = identifier_of(options, "epoch")?;
@@ -154,9 +154,9 @@ fn serve_of<'a>(options: &ArgMatches<'a>) -> Option<Command<'a>>
 
 // The command `call` with these options.
 fn call_of<'a>(options: &ArgMatches<'a>) -> Option<Command<'a>>
-    ensures some { IfSome result (Says (codes "call", rows_of (found_of options.now))) }
+    ensures some { IfSome result (SaysCommand (codes "call", rows_of (found_of options.now))) }
     ensures none { result ≡ None → (command : Command)
-        → ¬ Says (codes "call", rows_of (found_of options.now)) command }
+        → ¬ SaysCommand (codes "call", rows_of (found_of options.now)) command }
 {
     let connect = text_of(options, "connect")?;
     let client = identifier_of(options, "client")?;

@@ -7,7 +7,7 @@ use Rattle.std.proofs.lemmas.Option.{same_Some, none-some, get_or_from_slice_get
 use Rattle.rv_dual.specs.declared.slot.Slot.{Slot}
 use Rattle.rv_dual.specs.declared.slot.Slot.TheVariants.{Holds, Withdrawn}
 use Rattle.rv_dual.specs.Entries.{PassesAt}
-use Rattle.rv_dual.specs.Slots.{FirstHolds, NoSlotAt, Rises, first_slot, holder, marked, passes_in, slot_place, slot_places, waiting_in}
+use Rattle.rv_dual.specs.Slots.{FirstHolds, NoSlotAt, Rises, first_slot, holder, is_marked, passes_in, slot_place, slot_places, waiting_in}
 use Rattle.rv_dual.proofs.Removing.{rest_pairs, without_none}
 use Rattle.rv_dual.proofs.Searching.{nowhere}
 use Rattle.rv_dual.proofs.Found.{contains_at}
@@ -92,4 +92,4 @@ popped old new (Withdrawn p) x parts is = absurd (none-some _ (sym is))
 
 pub never_marked : {X : Type 0} (old new : List (Slot X)) (s : Slot X) → FirstHolds old → old ≡ s ∷ new → None ≡ holder s → ⊥
 never_marked old new (Holds y) first parts is = none-some _ is
-never_marked old new (Withdrawn p) first parts is = false≢true (sym first ∙ ap (λ l. marked (first_slot l)) parts)
+never_marked old new (Withdrawn p) first parts is = false≢true (sym first ∙ ap (λ l. is_marked (first_slot l)) parts)

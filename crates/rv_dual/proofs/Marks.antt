@@ -9,7 +9,7 @@ use Rattle.std.proofs.lemmas.Option.{slice_get-get_or}
 use Rattle.std.proofs.Math.Seq.{get_or-append_seam}
 use Rattle.rv_dual.specs.declared.slot.Slot.{Slot}
 use Rattle.rv_dual.specs.declared.slot.Slot.TheVariants.{Holds, Withdrawn}
-use Rattle.rv_dual.specs.Slots.{FirstHolds, Rises, first_slot, last_slot, holder, marked, slot_place, slot_places, waiting_in}
+use Rattle.rv_dual.specs.Slots.{FirstHolds, Rises, first_slot, last_slot, holder, is_marked, slot_place, slot_places, waiting_in}
 use Rattle.rv_dual.proofs.Removing.{rest_pairs}
 
 append_none : {X : Type 0} (xs : List X) → xs ++ [] ≡ xs
@@ -23,9 +23,9 @@ pairs_before R xs ys pairs i j d lt within =
 
 -- ---- at the front
 
-pub same_behind : {X : Type 0} (old new : List (Slot X)) (r : Option (Slot X)) → old ≡ option_to_list r ++ new → marked (first_slot old) ≡ true → waiting_in new ≡ waiting_in old
+pub same_behind : {X : Type 0} (old new : List (Slot X)) (r : Option (Slot X)) → old ≡ option_to_list r ++ new → is_marked (first_slot old) ≡ true → waiting_in new ≡ waiting_in old
 same_behind old new None parts first = sym (ap waiting_in parts)
-same_behind old new (Some (Holds x)) parts first = absurd (false≢true (ap (λ l. marked (first_slot l)) (sym parts) ∙ first))
+same_behind old new (Some (Holds x)) parts first = absurd (false≢true (ap (λ l. is_marked (first_slot l)) (sym parts) ∙ first))
 same_behind old new (Some (Withdrawn p)) parts first = sym (ap waiting_in parts)
 
 pub rises_behind : {X : Type 0} (place_of : X → ℕ) (old new : List (Slot X)) (r : Option (Slot X)) → old ≡ option_to_list r ++ new → Rises place_of old → Rises place_of new
@@ -42,9 +42,9 @@ last_of front s =
     ∙ ap (λ i. Some (get_or (front ++ s ∷ []) i s)) at
     ∙ ap Some (get_or-append_seam front s [] s)
 
-pub same_before : {X : Type 0} (old new : List (Slot X)) (r : Option (Slot X)) → old ≡ new ++ option_to_list r → marked (last_slot old) ≡ true → waiting_in new ≡ waiting_in old
+pub same_before : {X : Type 0} (old new : List (Slot X)) (r : Option (Slot X)) → old ≡ new ++ option_to_list r → is_marked (last_slot old) ≡ true → waiting_in new ≡ waiting_in old
 same_before old new None parts last = ap waiting_in (sym (append_none new) ∙ sym parts)
-same_before old new (Some (Holds x)) parts last = absurd (false≢true (sym (ap marked (last_of new (Holds x))) ∙ ap (λ l. marked (last_slot l)) (sym parts) ∙ last))
+same_before old new (Some (Holds x)) parts last = absurd (false≢true (sym (ap is_marked (last_of new (Holds x))) ∙ ap (λ l. is_marked (last_slot l)) (sym parts) ∙ last))
 same_before old new (Some (Withdrawn p)) parts last =
     sym (ap waiting_in parts ∙ filter_map-append holder new (Withdrawn p ∷ []) ∙ append_none (waiting_in new))
 
@@ -55,4 +55,4 @@ rises_before place_of old new r parts rises =
 
 pub first_before : {X : Type 0} (old new : List (Slot X)) (r : Option (Slot X)) → old ≡ new ++ option_to_list r → FirstHolds old → FirstHolds new
 first_before old [] r parts first = refl
-first_before old (s ∷ new) r parts first = ap (λ l. marked (first_slot l)) (sym parts) ∙ first
+first_before old (s ∷ new) r parts first = ap (λ l. is_marked (first_slot l)) (sym parts) ∙ first

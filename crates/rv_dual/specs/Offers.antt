@@ -3,7 +3,7 @@ use Rattle.std.specs.Prelude.{◌≡◌, ◌==◌, ◌<◌, ℕ, Bool, true, fal
 use Rattle.std.proofs.Common.{arith}
 use Rattle.std.proofs.lemmas.Bool.{false≢true}
 use Rattle.std.proofs.lemmas.Bool.Decides.{nat_tests}
-use Rattle.rv_session.specs.Owed.{Owed}
+use Rattle.rv_session.specs.OwedDuty.{OwedDuty}
 use Rattle.rv_dual.specs.declared.giver.Giver.{Giver}
 use Rattle.rv_dual.specs.declared.giver.Giver as giver
 use Rattle.rv_dual.specs.declared.giver.Offer.{Offer}
@@ -24,12 +24,12 @@ abbrev pub places_of : List Offer → List ℕ
 places_of givers = map place_of givers
 
 -- the duty of the request that waits with the item, if one does
-abbrev pub duty_of : Offer → Option Owed
+abbrev pub duty_of : Offer → Option OwedDuty
 duty_of (Put place) = None
 duty_of (Waits duty) = Some duty
 
 -- whether a duty is that of the request at a place
-abbrev pub is_at : ℕ → Owed → Bool
+abbrev pub is_at : ℕ → OwedDuty → Bool
 is_at place duty = duty.place == place
 
 -- whether the request at a place waits with the item; a put doesn't wait
@@ -38,7 +38,7 @@ waits_at place (Put other) = false
 waits_at place (Waits duty) = is_at place duty
 
 -- a duty of the request at a place has that place
-pub duty_at : (place : ℕ) (duty : Owed) → is_at place duty ≡ true → duty.place ≡ place
+pub duty_at : (place : ℕ) (duty : OwedDuty) → is_at place duty ≡ true → duty.place ≡ place
 duty_at place duty at = grind (arith, nat_tests)
 
 -- and so has the item with which it waits
@@ -50,10 +50,10 @@ offer_at place (Waits duty) at = duty_at place duty at
 abbrev pub IsEarlier : Offer → Offer → Type 0
 IsEarlier a b = place_of a < place_of b
 
-abbrev pub IsEarlierTaker : Owed → Owed → Type 0
+abbrev pub IsEarlierTaker : OwedDuty → OwedDuty → Type 0
 IsEarlierTaker a b = a.place < b.place
 
 -- a giver and a taker that met: what the giver offered, and the taker's duty
 pub record Meeting : Type 0 where
   pub giver : Offer
-  pub taker : Owed
+  pub taker : OwedDuty

@@ -1,18 +1,18 @@
 -- A dual queue: a list of items or a list of consumers, the oldest first.
 use Rattle.std.specs.Prelude.{◌≡◌, ◌<◌, ◌≤◌, ◌+◌, ◌⊎◌, ℕ, List, []}
 use Rattle.std.specs.List.{All, AllPairs}
-use Rattle.rv_session.specs.Owed.{Owed}
+use Rattle.rv_session.specs.OwedDuty.{OwedDuty}
 use Rattle.rv_dual.specs.declared.giver.Offer.{Offer}
 use Rattle.rv_dual.specs.Offers.{place_of, IsEarlier, IsEarlierTaker}
 
 -- the items and the consumers that wait, and for how many more of either side there is room
 pub record Queue : Type 0 where
   pub givers : List Offer
-  pub takers : List Owed
+  pub takers : List OwedDuty
   pub room : ℕ
 
 -- one side alone waits, and in the order of arrival
-pub record IsDual (givers : List Offer) (takers : List Owed) : Type 0 where
+pub record IsDual (givers : List Offer) (takers : List OwedDuty) : Type 0 where
   pub one_side : (givers ≡ []) ⊎ (takers ≡ [])
   pub givers_rise : AllPairs IsEarlier givers
   pub takers_rise : AllPairs IsEarlierTaker takers

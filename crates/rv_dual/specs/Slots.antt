@@ -6,7 +6,7 @@ use Rattle.rv_dual.specs.declared.slot.Slot.{Slot}
 use Rattle.rv_dual.specs.declared.slot.Slot.TheVariants.{Holds, Withdrawn}
 
 -- what callers see of a line: those who wait, the oldest first, and for how many more there is room
-pub record Standing (X : Type 0) : Type 0 where
+pub record WaitingLine (X : Type 0) : Type 0 where
   pub waiting : List X
   pub room : ℕ
 
@@ -20,10 +20,10 @@ module _ {X : Type 0} where
   waiting_in slots = filter_map holder slots
 
   -- whether there is a slot, and it is marked
-  abbrev pub marked : Option (Slot X) → Bool
-  marked None = false
-  marked (Some (Holds x)) = false
-  marked (Some (Withdrawn place)) = true
+  abbrev pub is_marked : Option (Slot X) → Bool
+  is_marked None = false
+  is_marked (Some (Holds x)) = false
+  is_marked (Some (Withdrawn place)) = true
 
   -- whether who waits in the slot passes a test
   abbrev pub passes_in : (X → Bool) → Slot X → Bool
@@ -43,11 +43,11 @@ module _ {X : Type 0} where
 
   -- the first slot, if there is one, isn't marked
   abbrev pub FirstHolds : List (Slot X) → Type 0
-  FirstHolds slots = marked (first_slot slots) ≡ false
+  FirstHolds slots = is_marked (first_slot slots) ≡ false
 
   -- nor is the last
   abbrev pub LastHolds : List (Slot X) → Type 0
-  LastHolds slots = marked (last_slot slots) ≡ false
+  LastHolds slots = is_marked (last_slot slots) ≡ false
 
   -- their places, in their order
   abbrev pub slot_places : (X → ℕ) → List (Slot X) → List ℕ
@@ -62,7 +62,7 @@ module _ {X : Type 0} where
   NoSlotAt place_of place slots = All (λ k. k ≢ place) (slot_places place_of slots)
 
   -- a line whose places rise, with a mark at neither end, and the number of those who wait
-  pub record IsLine (place_of : X → ℕ) (slots : List (Slot X)) (count : ℕ) : Type 0 where
+  pub record IsSlotLine (place_of : X → ℕ) (slots : List (Slot X)) (count : ℕ) : Type 0 where
     pub rises : Rises place_of slots
     pub first : FirstHolds slots
     pub last : LastHolds slots

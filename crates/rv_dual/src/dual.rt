@@ -5,8 +5,8 @@ ghost use Rattle.rv_dual.specs.Withdrawing.{GivesAt, TakesAt, without_giver, wit
 ghost use Rattle.rv_dual.specs.Entries.{PassesNowhere};
 
 use crate::giver::{Giver, Offer};
-use crate::line::Line;
-use crate::pair::{Given, Pair, Taken, Tried};
+use crate::line::SlotLine;
+use crate::pair::{GiveOutcome, Pair, TakeOutcome, TryOutcome};
 use rv_session::{Duty, Parked, Place};
 use rv_text::NoMemory;
 use std::alloc::Global;
@@ -21,8 +21,8 @@ use std::marker::Model;
 /// that a withdrawal left is passed over once.
 #[derive(Drop)]
 pub struct Dual {
-    givers: Line<Offer>,
-    takers: Line<Parked>,
+    givers: SlotLine<Offer>,
+    takers: SlotLine<Parked>,
 }
 
 impl Model for Dual {
@@ -41,7 +41,7 @@ impl Model for Dual {
 }
 
 // Takes out the item with which the request at a place waits, and gives that request's duty.
-fn withdraw_giver(givers: &mut Line<Offer>, place: Place) -> Option<Duty>
+fn withdraw_giver(givers: &mut SlotLine<Offer>, place: Place) -> Option<Duty>
     ensures some { IfSome result (GivesAt givers.old.waiting place) }
     ensures none { IfNone result (PassesNowhere (waits_at place) givers.old.waiting) }
     ensures rest { givers.new.waiting ≡ without_giver place givers.old.waiting }
@@ -51,7 +51,7 @@ fn withdraw_giver(givers: &mut Line<Offer>, place: Place) -> Option<Duty>
 }
 
 // Takes out the consumer at a place, and gives its duty.
-fn withdraw_taker(takers: &mut Line<Parked>, place: Place) -> Option<Duty>
+fn withdraw_taker(takers: &mut SlotLine<Parked>, place: Place) -> Option<Duty>
     ensures some { IfSome result (TakesAt takers.old.waiting place) }
     ensures none { IfNone result (PassesNowhere (is_at place) takers.old.waiting) }
     ensures rest { takers.new.waiting ≡ without_taker place takers.old.waiting }
@@ -63,7 +63,7 @@ fn withdraw_taker(takers: &mut Line<Parked>, place: Place) -> Option<Duty>
 impl Dual {
     ghost use Rattle.rv_dual.specs.Offers.{offer_of, places_of};
     ghost use Rattle.rv_dual.specs.Queue.{IsQueue, IsAbove, KeepsRoom, SameLists};
-    ghost use Rattle.rv_dual.specs.Meanings.{GivenMeans, TakenFront, TakenMeans, TriedGive, TriedTake};
+    ghost use Rattle.rv_dual.specs.Meanings.{GiveMeans, TakeMeans, TakenFront, TriedGive, TriedTake};
     ghost use Rattle.rv_dual.specs.Withdrawing.{Withdraws};
 
     /// A queue where nobody waits. It takes no memory yet.
@@ -72,8 +72,8 @@ impl Dual {
         ensures takers { result.takers ≡ [] }
     {
         Dual {
-            givers: Line::new(alloc),
-            takers: Line::new(alloc),
+            givers: SlotLine::new(alloc),
+            takers: SlotLine::new(alloc),
         }
     }
 
@@ -92,55 +92,55 @@ impl Dual {
     /// A giver arrives: it meets the consumer that waited longest, which leaves the queue, or waits behind
     /// the items that are there. It is asked where there is room and the giver's place is above all that
     /// wait.
-    pub fn give(&mut self, giver: Giver) -> Given
+    pub fn give(&mut self, giver: Giver) -> GiveOutcome
         requires room { 0 < self.old.room }
         requires above { IsAbove self.old (place_of (offer_of giver)) }
-        ensures { GivenMeans self.old self.new (offer_of giver) result }
+        ensures { GiveMeans self.old self.new (offer_of giver) result }
     {
         match self.takers.pop() {
-            Some(taker) => Given::Met(Pair::new(giver, taker.wake())),
+            Some(taker) => GiveOutcome::Met(Pair::new(giver, taker.wake())),
             None => {
                 self.givers.push(giver.park());
-                Given::Parked
+                GiveOutcome::Parked
             }
         }
     }
 
     /// A taker arrives: it meets the oldest item, which leaves the queue, or waits behind the consumers
     /// that are there. It is asked where there is room and the taker's place is above all that wait.
-    pub fn take(&mut self, duty: Duty) -> Taken
+    pub fn take(&mut self, duty: Duty) -> TakeOutcome
         requires room { 0 < self.old.room }
         requires above { IsAbove self.old duty.place }
-        ensures { TakenMeans self.old self.new duty result }
+        ensures { TakeMeans self.old self.new duty result }
     {
         match self.givers.pop() {
-            Some(offer) => Taken::Met(Pair::new(offer.wake(), duty)),
+            Some(offer) => TakeOutcome::Met(Pair::new(offer.wake(), duty)),
             None => {
                 self.takers.push(duty.park());
-                Taken::Parked
+                TakeOutcome::Parked
             }
         }
     }
 
     /// A giver that doesn't wait arrives: it meets the consumer that waited longest, which leaves the
     /// queue, or nobody, and then nothing changes and its duty comes back.
-    pub fn try_give(&mut self, giver: Duty) -> Tried
+    pub fn try_give(&mut self, giver: Duty) -> TryOutcome
         ensures { TriedGive self.old self.new giver result }
     {
         match self.takers.pop() {
-            Some(taker) => Tried::Met(Pair::new(Giver::Waits(giver), taker.wake())),
-            None => Tried::Alone(giver),
+            Some(taker) => TryOutcome::Met(Pair::new(Giver::Waits(giver), taker.wake())),
+            None => TryOutcome::Alone(giver),
         }
     }
 
     /// A taker that doesn't wait arrives: it meets the oldest item, which leaves the queue, or none, and
     /// then nothing changes and its duty comes back.
-    pub fn try_take(&mut self, taker: Duty) -> Tried
+    pub fn try_take(&mut self, taker: Duty) -> TryOutcome
         ensures { TriedTake self.old self.new taker result }
     {
         match self.givers.pop() {
-            Some(offer) => Tried::Met(Pair::new(offer.wake(), taker)),
-            None => Tried::Alone(taker),
+            Some(offer) => TryOutcome::Met(Pair::new(offer.wake(), taker)),
+            None => TryOutcome::Alone(taker),
         }
     }
 

@@ -11,4 +11,4 @@ mod slot;
 
 pub use dual::Dual;
 pub use giver::{Giver, Offer};
-pub use pair::{Given, Pair, Taken, Tried};
+pub use pair::{GiveOutcome, Pair, TakeOutcome, TryOutcome};

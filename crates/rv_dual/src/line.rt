@@ -3,11 +3,11 @@ ghost use Rattle.std.specs.Prelude.{◌≡◌, ◌+◌, ◌<◌, ◌≤◌, [], 
 ghost use Rattle.std.specs.Prelude.{option_and_then, option_to_list, slice_get, slice_set};
 ghost use Rattle.rv_dual.specs.Entries.{PassesAt, PassesNowhere};
 ghost use Rattle.rv_dual.specs.Room.{KeepsSpare, spare};
-ghost use Rattle.rv_dual.specs.Slots.{FirstHolds, IsLine, LastHolds, NoSlotAt, Rises, waiting_in};
-ghost use Rattle.rv_dual.specs.Slots.{first_slot, holder, last_slot, marked, passes_in, slot_places};
+ghost use Rattle.rv_dual.specs.Slots.{FirstHolds, IsSlotLine, LastHolds, NoSlotAt, Rises, waiting_in};
+ghost use Rattle.rv_dual.specs.Slots.{first_slot, holder, is_marked, last_slot, passes_in, slot_places};
 ghost use Rattle.rv_dual.specs.declared.slot.Slot.TheVariants.{Holds, Withdrawn};
 
-use crate::slot::{Slot, Stands};
+use crate::slot::{Slot, StandsInLine};
 use rv_session::Place;
 use rv_text::NoMemory;
 use std::alloc::Global;
@@ -19,33 +19,33 @@ use std::mem;
 /// A withdrawn place is marked where it stands, and neither end is ever marked: so the places rise, marks
 /// included, whatever place above those that wait comes next, and a line in which nobody waits is empty.
 #[derive(Drop)]
-pub(crate) struct Line<T: Stands> {
+pub(crate) struct SlotLine<T: StandsInLine> {
     slots: VecDeque<Slot<T>>,
     // How many slots aren't marked.
     count: usize,
 }
 
-impl<T: Stands> Model for Line<T> {
+impl<T: StandsInLine> Model for SlotLine<T> {
     ghost use Rattle.rv_dual.specs.Room.{spare};
-    ghost use Rattle.rv_dual.specs.Slots.{IsLine, Standing, waiting_in};
+    ghost use Rattle.rv_dual.specs.Slots.{IsSlotLine, WaitingLine, waiting_in};
 
-    ghost Value = { Standing T };
+    ghost Value = { WaitingLine T };
 
     ghost view = { λ l. record { waiting = waiting_in l.slots.items; room = spare l.slots } };
 
-    ghost invariant = { λ l. IsLine T.place_of l.slots.items l.count };
+    ghost invariant = { λ l. IsSlotLine T.place_of l.slots.items l.count };
 }
 
 // Whether a mark stands first.
 fn front_is_marked<T>(slots: &VecDeque<Slot<T>>) -> bool
-    ensures { result ≡ marked (first_slot slots.now.items) }
+    ensures { result ≡ is_marked (first_slot slots.now.items) }
 {
     matches!(slots.front(), Some(Slot::Withdrawn(_)))
 }
 
 // Whether a mark stands last.
 fn back_is_marked<T>(slots: &VecDeque<Slot<T>>) -> bool
-    ensures { result ≡ marked (last_slot slots.now.items) }
+    ensures { result ≡ is_marked (last_slot slots.now.items) }
 {
     matches!(slots.back(), Some(Slot::Withdrawn(_)))
 }
@@ -60,7 +60,7 @@ fn append<T>(slots: &mut VecDeque<Slot<T>>, arrival: T)
 }
 
 // Takes the marks off the front.
-fn trim_front<T: Stands>(slots: &mut VecDeque<Slot<T>>)
+fn trim_front<T: StandsInLine>(slots: &mut VecDeque<Slot<T>>)
     requires { Rises T.place_of slots.old.items }
     ensures same { waiting_in slots.new.items ≡ waiting_in slots.old.items }
     ensures rises { Rises T.place_of slots.new.items }
@@ -73,7 +73,7 @@ fn trim_front<T: Stands>(slots: &mut VecDeque<Slot<T>>)
 }
 
 // Takes the marks off the back.
-fn trim_back<T: Stands>(slots: &mut VecDeque<Slot<T>>)
+fn trim_back<T: StandsInLine>(slots: &mut VecDeque<Slot<T>>)
     requires rises { Rises T.place_of slots.old.items }
     requires first { FirstHolds slots.old.items }
     ensures same { waiting_in slots.new.items ≡ waiting_in slots.old.items }
@@ -88,10 +88,10 @@ fn trim_back<T: Stands>(slots: &mut VecDeque<Slot<T>>)
 }
 
 // Takes the marks off both ends.
-fn trim<T: Stands>(slots: &mut VecDeque<Slot<T>>)
+fn trim<T: StandsInLine>(slots: &mut VecDeque<Slot<T>>)
     requires { Rises T.place_of slots.old.items }
     ensures same { waiting_in slots.new.items ≡ waiting_in slots.old.items }
-    ensures line { IsLine T.place_of slots.new.items (length (waiting_in slots.old.items)) }
+    ensures line { IsSlotLine T.place_of slots.new.items (length (waiting_in slots.old.items)) }
     ensures room { KeepsSpare slots.old slots.new }
 {
     trim_front(slots);
@@ -99,7 +99,7 @@ fn trim<T: Stands>(slots: &mut VecDeque<Slot<T>>)
 }
 
 // The index of the slot of a place.
-fn slot_at<T: Stands>(slots: &VecDeque<Slot<T>>, place: Place) -> Option<usize>
+fn slot_at<T: StandsInLine>(slots: &VecDeque<Slot<T>>, place: Place) -> Option<usize>
     requires { Rises T.place_of slots.now.items }
     ensures found { IfSome result (λ i. slice_get (slot_places T.place_of slots.now.items) i ≡ Some place) }
     ensures none { IfNone result (NoSlotAt T.place_of place slots.now.items) }
@@ -108,7 +108,7 @@ fn slot_at<T: Stands>(slots: &VecDeque<Slot<T>>, place: Place) -> Option<usize>
 }
 
 // The index of the request that waits at a place.
-fn index_of<T: Stands>(slots: &VecDeque<Slot<T>>, place: Place) -> Option<usize>
+fn index_of<T: StandsInLine>(slots: &VecDeque<Slot<T>>, place: Place) -> Option<usize>
     requires { Rises T.place_of slots.now.items }
     ensures found { IfSome result (PassesAt (passes_in (T.waits_at place)) slots.now.items) }
     ensures none { IfNone result (PassesNowhere (T.waits_at place) (waiting_in slots.now.items)) }
@@ -118,7 +118,7 @@ fn index_of<T: Stands>(slots: &VecDeque<Slot<T>>, place: Place) -> Option<usize>
 }
 
 // Marks the slot at an index, and gives who waited there.
-fn mark<T: Stands>(slots: &mut VecDeque<Slot<T>>, index: usize, place: Place) -> Option<T>
+fn mark<T: StandsInLine>(slots: &mut VecDeque<Slot<T>>, index: usize, place: Place) -> Option<T>
     requires { index < length slots.old.items }
     ensures out { result ≡ option_and_then holder (slice_get slots.old.items index) }
     ensures rest { slots.new.items ≡ slice_set slots.old.items index (Withdrawn place) }
@@ -127,15 +127,15 @@ fn mark<T: Stands>(slots: &mut VecDeque<Slot<T>>, index: usize, place: Place) ->
     mem::replace(&mut slots[index], Slot::Withdrawn(place)).into_holder()
 }
 
-impl<T: Stands> Line<T> {
+impl<T: StandsInLine> SlotLine<T> {
     ghost use Rattle.std.specs.Prelude.{OnErr, OnOk, drop, map, not, Contains};
     ghost use Rattle.std.specs.List.{All, filter};
 
     // A line in which nobody waits. It takes no memory yet.
-    pub(crate) fn new(alloc: Global) -> Line<T>
+    pub(crate) fn new(alloc: Global) -> SlotLine<T>
         ensures { result.waiting ≡ [] }
     {
-        Line {
+        SlotLine {
             slots: VecDeque::new(alloc),
             count: 0,
         }

@@ -43,7 +43,7 @@ impl Pair {
 }
 
 /// What a queue says to a giver.
-pub enum Given {
+pub enum GiveOutcome {
     /// It met the consumer that had waited longest.
     Met(Pair),
     /// No consumer waited, and it waits behind the items that are there.
@@ -51,7 +51,7 @@ pub enum Given {
 }
 
 /// What a queue says to a taker.
-pub enum Taken {
+pub enum TakeOutcome {
     /// It met the oldest item.
     Met(Pair),
     /// No item waited, and it waits behind the consumers that are there.
@@ -59,7 +59,7 @@ pub enum Taken {
 }
 
 /// What a queue says to a request that doesn't wait.
-pub enum Tried {
+pub enum TryOutcome {
     /// It met the oldest of the other side.
     Met(Pair),
     /// Nobody of the other side was there, and here is its duty again.

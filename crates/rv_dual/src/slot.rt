@@ -6,7 +6,7 @@ use crate::giver::Offer;
 use rv_session::{Parked, Place};
 
 /// Whoever stands in a line.
-pub(crate) trait Stands: Drop {
+pub(crate) trait StandsInLine: Drop {
     ghost place_of: { Self → ℕ };
 
     ghost waits_at: { ℕ → Self → Bool };
@@ -31,7 +31,7 @@ pub(crate) enum Slot<T> {
     Withdrawn(Place),
 }
 
-impl<T: Stands> Slot<T> {
+impl<T: StandsInLine> Slot<T> {
     // The place of who waits there, or waited.
     pub(crate) fn place(&self) -> Place
         ensures { result ≡ slot_place T.place_of self.now }
@@ -63,7 +63,7 @@ impl<T: Stands> Slot<T> {
     }
 }
 
-impl Stands for Offer {
+impl StandsInLine for Offer {
     ghost use Rattle.rv_dual.specs.Offers as offers;
 
     ghost place_of = { offers.place_of };
@@ -81,7 +81,7 @@ impl Stands for Offer {
     ghost at_its_place = { offers.offer_at };
 }
 
-impl Stands for Parked {
+impl StandsInLine for Parked {
     ghost use Rattle.rv_dual.specs.Offers as offers;
 
     ghost place_of = { λ duty. duty.place };

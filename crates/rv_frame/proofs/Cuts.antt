@@ -2,7 +2,7 @@
 use Rattle.std.proofs.Common.{◌≡◌, ◌/◌, ◌%◌, ◌∙◌, ℕ, List, [], ◌∷◌, ◌++◌, refl, sym, ap, subst, arith, length, append_assoc}
 use Rattle.std.specs.List.{All}
 use Rattle.std.proofs.lemmas.List.Elements.{All-append, All-head, All-tail}
-use Rattle.rv_frame.specs.Cut.{Bad, BeginsBad, Cut, End, EndsIn, FitsLength, IsBody, Open, frame_bytes, length_bytes, row_bytes}
+use Rattle.rv_frame.specs.Cut.{Bad, BeginsBad, Cut, End, EndsIn, FitsLength, IsFrameBody, Open, frame_bytes, length_bytes, row_bytes}
 use Rattle.rv_frame.specs.Laws.{FedIsCut, OneCut, PiecesJoin, TakenIsCut}
 use Rattle.rv_frame.specs.Stream.{FeedsAt, HasFed, Stream}
 
@@ -29,7 +29,7 @@ frame_once a b x y same =
     let long = length_once (length a) (length b) (a ++ x) (b ++ y) same in
     parts_once a b x y long.0 long.1
 
-no_bad_frame : (bytes body x : List ℕ) (n : ℕ) → BeginsBad bytes n → IsBody body → bytes ≡ frame_bytes body ++ x → ⊥
+no_bad_frame : (bytes body x : List ℕ) (n : ℕ) → BeginsBad bytes n → IsFrameBody body → bytes ≡ frame_bytes body ++ x → ⊥
 no_bad_frame bytes body x n bad fits same =
     let long = length_once n (length body) bad.more (body ++ x) (sym bad.parts ∙ same) in
     bad.is_bad (subst FitsLength (sym long.0) fits)
@@ -41,20 +41,20 @@ ends_once bytes (Bad n) (Open rest) a b = absurd (a.is_bad (b.1.good_length n a.
 ends_once bytes (Bad m) (Bad n) a b = ap Bad (length_once m n a.more b.more (sym a.parts ∙ b.parts)).0
 
 -- what ends no whole frame begins with none
-no_frame : (bytes body x : List ℕ) (end : End) → EndsIn bytes end → IsBody body → bytes ≡ frame_bytes body ++ x → ⊥
+no_frame : (bytes body x : List ℕ) (end : End) → EndsIn bytes end → IsFrameBody body → bytes ≡ frame_bytes body ++ x → ⊥
 no_frame bytes body x (Open rest) ends fits same = ends.1.no_frame body x fits (sym ends.0 ∙ same)
 no_frame bytes body x (Bad n) ends fits same = no_bad_frame bytes body x n ends fits same
 
-rows_once : (a b : List (List ℕ)) (x y : List ℕ) (end end' : End) → All IsBody a → All IsBody b → EndsIn x end → EndsIn y end'
+rows_once : (a b : List (List ℕ)) (x y : List ℕ) (end end' : End) → All IsFrameBody a → All IsFrameBody b → EndsIn x end → EndsIn y end'
     → row_bytes a ++ x ≡ row_bytes b ++ y → (a ≡ b) × (end ≡ end')
 rows_once [] [] x y end end' fit fit' ends ends' same = (refl, ends_once x end end' ends (subst (λ (l : List ℕ). EndsIn l end') (sym same) ends'))
 rows_once [] (body ∷ b) x y end end' fit fit' ends ends' same =
-    absurd (no_frame x body (row_bytes b ++ y) end ends (All-head IsBody body b fit') (same ∙ append_assoc (frame_bytes body) (row_bytes b) y))
+    absurd (no_frame x body (row_bytes b ++ y) end ends (All-head IsFrameBody body b fit') (same ∙ append_assoc (frame_bytes body) (row_bytes b) y))
 rows_once (body ∷ a) [] x y end end' fit fit' ends ends' same =
-    absurd (no_frame y body (row_bytes a ++ x) end' ends' (All-head IsBody body a fit) (sym same ∙ append_assoc (frame_bytes body) (row_bytes a) x))
+    absurd (no_frame y body (row_bytes a ++ x) end' ends' (All-head IsFrameBody body a fit) (sym same ∙ append_assoc (frame_bytes body) (row_bytes a) x))
 rows_once (body ∷ a) (body' ∷ b) x y end end' fit fit' ends ends' same =
     let first = frame_once body body' (row_bytes a ++ x) (row_bytes b ++ y) (sym (append_assoc (frame_bytes body) (row_bytes a) x) ∙ same ∙ append_assoc (frame_bytes body') (row_bytes b) y) in
-    let later = rows_once a b x y end end' (All-tail IsBody body a fit) (All-tail IsBody body' b fit') ends ends' first.1 in
+    let later = rows_once a b x y end end' (All-tail IsFrameBody body a fit) (All-tail IsFrameBody body' b fit') ends ends' first.1 in
     let head : body ≡ body' = first.0 in
     let tail : a ≡ b = later.0 in
     (cc, later.1)
@@ -78,7 +78,7 @@ cut_on bytes piece rest bodies more end cut next = record {
       ap (λ l. l ++ piece) (cut.parts ∙ ap (λ l. row_bytes bodies ++ l) cut.ends.0) ∙ append_assoc (row_bytes bodies) rest piece
       ∙ ap (λ l. row_bytes bodies ++ l) next.parts ∙ sym (append_assoc (row_bytes bodies) (row_bytes more) next.after)
       ∙ ap (λ l. l ++ next.after) (sym (row_append bodies more));
-  fit = All-append IsBody bodies more cut.fit next.fit;
+  fit = All-append IsFrameBody bodies more cut.fit next.fit;
   ends = next.ends;
 }
 

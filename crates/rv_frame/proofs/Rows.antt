@@ -4,7 +4,7 @@ use Rattle.std.specs.List.{All}
 use Rattle.std.proofs.Math.Seq.{drop-append_seam, take-add, take-append_seam}
 use Rattle.std.proofs.lemmas.List.{drop-drop, drop-take, length-take-le, take-append-drop, take-take}
 use Rattle.std.proofs.lemmas.List.Elements.{All-append, All-cons, All-head, All-nil, All-tail}
-use Rattle.rv_frame.specs.Cut.{BeginsBad, Cut, End, FitsLength, IsBody, IsUnfinished, frame_bytes, length_bytes, row_bytes}
+use Rattle.rv_frame.specs.Cut.{BeginsBad, Cut, End, FitsLength, IsFrameBody, IsUnfinished, frame_bytes, length_bytes, row_bytes}
 use Rattle.rv_frame.specs.Held.{BeginsFrame, CutAt, FrontIsRow, bodies_in, end_of}
 use Rattle.rv_frame.specs.Stream.{Grows}
 use Rattle.rv_frame.proofs.Cuts.{frame_once, length_once, row_append}
@@ -35,7 +35,7 @@ front_bodies bytes whole front =
 -- ---- fronts that grow
 
 pub front_none : (bytes : List ℕ) → FrontIsRow bytes 0
-front_none bytes = record { bodies = []; within = omega arith; row = refl; fit = All-nil IsBody }
+front_none bytes = record { bodies = []; within = omega arith; row = refl; fit = All-nil IsFrameBody }
 
 pub fronts_join : (bytes : List ℕ) (whole more : ℕ) → FrontIsRow bytes whole → FrontIsRow (drop whole bytes) more → FrontIsRow bytes (whole + more)
 fronts_join bytes whole more front next = record {
@@ -43,7 +43,7 @@ fronts_join bytes whole more front next = record {
   within = omega (arith, front.within, next.within, length-drop whole bytes);
   row = take-add whole more bytes ∙ ap (λ l. l ++ take more (drop whole bytes)) front.row ∙ ap (λ l. row_bytes front.bodies ++ l) next.row
       ∙ sym (row_append front.bodies next.bodies);
-  fit = All-append IsBody front.bodies next.bodies front.fit next.fit;
+  fit = All-append IsFrameBody front.bodies next.bodies front.fit next.fit;
 }
 
 front_of_frame : (bytes : List ℕ) (size : ℕ) → BeginsFrame bytes size → FrontIsRow bytes size
@@ -51,7 +51,7 @@ front_of_frame bytes size frame = record {
   bodies = frame.body ∷ [];
   within = frame.within;
   row = frame.front ∙ sym (append-nil (frame_bytes frame.body));
-  fit = All-cons IsBody frame.body [] frame.fits (All-nil IsBody);
+  fit = All-cons IsFrameBody frame.body [] frame.fits (All-nil IsFrameBody);
 }
 
 pub front_more : (bytes : List ℕ) (whole size : ℕ) → FrontIsRow bytes whole → BeginsFrame (drop whole bytes) size → FrontIsRow bytes (whole + size)
@@ -130,7 +130,7 @@ pub record Taken (bytes : List ℕ) (whole size : ℕ) (bodies : List (List ℕ)
   pub oldest : bodies ≡ body ∷ front.bodies
   pub size_within : size ≤ whole
 
-take_by : (bytes : List ℕ) (whole size : ℕ) (bodies : List (List ℕ)) → whole ≤ length bytes → take whole bytes ≡ row_bytes bodies → All IsBody bodies
+take_by : (bytes : List ℕ) (whole size : ℕ) (bodies : List (List ℕ)) → whole ≤ length bytes → take whole bytes ≡ row_bytes bodies → All IsFrameBody bodies
     → (frame : BeginsFrame (take whole bytes) size) → Taken bytes whole size bodies frame.body
 take_by bytes whole size [] within row fit frame =
     absurd (omega (arith, frame.size_is, frame.within, ap length row))
@@ -145,7 +145,7 @@ take_by bytes whole size (first ∷ bodies) within row fit frame =
         bodies = bodies;
         within = omega (arith, within, size_within, length-drop size bytes);
         row = sym (drop-take size (whole - size) bytes) ∙ ap (λ n. drop size (take n bytes)) both ∙ once.1;
-        fit = All-tail IsBody first bodies fit;
+        fit = All-tail IsFrameBody first bodies fit;
       };
       oldest = ap (λ l. l ∷ bodies) (sym once.0);
       size_within = size_within;
@@ -160,18 +160,18 @@ body_in bytes whole size within frame =
     let both : 2 + (size - 2) ≡ size = omega (arith, frame.size_is) in
     sym (drop-take 2 (size - 2) bytes) ∙ ap (λ n. drop 2 (take n bytes)) both ∙ ap (drop 2) (sym (take-take size whole bytes within) ∙ frame.front)
 
-none_by : (bytes : List ℕ) (bodies : List (List ℕ)) → bytes ≡ row_bytes bodies → All IsBody bodies → IsUnfinished bytes → bodies ≡ []
+none_by : (bytes : List ℕ) (bodies : List (List ℕ)) → bytes ≡ row_bytes bodies → All IsFrameBody bodies → IsUnfinished bytes → bodies ≡ []
 none_by bytes [] row fit unfinished = refl
-none_by bytes (body ∷ bodies) row fit unfinished = absurd (unfinished.no_frame body (row_bytes bodies) (All-head IsBody body bodies fit) row)
+none_by bytes (body ∷ bodies) row fit unfinished = absurd (unfinished.no_frame body (row_bytes bodies) (All-head IsFrameBody body bodies fit) row)
 
 pub front_is_none : (bytes : List ℕ) (whole : ℕ) (front : FrontIsRow bytes whole) → IsUnfinished (take whole bytes) → front.bodies ≡ []
 front_is_none bytes whole front unfinished = none_by (take whole bytes) front.bodies front.row front.fit unfinished
 
-never_bad : (bytes : List ℕ) (bodies : List (List ℕ)) (n : ℕ) → bytes ≡ row_bytes bodies → All IsBody bodies → BeginsBad bytes n → ⊥
+never_bad : (bytes : List ℕ) (bodies : List (List ℕ)) (n : ℕ) → bytes ≡ row_bytes bodies → All IsFrameBody bodies → BeginsBad bytes n → ⊥
 never_bad bytes [] n row fit bad = let none : [] ≡ length_bytes n ++ bad.more = sym row ∙ bad.parts in absurd (cc)
 never_bad bytes (body ∷ bodies) n row fit bad =
     let long = length_once n (length body) bad.more (body ++ row_bytes bodies) (sym bad.parts ∙ row) in
-    bad.is_bad (subst FitsLength (sym long.0) (All-head IsBody body bodies fit))
+    bad.is_bad (subst FitsLength (sym long.0) (All-head IsFrameBody body bodies fit))
 
 pub front_not_bad : (bytes : List ℕ) (whole n : ℕ) → FrontIsRow bytes whole → BeginsBad (take whole bytes) n → ⊥
 front_not_bad bytes whole n front bad = never_bad (take whole bytes) front.bodies n front.row front.fit bad

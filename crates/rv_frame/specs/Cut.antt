@@ -6,8 +6,8 @@ use Rattle.std.specs.List.{All}
 abbrev pub FitsLength : ℕ → Type 0
 FitsLength n = (1 ≤ n) × (n ≤ 65535)
 
-abbrev pub IsBody : List ℕ → Type 0
-IsBody body = FitsLength (length body)
+abbrev pub IsFrameBody : List ℕ → Type 0
+IsFrameBody body = FitsLength (length body)
 
 -- the two bytes of a length, the greater part first
 abbrev pub length_bytes : ℕ → List ℕ
@@ -29,7 +29,7 @@ pub data End : Type 0 where
 
 -- no whole frame begins the bytes, and their length bytes, if both are there, are good
 pub record IsUnfinished (bytes : List ℕ) : Type 0 where
-  pub no_frame : (body more : List ℕ) → IsBody body → ¬ (bytes ≡ frame_bytes body ++ more)
+  pub no_frame : (body more : List ℕ) → IsFrameBody body → ¬ (bytes ≡ frame_bytes body ++ more)
   pub good_length : (n : ℕ) (more : List ℕ) → bytes ≡ length_bytes n ++ more → FitsLength n
 
 -- a length that no frame has begins the bytes
@@ -46,5 +46,5 @@ EndsIn bytes (Bad n) = BeginsBad bytes n
 pub record Cut (bytes : List ℕ) (bodies : List (List ℕ)) (end : End) : Type 0 where
   pub after : List ℕ
   pub parts : bytes ≡ row_bytes bodies ++ after
-  pub fit : All IsBody bodies
+  pub fit : All IsFrameBody bodies
   pub ends : EndsIn after end

@@ -5,7 +5,8 @@ use Rattle.std.specs.List.{All}
 use Rattle.rv_frame.specs.declared.held.Head.{Head}
 use Rattle.rv_frame.specs.declared.held.Head.TheVariants.{Bad as BadHead, Open as OpenHead, Whole}
 use Rattle.rv_frame.specs.declared.held.Held.{Held}
-use Rattle.rv_frame.specs.Cut.{Bad, BeginsBad, Cut, End, IsBody, IsUnfinished, Open, frame_bytes, row_bytes}
+use Rattle.rv_frame.specs.Cut.{Bad, BeginsBad, Cut, End, IsFrameBody, IsUnfinished, Open, frame_bytes}
+use Rattle.rv_frame.specs.Cut.{row_bytes}
 use Rattle.rv_frame.specs.Stream.{Stream}
 
 -- the bodies of at most so many frames in a row
@@ -30,16 +31,16 @@ pub record FrontIsRow (bytes : List ℕ) (whole : ℕ) : Type 0 where
   pub bodies : List (List ℕ)
   pub within : whole ≤ length bytes
   pub row : take whole bytes ≡ row_bytes bodies
-  pub fit : All IsBody bodies
+  pub fit : All IsFrameBody bodies
 
-pub record IsSound (held : Held) : Type 0 where
+pub record IsSoundHeld (held : Held) : Type 0 where
   pub front : FrontIsRow held.bytes.items held.whole
   pub dropped : IfSome held.bad (λ n. length held.bytes.items ≡ held.whole)
 
 -- a whole frame of so many bytes begins the bytes
 pub record BeginsFrame (bytes : List ℕ) (size : ℕ) : Type 0 where
   pub body : List ℕ
-  pub fits : IsBody body
+  pub fits : IsFrameBody body
   pub size_is : size ≡ length body + 2
   pub within : size ≤ length bytes
   pub front : take size bytes ≡ frame_bytes body

@@ -1,7 +1,7 @@
 //! Cuts bytes that come in pieces into frames.
 ghost use Rattle.std.specs.Prelude.{◌≡◌, ◌∷◌, [], Err, None, Ok};
 ghost use Rattle.std.specs.Prelude.{IfOk, IfSome, IsErrOf, MatchOption, OnErr, OnOk};
-ghost use Rattle.rv_frame.specs.Cut.{Bad, IsBody, Open};
+ghost use Rattle.rv_frame.specs.Cut.{Bad, IsFrameBody, Open};
 ghost use Rattle.rv_frame.specs.Stream.{Feeds, HasFed, IsOpen, rest_length};
 
 use crate::held::Held;
@@ -54,11 +54,11 @@ impl Model for Frames {
 
     ghost Value = { Stream };
 
-    ghost use Rattle.rv_frame.specs.Held.{IsSound, stream_of};
+    ghost use Rattle.rv_frame.specs.Held.{IsSoundHeld, stream_of};
 
     ghost view = { λ f. stream_of f.held };
 
-    ghost invariant = { λ f. IsSound f.held };
+    ghost invariant = { λ f. IsSoundHeld f.held };
 }
 
 impl Frames {
@@ -97,7 +97,7 @@ impl Frames {
     pub fn next(&mut self) -> Result<Option<Vec<u8>>, NoMemory>
         ensures oldest { IfOk result (λ taken. MatchOption taken (self.old.frames ≡ [])
             (λ body. self.old.frames ≡ body.items ∷ self.new.frames)) }
-        ensures fits { IfOk result (λ taken. IfSome taken (λ body. IsBody body.items)) }
+        ensures fits { IfOk result (λ taken. IfSome taken (λ body. IsFrameBody body.items)) }
         ensures end { self.new.end ≡ self.old.end }
         ensures none { result ≡ Ok None → self.new ≡ self.old }
         ensures refused { OnErr result (self.new ≡ self.old) }

@@ -1,8 +1,8 @@
 //! The bytes of a stream that were not taken yet, and where its frames lie in them.
 ghost use Rattle.std.specs.Prelude.{◌≡◌, ◌∷◌, [], Err, None, Ok, drop, take};
 ghost use Rattle.std.specs.Prelude.{IfOk, IfSome, IsErrOf, IsTrue, ◌↔◌, MatchOption, OnErr, OnOk};
-ghost use Rattle.rv_frame.specs.Cut.{Bad, FitsLength, IsBody, Open};
-ghost use Rattle.rv_frame.specs.Held.{BeginsFrame, CutAt, FrontIsRow, HasHead, IsSound, stream_of};
+ghost use Rattle.rv_frame.specs.Cut.{Bad, FitsLength, IsFrameBody, Open};
+ghost use Rattle.rv_frame.specs.Held.{BeginsFrame, CutAt, FrontIsRow, HasHead, IsSoundHeld, stream_of};
 ghost use Rattle.rv_frame.specs.Stream.{Feeds, Grows, IsOpen, rest_length};
 
 use crate::frames::{FrameFault, NoMemory};
@@ -31,7 +31,7 @@ pub(crate) struct Held {
 
 impl Held {
     pub(crate) fn new(alloc: Global) -> Held
-        ensures sound { IsSound result }
+        ensures sound { IsSoundHeld result }
         ensures frames { (stream_of result).frames ≡ [] }
         ensures end { (stream_of result).end ≡ Open [] }
     {
@@ -43,8 +43,8 @@ impl Held {
     }
 
     pub(crate) fn feed(&mut self, piece: &[u8]) -> Result<(), FrameFault>
-        requires { IsSound self.old }
-        ensures sound { IsSound self.new }
+        requires { IsSoundHeld self.old }
+        ensures sound { IsSoundHeld self.new }
         ensures fed { OnOk result (Feeds (stream_of self.old) piece.now (stream_of self.new)) }
         ensures open_end { OnOk result (IsOpen (stream_of self.new).end) }
         ensures fed_before { (n : _) → result ≡ Err (FrameFault.BadLength n)
@@ -70,7 +70,7 @@ impl Held {
     fn cut_on(&mut self)
         requires front { FrontIsRow self.old.bytes.items self.old.whole }
         requires open { self.old.bad ≡ None }
-        ensures sound { IsSound self.new }
+        ensures sound { IsSoundHeld self.new }
         ensures cut { Grows (stream_of self.old) (drop self.old.whole self.old.bytes.items)
             (stream_of self.new) }
     {
@@ -83,11 +83,11 @@ impl Held {
     }
 
     pub(crate) fn next(&mut self) -> Result<Option<Vec<u8>>, NoMemory>
-        requires { IsSound self.old }
-        ensures sound { IsSound self.new }
+        requires { IsSoundHeld self.old }
+        ensures sound { IsSoundHeld self.new }
         ensures oldest { IfOk result (λ taken. MatchOption taken ((stream_of self.old).frames ≡ [])
             (λ body. (stream_of self.old).frames ≡ body.items ∷ (stream_of self.new).frames)) }
-        ensures fits { IfOk result (λ taken. IfSome taken (λ body. IsBody body.items)) }
+        ensures fits { IfOk result (λ taken. IfSome taken (λ body. IsFrameBody body.items)) }
         ensures end { (stream_of self.new).end ≡ (stream_of self.old).end }
         ensures none { result ≡ Ok None → self.new ≡ self.old }
         ensures refused { OnErr result (self.new ≡ self.old) }
@@ -101,12 +101,12 @@ impl Held {
 
     // Takes the whole frame at the front, of so many bytes.
     fn take(&mut self, size: usize) -> Result<Vec<u8>, NoMemory>
-        requires sound { IsSound self.old }
+        requires sound { IsSoundHeld self.old }
         requires frame { BeginsFrame (take self.old.whole self.old.bytes.items) size }
-        ensures sound { IsSound self.new }
+        ensures sound { IsSoundHeld self.new }
         ensures oldest { IfOk result (λ body.
             (stream_of self.old).frames ≡ body.items ∷ (stream_of self.new).frames) }
-        ensures fits { IfOk result (λ body. IsBody body.items) }
+        ensures fits { IfOk result (λ body. IsFrameBody body.items) }
         ensures end { (stream_of self.new).end ≡ (stream_of self.old).end }
         ensures refused { OnErr result (self.new ≡ self.old) }
     {
@@ -117,7 +117,7 @@ impl Held {
     }
 
     pub(crate) fn rest(&self) -> usize
-        requires { IsSound self.now }
+        requires { IsSoundHeld self.now }
         ensures { result ≡ rest_length (stream_of self.now).end }
     {
         self.bytes.len() - self.whole

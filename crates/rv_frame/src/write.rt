@@ -1,7 +1,7 @@
 //! Writes frames to a sink.
 ghost use Rattle.std.specs.Prelude.{◌≡◌, ◌≤◌, ◌<◌, ◌+◌, ◌++◌, true, false, take, drop, length};
 ghost use Rattle.std.specs.Prelude.{IfErr, IsErrOf, OnErr, OnOk};
-ghost use Rattle.rv_frame.specs.Cut.{IsBody, frame_bytes};
+ghost use Rattle.rv_frame.specs.Cut.{IsFrameBody, frame_bytes};
 ghost use Rattle.rv_frame.specs.Sink.{SinkTakes, sink_failed};
 
 use crate::sink::{Sink, WriteFault};
@@ -18,7 +18,7 @@ const FRONT_BYTES: usize = 4_098;
 /// `WriteFault` counts the bytes of the frame that went out, those of the length too, and never all of
 /// them. The sink has then failed, as [`Sink::write_all`] says.
 pub fn write_frame<W: Write>(sink: &mut Sink<W>, body: &[u8]) -> Result<(), WriteFault>
-    requires { IsBody body.now }
+    requires { IsFrameBody body.now }
     ensures frame { OnOk result (SinkTakes W.contents sink.old sink.new (frame_bytes body.now)) }
     ensures sent { IfErr result (λ fault.
         SinkTakes W.contents sink.old sink.new (take fault.sent (frame_bytes body.now))) }
@@ -39,7 +39,7 @@ pub fn write_frame<W: Write>(sink: &mut Sink<W>, body: &[u8]) -> Result<(), Writ
 
 // Puts the length bytes and the first of the body into the buffer, and gives how many of the body these are.
 fn put_front(front: &mut [u8; FRONT_BYTES], body: &[u8]) -> usize
-    requires { IsBody body.now }
+    requires { IsFrameBody body.now }
     ensures within { result ≤ length body.now }
     ensures room { result + 2 ≤ 4098 }
     ensures frame { take (result + 2) front.new ++ drop result body.now ≡ frame_bytes body.now }

@@ -16,20 +16,20 @@ abbrev pub value_of_digits : List ℕ → ℕ
 value_of_digits = digits_value 10
 
 -- the text is a number's digits
-abbrev pub Writes : List ℕ → ℕ → Type 0
-Writes text n = IsDigits text × (n ≡ value_of_digits text)
+abbrev pub WritesNumber : List ℕ → ℕ → Type 0
+WritesNumber text n = IsDigits text × (n ≡ value_of_digits text)
 
 -- the text is the digits of a number within these limits
 abbrev pub WritesBetween : ℕ → ℕ → List ℕ → ℕ → Type 0
-WritesBetween least most text n = Writes text n × (least ≤ n) × (n ≤ most)
+WritesBetween least most text n = WritesNumber text n × (least ≤ n) × (n ≤ most)
 
 -- the text is an identifier's digits
 abbrev pub WritesIdentifier : List ℕ → ℕ → Type 0
-WritesIdentifier text n = Writes text n × FitsIdentifier n
+WritesIdentifier text n = WritesNumber text n × FitsIdentifier n
 
 -- the text is the number's digits, and a zero (48) begins it only where it stands alone
 pub record WritesPlainly (text : List ℕ) (n : ℕ) : Type 0 where
-  pub writes : Writes text n
+  pub writes : WritesNumber text n
   pub no_leading_zero : (rest : List ℕ) → text ≡ 48 ∷ rest → rest ≡ []
 
 -- the same of a number that is at most this

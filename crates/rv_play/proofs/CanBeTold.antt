@@ -12,7 +12,7 @@ use Rattle.rv_world.specs.declared.event.Event.TheVariants as event
 use Rattle.rv_world.specs.declared.packet.Packet.{Packet}
 use Rattle.rv_world.specs.declared.seen.Seen.{Seen}
 use Rattle.rv_world.specs.declared.seen.Seen.TheVariants as sees
-use Rattle.rv_world.specs.Events.{Becomes, ComesTo, Steps, Takes}
+use Rattle.rv_world.specs.Events.{ComesTo, Steps, Takes, WorldBecomes}
 use Rattle.rv_world.specs.World.{World}
 use Rattle.rv_play.specs.Told.{CanTell, WasSent}
 
@@ -41,7 +41,7 @@ takes_reply w v packet sent next reply shows there takes =
     })
 
 outcome_told : (w v : World) (packet : ℕ) (sent : Packet) (outcome : Outcome) (shows : Seen) → slice_get w.to_client packet ≡ Some sent
-    → Becomes w sent.client sent.answer outcome v shows → CanTell v (event.ToClient packet) shows
+    → WorldBecomes w sent.client sent.answer outcome v shows → CanTell v (event.ToClient packet) shows
 outcome_told w v packet sent (Welcomed next) shows there becomes = can_tell v (event.ToClient packet) shows sees.Welcomed becomes.1 tt
 outcome_told w v packet sent (TurnedAway same refusal) shows there becomes = can_tell v (event.ToClient packet) shows (sees.TurnedAway refusal) becomes.1 tt
 outcome_told w v packet sent (Settled next reply) shows there becomes = takes_reply w v packet sent next reply shows there becomes

@@ -11,7 +11,7 @@ use Rattle.rv_text.specs.Bodies.{Decodes, IsCallBody}
 use Rattle.rv_text.specs.Limits.{FitsIdentifier}
 use Rattle.rv_lines.specs.Faults.{line_fault}
 use Rattle.rv_lines.specs.declared.fault.LineFault.TheVariants as line
-use Rattle.rv_lines.specs.Number.{Writes, WritesIdentifier}
+use Rattle.rv_lines.specs.Number.{WritesIdentifier, WritesNumber}
 use Rattle.rv_world.specs.declared.event.Event.{Event}
 use Rattle.rv_world.specs.declared.event.Event.TheVariants as event
 use Rattle.rv_world.specs.Limits.{FitsEvent}
@@ -74,7 +74,7 @@ not_two First Second fields lacks says = not_lacking 32 says.first says.second (
 pub identifier_lacks : (n : ℕ) (f : List ℕ) → WritesIdentifier f n → Lacks 32 f
 identifier_lacks n f writes = digits_lack_space f writes.0.0.are_digits
 
-pub number_lacks : (n : ℕ) (f : List ℕ) → Writes f n → Lacks 32 f
+pub number_lacks : (n : ℕ) (f : List ℕ) → WritesNumber f n → Lacks 32 f
 number_lacks n f writes = digits_lack_space f writes.0.are_digits
 
 -- ---- the session of a start

@@ -6,10 +6,10 @@ use Rattle.rv_world.specs.declared.event.Event.{Event}
 use Rattle.rv_world.specs.Headline.{Headline}
 use Rattle.rv_world.specs.Runs.{Runs}
 use Rattle.rv_world.specs.World.{World, first_world}
-use Rattle.rv_play.specs.Turns.{Came, Given, LineTurn, NoEvent, Plays, TellsCame, texts_of}
+use Rattle.rv_play.specs.Turns.{Given, LineOutcome, LineTurn, NoEvent, Plays, TellsLineOutcome, turn_texts}
 
 -- the event that the world took, if it was given one and did not refuse it
-abbrev pub taken : Came → List Event
+abbrev pub taken : LineOutcome → List Event
 taken NoEvent = []
 taken (Given e (Ok seen)) = e ∷ []
 taken (Given e (Err refusal)) = []
@@ -31,9 +31,9 @@ HeadlineOfPlays = (epoch : ℕ) (turns : List LineTurn) (w : World) → Plays (f
 -- what a play prints has one line for each turn, which is the turn's text
 abbrev pub OneLineEach : Type 0
 OneLineEach = (w v : World) (turns : List LineTurn) → Plays w turns v
-    → lines (printed (texts_of turns)) ≡ texts_of turns
+    → lines (printed (turn_texts turns)) ≡ turn_texts turns
 
 -- what was printed of a turn is true of the last world as well: its answer was sent, and its reply is held
 abbrev pub TextsStay : Type 0
 TextsStay = (w v : World) (turns : List LineTurn) (turn : LineTurn) → Plays w turns v → Contains turns turn
-    → TellsCame v turn.came turn.text
+    → TellsLineOutcome v turn.came turn.text

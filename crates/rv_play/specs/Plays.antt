@@ -10,7 +10,7 @@ use Rattle.rv_run.specs.Input.{ReadsAll}
 use Rattle.rv_run.specs.declared.fault.RunFault.{RunFault}
 use Rattle.rv_run.specs.declared.fault.RunFault.TheVariants.{NoMemory, ReadFault, TooLong, WriteFault}
 use Rattle.rv_world.specs.World.{World, first_world}
-use Rattle.rv_play.specs.Turns.{LineTurn, Plays, lines_of, texts_of}
+use Rattle.rv_play.specs.Turns.{LineTurn, Plays, lines_of, turn_texts}
 
 -- the turns play the first lines of the input, from a world that begins in epoch 1, and these lines are left
 pub record PlaysFirst (input : List ℕ) (turns : List LineTurn) (left : List (List ℕ)) : Type 0 where
@@ -25,7 +25,7 @@ module _ {W : Type 0} (contents : W → Option (List ℕ)) where
   pub record PrintsAll (input : List ℕ) (old new : Sink W) : Type 0 where
     pub turns : List LineTurn
     pub plays : PlaysFirst input turns []
-    pub went_out : SinkTakes contents old new (printed (texts_of turns))
+    pub went_out : SinkTakes contents old new (printed (turn_texts turns))
     pub sink_stays : sink_failed new ≡ sink_failed old
 
   -- of the texts of the turns of some first lines exactly so many bytes, and not all
@@ -33,8 +33,8 @@ module _ {W : Type 0} (contents : W → Option (List ℕ)) where
     pub turns : List LineTurn
     pub left : List (List ℕ)
     pub plays : PlaysFirst input turns left
-    pub not_all : sent < length (printed (texts_of turns))
-    pub went_out : SinkTakes contents old new (take sent (printed (texts_of turns)))
+    pub not_all : sent < length (printed (turn_texts turns))
+    pub went_out : SinkTakes contents old new (take sent (printed (turn_texts turns)))
     pub sink_fails : sink_failed new ≡ true
 
   -- the texts of the turns of some first lines, whole, and not of all
@@ -43,7 +43,7 @@ module _ {W : Type 0} (contents : W → Option (List ℕ)) where
     pub line : List ℕ
     pub left : List (List ℕ)
     pub plays : PlaysFirst input turns (line ∷ left)
-    pub went_out : SinkTakes contents old new (printed (texts_of turns))
+    pub went_out : SinkTakes contents old new (printed (turn_texts turns))
     pub sink_stays : sink_failed new ≡ sink_failed old
 
   -- not every line has its result, for this fault

@@ -3,7 +3,7 @@ use Rattle.std.specs.Prelude.{ℕ, List, codes, ◌∷◌, ◌++◌, ◌≡◌}
 use Rattle.rv_text.specs.declared.version.Version.{Version}
 use Rattle.rv_text.specs.declared.version.Version.TheVariants.{One, Two}
 use Rattle.rv_text.specs.Bodies.{IsCallBody}
-use Rattle.rv_lines.specs.Number.{Writes, WritesIdentifier}
+use Rattle.rv_lines.specs.Number.{WritesIdentifier, WritesNumber}
 use Rattle.rv_world.specs.declared.event.Event.{Event}
 use Rattle.rv_world.specs.declared.event.Event.TheVariants as event
 
@@ -42,8 +42,8 @@ SayRest fields (event.Resend client) = WritesIdentifier fields client
 SayRest fields (event.CancelSent client) = WritesIdentifier fields client
 SayRest fields (event.Crash client) = WritesIdentifier fields client
 SayRest fields (event.ToServer packet moment) =
-    SayTwo (λ f. Writes f packet) (λ f. Writes f moment) fields
-SayRest fields (event.ToClient packet) = Writes fields packet
+    SayTwo (λ f. WritesNumber f packet) (λ f. WritesNumber f moment) fields
+SayRest fields (event.ToClient packet) = WritesNumber fields packet
 SayRest fields (event.NewEpoch epoch) = WritesIdentifier fields epoch
 
 -- the line is the event's word, one space (32), and the fields that say the rest of it

@@ -13,9 +13,9 @@ use Rattle.rv_world.specs.declared.packet.Packet.{Packet}
 use Rattle.rv_world.specs.declared.seen.Seen.{Seen}
 use Rattle.rv_world.specs.declared.seen.Seen.TheVariants as sees
 use Rattle.rv_world.specs.declared.seen.WorldRefusal.{WorldRefusal}
-use Rattle.rv_world.specs.Events.{Comes}
+use Rattle.rv_world.specs.Events.{EventComesTo}
 use Rattle.rv_world.specs.World.{World, IsHeld}
-use Rattle.rv_play.specs.Turns.{Came, TakesTurn, TellsResult}
+use Rattle.rv_play.specs.Turns.{LineOutcome, TakesTurn, TellsResult}
 
 -- ---- what can be told
 
@@ -69,11 +69,11 @@ pub record IsResult (w : World) (shown : Result Seen WorldRefusal) (text : Strin
 -- the world was given the event, and the text tells the result
 pub record PlaysEvent (w : World) (e : Event) (v : World) (text : String Global) : Type 0 where
   pub shown : Result Seen WorldRefusal
-  pub comes : Comes w e v shown
+  pub comes : EventComesTo w e v shown
   pub told : IsResult v shown text
 
 -- the line took its turn, with this text
 pub record PlaysLine (w : World) (line : List ℕ) (v : World) (text : String Global) : Type 0 where
-  pub came : Came
+  pub came : LineOutcome
   pub takes : TakesTurn w (record { line = line; came = came; text = string_bytes text }) v
   pub short : IsShort (string_bytes text)

@@ -13,7 +13,7 @@ use Rattle.rv_world.specs.declared.seen.Seen.{Seen}
 use Rattle.rv_world.specs.declared.seen.Seen.TheVariants as sees
 use Rattle.rv_world.specs.declared.seen.WorldRefusal.{WorldRefusal}
 use Rattle.rv_world.specs.declared.seen.WorldRefusal.TheVariants as refuses
-use Rattle.rv_world.specs.Events.{Comes}
+use Rattle.rv_world.specs.Events.{EventComesTo}
 use Rattle.rv_world.specs.World.{World, IsHeld}
 use Rattle.rv_play.specs.Reading.{SaysEvent, SaysNoEvent}
 
@@ -63,31 +63,31 @@ TellsResult w (Err refusal) text = text ≡ codes "refused " ++ decimal (refusal
 
 -- what came of a line: it says no event; or the world was given this one, and that was seen of it, or it was
 -- refused
-pub data Came : Type 0 where
-  NoEvent : Came
-  Given : (e : Event) (shown : Result Seen WorldRefusal) → Came
+pub data LineOutcome : Type 0 where
+  NoEvent : LineOutcome
+  Given : (e : Event) (shown : Result Seen WorldRefusal) → LineOutcome
 
 -- a line, what came of it, and the text that is printed for it
 pub record LineTurn : Type 0 where
   pub line : List ℕ
-  pub came : Came
+  pub came : LineOutcome
   pub text : List ℕ
 
 -- the line says no event, and the world stays; or the world takes the event that it says, by its own step, or
 -- refuses it and stays
-abbrev pub LeadsTo : List ℕ → World → World → Came → Type 0
+abbrev pub LeadsTo : List ℕ → World → World → LineOutcome → Type 0
 LeadsTo line w v NoEvent = SaysNoEvent line × (v ≡ w)
-LeadsTo line w v (Given e shown) = SaysEvent line e × Comes w e v shown
+LeadsTo line w v (Given e shown) = SaysEvent line e × EventComesTo w e v shown
 
-abbrev pub TellsCame : World → Came → List ℕ → Type 0
-TellsCame v NoEvent text = text ≡ codes "bad line"
-TellsCame v (Given e shown) text = TellsResult v shown text
+abbrev pub TellsLineOutcome : World → LineOutcome → List ℕ → Type 0
+TellsLineOutcome v NoEvent text = text ≡ codes "bad line"
+TellsLineOutcome v (Given e shown) text = TellsResult v shown text
 
 -- the turn leads from the one world to the other, its text tells what came of its line, and is one line: it
 -- has no LF (10) in it
 pub record TakesTurn (w : World) (turn : LineTurn) (v : World) : Type 0 where
   pub leads : LeadsTo turn.line w v turn.came
-  pub tells : TellsCame v turn.came turn.text
+  pub tells : TellsLineOutcome v turn.came turn.text
   pub one_line : All (λ byte. byte ≢ 10) turn.text
 
 -- the turns, in order, lead from the one world to the other
@@ -99,5 +99,5 @@ Plays w (turn ∷ turns) v = (between : World) × TakesTurn w turn between × Pl
 abbrev pub lines_of : List LineTurn → List (List ℕ)
 lines_of turns = map (λ turn. turn.line) turns
 
-abbrev pub texts_of : List LineTurn → List (List ℕ)
-texts_of turns = map (λ turn. turn.text) turns
+abbrev pub turn_texts : List LineTurn → List (List ℕ)
+turn_texts turns = map (λ turn. turn.text) turns

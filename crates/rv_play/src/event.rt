@@ -1,6 +1,6 @@
 //! Reads the event that a line of a play says.
 ghost use Rattle.std.specs.Prelude.{◌≡◌, ◌↔◌, ℕ, Err, None, IfOk, IfSome, IsTrue, codes};
-ghost use Rattle.rv_lines.specs.Number.{Writes};
+ghost use Rattle.rv_lines.specs.Number.{WritesNumber};
 ghost use Rattle.rv_text.specs.declared.call.Call as calls;
 ghost use Rattle.rv_world.specs.declared.event.Event.TheVariants as event;
 ghost use Rattle.rv_play.specs.Parts.{SaysAtMostBegin, SaysParts};
@@ -109,8 +109,8 @@ fn to_server(fields: &[u8]) -> Option<Event>
 
 // The number of a packet. Every number of so many digits is one, whether the packet was sent or not.
 fn read_packet(text: &[u8]) -> Option<usize>
-    ensures some { IfSome result (Writes text.now) }
-    ensures none { result ≡ None → (n : ℕ) → ¬ Writes text.now n }
+    ensures some { IfSome result (WritesNumber text.now) }
+    ensures none { result ≡ None → (n : ℕ) → ¬ WritesNumber text.now n }
 {
     Some(read_number(text)? as usize)
 }

@@ -9,42 +9,42 @@ use Rattle.rv_frame.specs.Stream.{HasFed, Stream}
 use Rattle.rv_frame.specs.declared.source.Source.{Source}
 use Rattle.rv_frame.specs.declared.sink.Sink.{Sink}
 use Rattle.rv_frame.proofs.Cuts.{row_append}
-use Rattle.rv_server.specs.Asking.{Cover, Gets}
-use Rattle.rv_server.specs.Progress.{MakesTurn, Out, Progress, StopsTurn, out}
+use Rattle.rv_server.specs.Asking.{Cover, GetsStamps}
+use Rattle.rv_server.specs.Progress.{AnswersFrame, Out, Progress, StopsAtFrame, out}
 use Rattle.rv_server.specs.Reading.{ReadsOn, ReadsOut, TakesFrame}
 use Rattle.rv_server.specs.Stamps.{Numbered, added}
-use Rattle.rv_server.specs.Turns.{AreFor, AreTurns, IsFor, IsTurn, Turn, stamps_of}
+use Rattle.rv_server.specs.AnsweredFrames.{AnsweredFrame, AreAnsweredFrames, AreFor, IsAnsweredFrame, IsFor, stamps_of}
 use Rattle.rv_server.specs.Works.{AreForNext, Connection, Listed, Worked, Works, connection, max_frames, nothing}
 use Rattle.rv_server.specs.declared.fault.WorkFault.{WorkFault}
 use Rattle.rv_server.specs.declared.fault.WorkFault.TheVariants.{BadLength, CutFrame, NoMemory, ReadFault, TooLong, WriteFault}
 use Rattle.rv_server.proofs.Getting.{added_append, cover_append, covers_all}
 
--- ---- turns, one behind the others
+-- ---- answered frames, one behind the others
 
-abbrev body_of : Turn → List ℕ
-body_of turn = turn.body
+abbrev body_of : AnsweredFrame → List ℕ
+body_of frame = frame.body
 
-abbrev answer_of : Turn → List ℕ
-answer_of turn = turn.answer
+abbrev answer_of : AnsweredFrame → List ℕ
+answer_of frame = frame.answer
 
-turns_more : (number : ℕ) (turns : List Turn) (turn : Turn) → AreTurns number turns → IsTurn (number + length turns) turn → AreTurns number (turns ++ turn ∷ [])
-turns_more number [] turn are is = (subst (λ (n : ℕ). IsTurn n turn) (add-zero number) is, tt)
-turns_more number (first ∷ turns) turn are is =
-    let same : number + length (first ∷ turns) ≡ (number + 1) + length turns = omega arith in
-    (are.0, turns_more (number + 1) turns turn are.1 (subst (λ (n : ℕ). IsTurn n turn) same is))
+answered_more : (number : ℕ) (answered : List AnsweredFrame) (frame : AnsweredFrame) → AreAnsweredFrames number answered → IsAnsweredFrame (number + length answered) frame → AreAnsweredFrames number (answered ++ frame ∷ [])
+answered_more number [] frame are is = (subst (λ (n : ℕ). IsAnsweredFrame n frame) (add-zero number) is, tt)
+answered_more number (first ∷ answered) frame are is =
+    let same : number + length (first ∷ answered) ≡ (number + 1) + length answered = omega arith in
+    (are.0, answered_more (number + 1) answered frame are.1 (subst (λ (n : ℕ). IsAnsweredFrame n frame) same is))
 
-stamps_more : (turns : List Turn) (turn : Turn) → stamps_of (turns ++ turn ∷ []) ≡ stamps_of turns ++ turn.stamps
-stamps_more [] turn = append-nil turn.stamps
-stamps_more (first ∷ turns) turn = ap (λ (l : List Numbered). first.stamps ++ l) (stamps_more turns turn) ∙ sym (append_assoc first.stamps (stamps_of turns) turn.stamps)
+stamps_more : (answered : List AnsweredFrame) (frame : AnsweredFrame) → stamps_of (answered ++ frame ∷ []) ≡ stamps_of answered ++ frame.stamps
+stamps_more [] frame = append-nil frame.stamps
+stamps_more (first ∷ answered) frame = ap (λ (l : List Numbered). first.stamps ++ l) (stamps_more answered frame) ∙ sym (append_assoc first.stamps (stamps_of answered) frame.stamps)
 
-row_more : (turns : List Turn) (turn : Turn) → row_bytes (map answer_of turns) ++ frame_bytes turn.answer ≡ row_bytes (map answer_of (turns ++ turn ∷ []))
-row_more turns turn =
-    ap (λ (l : List ℕ). row_bytes (map answer_of turns) ++ l) (sym (append-nil (frame_bytes turn.answer)))
-    ∙ sym (row_append (map answer_of turns) (turn.answer ∷ [])) ∙ ap row_bytes (sym (map-append answer_of turns (turn ∷ [])))
+row_more : (answered : List AnsweredFrame) (frame : AnsweredFrame) → row_bytes (map answer_of answered) ++ frame_bytes frame.answer ≡ row_bytes (map answer_of (answered ++ frame ∷ []))
+row_more answered frame =
+    ap (λ (l : List ℕ). row_bytes (map answer_of answered) ++ l) (sym (append-nil (frame_bytes frame.answer)))
+    ∙ sym (row_append (map answer_of answered) (frame.answer ∷ [])) ∙ ap row_bytes (sym (map-append answer_of answered (frame ∷ [])))
 
 -- ---- the share, with the stamps of one frame more
 
-share_on : (own share share' number : ℕ) (body : List ℕ) (old new got : List Numbered) → share ≡ own + added old → Gets number body share old share' new got
+share_on : (own share share' number : ℕ) (body : List ℕ) (old new got : List Numbered) → share ≡ own + added old → GetsStamps number body share old share' new got
     → share' ≡ own + added new
 share_on own share share' number body old new got before gets =
     let sum = added_append old got in
@@ -52,7 +52,7 @@ share_on own share share' number body old new got before gets =
     ∙ ap (λ (l : List Numbered). own + added l) (sym gets.behind)
 
 cover_on : (own share share' number : ℕ) (body : List ℕ) (old new got : List Numbered) → share ≡ own + added old → Cover own old
-    → Gets number body share old share' new got → Cover own new
+    → GetsStamps number body share old share' new got → Cover own new
 cover_on own share share' number body old new got before covers gets =
     subst (λ (l : List Numbered). Cover own l) (sym gets.behind) (cover_append own old got covers (subst (λ (n : ℕ). Cover n got) before gets.cover))
 
@@ -67,7 +67,7 @@ module _ {R W : Type 0} (remaining : R → Option (List ℕ)) (contents : W → 
       → Progress remaining contents before before listed stream 0
   begin before listed stream none fed = subst (λ (l : Listed). Progress remaining contents before before l stream 0) (sym none) (record {
     bytes = [];
-    turns = [];
+    answered = [];
     count = refl;
     read = Consumes-nil _;
     fed = fed;
@@ -81,33 +81,33 @@ module _ {R W : Type 0} (remaining : R → Option (List ℕ)) (contents : W → 
 
   pub advance : (before mid : Connection R W) (listed listed' : Listed) (old new : Stream) (number : ℕ) (body : List ℕ) (source : Source R) (after : Out W)
       → Progress remaining contents before mid listed old number → ReadsOn remaining mid.source source old new (body ∷ [])
-      → MakesTurn contents number body (out mid.sink mid.share) after listed listed'
+      → AnswersFrame contents number body (out mid.sink mid.share) after listed listed'
       → Progress remaining contents before (connection source after.sink after.share) listed' new (number + 1)
   advance before mid listed listed' old new number body source after so_far reads made =
-      let turns = so_far.turns in
-      let turn = made.turn in
-      let bodies : map body_of (turns ++ turn ∷ []) ≡ map body_of turns ++ body ∷ [] =
-      map-append body_of turns (turn ∷ []) ∙ ap (λ (b : List ℕ). map body_of turns ++ b ∷ []) made.of in
+      let answered = so_far.answered in
+      let frame = made.frame in
+      let bodies : map body_of (answered ++ frame ∷ []) ≡ map body_of answered ++ body ∷ [] =
+      map-append body_of answered (frame ∷ []) ∙ ap (λ (b : List ℕ). map body_of answered ++ b ∷ []) made.of in
       record {
         bytes = so_far.bytes ++ reads.bytes;
-        turns = turns ++ turn ∷ [];
-        count = length-append turns (turn ∷ []) ∙ ap (λ (n : ℕ). n + 1) so_far.count;
+        answered = answered ++ frame ∷ [];
+        count = length-append answered (frame ∷ []) ∙ ap (λ (n : ℕ). n + 1) so_far.count;
         read = Consumes-trans _ _ _ _ _ so_far.read reads.gives;
-        fed = subst (λ (l : List (List ℕ)). HasFed (so_far.bytes ++ reads.bytes) l new) (sym bodies) (reads.fed so_far.bytes (map body_of turns) so_far.fed);
-        right = turns_more 0 turns turn so_far.right (subst (λ (n : ℕ). IsTurn n turn) (sym (zero-add (length turns) ∙ so_far.count)) made.is);
-        items = made.items ∙ ap (λ l. l ++ turn.item ∷ []) so_far.items ∙ sym (map-append (λ (t : Turn). t.item) turns (turn ∷ []));
-        stamps = made.stamps.behind ∙ ap (λ (l : List Numbered). l ++ turn.stamps) so_far.stamps ∙ sym (stamps_more turns turn);
-        written = subst (λ (l : List ℕ). SinkTakes contents before.sink after.sink l) (row_more turns turn) (Appends-trans _ _ _ _ _ so_far.written made.written);
-        share = share_on before.share mid.share after.share number body listed.stamps listed'.stamps turn.stamps so_far.share made.stamps;
-        cover = cover_on before.share mid.share after.share number body listed.stamps listed'.stamps turn.stamps so_far.share so_far.cover made.stamps;
+        fed = subst (λ (l : List (List ℕ)). HasFed (so_far.bytes ++ reads.bytes) l new) (sym bodies) (reads.fed so_far.bytes (map body_of answered) so_far.fed);
+        right = answered_more 0 answered frame so_far.right (subst (λ (n : ℕ). IsAnsweredFrame n frame) (sym (zero-add (length answered) ∙ so_far.count)) made.is);
+        items = made.items ∙ ap (λ l. l ++ frame.item ∷ []) so_far.items ∙ sym (map-append (λ (t : AnsweredFrame). t.item) answered (frame ∷ []));
+        stamps = made.stamps.behind ∙ ap (λ (l : List Numbered). l ++ frame.stamps) so_far.stamps ∙ sym (stamps_more answered frame);
+        written = subst (λ (l : List ℕ). SinkTakes contents before.sink after.sink l) (row_more answered frame) (Appends-trans _ _ _ _ _ so_far.written made.written);
+        share = share_on before.share mid.share after.share number body listed.stamps listed'.stamps frame.stamps so_far.share made.stamps;
+        cover = cover_on before.share mid.share after.share number body listed.stamps listed'.stamps frame.stamps so_far.share so_far.cover made.stamps;
       }
 
   -- the cut of all that was read: the frames that were answered, and these more
   cut_to : (before mid : Connection R W) (listed : Listed) (old new : Stream) (number : ℕ) (source : Source R) (taken more : List (List ℕ))
       → (so_far : Progress remaining contents before mid listed old number) → (reads : ReadsOn remaining mid.source source old new taken)
-      → taken ++ new.frames ≡ more → Cut (so_far.bytes ++ reads.bytes) (map body_of so_far.turns ++ more) new.end
+      → taken ++ new.frames ≡ more → Cut (so_far.bytes ++ reads.bytes) (map body_of so_far.answered ++ more) new.end
   cut_to before mid listed old new number source taken more so_far reads rest =
-      let bodies = map body_of so_far.turns in
+      let bodies = map body_of so_far.answered in
       subst (λ (l : List (List ℕ)). Cut (so_far.bytes ++ reads.bytes) l new.end)
       (append_assoc bodies taken new.frames ∙ ap (λ (l : List (List ℕ)). bodies ++ l) rest) (reads.fed so_far.bytes bodies so_far.fed)
 
@@ -117,14 +117,14 @@ module _ {R W : Type 0} (remaining : R → Option (List ℕ)) (contents : W → 
       → taken ++ new.frames ≡ more → Worked remaining contents before (connection source mid.sink mid.share) listed more new.end [] []
   worked_to before mid listed old new number source taken more so_far few reads rest = record {
     bytes = so_far.bytes ++ reads.bytes;
-    turns = so_far.turns;
+    answered = so_far.answered;
     read = Consumes-trans _ _ _ _ _ so_far.read reads.gives;
     cut = cut_to before mid listed old new number source taken more so_far reads rest;
     right = so_far.right;
     items = so_far.items;
-    stamps = so_far.stamps ∙ sym (append-nil (stamps_of so_far.turns));
-    pending_are = no_stamps (length so_far.turns) more;
-    written = subst (λ (l : List ℕ). SinkTakes contents before.sink mid.sink l) (sym (append-nil (row_bytes (map answer_of so_far.turns)))) so_far.written;
+    stamps = so_far.stamps ∙ sym (append-nil (stamps_of so_far.answered));
+    pending_are = no_stamps (length so_far.answered) more;
+    written = subst (λ (l : List ℕ). SinkTakes contents before.sink mid.sink l) (sym (append-nil (row_bytes (map answer_of so_far.answered)))) so_far.written;
     share = so_far.share;
     cover = covers_all before.share listed.stamps so_far.cover;
     few = subst (λ (n : ℕ). n ≤ max_frames) (sym so_far.count) few;
@@ -173,20 +173,20 @@ module _ {R W : Type 0} (remaining : R → Option (List ℕ)) (contents : W → 
     new.frames,
     new.end,
     worked_to before mid listed old new number source (body ∷ []) (body ∷ new.frames) so_far (omega (arith, whole)) reads refl,
-    ap length so_far.items ∙ length-map so_far.turns (λ (t : Turn). t.item) ∙ so_far.count ∙ whole,
+    ap length so_far.items ∙ length-map so_far.answered (λ (t : AnsweredFrame). t.item) ∙ so_far.count ∙ whole,
   )
 
   -- stamps were got for the next frame, and these bytes of an answer went out
   stopped_at : (before mid : Connection R W) (listed listed' : Listed) (old new : Stream) (number : ℕ) (body : List ℕ) (source : Source R) (after : Out W)
       (got : List Numbered) (broken : List ℕ)
       → Progress remaining contents before mid listed old number → number ≤ max_frames → ReadsOn remaining mid.source source old new (body ∷ [])
-      → listed'.items ≡ listed.items → Gets number body mid.share listed.stamps after.share listed'.stamps got
+      → listed'.items ≡ listed.items → GetsStamps number body mid.share listed.stamps after.share listed'.stamps got
       → SinkTakes contents mid.sink after.sink broken
       → Worked remaining contents before (connection source after.sink after.share) listed' (body ∷ new.frames) new.end got broken
   stopped_at before mid listed listed' old new number body source after got broken so_far few reads items gets wrote =
       record {
         bytes = so_far.bytes ++ reads.bytes;
-        turns = so_far.turns;
+        answered = so_far.answered;
         read = Consumes-trans _ _ _ _ _ so_far.read reads.gives;
         cut = cut_to before mid listed old new number source (body ∷ []) (body ∷ new.frames) so_far reads refl;
         right = so_far.right;
@@ -203,26 +203,26 @@ module _ {R W : Type 0} (remaining : R → Option (List ℕ)) (contents : W → 
   as_many : (before mid : Connection R W) (listed listed' : Listed) (stream : Stream) (number : ℕ) → Progress remaining contents before mid listed stream number
       → listed'.items ≡ listed.items → length listed'.items ≡ number
   as_many before mid listed listed' stream number so_far items =
-      ap length (items ∙ so_far.items) ∙ length-map so_far.turns (λ (t : Turn). t.item) ∙ so_far.count
+      ap length (items ∙ so_far.items) ∙ length-map so_far.answered (λ (t : AnsweredFrame). t.item) ∙ so_far.count
 
-  stops_turn : (before mid : Connection R W) (listed listed' : Listed) (old new : Stream) (number : ℕ) (body : List ℕ) (source : Source R) (after : Out W)
+  stops_frame : (before mid : Connection R W) (listed listed' : Listed) (old new : Stream) (number : ℕ) (body : List ℕ) (source : Source R) (after : Out W)
       (fault : WorkFault)
       → Progress remaining contents before mid listed old number → number < max_frames → ReadsOn remaining mid.source source old new (body ∷ [])
-      → StopsTurn contents number body (out mid.sink mid.share) after listed listed' fault
+      → StopsAtFrame contents number body (out mid.sink mid.share) after listed listed' fault
       → Works remaining contents before (connection source after.sink after.share) listed' (Some fault)
-  stops_turn before mid listed listed' old new number body source after (WriteFault sent) so_far few reads broke = record {
-    turn = broke.turn;
-    is = subst (λ (n : ℕ). IsTurn n broke.turn) (sym (as_many before mid listed listed' old number so_far broke.items)) broke.is;
+  stops_frame before mid listed listed' old new number body source after (WriteFault sent) so_far few reads broke = record {
+    frame = broke.frame;
+    is = subst (λ (n : ℕ). IsAnsweredFrame n broke.frame) (sym (as_many before mid listed listed' old number so_far broke.items)) broke.is;
     few = subst (λ (n : ℕ). n < max_frames) (sym (as_many before mid listed listed' old number so_far broke.items)) few;
     later = new.frames;
     end = new.end;
     part = broke.part;
     worked =
-        subst (λ (b : List ℕ). Worked remaining contents before (connection source after.sink after.share) listed' (b ∷ new.frames) new.end broke.turn.stamps (take sent (frame_bytes broke.turn.answer))) (sym broke.of)
-        (stopped_at before mid listed listed' old new number body source after broke.turn.stamps _ so_far (omega (arith, few)) reads broke.items broke.stamps broke.written);
+        subst (λ (b : List ℕ). Worked remaining contents before (connection source after.sink after.share) listed' (b ∷ new.frames) new.end broke.frame.stamps (take sent (frame_bytes broke.frame.answer))) (sym broke.of)
+        (stopped_at before mid listed listed' old new number body source after broke.frame.stamps _ so_far (omega (arith, few)) reads broke.items broke.stamps broke.written);
     failed = broke.failed;
   }
-  stops_turn before mid listed listed' old new number body source after NoMemory so_far few reads lacks = record {
+  stops_frame before mid listed listed' old new number body source after NoMemory so_far few reads lacks = record {
     more = body ∷ new.frames;
     end = new.end;
     pending = lacks.got;
@@ -230,10 +230,10 @@ module _ {R W : Type 0} (remaining : R → Option (List ℕ)) (contents : W → 
     worked = stopped_at before mid listed listed' old new number body source after lacks.got [] so_far (omega (arith, few)) reads lacks.items lacks.stamps
         (subst (λ (s : Sink W). SinkTakes contents mid.sink s []) (sym lacks.same) (Appends-nil _));
   }
-  stops_turn before mid listed listed' old new number body source after ReadFault so_far few reads none = absurd none
-  stops_turn before mid listed listed' old new number body source after CutFrame so_far few reads none = absurd none
-  stops_turn before mid listed listed' old new number body source after (BadLength n) so_far few reads none = absurd none
-  stops_turn before mid listed listed' old new number body source after TooLong so_far few reads none = absurd none
+  stops_frame before mid listed listed' old new number body source after ReadFault so_far few reads none = absurd none
+  stops_frame before mid listed listed' old new number body source after CutFrame so_far few reads none = absurd none
+  stops_frame before mid listed listed' old new number body source after (BadLength n) so_far few reads none = absurd none
+  stops_frame before mid listed listed' old new number body source after TooLong so_far few reads none = absurd none
 
   -- ---- with the fault as a `?` hands it on
 
@@ -244,11 +244,11 @@ module _ {R W : Type 0} (remaining : R → Option (List ℕ)) (contents : W → 
       subst (λ (f : WorkFault). Works remaining contents before (connection source mid.sink mid.share) listed (Some f)) (sym is)
       (stops_reading before mid listed old new number source cause so_far few took)
 
-  pub stopped_turn : (before mid : Connection R W) (listed listed' : Listed) (old new : Stream) (number : ℕ) (body : List ℕ) (source : Source R) (after : Out W)
+  pub stopped_frame : (before mid : Connection R W) (listed listed' : Listed) (old new : Stream) (number : ℕ) (body : List ℕ) (source : Source R) (after : Out W)
       (cause fault : WorkFault) → fault ≡ cause
       → Progress remaining contents before mid listed old number → number < max_frames → ReadsOn remaining mid.source source old new (body ∷ [])
-      → StopsTurn contents number body (out mid.sink mid.share) after listed listed' cause
+      → StopsAtFrame contents number body (out mid.sink mid.share) after listed listed' cause
       → Works remaining contents before (connection source after.sink after.share) listed' (Some fault)
-  stopped_turn before mid listed listed' old new number body source after cause fault is so_far few reads stops =
+  stopped_frame before mid listed listed' old new number body source after cause fault is so_far few reads stops =
       subst (λ (f : WorkFault). Works remaining contents before (connection source after.sink after.share) listed' (Some f)) (sym is)
-      (stops_turn before mid listed listed' old new number body source after cause so_far few reads stops)
+      (stops_frame before mid listed listed' old new number body source after cause so_far few reads stops)

@@ -4,11 +4,11 @@ use Rattle.std.specs.List.{All}
 use Rattle.std.proofs.lemmas.List.Elements.{All-append, All-cons, All-head, All-nil, All-tail}
 use Rattle.std.proofs.lemmas.List.Sums.{sum_by-append, sum_by-cons}
 use Rattle.rv_text.specs.declared.answer.Answer.{Answer}
-use Rattle.rv_server.specs.Asking.{Cover, Gets, GetsSome, GetsTold, OnlyWaited, Tells, Waits}
+use Rattle.rv_server.specs.Asking.{Cover, GetsSome, GetsStamps, GetsTold, OnlyWaited, TellsFrame, Waits}
 use Rattle.rv_server.specs.Stamps.{Covers, Numbered, Stamped, added, added_by}
-use Rattle.rv_server.specs.Turns.{IsFor, IsWaiting, LastSays, WaitsBetween}
-use Rattle.rv_server.specs.declared.asking.Told.{Told}
-use Rattle.rv_server.specs.declared.asking.Told.TheVariants.{BadText, NoMemory, Said}
+use Rattle.rv_server.specs.AnsweredFrames.{IsFor, IsWaiting, LastSays, WaitsBetween}
+use Rattle.rv_server.specs.declared.asking.FrameAnswer.{FrameAnswer}
+use Rattle.rv_server.specs.declared.asking.FrameAnswer.TheVariants.{BadText, NoMemory, Said}
 
 pub added_append : (front stamps : List Numbered) → added (front ++ stamps) ≡ added front + added stamps
 added_append front stamps = sum_by-append (λ (stamp : Numbered). added_by stamp.1) front stamps
@@ -44,7 +44,7 @@ covers_at own (first ∷ front) back stamp covers =
 pub covers_all : (own : ℕ) (stamps : List Numbered) → Cover own stamps → Covers own stamps
 covers_all own stamps covers front back stamp is = covers_at own front back stamp (subst (λ (l : List Numbered). Cover own l) is covers)
 
-pub nothing_got : (number : ℕ) (body : List ℕ) (share : ℕ) (old : List Numbered) → Gets number body share old share old []
+pub nothing_got : (number : ℕ) (body : List ℕ) (share : ℕ) (old : List Numbered) → GetsStamps number body share old share old []
 nothing_got number body share old = record {
   behind = sym (append-nil old);
   own = record { each = All-nil (IsFor number body); waited = tt };
@@ -53,16 +53,16 @@ nothing_got number body share old = record {
 }
 
 -- the desk wasn't asked
-pub nothing_told : (number : ℕ) (body : List ℕ) (share : ℕ) (old new : List Numbered) (told : Told) → new ≡ old → Tells body [] told
+pub nothing_told : (number : ℕ) (body : List ℕ) (share : ℕ) (old new : List Numbered) (told : FrameAnswer) → new ≡ old → TellsFrame body [] told
     → GetsTold number body share old share new told
 nothing_told number body share old new told same tells = record {
   got = [];
-  gets = subst (λ (l : List Numbered). Gets number body share old share l []) (sym same) (nothing_got number body share old);
+  gets = subst (λ (l : List Numbered). GetsStamps number body share old share l []) (sym same) (nothing_got number body share old);
   tells = tells;
 }
 
 pub one_got : (number : ℕ) (body : List ℕ) (share share' : ℕ) (old : List Numbered) (stamp : Stamped) → IsFor number body (number, stamp)
-    → share' ≡ share + added_by stamp → share' ≤ stamp.length → Gets number body share old share' (old ++ (number, stamp) ∷ []) ((number, stamp) ∷ [])
+    → share' ≡ share + added_by stamp → share' ≤ stamp.length → GetsStamps number body share old share' (old ++ (number, stamp) ∷ []) ((number, stamp) ∷ [])
 one_got number body share share' old stamp own adds within = record {
   behind = refl;
   own = record { each = All-cons (IsFor number body) (number, stamp) [] own (All-nil (IsFor number body)); waited = tt };
@@ -71,7 +71,7 @@ one_got number body share share' old stamp own adds within = record {
 }
 
 join_got : (number : ℕ) (body : List ℕ) (share share' share'' : ℕ) (old mid new got more : List Numbered)
-    → All AnswerWaits got → Gets number body share old share' mid got → Gets number body share' mid share'' new more → Gets number body share old share'' new (got ++ more)
+    → All AnswerWaits got → GetsStamps number body share old share' mid got → GetsStamps number body share' mid share'' new more → GetsStamps number body share old share'' new (got ++ more)
 join_got number body share share' share'' old mid new got more waited first second = record {
   behind = second.behind ∙ ap (λ (l : List Numbered). l ++ more) first.behind ∙ append_assoc old got more;
   own = record {
@@ -97,13 +97,13 @@ all_wait stamps answer waits says =
     (All-append AnswerWaits says.front (says.last ∷ []) says.waited
     (All-cons AnswerWaits says.last [] (waits.0, says.said ∙ waits.1) (All-nil AnswerWaits)))
 
-tells_behind : (body : List ℕ) (front stamps : List Numbered) (told : Told) → All AnswerWaits front → Tells body stamps told → Tells body (front ++ stamps) told
+tells_behind : (body : List ℕ) (front stamps : List Numbered) (told : FrameAnswer) → All AnswerWaits front → TellsFrame body stamps told → TellsFrame body (front ++ stamps) told
 tells_behind body front stamps BadText waited tells = tells
 tells_behind body front stamps NoMemory waited tells = tells
 tells_behind body front stamps (Said answer) waited tells = (last_behind front stamps answer waited tells.0, tells.1)
 
 -- all that were got so far waited, and then these were got: this is told of all
-pub told_behind : (number : ℕ) (body : List ℕ) (share share' share'' : ℕ) (old mid new : List Numbered) (told : Told)
+pub told_behind : (number : ℕ) (body : List ℕ) (share share' share'' : ℕ) (old mid new : List Numbered) (told : FrameAnswer)
     → OnlyWaited number body share old share' mid → GetsTold number body share' mid share'' new told → GetsTold number body share old share'' new told
 told_behind number body share share' share'' old mid new told first second = record {
   got = first.got ++ second.got;
@@ -132,8 +132,8 @@ some_behind (Err e) number body share share' share'' old mid new first same_shar
 pub none_waited : (number : ℕ) (body : List ℕ) (share : ℕ) (old : List Numbered) → OnlyWaited number body share old share old
 none_waited number body share old = record { got = []; gets = nothing_got number body share old; waited = All-nil AnswerWaits }
 
-pub waiting_behind : (number : ℕ) (body : List ℕ) (share share' share'' : ℕ) (old mid new : List Numbered) (told : Told)
+pub waiting_behind : (number : ℕ) (body : List ℕ) (share share' share'' : ℕ) (old mid new : List Numbered) (told : FrameAnswer)
     → OnlyWaited number body share old share' mid → Waits told → GetsTold number body share' mid share'' new told → OnlyWaited number body share old share'' new
 waiting_behind number body share share' share'' old mid new told first waits second =
     waits_behind number body share share' share'' old mid new waits.answer first waits.waiting
-    (subst (λ (t : Told). GetsTold number body share' mid share'' new t) waits.is second)
+    (subst (λ (t : FrameAnswer). GetsTold number body share' mid share'' new t) waits.is second)

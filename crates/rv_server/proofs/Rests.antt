@@ -3,7 +3,7 @@ use Rattle.std.proofs.Common.{◌≡◌, ◌∙◌, ◌+◌, ◌*◌, ◌/◌, �
 use Rattle.std.proofs.lemmas.Bool.{cases_lt}
 use Rattle.std.proofs.lemmas.List.{take-append-drop}
 use Rattle.std.proofs.lemmas.List.Elements.{All-append, All-cons, All-head, All-nil, All-tail}
-use Rattle.rv_frame.specs.Cut.{Bad, BeginsBad, Cut, End, FitsLength, IsBody, IsUnfinished, Open, frame_bytes, length_bytes, row_bytes}
+use Rattle.rv_frame.specs.Cut.{Bad, BeginsBad, Cut, End, FitsLength, IsFrameBody, IsUnfinished, Open, frame_bytes, length_bytes, row_bytes}
 use Rattle.rv_frame.specs.Held.{BeginsFrame}
 use Rattle.rv_frame.specs.Stream.{FeedsAt, Stream, rest_length}
 use Rattle.rv_frame.proofs.Cuts.{length_once}
@@ -134,24 +134,24 @@ no_bodies : (bytes : List ℕ) → IsUnfinished bytes → Cuts bytes
 no_bodies bytes unfinished = record {
   bodies = [];
   end = Open bytes;
-  cut = record { after = bytes; parts = refl; fit = All-nil IsBody; ends = (refl, unfinished) };
+  cut = record { after = bytes; parts = refl; fit = All-nil IsFrameBody; ends = (refl, unfinished) };
 }
 
 bad_first : (bytes : List ℕ) (n : ℕ) → BeginsBad bytes n → Cuts bytes
 bad_first bytes n bad = record {
   bodies = [];
   end = Bad n;
-  cut = record { after = bytes; parts = refl; fit = All-nil IsBody; ends = bad };
+  cut = record { after = bytes; parts = refl; fit = All-nil IsFrameBody; ends = bad };
 }
 
-frame_first : (bytes body rest : List ℕ) → IsBody body → bytes ≡ frame_bytes body ++ rest → Cuts rest → Cuts bytes
+frame_first : (bytes body rest : List ℕ) → IsFrameBody body → bytes ≡ frame_bytes body ++ rest → Cuts rest → Cuts bytes
 frame_first bytes body rest fits parts cuts = record {
   bodies = body ∷ cuts.bodies;
   end = cuts.end;
   cut = record {
     after = cuts.cut.after;
     parts = parts ∙ ap (λ l. frame_bytes body ++ l) cuts.cut.parts ∙ sym (append_assoc (frame_bytes body) (row_bytes cuts.bodies) cuts.cut.after);
-    fit = All-cons IsBody body cuts.bodies fits cuts.cut.fit;
+    fit = All-cons IsFrameBody body cuts.bodies fits cuts.cut.fit;
     ends = cuts.cut.ends;
   };
 }

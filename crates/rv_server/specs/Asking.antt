@@ -5,9 +5,9 @@ use Rattle.rv_text.specs.Limits.{FitsAnswer}
 use Rattle.rv_text.specs.declared.answer.Answer.{Answer}
 use Rattle.rv_text.specs.declared.message.Message.{Message}
 use Rattle.rv_server.specs.Stamps.{Numbered, Stamped, added, added_by}
-use Rattle.rv_server.specs.Turns.{AreFor, IsNoMessage, IsWaiting, LastSays}
-use Rattle.rv_server.specs.declared.asking.Told.{Told}
-use Rattle.rv_server.specs.declared.asking.Told.TheVariants.{BadText, NoMemory, Said}
+use Rattle.rv_server.specs.AnsweredFrames.{AreFor, IsNoMessage, IsWaiting, LastSays}
+use Rattle.rv_server.specs.declared.asking.FrameAnswer.{FrameAnswer}
+use Rattle.rv_server.specs.declared.asking.FrameAnswer.TheVariants.{BadText, NoMemory, Said}
 
 -- the desk handled this message for the seat, and this is its stamp, with the stamp's answer, if its text
 -- found memory
@@ -27,7 +27,7 @@ Cover own (stamp ∷ stamps) = (own + added_by stamp.1 ≤ stamp.1.length) × Co
 
 -- for the frame of this number and body these stamps were got, behind those that were there, and they added
 -- to the seat's share what they say
-pub record Gets (number : ℕ) (body : List ℕ) (share : ℕ) (old : List Numbered) (share' : ℕ)
+pub record GetsStamps (number : ℕ) (body : List ℕ) (share : ℕ) (old : List Numbered) (share' : ℕ)
     (new got : List Numbered) : Type 0 where
   pub behind : new ≡ old ++ got
   pub own : AreFor number body got
@@ -35,33 +35,33 @@ pub record Gets (number : ℕ) (body : List ℕ) (share : ℕ) (old : List Numbe
   pub cover : Cover share got
 
 -- what is told of the frame, by its body and the stamps that were got for it
-abbrev pub Tells : List ℕ → List Numbered → Told → Type 0
-Tells body got BadText = IsNoMessage body
-Tells body got NoMemory = Unit {0}
-Tells body got (Said answer) = LastSays got answer × FitsAnswer answer
+abbrev pub TellsFrame : List ℕ → List Numbered → FrameAnswer → Type 0
+TellsFrame body got BadText = IsNoMessage body
+TellsFrame body got NoMemory = Unit {0}
+TellsFrame body got (Said answer) = LastSays got answer × FitsAnswer answer
 
 -- it is told that the request waits
-pub record Waits (told : Told) : Type 0 where
+pub record Waits (told : FrameAnswer) : Type 0 where
   pub answer : Answer
   pub is : told ≡ Said answer
   pub waiting : IsWaiting answer
 
 -- such stamps were got, and this is told by them
 pub record GetsTold (number : ℕ) (body : List ℕ) (share : ℕ) (old : List Numbered) (share' : ℕ)
-    (new : List Numbered) (told : Told) : Type 0 where
+    (new : List Numbered) (told : FrameAnswer) : Type 0 where
   pub got : List Numbered
-  pub gets : Gets number body share old share' new got
-  pub tells : Tells body got told
+  pub gets : GetsStamps number body share old share' new got
+  pub tells : TellsFrame body got told
 
 -- such stamps were got
 pub record GetsSome (number : ℕ) (body : List ℕ) (share : ℕ) (old : List Numbered) (share' : ℕ)
     (new : List Numbered) : Type 0 where
   pub got : List Numbered
-  pub gets : Gets number body share old share' new got
+  pub gets : GetsStamps number body share old share' new got
 
 -- so far all stamps that were got stand for an answer that waits
 pub record OnlyWaited (number : ℕ) (body : List ℕ) (share : ℕ) (old : List Numbered) (share' : ℕ)
     (new : List Numbered) : Type 0 where
   pub got : List Numbered
-  pub gets : Gets number body share old share' new got
+  pub gets : GetsStamps number body share old share' new got
   pub waited : All (λ (stamp : Numbered). IsWaiting stamp.1.said) got

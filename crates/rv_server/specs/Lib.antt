@@ -1,6 +1,6 @@
 -- What a reader must agree with: all that the public contracts cite.
 pub mod Stamps
-pub mod Turns
+pub mod AnsweredFrames
 pub mod Works
 pub mod Serving
 -- What only private clauses and proofs cite.

@@ -4,7 +4,7 @@ use Rattle.std.specs.Prelude.{Bool, false, length, true}
 use Rattle.std.specs.declared.alloc.Global.{Global}
 use Rattle.std.specs.Io.KnownBytes.{Keeps}
 use Rattle.std.specs.List.{All}
-use Rattle.rv_frame.specs.Cut.{Bad, End, IsBody, Open}
+use Rattle.rv_frame.specs.Cut.{Bad, End, IsFrameBody, Open}
 use Rattle.rv_frame.specs.Source.{source_failed, source_remaining}
 use Rattle.rv_frame.specs.Stream.{Feeds, HasFed, IsOpen, Stream, rest_length}
 use Rattle.rv_frame.specs.declared.source.Source.{Source}
@@ -27,7 +27,7 @@ FollowBytes (Bad n) = Unit {0}
 -- the oldest whole frame was taken; or there is none, or memory was refused; for the proofs
 abbrev pub TakesWhole : Stream → Stream → Result (Option (Vec ℕ Global)) WorkFault → Type 0
 TakesWhole old new (Ok (Some body)) =
-    (old.frames ≡ body.items ∷ new.frames) × (new.end ≡ old.end) × IsBody body.items
+    (old.frames ≡ body.items ∷ new.frames) × (new.end ≡ old.end) × IsFrameBody body.items
 TakesWhole old new (Ok None) = (new ≡ old) × (old.frames ≡ []) × IsOpen old.end
 TakesWhole old new (Err (BadLength n)) = (new ≡ old) × (old.frames ≡ []) × (old.end ≡ Bad n)
 TakesWhole old new (Err NoMemory) = new ≡ old
@@ -73,7 +73,7 @@ module _ {R : Type 0} (remaining : R → Option (List ℕ)) where
   abbrev pub TakesFrame : Source R → Source R → Stream → Stream → Result (Option (Vec ℕ Global)) WorkFault
       → Type 0
   TakesFrame before after old new (Ok (Some body)) =
-      ReadsOn before after old new (body.items ∷ []) × IsBody body.items
+      ReadsOn before after old new (body.items ∷ []) × IsFrameBody body.items
   TakesFrame before after old new (Ok None) =
       ReadsOut before after old new (λ end. end ≡ Open []) × HasEnded remaining after
   TakesFrame before after old new (Err ReadFault) =

@@ -13,7 +13,8 @@ use Rattle.rv_server.specs.declared.fault.WorkFault.TheVariants.{TooLong, WriteF
 use Rattle.rv_server.specs.declared.served.Item.{Item}
 use Rattle.rv_server.specs.declared.served.Served.{Served}
 use Rattle.rv_server.specs.Stamps.{Covers, Numbered, Stamped, added, shown}
-use Rattle.rv_server.specs.Turns.{AreFor, AreTurns, IsTurn, Turn, stamps_of}
+use Rattle.rv_server.specs.AnsweredFrames.{AnsweredFrame, AreAnsweredFrames, AreFor, IsAnsweredFrame}
+use Rattle.rv_server.specs.AnsweredFrames.{stamps_of}
 
 -- the most frames of a connection
 abbrev pub max_frames : ℕ
@@ -60,42 +61,42 @@ AreForNext number [] stamps = stamps ≡ []
 AreForNext number (body ∷ bodies) stamps = AreFor number body stamps
 
 module _ {R W : Type 0} (remaining : R → Option (List ℕ)) (contents : W → Option (List ℕ)) where
-  -- the bytes that were read have the frames of the turns, and then these more and this end; the turns'
-  -- answers were written, and then these bytes more; beside the stamps of the turns there are these
+  -- the bytes that were read have the answered frames, and then these more and this end; their answers
+  -- were written, and then these bytes more; beside their stamps there are these
   pub record Worked (before after : Connection R W) (list : Listed) (more : List (List ℕ)) (end : End)
       (pending : List Numbered) (broken : List ℕ) : Type 0 where
     pub bytes : List ℕ
-    pub turns : List Turn
+    pub answered : List AnsweredFrame
     pub read : Gives remaining before.source after.source bytes
-    pub cut : Cut bytes (map (λ (turn : Turn). turn.body) turns ++ more) end
-    pub right : AreTurns 0 turns
-    pub items : list.items ≡ map (λ (turn : Turn). turn.item) turns
-    pub stamps : list.stamps ≡ stamps_of turns ++ pending
-    pub pending_are : AreForNext (length turns) more pending
+    pub cut : Cut bytes (map (λ (frame : AnsweredFrame). frame.body) answered ++ more) end
+    pub right : AreAnsweredFrames 0 answered
+    pub items : list.items ≡ map (λ (frame : AnsweredFrame). frame.item) answered
+    pub stamps : list.stamps ≡ stamps_of answered ++ pending
+    pub pending_are : AreForNext (length answered) more pending
     pub written : SinkTakes contents before.sink after.sink
-        (row_bytes (map (λ (turn : Turn). turn.answer) turns) ++ broken)
+        (row_bytes (map (λ (frame : AnsweredFrame). frame.answer) answered) ++ broken)
     pub share : after.share ≡ before.share + added list.stamps
     pub cover : Covers before.share list.stamps
-    pub few : length turns ≤ max_frames
+    pub few : length answered ≤ max_frames
 
   -- all frames were answered, and this follows them
   abbrev pub WorkedOut : Connection R W → Connection R W → Listed → End → Type 0
   WorkedOut before after list end = Worked before after list [] end [] []
 
   -- the answer of the next frame went out in part
-  pub record BreaksOff (before after : Connection R W) (list : Listed) (sent : ℕ) : Type 0 where
-    pub turn : Turn
-    pub is : IsTurn (length list.items) turn
+  pub record AnswerBreaksOff (before after : Connection R W) (list : Listed) (sent : ℕ) : Type 0 where
+    pub frame : AnsweredFrame
+    pub is : IsAnsweredFrame (length list.items) frame
     pub few : length list.items < max_frames
     pub later : List (List ℕ)
     pub end : End
-    pub part : sent < length (frame_bytes turn.answer)
-    pub worked : Worked before after list (turn.body ∷ later) end turn.stamps
-        (take sent (frame_bytes turn.answer))
+    pub part : sent < length (frame_bytes frame.answer)
+    pub worked : Worked before after list (frame.body ∷ later) end frame.stamps
+        (take sent (frame_bytes frame.answer))
     pub failed : sink_failed after.sink ≡ true
 
   -- memory was refused, for the next frame or before it
-  pub record LacksMemory (before after : Connection R W) (list : Listed) : Type 0 where
+  pub record WorkLacksMemory (before after : Connection R W) (list : Listed) : Type 0 where
     pub more : List (List ℕ)
     pub end : End
     pub pending : List Numbered
@@ -107,10 +108,10 @@ module _ {R W : Type 0} (remaining : R → Option (List ℕ)) (contents : W → 
   Works before after list None = WorkedOut before after list (Open []) × HasEnded remaining after.source
   Works before after list (Some ReadFault) =
       (end : End) × WorkedOut before after list end × (source_failed after.source ≡ true)
-  Works before after list (Some (WriteFault sent)) = BreaksOff before after list sent
+  Works before after list (Some (WriteFault sent)) = AnswerBreaksOff before after list sent
   Works before after list (Some CutFrame) =
       (end : End) × WorkedOut before after list end × IsCut end × HasEnded remaining after.source
   Works before after list (Some (BadLength n)) = WorkedOut before after list (Bad n)
-  Works before after list (Some NoMemory) = LacksMemory before after list
+  Works before after list (Some NoMemory) = WorkLacksMemory before after list
   Works before after list (Some TooLong) = (body : List ℕ) × (later : List (List ℕ)) × (end : End)
       × Worked before after list (body ∷ later) end [] [] × (length list.items ≡ max_frames)

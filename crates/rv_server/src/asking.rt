@@ -15,19 +15,19 @@ pub(crate) const MAX_PAUSES: usize = 200;
 
 // What a frame is to be answered by.
 #[derive(Drop)]
-pub(crate) enum Told {
+pub(crate) enum FrameAnswer {
     BadText,
     NoMemory,
     Said(Answer),
 }
 
-impl Told {
+impl FrameAnswer {
     // Whether it is said that the request waits.
     fn waits(&self) -> bool
         ensures { IsTrue result → Waits self.now }
     {
         match self {
-            Told::Said(Answer::Waiting { .. }) => true,
+            FrameAnswer::Said(Answer::Waiting { .. }) => true,
             _ => false,
         }
     }
@@ -51,7 +51,7 @@ impl<'a, T: Wait, D: Desk, L: Ledger, C: Clock, G: Gate> Post<'a, T, D, L, C, G>
         stamps: &mut Vec<(u32, D::Stamp)>,
         number: u32,
         body: &[u8],
-    ) -> Result<Told, NoMemory>
+    ) -> Result<FrameAnswer, NoMemory>
         ensures told { IfOk result (GetsTold number body.now seat.old (shown D.stamped stamps.old.items)
             seat.new (shown D.stamped stamps.new.items)) }
         ensures refused { OnErr result ((seat.new ≡ seat.old) × (stamps.new.items ≡ stamps.old.items)) }
@@ -59,16 +59,16 @@ impl<'a, T: Wait, D: Desk, L: Ledger, C: Clock, G: Gate> Post<'a, T, D, L, C, G>
         stamps.reserve(1)?;
         let message = match decode_message(self.alloc, body) {
             Ok(message) => message,
-            Err(TextFault::NoMemory) => return Ok(Told::NoMemory),
-            Err(TextFault::NotJson) => return Ok(Told::BadText),
-            Err(TextFault::NotMessage) => return Ok(Told::BadText),
+            Err(TextFault::NoMemory) => return Ok(FrameAnswer::NoMemory),
+            Err(TextFault::NotJson) => return Ok(FrameAnswer::BadText),
+            Err(TextFault::NotMessage) => return Ok(FrameAnswer::BadText),
         };
         let now = self.clock.now();
         let (stamp, answer) = self.shared.ask(self.rt, self.alloc, seat, now, message);
         stamps.push_reserved((number, stamp));
         match answer {
-            Ok(answer) => Ok(Told::Said(answer)),
-            Err(_) => Ok(Told::NoMemory),
+            Ok(answer) => Ok(FrameAnswer::Said(answer)),
+            Err(_) => Ok(FrameAnswer::NoMemory),
         }
     }
 
@@ -80,7 +80,7 @@ impl<'a, T: Wait, D: Desk, L: Ledger, C: Clock, G: Gate> Post<'a, T, D, L, C, G>
         stamps: &mut Vec<(u32, D::Stamp)>,
         number: u32,
         body: &[u8],
-    ) -> Result<Told, NoMemory>
+    ) -> Result<FrameAnswer, NoMemory>
         ensures told { IfOk result (GetsTold number body.now seat.old (shown D.stamped stamps.old.items)
             seat.new (shown D.stamped stamps.new.items)) }
         ensures refused { OnErr result (GetsSome number body.now seat.old (shown D.stamped stamps.old.items)

@@ -4,10 +4,10 @@ ghost use Rattle.rv_text.specs.Bodies.{HasBodyLength};
 ghost use Rattle.rv_frame.specs.Cut.{frame_bytes};
 ghost use Rattle.rv_frame.specs.Sink.{SinkTakes, sink_failed};
 ghost use Rattle.rv_server.specs.Works.{Works, connection, listed, nothing};
-ghost use Rattle.rv_server.specs.Writing.{FitsTold, Writes, WritesPart};
-ghost use Rattle.rv_server.specs.Progress.{MakesTurn, StopsTurn, out};
+ghost use Rattle.rv_server.specs.Writing.{FitsTold, WritesAnswer, WritesPart};
+ghost use Rattle.rv_server.specs.Progress.{AnswersFrame, StopsAtFrame, out};
 
-use crate::asking::{Post, Told};
+use crate::asking::{FrameAnswer, Post};
 use crate::desk::{Clock, Desk, Gate};
 use crate::fault::WorkFault;
 use crate::inlet::Inlet;
@@ -38,15 +38,19 @@ fn write_item<W: Write>(sink: &mut Sink<W>, item: Item, body: &[u8]) -> Result<I
 }
 
 // Writes the frame that answers, and gives the item that stands for it.
-fn write_told<W: Write>(alloc: Global, sink: &mut Sink<W>, told: &Told) -> Result<Item, WriteFault>
+fn write_told<W: Write>(
+    alloc: Global,
+    sink: &mut Sink<W>,
+    told: &FrameAnswer,
+) -> Result<Item, WriteFault>
     requires { FitsTold told.now }
-    ensures whole { IfOk result (Writes W.contents sink.old sink.new told.now) }
+    ensures whole { IfOk result (WritesAnswer W.contents sink.old sink.new told.now) }
     ensures part { IfErr result (λ fault. WritesPart W.contents sink.old sink.new told.now fault.sent) }
 {
     match told {
-        Told::BadText => write_item(sink, Item::BadText, bad_text_body()),
-        Told::NoMemory => write_item(sink, Item::NoMemory, no_memory_body()),
-        Told::Said(answer) => match encode_answer(alloc, answer) {
+        FrameAnswer::BadText => write_item(sink, Item::BadText, bad_text_body()),
+        FrameAnswer::NoMemory => write_item(sink, Item::NoMemory, no_memory_body()),
+        FrameAnswer::Said(answer) => match encode_answer(alloc, answer) {
             Ok(text) => write_item(sink, Item::Said, text.as_bytes()),
             Err(_) => write_item(sink, Item::NoMemory, no_memory_body()),
         },
@@ -63,9 +67,9 @@ impl<'a, T: Wait, D: Desk, L: Ledger, C: Clock, G: Gate> Post<'a, T, D, L, C, G>
         number: u32,
         body: &[u8],
     ) -> Result<(), WorkFault>
-        ensures ok { OnOk result (MakesTurn W.contents number body.now (out sink.old seat.old)
+        ensures ok { OnOk result (AnswersFrame W.contents number body.now (out sink.old seat.old)
             (out sink.new seat.new) (listed D.stamped served.old) (listed D.stamped served.new)) }
-        ensures fault { IfErr result (StopsTurn W.contents number body.now (out sink.old seat.old)
+        ensures fault { IfErr result (StopsAtFrame W.contents number body.now (out sink.old seat.old)
             (out sink.new seat.new) (listed D.stamped served.old) (listed D.stamped served.new)) }
     {
         served.items.reserve(1)?;

@@ -6,10 +6,10 @@ use Rattle.rv_text.specs.declared.message.Key.{Key}
 use Rattle.rv_text.specs.declared.answer.Refusal.TheVariants.{OldNumber, Busy, Gap}
 use Rattle.rv_session.specs.declared.standing.Standing.TheVariants.{Refused, Next}
 use Rattle.rv_session.specs.declared.session.Session.{Session}
-use Rattle.rv_session.specs.declared.session.State.{State}
-use Rattle.rv_session.specs.declared.session.State.TheVariants.{Fresh, Waits, Settled}
+use Rattle.rv_session.specs.declared.session.RequestState.{RequestState}
+use Rattle.rv_session.specs.declared.session.RequestState.TheVariants.{Fresh, Waits, Settled}
 use Rattle.rv_session.specs.Table.{Table, session_of, waiting_place}
-use Rattle.rv_session.specs.Standings.{first_line, standing_last, standing_in}
+use Rattle.rv_session.specs.Standings.{first_that_holds, standing_last, standing_in}
 use Rattle.rv_session.specs.Meanings.{OfSession, StandingMeans}
 
 -- a line: what holds where its condition holds, and where it doesn't, holds of what it decides
@@ -37,7 +37,7 @@ none_of : (o : Option ℕ) → is_some o ≡ false → o ≡ None
 none_of None e = refl
 none_of (Some x) e = absurd (false≢true (sym e))
 
-standing_last_means : (t : Table) (key : Key) (s : Session) (stands : State) → OfSession t key s → key.number ≡ s.last → s.state ≡ stands → StandingMeans t key (standing_last s.last stands)
+standing_last_means : (t : Table) (key : Key) (s : Session) (stands : RequestState) → OfSession t key s → key.number ≡ s.last → s.state ≡ stands → StandingMeans t key (standing_last s.last stands)
 standing_last_means t key s Fresh of_key number is = record { session = s; of_key = of_key; last_is = refl; old = inr (number, is) }
 standing_last_means t key s (Waits place) of_key number is = record { session = s; of_key = of_key; number = number; state = is }
 standing_last_means t key s (Settled place kept) of_key number is = record { session = s; of_key = of_key; number = number; state = is }
@@ -54,7 +54,7 @@ where_idle o s there idle = ap (option_and_then (λ (x : Session). waiting_place
 
 -- the lines for a key of the session's incarnation
 number_means : (t : Table) (key : Key) (s : Session) → OfSession t key s
-    → StandingMeans t key (first_line
+    → StandingMeans t key (first_that_holds
     ((nat_lt key.number s.last, Refused (OldNumber s.last))
     ∷ (key.number == s.last, standing_last s.last s.state)
     ∷ (is_some (waiting_place s.state), Refused (Busy s.last))

@@ -1,4 +1,4 @@
-pub mod Owed
+pub mod OwedDuty
 pub mod Kept
 pub mod Table
 pub mod Standings

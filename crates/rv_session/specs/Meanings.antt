@@ -5,8 +5,8 @@ use Rattle.rv_text.specs.declared.message.Key.{Key}
 use Rattle.rv_text.specs.declared.answer.Refusal.{Refusal}
 use Rattle.rv_text.specs.declared.answer.Refusal as refusal
 use Rattle.rv_session.specs.declared.session.Session.{Session}
-use Rattle.rv_session.specs.declared.session.State.{State}
-use Rattle.rv_session.specs.declared.session.State as state
+use Rattle.rv_session.specs.declared.session.RequestState.{RequestState}
+use Rattle.rv_session.specs.declared.session.RequestState as state
 use Rattle.rv_session.specs.declared.standing.Greeting.{Greeting}
 use Rattle.rv_session.specs.declared.standing.Greeting.TheVariants.{Again, Unknown, Full, Newer, Older}
 use Rattle.rv_session.specs.declared.standing.Greeting.TheVariants.{OtherVersion}
@@ -18,7 +18,7 @@ use Rattle.rv_session.specs.Standings.{max_clients}
 -- ---- a hello
 
 -- the client has a session of this incarnation and this version
-pub record HasOpened (t : Table) (client incarnation : ℕ) (version : Version) : Type 0 where
+pub record HasSession (t : Table) (client incarnation : ℕ) (version : Version) : Type 0 where
   pub session : Session
   pub there : session_of t client ≡ Some session
   pub same : session.incarnation ≡ incarnation
@@ -26,7 +26,7 @@ pub record HasOpened (t : Table) (client incarnation : ℕ) (version : Version) 
 
 -- the client has a session of this incarnation and another version, which is this one
 pub record HasOther (t : Table) (client incarnation : ℕ) (version current : Version) : Type 0 where
-  pub opened : HasOpened t client incarnation current
+  pub opened : HasSession t client incarnation current
   pub other : version ≢ current
 
 -- the client has a session of a lower incarnation, and this is where its last request waits
@@ -44,7 +44,7 @@ pub record IsOlder (t : Table) (client incarnation current : ℕ) : Type 0 where
   pub greater : incarnation < current
 
 abbrev pub GreetingMeans : Table → ℕ → ℕ → Version → Greeting → Type 0
-GreetingMeans t client incarnation version Again = HasOpened t client incarnation version
+GreetingMeans t client incarnation version Again = HasSession t client incarnation version
 GreetingMeans t client incarnation version Unknown =
     (session_of t client ≡ None) × (session_count t < max_clients)
 GreetingMeans t client incarnation version Full =
@@ -68,7 +68,7 @@ pub record OfSession (t : Table) (key : Key) (session : Session) : Type 0 where
   pub incarnation : session.incarnation ≡ key.incarnation
 
 -- the key has its session's last number, and this is what stands of it
-pub record HasLast (t : Table) (key : Key) (stands : State) : Type 0 where
+pub record HasLast (t : Table) (key : Key) (stands : RequestState) : Type 0 where
   pub session : Session
   pub of_key : OfSession t key session
   pub number : key.number ≡ session.last

@@ -6,8 +6,8 @@ use Rattle.rv_text.specs.declared.message.Key.{Key}
 use Rattle.rv_text.specs.declared.answer.Refusal.TheVariants.{OtherEpoch, NoSession, OldIncarnation}
 use Rattle.rv_text.specs.declared.answer.Refusal.TheVariants.{OldNumber, Busy, Gap}
 use Rattle.rv_session.specs.declared.session.Session.{Session}
-use Rattle.rv_session.specs.declared.session.State.{State}
-use Rattle.rv_session.specs.declared.session.State as state
+use Rattle.rv_session.specs.declared.session.RequestState.{RequestState}
+use Rattle.rv_session.specs.declared.session.RequestState as state
 use Rattle.rv_session.specs.declared.standing.Greeting.{Greeting}
 use Rattle.rv_session.specs.declared.standing.Greeting.TheVariants.{Again, Unknown, Full, Newer, Older}
 use Rattle.rv_session.specs.declared.standing.Greeting.TheVariants.{OtherVersion}
@@ -21,15 +21,15 @@ abbrev pub max_clients : ℕ
 max_clients = 1024
 
 -- a table of lines, each with its condition and what it says: the first whose condition holds decides
-abbrev pub first_line : {A : Type 0} → List (Bool × A) → A → A
-first_line [] otherwise = otherwise
-first_line (line ∷ lines) otherwise = if line.0 then line.1 else first_line lines otherwise
+abbrev pub first_that_holds : {A : Type 0} → List (Bool × A) → A → A
+first_that_holds [] otherwise = otherwise
+first_that_holds (line ∷ lines) otherwise = if line.0 then line.1 else first_that_holds lines otherwise
 
 -- ---- a hello
 
 -- where the client has a session
 abbrev pub greeting_in : Session → ℕ → Version → Greeting
-greeting_in session incarnation version = first_line
+greeting_in session incarnation version = first_that_holds
     ((nat_lt incarnation session.incarnation, Older session.incarnation)
     ∷ (nat_lt session.incarnation incarnation, Newer (waiting_place session.state))
     ∷ (number_of_version version == number_of_version session.version, Again)
@@ -59,14 +59,14 @@ MayEnter t client incarnation version = Enters (greeting_of t client incarnation
 -- ---- a key
 
 -- the last number: no request has the number 0 of a fresh session, so it counts as an old one
-abbrev pub standing_last : ℕ → State → Standing
+abbrev pub standing_last : ℕ → RequestState → Standing
 standing_last last state.TheVariants.Fresh = Refused (OldNumber last)
 standing_last last (state.TheVariants.Waits place) = Waits place
 standing_last last (state.TheVariants.Settled place kept) = Settled place kept
 
 -- where the client has a session
 abbrev pub standing_in : Session → Key → Standing
-standing_in session key = first_line
+standing_in session key = first_that_holds
     ((nat_lt session.incarnation key.incarnation, Refused NoSession)
     ∷ (nat_lt key.incarnation session.incarnation, Refused (OldIncarnation session.incarnation))
     ∷ (nat_lt key.number session.last, Refused (OldNumber session.last))

@@ -8,8 +8,8 @@ use Rattle.rv_text.specs.declared.message.Key.{Key}
 use Rattle.rv_text.specs.declared.version.Version.{Version}
 use Rattle.rv_session.specs.declared.kept.Kept.{Kept}
 use Rattle.rv_session.specs.declared.session.Session.{Session}
-use Rattle.rv_session.specs.declared.session.State.{State}
-use Rattle.rv_session.specs.declared.session.State.TheVariants.{Fresh, Waits, Settled}
+use Rattle.rv_session.specs.declared.session.RequestState.{RequestState}
+use Rattle.rv_session.specs.declared.session.RequestState.TheVariants.{Fresh, Waits, Settled}
 
 pub record Table : Type 0 where
   pub epoch : ℕ
@@ -29,7 +29,7 @@ abbrev pub session_count : Table → ℕ
 session_count t = map.len t.sessions
 
 -- whether the last request waits, and where
-abbrev pub waiting_place : State → Option ℕ
+abbrev pub waiting_place : RequestState → Option ℕ
 waiting_place Fresh = None
 waiting_place (Waits place) = Some place
 waiting_place (Settled place kept) = None
@@ -48,7 +48,7 @@ fresh incarnation version =
     record { incarnation = incarnation; version = version; last = 0; state = Fresh }
 
 -- the session of this version with the key's number as its last, of which this stands
-abbrev pub session_for : Key → Version → State → Session
+abbrev pub session_for : Key → Version → RequestState → Session
 session_for key version stands =
     record { incarnation = key.incarnation; version = version; last = key.number; state = stands }
 
@@ -71,7 +71,7 @@ pub record OnlySets (old new : Table) (client : ℕ) (session : Session) : Type 
 
 -- the key's number is the last of its session, and of it stands this; the session's version stays, and so
 -- does all else
-pub record OnlyAdvances (old new : Table) (key : Key) (stands : State) : Type 0 where
+pub record OnlyAdvances (old new : Table) (key : Key) (stands : RequestState) : Type 0 where
   pub version : Version
   pub was : version_in old key.client ≡ Some version
   pub sets : OnlySets old new key.client (session_for key version stands)

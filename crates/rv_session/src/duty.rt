@@ -13,9 +13,9 @@ pub struct Duty {
 }
 
 impl Model for Duty {
-    ghost use Rattle.rv_session.specs.Owed.{Owed};
+    ghost use Rattle.rv_session.specs.OwedDuty.{OwedDuty};
 
-    ghost Value = { Owed };
+    ghost Value = { OwedDuty };
 
     ghost view = { λ d. record { place = d.place; client = d.client } };
 }
@@ -29,9 +29,9 @@ pub struct Parked {
 }
 
 impl Model for Parked {
-    ghost use Rattle.rv_session.specs.Owed.{Owed};
+    ghost use Rattle.rv_session.specs.OwedDuty.{OwedDuty};
 
-    ghost Value = { Owed };
+    ghost Value = { OwedDuty };
 
     ghost view = { λ p. record { place = p.place; client = p.client } };
 }

@@ -10,6 +10,6 @@ mod standing;
 
 pub use duty::{Duty, Parked};
 pub use kept::{Kept, Place};
-pub use session::{Session, State};
+pub use session::{RequestState, Session};
 pub use sessions::{MAX_CLIENTS, Sessions};
 pub use standing::{Greeting, Standing};

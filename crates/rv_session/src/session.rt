@@ -9,7 +9,7 @@ use rv_text::{Key, Refusal, Version};
 
 /// What stands of a session's last number.
 #[derive(Clone, Copy, Debug, PartialEq, Eq)]
-pub enum State {
+pub enum RequestState {
     /// Nothing was asked yet.
     Fresh,
     /// The request waits at this place.
@@ -28,18 +28,18 @@ pub struct Session {
     /// The last number; 0 before the first.
     pub last: u64,
     /// What stands of the last number.
-    pub state: State,
+    pub state: RequestState,
 }
 
-impl State {
+impl RequestState {
     // Where the request waits, if it does.
     fn waiting(&self) -> Option<Place>
         ensures { result ≡ waiting_place self.now }
     {
         match self {
-            State::Waits(place) => Some(*place),
-            State::Fresh => None,
-            State::Settled { .. } => None,
+            RequestState::Waits(place) => Some(*place),
+            RequestState::Fresh => None,
+            RequestState::Settled { .. } => None,
         }
     }
 
@@ -48,9 +48,9 @@ impl State {
         ensures { result ≡ standing_last last self.now }
     {
         match self {
-            State::Fresh => Standing::Refused(Refusal::OldNumber(last)),
-            State::Waits(place) => Standing::Waits(*place),
-            State::Settled { place, kept } => Standing::Settled {
+            RequestState::Fresh => Standing::Refused(Refusal::OldNumber(last)),
+            RequestState::Waits(place) => Standing::Waits(*place),
+            RequestState::Settled { place, kept } => Standing::Settled {
                 place: *place,
                 kept: *kept,
             },
@@ -67,12 +67,12 @@ impl Session {
             incarnation,
             version,
             last: 0,
-            state: State::Fresh,
+            state: RequestState::Fresh,
         }
     }
 
     // The session of a key whose number is the last from now on, with what stands of it.
-    pub(crate) fn of(key: &Key, version: Version, state: State) -> Session
+    pub(crate) fn of(key: &Key, version: Version, state: RequestState) -> Session
         ensures { result ≡ session_for key.now version state }
     {
         Session {
@@ -91,7 +91,7 @@ impl Session {
             incarnation: self.incarnation,
             version: self.version,
             last: self.last,
-            state: State::Settled { place, kept },
+            state: RequestState::Settled { place, kept },
         }
     }
 

@@ -4,7 +4,7 @@ ghost use Rattle.rv_session.specs.Table.{fresh};
 
 use crate::duty::Duty;
 use crate::kept::{Kept, Place};
-use crate::session::{Session, State};
+use crate::session::{RequestState, Session};
 use crate::standing::{Greeting, Standing};
 use indexmap::IndexMap;
 use rv_text::{Key, NoMemory, Refusal, Version};
@@ -43,7 +43,7 @@ impl Model for Sessions {
 impl Sessions {
     ghost use Rattle.std.specs.Prelude.{IsOk, ◌≤◌};
     ghost use Rattle.std.specs.FinMap.{empty};
-    ghost use Rattle.rv_session.specs.declared.session.State.TheVariants.{Settled, Waits};
+    ghost use Rattle.rv_session.specs.declared.session.RequestState.TheVariants.{Settled, Waits};
     ghost use Rattle.rv_session.specs.declared.kept.Kept.TheVariants.{Cancelled};
     ghost use Rattle.rv_session.specs.declared.standing.Standing.TheVariants.{Next};
     ghost use Rattle.rv_session.specs.Table.{OnlyAdvances, OnlySets, OnlySettles};
@@ -132,7 +132,7 @@ impl Sessions {
     }
 
     // Makes a next number its session's last, of which this stands.
-    fn advance(&mut self, key: &Key, state: State)
+    fn advance(&mut self, key: &Key, state: RequestState)
         requires { standing_of self.old key.now ≡ Next }
         ensures { OnlyAdvances self.old self.new key.now state }
     {
@@ -148,7 +148,7 @@ impl Sessions {
         ensures duty { result ≡ record { place = place; client = key.now.client } }
         ensures waits { OnlyAdvances self.old self.new key.now (Waits place) }
     {
-        self.advance(key, State::Waits(place));
+        self.advance(key, RequestState::Waits(place));
         Duty::new(place, key.client)
     }
 
@@ -178,7 +178,7 @@ impl Sessions {
         requires { standing_of self.old key.now ≡ Next }
         ensures { OnlyAdvances self.old self.new key.now (Settled None Cancelled) }
     {
-        let cancelled = State::Settled {
+        let cancelled = RequestState::Settled {
             place: None,
             kept: Kept::Cancelled,
         };

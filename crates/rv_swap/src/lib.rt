@@ -3,4 +3,4 @@
 
 mod swap;
 
-pub use swap::{Arrived, Swap, Tried};
+pub use swap::{Swap, SwapOutcome, SwapTry};

@@ -15,15 +15,15 @@ pub struct Swap {
 
 impl Model for Swap {
     ghost use Rattle.std.specs.Prelude.{Option};
-    ghost use Rattle.rv_session.specs.Owed.{Owed};
+    ghost use Rattle.rv_session.specs.OwedDuty.{OwedDuty};
 
-    ghost Value = { Option Owed };
+    ghost Value = { Option OwedDuty };
 
     ghost view = { λ s. s.waiting };
 }
 
 /// What comes of a duty that waits where there is no partner.
-pub enum Arrived {
+pub enum SwapOutcome {
     /// It met the duty that waited: the earlier one, and the one that arrived.
     Met(Duty, Duty),
     /// It waits from now on.
@@ -31,7 +31,7 @@ pub enum Arrived {
 }
 
 /// What comes of a duty that doesn't wait.
-pub enum Tried {
+pub enum SwapTry {
     /// It met the duty that waited: the earlier one, and the one that arrived.
     Met(Duty, Duty),
     /// No duty waited, and it is handed back.
@@ -40,7 +40,7 @@ pub enum Tried {
 
 impl Swap {
     ghost use Rattle.std.specs.Prelude.{None, IfNone, IfSome, option_map};
-    ghost use Rattle.rv_swap.specs.Exchange.{ArrivesAt, NotWaiting, TriesAt, Withdraws};
+    ghost use Rattle.rv_swap.specs.Exchange.{ArrivesToSwap, LeavesExchanger, NotWaiting, TriesAt};
 
     /// An exchanger at which no duty waits.
     pub fn new() -> Swap
@@ -51,32 +51,32 @@ impl Swap {
 
     /// A duty arrives. It meets the one that waits, if there is one, and none waits any more; else it
     /// waits itself.
-    pub fn arrive(&mut self, duty: Duty) -> Arrived
-        ensures { ArrivesAt self.old duty self.new result }
+    pub fn arrive(&mut self, duty: Duty) -> SwapOutcome
+        ensures { ArrivesToSwap self.old duty self.new result }
     {
         match self.waiting.take() {
-            Some(earlier) => Arrived::Met(earlier.wake(), duty),
+            Some(earlier) => SwapOutcome::Met(earlier.wake(), duty),
             None => {
                 self.waiting = Some(duty.park());
-                Arrived::Parked
+                SwapOutcome::Parked
             }
         }
     }
 
     /// A duty arrives that doesn't wait. It meets the one that waits, if there is one, and none waits any
     /// more; else it is handed back, and none waits.
-    pub fn try_arrive(&mut self, duty: Duty) -> Tried
+    pub fn try_arrive(&mut self, duty: Duty) -> SwapTry
         ensures { TriesAt self.old duty self.new result }
     {
         match self.waiting.take() {
-            Some(earlier) => Tried::Met(earlier.wake(), duty),
-            None => Tried::Alone(duty),
+            Some(earlier) => SwapTry::Met(earlier.wake(), duty),
+            None => SwapTry::Alone(duty),
         }
     }
 
     /// Takes the duty of a place out, if it is the one that waits; else nothing changes.
     pub fn withdraw(&mut self, place: Place) -> Option<Duty>
-        ensures taken { IfSome result (Withdraws self.old place self.new) }
+        ensures taken { IfSome result (LeavesExchanger self.old place self.new) }
         ensures not_there { IfNone result (NotWaiting self.old place) }
         ensures stays { IfNone result (self.new ≡ self.old) }
     {

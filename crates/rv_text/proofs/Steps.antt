@@ -12,7 +12,7 @@ use Rattle.serde_json.proofs.Views.{members_len-members_view}
 use Rattle.serde_json.specs.Events.{members_len}
 use Rattle.serde_json.specs.Find.{get_member, as_number, as_u64, as_str, as_array}
 use Rattle.rv_text.specs.Members.{Member, Field, field_of, members_of, texts_value}
-use Rattle.rv_text.specs.Reading.{◌>>=◌, Line, under, among, numbered_among, whole_among, text_among, texts_of, texts_among}
+use Rattle.rv_text.specs.Reading.{◌>>=◌, ReaderLine, under, among, numbered_among, whole_among, text_among, texts_of, texts_among}
 use Rattle.rv_text.specs.Reading.{Shape}
 use Rattle.rv_text.proofs.Objects.{HasFields}
 use Rattle.rv_text.proofs.Sound.{IsSound}
@@ -120,11 +120,11 @@ module _ (ms : Members) where
   texts_found texts e = array_found (get_member (codes "texts") ms) (items_of (map string texts)) (list_found (option_and_then as_array (get_member (codes "texts") ms)) texts e)
 
   -- each line finds what has P, where its word or number is found
-  abbrev pub AreLines : {K A : Type 0} → (A → Type 0) → (K → Type 0) → List (Line K A) → Type 0
+  abbrev pub AreLines : {K A : Type 0} → (A → Type 0) → (K → Type 0) → List (ReaderLine K A) → Type 0
   AreLines P Is [] = Unit {0}
   AreLines P Is (line ∷ lines) = (Is line.0 → (x : _) → line.1 ms ≡ Some x → P x) × AreLines P Is lines
 
-  line_found : {K A : Type 0} (same : K → K → Bool) → ((a b : K) → same a b ≡ true → a ≡ b) → (P : A → Type 0) (Is : K → Type 0) (lines : List (Line K A)) → AreLines P Is lines
+  line_found : {K A : Type 0} (same : K → K → Bool) → ((a b : K) → same a b ≡ true → a ≡ b) → (P : A → Type 0) (Is : K → Type 0) (lines : List (ReaderLine K A)) → AreLines P Is lines
       → (key : K) → Is key → (x : A) → under same key lines ms ≡ Some x → P x
   line_found same equal P Is [] are key is x e = absurd (cc)
   line_found same equal P Is (line ∷ lines) are key is x e = elim (chosen (same key line.0) (line.1 ms) (under same key lines ms) x e) [
@@ -132,13 +132,13 @@ module _ (ms : Members) where
     | inr way ↦ line_found same equal P Is lines are.1 key is x way
   ]
 
-  pub among_found : {A : Type 0} (P : A → Type 0) (name : List ℕ) (lines : List (Line (List ℕ) A)) → AreLines P (λ s. Has (name, string s)) lines
+  pub among_found : {A : Type 0} (P : A → Type 0) (name : List ℕ) (lines : List (ReaderLine (List ℕ) A)) → AreLines P (λ s. Has (name, string s)) lines
       → (x : A) → among name lines ms ≡ Some x → P x
   among_found P name lines are =
       step_found P (text_among name ms) _ (λ s read.
       line_found bytes_eq (λ a b. (bytes_eq-Decides a b).0) P (λ s. Has (name, string s)) lines are s (text_found name s read))
 
-  pub numbered_found : {A : Type 0} (P : A → Type 0) (name : List ℕ) (lines : List (Line ℕ A)) → AreLines P (λ n. Has (name, number (unsigned n))) lines
+  pub numbered_found : {A : Type 0} (P : A → Type 0) (name : List ℕ) (lines : List (ReaderLine ℕ A)) → AreLines P (λ n. Has (name, number (unsigned n))) lines
       → (x : A) → numbered_among name lines ms ≡ Some x → P x
   numbered_found P name lines are =
       step_found P (whole_among name ms) _ (λ n read.

@@ -82,21 +82,21 @@ None >>= next = None
 (Some x) >>= next = next x
 
 -- what is found under a word or a number, as its line says
-abbrev pub Line : Type 0 → Type 0 → Type 0
-Line K A = K × (Members → Option A)
+abbrev pub ReaderLine : Type 0 → Type 0 → Type 0
+ReaderLine K A = K × (Members → Option A)
 
 -- by the first line whose word or number is the same as this
-abbrev pub under : {K A : Type 0} → (K → K → Bool) → K → List (Line K A) → Members → Option A
+abbrev pub under : {K A : Type 0} → (K → K → Bool) → K → List (ReaderLine K A) → Members → Option A
 under same key [] object = None
 under same key (line ∷ lines) object =
     if same key line.0 then line.1 object else under same key lines object
 
-abbrev pub among : {A : Type 0} → List ℕ → List (Line (List ℕ) A) → Members → Option A
+abbrev pub among : {A : Type 0} → List ℕ → List (ReaderLine (List ℕ) A) → Members → Option A
 among name lines members = do
   word ← text_among name members
   under bytes_eq word lines members
 
-abbrev pub numbered_among : {A : Type 0} → List ℕ → List (Line ℕ A) → Members → Option A
+abbrev pub numbered_among : {A : Type 0} → List ℕ → List (ReaderLine ℕ A) → Members → Option A
 numbered_among name lines members = do
   number ← whole_among name members
   under nat_eq number lines members
@@ -122,7 +122,7 @@ texts_among members = do
   values ← option_and_then as_array (get_member (codes "texts") members)
   texts_of values
 
-abbrev pub wait_lines : List (Line (List ℕ) Wait)
+abbrev pub wait_lines : List (ReaderLine (List ℕ) Wait)
 wait_lines = (codes "now", λ ms. Some wait.Now) ∷ (codes "forever", λ ms. Some wait.Forever) ∷ []
 
 abbrev pub wait_word_among : Members → Option Wait
@@ -165,7 +165,7 @@ drain_among members = do
   max ← whole_among (codes "max") members
   Some (call.Drain queue max)
 
-abbrev pub call_lines : List (Line (List ℕ) Call)
+abbrev pub call_lines : List (ReaderLine (List ℕ) Call)
 call_lines =
     (codes "put", λ ms. queue_among ms >>= λ queue. item_among ms >>= λ item. Some (call.Put queue item)) ∷
     (codes "transfer", transfer_among) ∷
@@ -204,7 +204,7 @@ cancel_among members = do
   key ← key_among members
   Some (message.Cancel key)
 
-abbrev pub message_lines : List (Line (List ℕ) Message)
+abbrev pub message_lines : List (ReaderLine (List ℕ) Message)
 message_lines =
     (codes "hello", hello_among) ∷ (codes "request", request_among) ∷ (codes "cancel", cancel_among) ∷ []
 
@@ -234,7 +234,7 @@ abbrev pub received_among : ℕ → Members → Option Reply
 received_among epoch members = received_by epoch (whole_among (codes "by_client") members) members
 
 -- a reply in an answer of this epoch
-abbrev pub reply_lines : ℕ → List (Line (List ℕ) Reply)
+abbrev pub reply_lines : ℕ → List (ReaderLine (List ℕ) Reply)
 reply_lines epoch =
     (codes "done", λ ms. Some reply.Done) ∷
     (codes "received", received_among epoch) ∷
@@ -268,7 +268,7 @@ telling_version members = do
   current ← current_version_among members
   Some (refusal.OtherVersion current)
 
-abbrev pub refusal_lines : List (Line ℕ Refusal)
+abbrev pub refusal_lines : List (ReaderLine ℕ Refusal)
 refusal_lines =
     (1, λ ms. Some refusal.BadText) ∷
     (2, telling (codes "current") (λ current. refusal.OtherEpoch current)) ∷
@@ -310,7 +310,7 @@ refused_among members = do
   refusal ← refusal_among members
   Some (answer.Refused refusal)
 
-abbrev pub answer_lines : List (Line (List ℕ) Answer)
+abbrev pub answer_lines : List (ReaderLine (List ℕ) Answer)
 answer_lines =
     (codes "welcome", welcome_among) ∷
     (codes "reply", replied_among) ∷

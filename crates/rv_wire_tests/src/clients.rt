@@ -2,7 +2,7 @@
 ghost use Rattle.std.specs.Prelude.{◌≡◌, IfOk, Some};
 ghost use Rattle.rv_text.specs.Limits.{FitsCall, FitsMessage};
 
-use rv_client::{Called, Greeted, Heard, Idle, LinkFault, New, ask, call, laws};
+use rv_client::{CallOutcome, HearOutcome, Idle, LinkFault, New, WelcomeOutcome, ask, call, laws};
 use rv_frame::testing::{Stop, TestReader, TestWriter};
 use rv_frame::{Sink, Source};
 use rv_text::{Answer, Call, Item, Key, Message, Refusal, Reply, Version, Wait};
@@ -37,12 +37,12 @@ enum Came {
     Replaced(Key, u64),
 }
 
-fn plain(called: Called) -> Came {
+fn plain(called: CallOutcome) -> Came {
     match called {
-        Called::Settled(idle, reply) => Came::Settled(idle.next_key(), reply),
-        Called::Unsettled(outstanding, fault) => Came::Unsettled(outstanding.abandon(), fault),
-        Called::EpochEnded(key, current) => Came::EpochEnded(key, current),
-        Called::Replaced(key, current) => Came::Replaced(key, current),
+        CallOutcome::Settled(idle, reply) => Came::Settled(idle.next_key(), reply),
+        CallOutcome::Unsettled(outstanding, fault) => Came::Unsettled(outstanding.abandon(), fault),
+        CallOutcome::EpochEnded(key, current) => Came::EpochEnded(key, current),
+        CallOutcome::Replaced(key, current) => Came::Replaced(key, current),
     }
 }
 
@@ -67,7 +67,7 @@ fn idle() -> Result<Idle, Fail>
         version: Version::One,
     };
     match New::start(2, 1, Version::One).welcome(&welcome) {
-        Greeted::Idle(idle) => Ok(idle),
+        WelcomeOutcome::Idle(idle) => Ok(idle),
         _ => Err(Fail::new("it isn't welcome")),
     }
 }
@@ -84,10 +84,10 @@ fn take() -> Call
 // What an answer is to client 2's first request.
 fn hears(answer: Answer) -> Result<Came, Fail> {
     Ok(match idle()?.begin(take()).hear(answer) {
-        Heard::Settled(idle, reply) => Came::Settled(idle.next_key(), reply),
-        Heard::Still(outstanding) => Came::Unsettled(outstanding.abandon(), None),
-        Heard::EpochEnded(key, current) => Came::EpochEnded(key, current),
-        Heard::Replaced(key, current) => Came::Replaced(key, current),
+        HearOutcome::Settled(idle, reply) => Came::Settled(idle.next_key(), reply),
+        HearOutcome::Still(outstanding) => Came::Unsettled(outstanding.abandon(), None),
+        HearOutcome::EpochEnded(key, current) => Came::EpochEnded(key, current),
+        HearOutcome::Replaced(key, current) => Came::Replaced(key, current),
     })
 }
 
@@ -336,11 +336,11 @@ fn what_answers_are_to_a_request(rt: HostRuntime) -> Result<(), Fail> {
 }
 
 // The client and the reply of a call that settled.
-fn settled(called: Called) -> Result<(Idle, Reply), Fail>
-    ensures { IfOk result (λ told. called ≡ Called.Settled told.0 told.1) }
+fn settled(called: CallOutcome) -> Result<(Idle, Reply), Fail>
+    ensures { IfOk result (λ told. called ≡ CallOutcome.Settled told.0 told.1) }
 {
     match called {
-        Called::Settled(idle, reply) => Ok((idle, reply)),
+        CallOutcome::Settled(idle, reply) => Ok((idle, reply)),
         other => {
             let _ = plain(other);
             Err(Fail::new("it isn't settled"))
@@ -385,7 +385,7 @@ fn converse<R: Read, W: Write>(
     laws::keys_fit();
     let new = New::start(2, 1, Version::One);
     let answer = ask(alloc, source, sink, &new.message())?;
-    let Greeted::Idle(idle) = new.welcome(&answer) else {
+    let WelcomeOutcome::Idle(idle) = new.welcome(&answer) else {
         return Err(Fail::new("it isn't welcome"));
     };
     let put = put(alloc)?;

@@ -1,5 +1,5 @@
 //! Frames out of known bytes, in all cuts, and what is written of a frame.
-ghost use Rattle.rv_frame.specs.Cut.{IsBody};
+ghost use Rattle.rv_frame.specs.Cut.{IsFrameBody};
 
 use crate::pieces::frames_of_pieces;
 use rv_frame::testing::{Stop, TestWriter};
@@ -141,7 +141,7 @@ fn a_refused_growth_changes_nothing(rt: HostRuntime) {
 
 // The device takes `room` bytes of the frame, which are its first.
 fn stops(rt: &impl Abort, alloc: Global, body: &[u8], frame: &[u8], room: usize)
-    requires { IsBody body.now }
+    requires { IsFrameBody body.now }
 {
     let stop = Stop::Error(ErrorKind::Other);
     let mut device = TestWriter::new(alloc, 1).stopping_after(room, stop);
@@ -170,7 +170,7 @@ fn a_frame_is_written(rt: HostRuntime) {
 
 // A device that takes all that it is given is asked so many times for this frame.
 fn leaves_in(rt: &impl Abort, alloc: Global, body: &[u8], writes: u64)
-    requires { IsBody body.now }
+    requires { IsFrameBody body.now }
 {
     let mut device = TestWriter::new(alloc, 100_000);
     let mut sink = Sink::new(&mut device);

@@ -28,7 +28,7 @@ use Rattle.rv_world.specs.declared.seen.Seen.{Seen}
 use Rattle.rv_world.specs.declared.seen.Seen.TheVariants as sees
 use Rattle.rv_world.specs.declared.seen.WorldRefusal.{WorldRefusal}
 use Rattle.rv_world.specs.World.{World, accounts, empty_account, process_of}
-use Rattle.rv_world.specs.Events.{Becomes, Begins, ComesTo, Comes, Crashes, Due, IsAsking, IsReady, IsRefused, OnlyTurns, Opens, ReachesClient, ReachesServer, RunsBut, RunsNone, Says, Starts, Steps, Takes, Turns, sender, sends, starting}
+use Rattle.rv_world.specs.Events.{WorldBecomes, Begins, ComesTo, EventComesTo, Crashes, RefusalDue, IsAsking, IsReady, IsEventRefused, OnlyChangesProcess, OpensEpoch, ReachesClient, ReachesServer, RunsBut, RunsNone, ProcessSays, Starts, Steps, Takes, ChangesProcess, sender, sends, starting}
 use Rattle.rv_world.specs.Runs.{Runs}
 use Rattle.rv_world.specs.Laws.{AreSame, HadMemory, NeverLacked, OneRun, OneStep, SentNoMemory}
 use Rattle.rv_world.proofs.Growth.{runs_grow}
@@ -58,14 +58,14 @@ same_rest : (base u v : World) → u ≡ listed base u.clients → v ≡ listed 
 same_rest base u v one other = one ∙ sym (ap (λ (z : World). listed z u.clients) other)
 
 -- one process is another in both
-turned_agree : (w x u v : World) (client : ℕ) (process : Option Process) → Agree w x → OnlyTurns w u client process → OnlyTurns x v client process → Agree u v
+turned_agree : (w x u v : World) (client : ℕ) (process : Option Process) → Agree w x → OnlyChangesProcess w u client process → OnlyChangesProcess x v client process → Agree u v
 turned_agree w x u v client process agree one other = λ c. elim (cases_eq c client) [
   | inl same ↦ ap (λ (k : ℕ). process_of u k) same ∙ one.own ∙ sym other.own ∙ sym (ap (λ (k : ℕ). process_of v k) same)
   | inr apart ↦ one.others c apart ∙ agree c ∙ sym (other.others c apart)
 ]
 
 turned_same : (w : World) (clients : Clients) (base u v : World) (client : ℕ) (process : Option Process) → Agree w (listed w clients)
-    → OnlyTurns w u client process → OnlyTurns (listed w clients) v client process → u ≡ listed base u.clients → v ≡ listed base v.clients → AreSame u v
+    → OnlyChangesProcess w u client process → OnlyChangesProcess (listed w clients) v client process → u ≡ listed base u.clients → v ≡ listed base v.clients → AreSame u v
 turned_same w clients base u v client process agree one other first second =
     record { processes = turned_agree w (listed w clients) u v client process agree one other; rest = same_rest base u v first second }
 
@@ -89,7 +89,7 @@ module _ (w : World) (clients : Clients) (agree : Agree w (listed w clients)) (u
   both_start : (client incarnation : ℕ) (version : Version) → Starts w client incarnation version u s → Starts (listed w clients) client incarnation version v t → Same u v s t
   both_start client incarnation version one other =
       let base : World = sends (record w { started = w.started ++ (client, incarnation) ∷ [] }) (hello_of (starting client incarnation version)) in
-      (turned_same w clients base u v client _ agree one.turns other.turns one.rest other.rest, one.shown ∙ sym other.shown)
+      (turned_same w clients base u v client _ agree one.changes other.changes one.rest other.rest, one.shown ∙ sym other.shown)
 
   same_key : (key same : Key) (client : ℕ) → process_of w client ≡ Some (Idle (Some key)) → process_of (listed w clients) client ≡ Some (Idle (Some same)) → key ≡ same
   same_key key same client one other = is_key (same_Some _ _ (sym one ∙ agree client ∙ other))
@@ -110,23 +110,23 @@ module _ (w : World) (clients : Clients) (agree : Agree w (listed w clients)) (u
   unfolding begun
   both_begin client call one other =
       let key = same_key one.key other.key client one.idle other.idle in
-      let turns = subst (λ (k : Key). OnlyTurns (listed w clients) v client (Some (Outstanding (record { key = k; call = call })))) (sym key) other.turns in
+      let changes = subst (λ (k : Key). OnlyChangesProcess (listed w clients) v client (Some (Outstanding (record { key = k; call = call })))) (sym key) other.changes in
       let rest = subst (λ (k : Key). v ≡ listed (begun k call) v.clients) (sym key) other.rest in
-      (turned_same w clients (begun one.key call) u v client _ agree one.turns turns one.rest rest, one.shown ∙ sym other.shown)
+      (turned_same w clients (begun one.key call) u v client _ agree one.changes changes one.rest rest, one.shown ∙ sym other.shown)
 
-  both_say : (client : ℕ) (says : Asking → Message) → Says w client says u s → Says (listed w clients) client says v t → Same u v s t
+  both_say : (client : ℕ) (says : Asking → Message) → ProcessSays w client says u s → ProcessSays (listed w clients) client says v t → Same u v s t
   both_say client says one other =
       let asking = same_asking one.asking other.asking client one.outstanding other.outstanding in
       let after = subst (λ (a : Asking). v ≡ sends (listed w clients) (says a)) (sym asking) other.after in
       (kept_same w clients (sends w (says one.asking)) u v refl agree one.after after, one.shown ∙ sym other.shown)
 
   both_crash : (client : ℕ) → Crashes w client u s → Crashes (listed w clients) client v t → Same u v s t
-  both_crash client one other = (turned_same w clients w u v client None agree one.ends.turns other.ends.turns one.ends.rest other.ends.rest, one.shown ∙ sym other.shown)
+  both_crash client one other = (turned_same w clients w u v client None agree one.ends.changes other.ends.changes one.ends.rest other.ends.rest, one.shown ∙ sym other.shown)
 
   -- ---- a delivery to a client
 
-  turned_both : (client : ℕ) (process : Option Process) → Turns w client process u → Turns (listed w clients) client process v → AreSame u v
-  turned_both client process one other = turned_same w clients w u v client process agree one.turns other.turns one.rest other.rest
+  turned_both : (client : ℕ) (process : Option Process) → ChangesProcess w client process u → ChangesProcess (listed w clients) client process v → AreSame u v
+  turned_both client process one other = turned_same w clients w u v client process agree one.changes other.changes one.rest other.rest
 
   held_in : (key : Key) (reply : Reply) → World
   held_in key reply = record w { held = w.held ++ (key, reply) ∷ [] }
@@ -136,12 +136,12 @@ module _ (w : World) (clients : Clients) (agree : Agree w (listed w clients)) (u
   both_take client answer next reply one other =
       let key : one.key ≡ other.key = settled_key one.key other.key one.settles other.settles in
       let rest = subst (λ (k : Key). v ≡ listed (held_in k reply) v.clients) (sym key) other.rest in
-      (turned_same w clients (held_in one.key reply) u v client _ agree one.turns other.turns one.rest rest, one.shown ∙ ap (λ (k : Key). sees.Settled k) key ∙ sym other.shown)
+      (turned_same w clients (held_in one.key reply) u v client _ agree one.changes other.changes one.rest rest, one.shown ∙ ap (λ (k : Key). sees.Settled k) key ∙ sym other.shown)
     where
       settled_key : (key same : Key) → Settles key answer reply → Settles same answer reply → key ≡ same
       settled_key key same p q = cc
 
-  both_become : (client : ℕ) (answer : Answer) (outcome : Outcome) → Becomes w client answer outcome u s → Becomes (listed w clients) client answer outcome v t → Same u v s t
+  both_become : (client : ℕ) (answer : Answer) (outcome : Outcome) → WorldBecomes w client answer outcome u s → WorldBecomes (listed w clients) client answer outcome v t → Same u v s t
   both_become client answer (Welcomed next) one other = (turned_both client _ one.0 other.0, one.1 ∙ sym other.1)
   both_become client answer (TurnedAway same refusal) one other = (turned_both client _ one.0 other.0, one.1 ∙ sym other.1)
   both_become client answer (Settled next reply) one other = both_take client answer next reply one other
@@ -154,7 +154,7 @@ module _ (w : World) (clients : Clients) (agree : Agree w (listed w clients)) (u
   both_come (Some process) packet one other =
       let outcome = one_outcome process packet.answer one.outcome other.outcome one.hears other.hears in
       both_become packet.client packet.answer one.outcome one.becomes
-      (subst (λ (o : Outcome). Becomes (listed w clients) packet.client packet.answer o v t) (sym outcome) other.becomes)
+      (subst (λ (o : Outcome). WorldBecomes (listed w clients) packet.client packet.answer o v t) (sym outcome) other.becomes)
 
   both_reach_client : (packet : ℕ) → ReachesClient w packet u s → ReachesClient (listed w clients) packet v t → Same u v s t
   both_reach_client packet one other =
@@ -165,7 +165,7 @@ module _ (w : World) (clients : Clients) (agree : Agree w (listed w clients)) (u
 
   -- ---- a new server
 
-  both_open : (epoch : ℕ) → Opens w epoch u s → Opens (listed w clients) epoch v t → Same u v s t
+  both_open : (epoch : ℕ) → OpensEpoch w epoch u s → OpensEpoch (listed w clients) epoch v t → Same u v s t
   both_open epoch one other =
       (kept_same w clients (record w { earlier = accounts w; present = empty_account epoch }) u v refl agree one.after other.after, one.shown ∙ sym other.shown)
 
@@ -236,7 +236,7 @@ module _ (w x : World) (agree : Agree w x) where
   runs_such client Is due q process runs such (inr but) =
       absurd (but.0.is_not (subst Is (same_Some _ _ (sym runs ∙ agree client ∙ but.0.runs)) such))
 
-one_due : (w : World) (clients : Clients) (e : Event) (p q : WorldRefusal) → Agree w (listed w clients) → Due w e p → Due (listed w clients) e q → p ≡ q
+one_due : (w : World) (clients : Clients) (e : Event) (p q : WorldRefusal) → Agree w (listed w clients) → RefusalDue w e p → RefusalDue (listed w clients) e q → p ≡ q
 one_due w clients (event.Start client incarnation version) p q agree one other = one.1 ∙ sym other.1
 one_due w clients (event.Begin client call) p q agree one other = none_or_other w (listed w clients) agree client IsReady _ p q one other
 one_due w clients (event.Resend client) p q agree one other = none_or_other w (listed w clients) agree client IsAsking _ p q one other
@@ -248,7 +248,7 @@ one_due w clients (event.NewEpoch epoch) p q agree one other = one.1 ∙ sym oth
 
 -- where a step is, no refusal is due
 step_due : (w x : World) (e : Event) (u : World) (s : Seen) (q : WorldRefusal) → Agree w x → x.started ≡ w.started → x.to_server ≡ w.to_server → x.to_client ≡ w.to_client
-    → x.present.epoch ≡ w.present.epoch → Steps w e u s → Due x e q → ⊥
+    → x.present.epoch ≡ w.present.epoch → Steps w e u s → RefusalDue x e q → ⊥
 step_due w x (event.Start client incarnation version) u s q agree started sent answered epoch one due =
     start_due w client incarnation version one.newest q (record { other = due.0.other; there = subst (λ (l : List (ℕ × ℕ)). Contains l (client, due.0.other)) started due.0.there; reaches = due.0.reaches }, due.1)
 step_due w x (event.Begin client call) u s q agree started sent answered epoch one due =
@@ -270,12 +270,12 @@ step_due w x (event.NewEpoch new) u s q agree started sent answered epoch one du
 -- ---- together
 
 -- a refusal that is no want of memory is due
-is_due : (w u : World) (e : Event) (p : WorldRefusal) → IsRefused w e p → HadMemory w u (Err p) → Due w e p
+is_due : (w u : World) (e : Event) (p : WorldRefusal) → IsEventRefused w e p → HadMemory w u (Err p) → RefusalDue w e p
 is_due w u e p (inl due) ample = due
 is_due w u e p (inr lacks) ample = absurd (ample.not_refused (ap (λ (r : WorldRefusal). Err r) lacks.is))
 
 both_come_of : (w : World) (clients : Clients) (e : Event) (u v : World) (one other : Result Seen WorldRefusal) → Agree w (listed w clients)
-    → Comes w e u one → Comes (listed w clients) e v other → HadMemory w u one → HadMemory (listed w clients) v other → AreSame u v × (one ≡ other)
+    → EventComesTo w e u one → EventComesTo (listed w clients) e v other → HadMemory w u one → HadMemory (listed w clients) v other → AreSame u v × (one ≡ other)
 both_come_of w clients e u v (Ok s) (Ok t) agree first second ample enough =
     let same = both_step w clients e u v s t agree first second ample.not_sent enough.not_sent in
     (same.0, ap (λ (seen : Seen). Ok seen) same.1)
@@ -291,7 +291,7 @@ both_come_of w clients e u v (Err p) (Err q) agree first second ample enough = (
 pub one_step : OneStep
 one_step w x u v e one other same first second ample enough =
     let back : listed w x.clients ≡ x = ap (λ (z : World). listed z x.clients) same.rest in
-    subst (λ (z : World). Agree w z → Comes z e v other → HadMemory z v other → AreSame u v × (one ≡ other)) back
+    subst (λ (z : World). Agree w z → EventComesTo z e v other → HadMemory z v other → AreSame u v × (one ≡ other)) back
     (λ agree comes memory. both_come_of w x.clients e u v one other agree first comes ample memory) same.processes second enough
 
 -- ---- lists of events

@@ -40,7 +40,7 @@ use Rattle.rv_world.specs.declared.seen.Seen.TheVariants as sees
 use Rattle.rv_world.specs.declared.seen.WorldRefusal.{WorldRefusal}
 use Rattle.rv_world.specs.declared.seen.WorldRefusal.TheVariants as refuses
 use Rattle.rv_world.specs.World.{World, accounts, empty_account, process_of}
-use Rattle.rv_world.specs.Events.{Becomes, ComesTo, Due, IsAsking, OnlyTurns, RunsBut, RunsNone, Says, Steps, Turns, next_answer, next_message, sender, sends, starting}
+use Rattle.rv_world.specs.Events.{ChangesProcess, ComesTo, IsAsking, OnlyChangesProcess, ProcessSays, RefusalDue, RunsBut, RunsNone, Steps, WorldBecomes, next_answer, next_message, sender, sends, starting}
 use Rattle.rv_world.specs.Laws.{CanStep, SentNoMemory, StepsExist}
 use Rattle.rv_world.proofs.TableWrites.{apart_from}
 
@@ -322,7 +322,7 @@ turned_other w client other process apart =
     ap (λ (b : Bool). option_and_then (λ (p : Option Process). p) (cond b (Some process) (lookup (nat_eq other) w.clients)))
     (apart_from client other client apart (tests_itself client))
 
-only_turned : (w v : World) (client : ℕ) (process : Option Process) → v.clients ≡ (client, process) ∷ w.clients → OnlyTurns w v client process
+only_turned : (w v : World) (client : ℕ) (process : Option Process) → v.clients ≡ (client, process) ∷ w.clients → OnlyChangesProcess w v client process
 only_turned w v client process is = record {
   own = read client ∙ turned_own w client process;
   others = λ other apart. read other ∙ turned_other w client other process apart;
@@ -350,15 +350,15 @@ told w v client x is ample sent = ample (ap (λ (p : Packet). p.answer) (same_pa
 record CanBecome (w : World) (client : ℕ) (answer : Answer) (outcome : Outcome) : Type 0 where
   after : World
   shows : Seen
-  becomes : Becomes w client answer outcome after shows
+  becomes : WorldBecomes w client answer outcome after shows
   is_quiet : after.to_client ≡ w.to_client
 
-turns : (w : World) (client : ℕ) (process : Option Process) → Turns w client process (turned w client process)
-turns w client process = record { turns = only_turned w (turned w client process) client process refl; rest = refl }
+changes : (w : World) (client : ℕ) (process : Option Process) → ChangesProcess w client process (turned w client process)
+changes w client process = record { changes = only_turned w (turned w client process) client process refl; rest = refl }
 
 becomes : (w : World) (client : ℕ) (process : Process) (answer : Answer) (outcome : Outcome) → Hears process answer outcome → CanBecome w client answer outcome
-becomes w client process answer (Welcomed next) is = record { after = turned w client (Some (Idle next)); shows = sees.Welcomed; becomes = (turns w client _, refl); is_quiet = refl }
-becomes w client process answer (TurnedAway same refusal) is = record { after = turned w client (Some (New same)); shows = sees.TurnedAway refusal; becomes = (turns w client _, refl); is_quiet = refl }
+becomes w client process answer (Welcomed next) is = record { after = turned w client (Some (Idle next)); shows = sees.Welcomed; becomes = (changes w client _, refl); is_quiet = refl }
+becomes w client process answer (TurnedAway same refusal) is = record { after = turned w client (Some (New same)); shows = sees.TurnedAway refusal; becomes = (changes w client _, refl); is_quiet = refl }
 becomes w client (New starting) answer (Settled next reply) is = absurd is
 becomes w client (Idle other) answer (Settled next reply) is = absurd is
 becomes w client (Outstanding asking) answer (Settled next reply) is =
@@ -366,11 +366,11 @@ becomes w client (Outstanding asking) answer (Settled next reply) is =
     record {
       after = v;
       shows = sees.Settled asking.key;
-      becomes = record { key = asking.key; settles = is.0; turns = only_turned w v client _ refl; rest = refl; shown = refl };
+      becomes = record { key = asking.key; settles = is.0; changes = only_turned w v client _ refl; rest = refl; shown = refl };
       is_quiet = refl;
     }
-becomes w client process answer (EpochEnded key current) is = record { after = turned w client None; shows = sees.Ended current; becomes = (turns w client _, refl); is_quiet = refl }
-becomes w client process answer (Replaced key current) is = record { after = turned w client None; shows = sees.Replaced current; becomes = (turns w client _, refl); is_quiet = refl }
+becomes w client process answer (EpochEnded key current) is = record { after = turned w client None; shows = sees.Ended current; becomes = (changes w client _, refl); is_quiet = refl }
+becomes w client process answer (Replaced key current) is = record { after = turned w client None; shows = sees.Replaced current; becomes = (changes w client _, refl); is_quiet = refl }
 becomes w client process answer (Ignored same) is = record { after = w; shows = sees.Ignored; becomes = (refl, refl); is_quiet = refl }
 
 record CanCome (process : Option Process) (w : World) (packet : Packet) : Type 0 where
@@ -389,7 +389,7 @@ can_come (Some process) w packet =
 -- ---- events
 
 abbrev NothingDue : World → Event → Type 0
-NothingDue w e = (refusal : WorldRefusal) → ¬ Due w e refusal
+NothingDue w e = (refusal : WorldRefusal) → ¬ RefusalDue w e refusal
 
 can_start : (w : World) (client incarnation : ℕ) (version : Version) → NothingDue w (event.Start client incarnation version) → CanStep w (event.Start client incarnation version)
 can_start w client incarnation version nothing =
@@ -405,7 +405,7 @@ can_start w client incarnation version nothing =
           | inl less ↦ less
           | inr not ↦ absurd (nothing refuses.IncarnationNotGreater (record { other = earlier; there = there; reaches = omega (arith, not) }, refl))
         ];
-        turns = only_turned w v client _ refl;
+        changes = only_turned w v client _ refl;
         rest = refl;
         shown = refl;
       };
@@ -422,7 +422,7 @@ can_begin w client call nothing (Some (Idle (Some key))) is =
     record {
       after = v;
       shows = next_message w;
-      steps = record { key = key; idle = is; turns = only_turned w v client _ refl; rest = refl; shown = refl };
+      steps = record { key = key; idle = is; changes = only_turned w v client _ refl; rest = refl; shown = refl };
       not_sent = quiet w v refl;
     }
 can_begin w client call nothing (Some (Idle None)) is =
@@ -433,8 +433,8 @@ can_begin w client call nothing (Some (Outstanding asking)) is =
     absurd (nothing refuses.NotIdle (inr (record { process = Outstanding asking; runs = is; is_not = λ ready. let e = ready.1 in cc }, refl)))
 
 -- what a process says that is outstanding
-can_ask : (w : World) (client : ℕ) (e : Event) → NothingDue w e → ((p : WorldRefusal) → RunsNone w client p → Due w e p) → (RunsBut w client IsAsking → Due w e refuses.NotOutstanding)
-    → (says : Asking → Message) → ((v : World) (s : Seen) → Says w client says v s → Steps w e v s) → (process : Option Process) → process_of w client ≡ process → CanStep w e
+can_ask : (w : World) (client : ℕ) (e : Event) → NothingDue w e → ((p : WorldRefusal) → RunsNone w client p → RefusalDue w e p) → (RunsBut w client IsAsking → RefusalDue w e refuses.NotOutstanding)
+    → (says : Asking → Message) → ((v : World) (s : Seen) → ProcessSays w client says v s → Steps w e v s) → (process : Option Process) → process_of w client ≡ process → CanStep w e
 can_ask w client e nothing none but says steps None is = absurd (nothing refuses.NoSuchClient (none refuses.NoSuchClient (is, refl)))
 can_ask w client e nothing none but says steps (Some (Outstanding asking)) is = record {
   after = sends w (says asking);
@@ -452,7 +452,7 @@ can_crash w client nothing None is = absurd (nothing refuses.NoSuchClient (is, r
 can_crash w client nothing (Some process) is = record {
   after = turned w client None;
   shows = sees.Crashed;
-  steps = record { process = process; runs = is; ends = turns w client None; shown = refl };
+  steps = record { process = process; runs = is; ends = changes w client None; shown = refl };
   not_sent = quiet w (turned w client None) refl;
 }
 

@@ -24,7 +24,7 @@ use Rattle.rv_world.specs.declared.event.Event.TheVariants as event
 use Rattle.rv_world.specs.declared.packet.Packet.{Packet}
 use Rattle.rv_world.specs.declared.seen.Seen.{Seen}
 use Rattle.rv_world.specs.World.{World, accounts, empty_account, first_world, process_of}
-use Rattle.rv_world.specs.Events.{Becomes, ComesTo, IsTold, OnlyTurns, ReachesServer, Steps, Turns, sender, sends, starting}
+use Rattle.rv_world.specs.Events.{ChangesProcess, ComesTo, IsTold, OnlyChangesProcess, ReachesServer, Steps, WorldBecomes, sender, sends, starting}
 use Rattle.rv_world.specs.Limits.{FitsEvent}
 use Rattle.rv_world.specs.Sound.{AllFits, FitsProcess}
 use Rattle.rv_world.proofs.Listing.{stands_at}
@@ -39,10 +39,10 @@ all_push P list new each here x there = elim (Contains-push_cases list new x the
 abbrev ProcessesFit : World → Type 0
 ProcessesFit w = (client : ℕ) (process : Process) → process_of w client ≡ Some process → FitsProcess process
 
-turned_fit : (w v : World) (client : ℕ) (process : Option Process) → ProcessesFit w → OnlyTurns w v client process → ((turned : Process) → process ≡ Some turned → FitsProcess turned) → ProcessesFit v
-turned_fit w v client process fit turns turned other is there = elim (same_or_not other client) [
-  | inl equal ↦ turned is (sym turns.own ∙ subst (λ c. process_of v c ≡ Some is) equal there)
-  | inr differ ↦ fit other is (sym (turns.others other differ) ∙ there)
+turned_fit : (w v : World) (client : ℕ) (process : Option Process) → ProcessesFit w → OnlyChangesProcess w v client process → ((turned : Process) → process ≡ Some turned → FitsProcess turned) → ProcessesFit v
+turned_fit w v client process fit changes turned other is there = elim (same_or_not other client) [
+  | inl equal ↦ turned is (sym changes.own ∙ subst (λ c. process_of v c ≡ Some is) equal there)
+  | inr differ ↦ fit other is (sym (changes.others other differ) ∙ there)
 ]
 
 -- ---- what a client hears
@@ -62,14 +62,14 @@ after_fits key fits = by_room (nat_lt key.number max_identifier) refl
         (fits.0, fits.1, fits.2, (omega arith, omega arith))
     by_room false is = tt
 
-turns_fit : (w : World) (client : ℕ) (process : Option Process) (v : World) → AllFits w → Turns w client process v → ((turned : Process) → process ≡ Some turned → FitsProcess turned) → AllFits v
-turns_fit w client process v fits turns turned =
-    let processes = turned_fit w v client process fits.processes turns.turns turned in
-    subst (λ (u : World). ProcessesFit u → AllFits u) (sym turns.rest)
+turns_fit : (w : World) (client : ℕ) (process : Option Process) (v : World) → AllFits w → ChangesProcess w client process v → ((turned : Process) → process ≡ Some turned → FitsProcess turned) → AllFits v
+turns_fit w client process v fits changes turned =
+    let processes = turned_fit w v client process fits.processes changes.changes turned in
+    subst (λ (u : World). ProcessesFit u → AllFits u) (sym changes.rest)
     (λ own. record { accounts_fit = fits.accounts_fit; messages = fits.messages; answers = fits.answers; processes = own }) processes
 
 module _ (w : World) (client : ℕ) (answer : Answer) (v : World) (shows : Seen) (fits : AllFits w) (answer_fits : FitsAnswer answer) where
-  heard_fits : (process : Process) (outcome : Outcome) → process_of w client ≡ Some process → Hears process answer outcome → Becomes w client answer outcome v shows → AllFits v
+  heard_fits : (process : Process) (outcome : Outcome) → process_of w client ≡ Some process → Hears process answer outcome → WorldBecomes w client answer outcome v shows → AllFits v
   heard_fits (New starting) (Welcomed next) there hears becomes =
       let welcome : FitsAnswer (answers.Welcome hears.0 starting.client starting.incarnation starting.version) = subst FitsAnswer hears.1 answer_fits in
       let own = first_key_fits starting hears.0 (fits.processes client (New starting) there) welcome.0 in
@@ -79,7 +79,7 @@ module _ (w : World) (client : ℕ) (answer : Answer) (v : World) (shows : Seen)
   heard_fits (Outstanding asking) (Settled next reply) there hears becomes =
       let key_fits = fits.processes client (Outstanding asking) there in
       let own : FitsProcess (Idle next) = subst (λ o. FitsProcess (Idle o)) (sym hears.1) (after_fits asking.key key_fits.0) in
-      let processes = turned_fit w v client _ fits.processes becomes.turns (λ p is. subst FitsProcess (same_Some _ _ is) own) in
+      let processes = turned_fit w v client _ fits.processes becomes.changes (λ p is. subst FitsProcess (same_Some _ _ is) own) in
       subst (λ (u : World). ProcessesFit u → AllFits u) (sym becomes.rest)
       (λ own. record { accounts_fit = fits.accounts_fit; messages = fits.messages; answers = fits.answers; processes = own }) processes
   heard_fits process (EpochEnded key current) there hears becomes = turns_fit w client None v fits becomes.0 (λ p is. absurd (none-some p is))
@@ -145,11 +145,11 @@ says_fit w v said fits said_fits sent same answered processes = record {
 
 pub step_fits : (w : World) (e : Event) (v : World) (shows : Seen) → Legal w.present → AllFits w → FitsEvent e → Steps w e v shows → AllFits v
 step_fits w (event.Start client incarnation version) v shows legal fits event_fits is =
-    let processes = turned_fit w v client _ fits.processes is.turns (λ p same. subst FitsProcess (same_Some _ _ same) event_fits) in
+    let processes = turned_fit w v client _ fits.processes is.changes (λ p same. subst FitsProcess (same_Some _ _ same) event_fits) in
     subst (λ (u : World). ProcessesFit u → AllFits u) (sym is.rest) (says_fit w _ (hello_of (starting client incarnation version)) fits event_fits refl refl refl) processes
 step_fits w (event.Begin client call) v shows legal fits event_fits is =
     let asking : FitsMessage (request_of (record { key = is.key; call = call })) = (fits.processes client (Idle (Some is.key)) is.idle, event_fits.1) in
-    let processes = turned_fit w v client _ fits.processes is.turns (λ p same. subst FitsProcess (same_Some _ _ same) asking) in
+    let processes = turned_fit w v client _ fits.processes is.changes (λ p same. subst FitsProcess (same_Some _ _ same) asking) in
     subst (λ (u : World). ProcessesFit u → AllFits u) (sym is.rest) (says_fit w _ (request_of (record { key = is.key; call = call })) fits asking refl refl refl) processes
 step_fits w (event.Resend client) v shows legal fits event_fits is =
     let asking = fits.processes client (Outstanding is.asking) is.outstanding in

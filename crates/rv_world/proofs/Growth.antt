@@ -12,7 +12,7 @@ use Rattle.rv_world.specs.declared.event.Event.TheVariants as event
 use Rattle.rv_world.specs.declared.packet.Packet.{Packet}
 use Rattle.rv_world.specs.declared.seen.Seen.{Seen}
 use Rattle.rv_world.specs.World.{World, accounts, empty_account, process_of}
-use Rattle.rv_world.specs.Events.{Becomes, ComesTo, ReachesServer, Steps, Turns, sender}
+use Rattle.rv_world.specs.Events.{ChangesProcess, ComesTo, ReachesServer, Steps, WorldBecomes, sender}
 use Rattle.rv_world.specs.Headline.{GoesOn, IsExtended, OnlyGrows}
 use Rattle.rv_world.specs.Runs.{Runs}
 
@@ -80,14 +80,14 @@ same_accounts w v asked held answers same = record {
 }
 
 -- where only processes are others
-turns_grow : (w : World) (client : ℕ) (process : Option Process) (v : World) → Turns w client process v → OnlyGrows w v
-turns_grow w client process v turns =
-    subst (OnlyGrows w) (sym turns.rest) (same_accounts w (record w { clients = v.clients }) (goes_on_itself w.asked) (goes_on_itself w.held) (goes_on_itself w.to_client) refl)
+turns_grow : (w : World) (client : ℕ) (process : Option Process) (v : World) → ChangesProcess w client process v → OnlyGrows w v
+turns_grow w client process v changes =
+    subst (OnlyGrows w) (sym changes.rest) (same_accounts w (record w { clients = v.clients }) (goes_on_itself w.asked) (goes_on_itself w.held) (goes_on_itself w.to_client) refl)
 
 stays_grows : (w v : World) → v ≡ w → OnlyGrows w v
 stays_grows w v same = subst (OnlyGrows w) (sym same) (grows_itself w)
 
-becomes_grow : (w : World) (client : ℕ) (answer : Answer) (outcome : Outcome) (v : World) (shows : Seen) → Becomes w client answer outcome v shows → OnlyGrows w v
+becomes_grow : (w : World) (client : ℕ) (answer : Answer) (outcome : Outcome) (v : World) (shows : Seen) → WorldBecomes w client answer outcome v shows → OnlyGrows w v
 becomes_grow w client answer (Welcomed next) v shows is = turns_grow w client _ v is.0
 becomes_grow w client answer (TurnedAway same refusal) v shows is = turns_grow w client _ v is.0
 becomes_grow w client answer (Settled next reply) v shows is =

@@ -8,12 +8,12 @@ use Rattle.rv_text.specs.declared.answer.Reply.{Reply}
 use Rattle.rv_client.specs.Process.{Process, New, Idle, Outstanding, Hears}
 use Rattle.rv_client.specs.Process.{Outcome, Welcomed, TurnedAway, Settled, EpochEnded, Replaced, Ignored}
 use Rattle.rv_world.specs.declared.packet.Packet.{Packet}
-use Rattle.rv_world.specs.declared.process.Told.{Told}
+use Rattle.rv_world.specs.declared.process.HeardAnswer.{HeardAnswer}
 use Rattle.rv_world.specs.declared.seen.Seen.{Seen}
 use Rattle.rv_world.specs.World.{World, process_of}
-use Rattle.rv_world.specs.Events.{OnlyTurns, Turns, Becomes, ComesTo, IsAwaited, IsHeard}
+use Rattle.rv_world.specs.Events.{OnlyChangesProcess, ChangesProcess, WorldBecomes, ComesTo, IsAwaited, IsHeard}
 use Rattle.rv_world.specs.Processes.{process_in, LeavesBy, HearsAs}
-use Rattle.rv_world.specs.Table.{Table, running_of, with_process}
+use Rattle.rv_world.specs.Table.{ClientTable, running_of, with_process}
 use Rattle.rv_world.proofs.TableWrites.{only_turns, runs_stands, turned_back}
 
 -- the replies that are held when this one is, if any is
@@ -27,32 +27,32 @@ ignored_same (New starting) answer same hears = hears.1
 ignored_same (Idle next) answer same hears = hears
 ignored_same (Outstanding asking) answer same hears = hears.1
 
-module _ (w v : World) (old new : Table) (client : ℕ) (answer : Answer) (told : Told) (before : w.clients ≡ old.processes) (after : v.clients ≡ new.processes)
+module _ (w v : World) (old new : ClientTable) (client : ℕ) (answer : Answer) (told : HeardAnswer) (before : w.clients ≡ old.processes) (after : v.clients ≡ new.processes)
     (turned : new ≡ with_process old client (option_map process_in told.process))
     (rest : v ≡ record w { clients = v.clients; held = held_after w.held told.held }) (process : Process) (runs : running_of old client ≡ Some process) where
-  turns_to : (then : Option Process) → option_map process_in told.process ≡ then → OnlyTurns w v client then
+  turns_to : (then : Option Process) → option_map process_in told.process ≡ then → OnlyChangesProcess w v client then
   turns_to then is = only_turns w v old new client then before after
       (turned ∙ ap (λ (p : Option Process). with_process old client p) is) (runs_stands old client process runs)
 
   rests : (held : Option (Key × Reply)) → told.held ≡ held → v ≡ record w { clients = v.clients; held = held_after w.held held }
   rests held is = rest ∙ ap (λ (h : Option (Key × Reply)). record w { clients = v.clients; held = held_after w.held h }) is
 
-  only_that : (then : Option Process) → option_map process_in told.process ≡ then → told.held ≡ None → Turns w client then v
-  only_that then is none = record { turns = turns_to then is; rest = rests None none }
+  only_that : (then : Option Process) → option_map process_in told.process ≡ then → told.held ≡ None → ChangesProcess w client then v
+  only_that then is none = record { changes = turns_to then is; rest = rests None none }
 
   nothing : option_map process_in told.process ≡ Some process → told.held ≡ None → v ≡ w
   nothing is none =
-      let back : v.clients ≡ w.clients = after ∙ ap (λ (t : Table). t.processes)
+      let back : v.clients ≡ w.clients = after ∙ ap (λ (t : ClientTable). t.processes)
       (turned ∙ ap (λ (p : Option Process). with_process old client p) is ∙ turned_back old client process runs) ∙ sym before in
       rests None none ∙ ap (λ (l : List (ℕ × Option Process)). record w { clients = l }) back
 
-  pub becomes : (outcome : Outcome) → Hears process answer outcome → LeavesBy answer outcome told → Becomes w client answer outcome v told.seen
+  pub becomes : (outcome : Outcome) → Hears process answer outcome → LeavesBy answer outcome told → WorldBecomes w client answer outcome v told.seen
   becomes (Welcomed next) hears leaves = (only_that _ leaves.process leaves.holds, leaves.shows)
   becomes (TurnedAway same refusal) hears leaves = (only_that _ leaves.process leaves.holds, leaves.shows)
   becomes (Settled next reply) hears leaves = record {
     key = leaves.0;
     settles = leaves.1;
-    turns = turns_to _ leaves.2.process;
+    changes = turns_to _ leaves.2.process;
     rest = rests _ leaves.2.holds;
     shown = leaves.2.shows;
   }

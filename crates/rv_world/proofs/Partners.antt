@@ -17,7 +17,7 @@ use Rattle.rv_account.specs.declared.entry.Entry.{Entry}
 use Rattle.rv_account.specs.Account.{Account, call_at, call_in, key_at, key_in}
 use Rattle.rv_account.specs.Calls.{may_name, opposite}
 use Rattle.rv_book.specs.Legal.{Legal}
-use Rattle.rv_book.specs.Replies.{Drains, Gets, HasReply, Meet, RepliesAt, RepliesMet, RepliesUnmet, ToldStopped, told_by}
+use Rattle.rv_book.specs.Replies.{Drains, GetsItem, HasReply, Meet, RepliesAt, RepliesMet, RepliesUnmet, ToldStopped, told_by}
 use Rattle.rv_book.specs.Waiting.{Met, NamesPartner}
 use Rattle.rv_book.proofs.Fronts.{read_whole}
 use Rattle.rv_book.proofs.Growing.{act_read, call_read, read_there}
@@ -183,11 +183,11 @@ names_taker a r place own told key legal arrived single (inl two) meet named =
 names_taker a r place own told key legal arrived single (inr other) meet named = subst (λ t. NamesTaker t key) (sym other.1) tt
 
 -- who is told an item got it from whom it met, and may name one
-pub item_got : (es : List Entry) (r : ℕ) (own : Call) (item : List ℕ) → RepliesAt es r own (reply.Item item) → Gets es r item × ((queue : ℕ) × (side_of own ≡ Takes queue)) × (may_name own ≡ 1)
+pub item_got : (es : List Entry) (r : ℕ) (own : Call) (item : List ℕ) → RepliesAt es r own (reply.Item item) → GetsItem es r item × ((queue : ℕ) × (side_of own ≡ Takes queue)) × (may_name own ≡ 1)
 item_got es r (call.Put queue bytes) item is = absurd (let no : ⊥ = cc in no)
 item_got es r (call.Transfer queue bytes wait) item (inl got) = absurd (met_receipt es r (reply.Item item) got.1)
 item_got es r (call.Transfer queue bytes wait) item (inr unmet) = absurd (unmet_says_no wait es r reply.Nobody (reply.Item item) tt unmet.1)
-item_got es r (call.Take queue wait) item (inl got) = let same : got.0 ≡ item = let is = got.2 in cc in (subst (Gets es r) same got.1, (queue, refl), refl)
+item_got es r (call.Take queue wait) item (inl got) = let same : got.0 ≡ item = let is = got.2 in cc in (subst (GetsItem es r) same got.1, (queue, refl), refl)
 item_got es r (call.Take queue wait) item (inr unmet) = absurd (unmet_says_no wait es r reply.Empty (reply.Item item) tt unmet.1)
 item_got es r (call.Swap exchanger bytes wait) item (inl got) = absurd (let is = got.2 in let no : ⊥ = cc in no)
 item_got es r (call.Swap exchanger bytes wait) item (inr unmet) = absurd (unmet_says_no wait es r reply.TimedOut (reply.Item item) tt unmet.1)
@@ -197,13 +197,13 @@ item_got es r (call.Peek queue) item (inr none) = absurd (let is = none.1 in let
 item_got es r (call.Drain queue max) item got = absurd (let is = got.2 in let no : ⊥ = cc in no)
 
 -- and who is told that it swapped
-pub swapped_got : (es : List Entry) (r : ℕ) (own : Call) (item : List ℕ) → RepliesAt es r own (reply.Swapped item) → Gets es r item × ((exchanger : ℕ) × (side_of own ≡ Exchanges exchanger))
+pub swapped_got : (es : List Entry) (r : ℕ) (own : Call) (item : List ℕ) → RepliesAt es r own (reply.Swapped item) → GetsItem es r item × ((exchanger : ℕ) × (side_of own ≡ Exchanges exchanger))
 swapped_got es r (call.Put queue bytes) item is = absurd (let no : ⊥ = cc in no)
 swapped_got es r (call.Transfer queue bytes wait) item (inl got) = absurd (met_receipt es r (reply.Swapped item) got.1)
 swapped_got es r (call.Transfer queue bytes wait) item (inr unmet) = absurd (unmet_says_no wait es r reply.Nobody (reply.Swapped item) tt unmet.1)
 swapped_got es r (call.Take queue wait) item (inl got) = absurd (let is = got.2 in let no : ⊥ = cc in no)
 swapped_got es r (call.Take queue wait) item (inr unmet) = absurd (unmet_says_no wait es r reply.Empty (reply.Swapped item) tt unmet.1)
-swapped_got es r (call.Swap exchanger bytes wait) item (inl got) = let same : got.0 ≡ item = let is = got.2 in cc in (subst (Gets es r) same got.1, (exchanger, refl))
+swapped_got es r (call.Swap exchanger bytes wait) item (inl got) = let same : got.0 ≡ item = let is = got.2 in cc in (subst (GetsItem es r) same got.1, (exchanger, refl))
 swapped_got es r (call.Swap exchanger bytes wait) item (inr unmet) = absurd (unmet_says_no wait es r reply.TimedOut (reply.Swapped item) tt unmet.1)
 swapped_got es r (call.Count queue) item got = absurd (let is = got.3 in let no : ⊥ = cc in no)
 swapped_got es r (call.Peek queue) item (inl got) = absurd (let is = got.2 in let no : ⊥ = cc in no)
@@ -241,7 +241,7 @@ taker_told a g t giver (call.Peek other) item key queue legal given hands arrive
 taker_told a g t giver (call.Drain other max) item key queue legal given hands arrived is meet =
     inr (told_among a t other max legal (ap (option_and_then call_in) arrived) g giver item key given hands arrived meet)
 
-pub exchanger_told : (es : List Entry) (r : ℕ) (own : Call) (item : List ℕ) (exchanger : ℕ) → side_of own ≡ Exchanges exchanger → Gets es r item → RepliesAt es r own (reply.Swapped item)
+pub exchanger_told : (es : List Entry) (r : ℕ) (own : Call) (item : List ℕ) (exchanger : ℕ) → side_of own ≡ Exchanges exchanger → GetsItem es r item → RepliesAt es r own (reply.Swapped item)
 exchanger_told es r (call.Put other bytes) item exchanger is gets = absurd (let no : ⊥ = cc in no)
 exchanger_told es r (call.Transfer other bytes wait) item exchanger is gets = absurd (let no : ⊥ = cc in no)
 exchanger_told es r (call.Take other wait) item exchanger is gets = absurd (let no : ⊥ = cc in no)

@@ -25,10 +25,10 @@ use Rattle.rv_world.specs.declared.event.Event.TheVariants as event
 use Rattle.rv_world.specs.declared.packet.Packet.{Packet}
 use Rattle.rv_world.specs.declared.seen.Seen.{Seen}
 use Rattle.rv_world.specs.World.{World, accounts, empty_account, first_world, process_of, IsHeld, WasAsked}
-use Rattle.rv_world.specs.Events.{Becomes, ComesTo, IsNewest, IsTold, OnlyTurns, Steps, Turns, sender, sends, starting}
+use Rattle.rv_world.specs.Events.{ChangesProcess, ComesTo, IsNewest, IsTold, OnlyChangesProcess, Steps, WorldBecomes, sender, sends, starting}
 use Rattle.rv_world.specs.Headline.{HasEachKeyOnce, IsAnswered, OnlyGrows}
 use Rattle.rv_world.specs.Runs.{Runs}
-use Rattle.rv_world.specs.Sound.{IsAskedFor, IsOwed, IsProcessOf, IsSound, IsUnasked}
+use Rattle.rv_world.specs.Sound.{IsAskedFor, IsOwed, IsProcessOf, IsSoundWorld, IsUnasked}
 use Rattle.rv_world.proofs.Answered.{IsTold as ToldTo, next_arrives, next_legal, next_told}
 use Rattle.rv_world.proofs.Epochs.{IsLegalIn, below_last, empty_legal, legal_accounts, rises_front, rises_none, rises_push, still_legal}
 use Rattle.rv_world.proofs.Growth.{step_grows}
@@ -44,7 +44,7 @@ still_asked_for w v (message.Request key call) grows asked = still_asked w v key
 still_asked_for w v (message.Cancel key) grows asked = (asked.0, still_asked w v key asked.0 grows asked.1)
 
 -- with one message more
-all_asked_for : (w v : World) (said : Message) → IsSound w → OnlyGrows w v → IsAskedFor v said → (m : Message) → Contains (w.to_server ++ said ∷ []) m → IsAskedFor v m
+all_asked_for : (w v : World) (said : Message) → IsSoundWorld w → OnlyGrows w v → IsAskedFor v said → (m : Message) → Contains (w.to_server ++ said ∷ []) m → IsAskedFor v m
 all_asked_for w v said sound grows asked m there = elim (Contains-push_cases w.to_server said m there) [
   | inl before ↦ still_asked_for w v m grows (sound.accounted.messages m before)
   | inr new ↦ subst (IsAskedFor v) new asked
@@ -53,9 +53,9 @@ all_asked_for w v said sound grows asked m there = elim (Contains-push_cases w.t
 -- ---- an event between clients and link alone
 
 -- the accounts and the answers stay, and each reply that is new among those held is one of the answers
-quiet_sound : (w v : World) → IsSound w → OnlyGrows w v → accounts v ≡ accounts w → v.to_client ≡ w.to_client → HasEachKeyOnce v.asked → HasEachKeyOnce v.held
+quiet_sound : (w v : World) → IsSoundWorld w → OnlyGrows w v → accounts v ≡ accounts w → v.to_client ≡ w.to_client → HasEachKeyOnce v.asked → HasEachKeyOnce v.held
     → ((key : Key) (told : Reply) → IsHeld v key told → IsHeld w key told ⊎ IsAnswered w key told) → AreOwn v → ((m : Message) → Contains v.to_server m → IsAskedFor v m)
-    → ((key : Key) (call : Call) → WasAsked v key call → Contains v.started (key.client, key.incarnation)) → IsSound v
+    → ((key : Key) (call : Call) → WasAsked v key call → Contains v.started (key.client, key.incarnation)) → IsSoundWorld v
 quiet_sound w v sound grows same answered asked_once held_once holds own messages starts =
     let rises = subst (λ (list : List Account). (i j : ℕ) (a b : Account) → slice_get list i ≡ Some a → slice_get list j ≡ Some b → i < j → a.epoch < b.epoch) (sym same) sound.epochs_rise in
     let legal = legal_accounts v rises (λ a there. still_legal w v a sound.legal_accounts (λ key call. still_asked w v key call grows) (subst (λ list. Contains list a) same there)) in
@@ -69,27 +69,27 @@ quiet_sound w v sound grows same answered asked_once held_once holds own message
     }
 
 -- only processes are others
-turns_sound : (w : World) (client : ℕ) (process : Option Process) (v : World) → IsSound w → Turns w client process v → OnlyGrows w v
-    → ((turned : Process) → process ≡ Some turned → IsProcessOf w client turned) → IsSound v
-turns_sound w client process v sound turns grows turned =
-    subst (λ (u : World). OnlyTurns w u client process → OnlyGrows w u → IsSound u) (sym turns.rest) (turned_sound v.clients) turns.turns grows
+turns_sound : (w : World) (client : ℕ) (process : Option Process) (v : World) → IsSoundWorld w → ChangesProcess w client process v → OnlyGrows w v
+    → ((turned : Process) → process ≡ Some turned → IsProcessOf w client turned) → IsSoundWorld v
+turns_sound w client process v sound changes grows turned =
+    subst (λ (u : World). OnlyChangesProcess w u client process → OnlyGrows w u → IsSoundWorld u) (sym changes.rest) (turned_sound v.clients) changes.changes grows
   where
-    turned_sound : (clients : List (ℕ × Option Process)) → OnlyTurns w (record w { clients = clients }) client process → OnlyGrows w (record w { clients = clients }) → IsSound (record w { clients = clients })
+    turned_sound : (clients : List (ℕ × Option Process)) → OnlyChangesProcess w (record w { clients = clients }) client process → OnlyGrows w (record w { clients = clients }) → IsSoundWorld (record w { clients = clients })
     turned_sound clients only grows =
         let u : World = record w { clients = clients } in
         quiet_sound w u sound grows refl refl sound.no_two_replies.asked_once sound.no_two_replies.held_once (λ key told held. inl held)
         (turned_own w u client process sound.processes only (λ other differ. same_for w u other refl refl refl) (λ p is. still_own w u client p (same_for w u client refl refl refl) (turned p is)))
         sound.accounted.messages sound.accounted.starts
 
-stays_sound : (w v : World) → IsSound w → v ≡ w → IsSound v
-stays_sound w v sound same = subst IsSound (sym same) sound
+stays_sound : (w v : World) → IsSoundWorld w → v ≡ w → IsSoundWorld v
+stays_sound w v sound same = subst IsSoundWorld (sym same) sound
 
 -- a message more, of what was asked
-says_sound : (w v : World) (said : Message) → IsSound w → v ≡ sends w said → OnlyGrows w v → IsAskedFor w said → IsSound v
+says_sound : (w v : World) (said : Message) → IsSoundWorld w → v ≡ sends w said → OnlyGrows w v → IsAskedFor w said → IsSoundWorld v
 says_sound w v said sound after grows asked =
-    subst (λ (u : World). OnlyGrows w u → IsSound u) (sym after) said_sound grows
+    subst (λ (u : World). OnlyGrows w u → IsSoundWorld u) (sym after) said_sound grows
   where
-    said_sound : OnlyGrows w (sends w said) → IsSound (sends w said)
+    said_sound : OnlyGrows w (sends w said) → IsSoundWorld (sends w said)
     said_sound grows =
         let u : World = sends w said in
         quiet_sound w u sound grows refl refl sound.no_two_replies.asked_once sound.no_two_replies.held_once (λ key told held. inl held)
@@ -97,9 +97,9 @@ says_sound w v said sound after grows asked =
 
 -- ---- a start
 
-started_sound : (w : World) (client incarnation : ℕ) (version : Version) (clients : List (ℕ × Option Process)) → IsSound w → IsNewest w client incarnation
+started_sound : (w : World) (client incarnation : ℕ) (version : Version) (clients : List (ℕ × Option Process)) → IsSoundWorld w → IsNewest w client incarnation
     → let u : World = sends (record w { clients = clients; started = w.started ++ (client, incarnation) ∷ [] }) (hello_of (starting client incarnation version)) in
-    OnlyTurns w u client (Some (New (starting client incarnation version))) → OnlyGrows w u → IsSound u
+    OnlyChangesProcess w u client (Some (New (starting client incarnation version))) → OnlyGrows w u → IsSoundWorld u
 started_sound w client incarnation version clients sound newest only grows =
     let u : World = sends (record w { clients = clients; started = w.started ++ (client, incarnation) ∷ [] }) (hello_of (starting client incarnation version)) in
     let others : (other : ℕ) → other ≢ client → SameFor w u other = λ other differ. record {
@@ -130,9 +130,9 @@ started_sound w client incarnation version clients sound newest only grows =
 
 -- ---- a call
 
-begun_sound : (w : World) (client : ℕ) (key : Key) (call : Call) (clients : List (ℕ × Option Process)) → IsSound w → process_of w client ≡ Some (Idle (Some key))
+begun_sound : (w : World) (client : ℕ) (key : Key) (call : Call) (clients : List (ℕ × Option Process)) → IsSoundWorld w → process_of w client ≡ Some (Idle (Some key))
     → let u : World = sends (record w { clients = clients; asked = w.asked ++ (key, call) ∷ [] }) (request_of (record { key = key; call = call })) in
-    OnlyTurns w u client (Some (Outstanding (record { key = key; call = call }))) → OnlyGrows w u → IsSound u
+    OnlyChangesProcess w u client (Some (Outstanding (record { key = key; call = call }))) → OnlyGrows w u → IsSoundWorld u
 begun_sound w client key call clients sound idle only grows =
     let u : World = sends (record w { clients = clients; asked = w.asked ++ (key, call) ∷ [] }) (request_of (record { key = key; call = call })) in
     let unasked : IsUnasked w client key = sound.processes client (Idle (Some key)) idle in
@@ -192,9 +192,9 @@ after_unasked w v client asking owed started asked = by_room (nat_lt asking.key.
     by_room true = unasked
     by_room false = tt
 
-settled_sound : (w : World) (client : ℕ) (asking : Asking) (reply : Reply) (clients : List (ℕ × Option Process)) → IsSound w → process_of w client ≡ Some (Outstanding asking)
+settled_sound : (w : World) (client : ℕ) (asking : Asking) (reply : Reply) (clients : List (ℕ × Option Process)) → IsSoundWorld w → process_of w client ≡ Some (Outstanding asking)
     → IsAnswered w asking.key reply → let u : World = record w { clients = clients; held = w.held ++ (asking.key, reply) ∷ [] } in
-    OnlyTurns w u client (Some (Idle (key_after asking.key))) → OnlyGrows w u → IsSound u
+    OnlyChangesProcess w u client (Some (Idle (key_after asking.key))) → OnlyGrows w u → IsSoundWorld u
 settled_sound w client asking reply clients sound outstanding answered only grows =
     let key : Key = asking.key in
     let u : World = record w { clients = clients; held = w.held ++ (key, reply) ∷ [] } in
@@ -219,7 +219,7 @@ settled_sound w client asking reply clients sound outstanding answered only grow
     sound.accounted.messages sound.accounted.starts
 
 -- a running process of a sound world hears an answer that was sent to it
-module _ (w : World) (client : ℕ) (answer : Answer) (v : World) (shows : Seen) (sound : IsSound w) (grows : OnlyGrows w v)
+module _ (w : World) (client : ℕ) (answer : Answer) (v : World) (shows : Seen) (sound : IsSoundWorld w) (grows : OnlyGrows w v)
     (answered : (key : Key) (reply : Reply) → answer ≡ answers.Replied key reply → IsAnswered w key reply) where
   welcomed_own : (starting : Starting) (epoch : ℕ) (next : Option Key) → process_of w client ≡ Some (New starting) → next ≡ Some (first_key starting epoch) → IsProcessOf w client (Idle next)
   welcomed_own starting epoch next there is =
@@ -234,24 +234,24 @@ module _ (w : World) (client : ℕ) (answer : Answer) (v : World) (shows : Seen)
   same_reply : (own key : Key) (is told : Reply) → answers.Replied own is ≡ answers.Replied key told → (key ≡ own) × (told ≡ is)
   same_reply own key is told same = (cc, cc)
 
-  heard_sound : (process : Process) (outcome : Outcome) → process_of w client ≡ Some process → Hears process answer outcome → Becomes w client answer outcome v shows → IsSound v
+  heard_sound : (process : Process) (outcome : Outcome) → process_of w client ≡ Some process → Hears process answer outcome → WorldBecomes w client answer outcome v shows → IsSoundWorld v
   heard_sound (New starting) (Welcomed next) there hears becomes =
       turns_sound w client _ v sound becomes.0 grows (λ p is. subst (IsProcessOf w client) (same_Some _ _ is) (welcomed_own starting hears.0 next there hears.2))
   heard_sound (New starting) (TurnedAway same refusal) there hears becomes =
       turns_sound w client _ v sound becomes.0 grows (λ p is. subst (IsProcessOf w client) (same_Some _ _ is) (subst (λ s. IsProcessOf w client (New s)) (sym hears.1) (sound.processes client (New starting) there)))
   heard_sound (Outstanding asking) (Settled next reply) there hears becomes =
       let same = same_reply asking.key becomes.key reply reply (sym hears.0 ∙ becomes.settles) in
-      let only : OnlyTurns w v client (Some (Idle (key_after asking.key))) = subst (λ o. OnlyTurns w v client (Some (Idle o))) hears.1 becomes.turns in
+      let only : OnlyChangesProcess w v client (Some (Idle (key_after asking.key))) = subst (λ o. OnlyChangesProcess w v client (Some (Idle o))) hears.1 becomes.changes in
       let rest : v ≡ record w { clients = v.clients; held = w.held ++ (asking.key, reply) ∷ [] } = subst (λ (k : Key). v ≡ record w { clients = v.clients; held = w.held ++ (k, reply) ∷ [] }) same.0 becomes.rest in
-      subst (λ (u : World). OnlyTurns w u client (Some (Idle (key_after asking.key))) → OnlyGrows w u → IsSound u) (sym rest)
+      subst (λ (u : World). OnlyChangesProcess w u client (Some (Idle (key_after asking.key))) → OnlyGrows w u → IsSoundWorld u) (sym rest)
       (settled_sound w client asking reply v.clients sound there (answered asking.key reply hears.0)) only grows
   heard_sound process (EpochEnded key current) there hears becomes = turns_sound w client None v sound becomes.0 grows (λ p is. absurd (none-some p is))
   heard_sound process (Replaced key current) there hears becomes = turns_sound w client None v sound becomes.0 grows (λ p is. absurd (none-some p is))
   heard_sound process (Ignored same) there hears becomes = stays_sound w v sound becomes.0
   heard_sound process outcome there hears becomes = absurd hears
 
-comes_sound : (w : World) (sent : Packet) (process : Option Process) (v : World) (shows : Seen) → IsSound w → OnlyGrows w v → Contains w.to_client sent → process_of w sent.client ≡ process
-    → ComesTo process w sent v shows → IsSound v
+comes_sound : (w : World) (sent : Packet) (process : Option Process) (v : World) (shows : Seen) → IsSoundWorld w → OnlyGrows w v → Contains w.to_client sent → process_of w sent.client ≡ process
+    → ComesTo process w sent v shows → IsSoundWorld v
 comes_sound w sent None v shows sound grows there runs comes = stays_sound w v sound comes.0
 comes_sound w sent (Some process) v shows sound grows there runs comes =
     heard_sound w sent.client sent.answer v shows sound grows
@@ -269,8 +269,8 @@ asked_by w m b key told asked is = elim is.asks [
   | inr cancel ↦ subst (IsAskedFor w) cancel asked
 ]
 
-reached_sound : (w : World) (present : Account) (moment : ℕ) (m : Message) (said told : Answer) → IsSound w → Contains w.to_server m → Next w.present moment m present said → IsTold said told
-    → let u : World = record w { present = present; to_client = w.to_client ++ record { client = sender m; answer = told } ∷ [] } in OnlyGrows w u → IsSound u
+reached_sound : (w : World) (present : Account) (moment : ℕ) (m : Message) (said told : Answer) → IsSoundWorld w → Contains w.to_server m → Next w.present moment m present said → IsTold said told
+    → let u : World = record w { present = present; to_client = w.to_client ++ record { client = sender m; answer = told } ∷ [] } in OnlyGrows w u → IsSoundWorld u
 reached_sound w present moment m said told sound there next is_told grows =
     let packet : Packet = record { client = sender m; answer = told } in
     let u : World = record w { present = present; to_client = w.to_client ++ packet ∷ [] } in
@@ -312,7 +312,7 @@ reached_sound w present moment m said told sound there next is_told grows =
 
 -- ---- a new server
 
-opened_sound : (w : World) (epoch : ℕ) → IsSound w → w.present.epoch < epoch → let u : World = record w { earlier = accounts w; present = empty_account epoch } in OnlyGrows w u → IsSound u
+opened_sound : (w : World) (epoch : ℕ) → IsSoundWorld w → w.present.epoch < epoch → let u : World = record w { earlier = accounts w; present = empty_account epoch } in OnlyGrows w u → IsSoundWorld u
 opened_sound w epoch sound greater grows =
     let u : World = record w { earlier = accounts w; present = empty_account epoch } in
     let one = sound.no_two_replies in
@@ -337,7 +337,7 @@ opened_sound w epoch sound greater grows =
 nothing_there : {X : Type 0} (x : X) → Contains [] x → ⊥
 nothing_there x there = let inside : there.0 < 0 = there.1 in omega arith
 
-pub first_sound : (epoch : ℕ) → IsSound (first_world epoch)
+pub first_sound : (epoch : ℕ) → IsSoundWorld (first_world epoch)
 first_sound epoch =
     let w : World = first_world epoch in
     let rises = rises_push [] (empty_account epoch) rises_none (λ a there. absurd (nothing_there a there)) in
@@ -361,13 +361,13 @@ first_sound epoch =
       };
     }
 
-pub step_sound : (w : World) (e : Event) (v : World) (shows : Seen) → IsSound w → Steps w e v shows → IsSound v
+pub step_sound : (w : World) (e : Event) (v : World) (shows : Seen) → IsSoundWorld w → Steps w e v shows → IsSoundWorld v
 step_sound w (event.Start client incarnation version) v shows sound is =
-    subst (λ (u : World). OnlyTurns w u client (Some (New (starting client incarnation version))) → OnlyGrows w u → IsSound u) (sym is.rest)
-    (started_sound w client incarnation version v.clients sound is.newest) is.turns (step_grows w (event.Start client incarnation version) v shows is)
+    subst (λ (u : World). OnlyChangesProcess w u client (Some (New (starting client incarnation version))) → OnlyGrows w u → IsSoundWorld u) (sym is.rest)
+    (started_sound w client incarnation version v.clients sound is.newest) is.changes (step_grows w (event.Start client incarnation version) v shows is)
 step_sound w (event.Begin client call) v shows sound is =
-    subst (λ (u : World). OnlyTurns w u client (Some (Outstanding (record { key = is.key; call = call }))) → OnlyGrows w u → IsSound u) (sym is.rest)
-    (begun_sound w client is.key call v.clients sound is.idle) is.turns (step_grows w (event.Begin client call) v shows is)
+    subst (λ (u : World). OnlyChangesProcess w u client (Some (Outstanding (record { key = is.key; call = call }))) → OnlyGrows w u → IsSoundWorld u) (sym is.rest)
+    (begun_sound w client is.key call v.clients sound is.idle) is.changes (step_grows w (event.Begin client call) v shows is)
 step_sound w (event.Resend client) v shows sound is =
     let owed = sound.processes client (Outstanding is.asking) is.outstanding in
     says_sound w v (request_of is.asking) sound is.after (step_grows w (event.Resend client) v shows is) owed.asked
@@ -376,13 +376,13 @@ step_sound w (event.CancelSent client) v shows sound is =
     says_sound w v (cancel_of is.asking) sound is.after (step_grows w (event.CancelSent client) v shows is) (is.asking.call, owed.asked)
 step_sound w (event.Crash client) v shows sound is = turns_sound w client None v sound is.ends (step_grows w (event.Crash client) v shows is) (λ p none. absurd (none-some p none))
 step_sound w (event.ToServer packet moment) v shows sound is =
-    subst (λ (u : World). OnlyGrows w u → IsSound u) (sym is.rest)
+    subst (λ (u : World). OnlyGrows w u → IsSoundWorld u) (sym is.rest)
     (reached_sound w v.present moment is.message is.said is.told sound (stands_at w.to_server packet is.message is.there) is.next is.is_told) (step_grows w (event.ToServer packet moment) v shows is)
 step_sound w (event.ToClient packet) v shows sound is =
     comes_sound w is.sent (process_of w is.sent.client) v shows sound (step_grows w (event.ToClient packet) v shows is) (stands_at w.to_client packet is.sent is.there) refl is.comes
 step_sound w (event.NewEpoch epoch) v shows sound is =
-    subst (λ (u : World). OnlyGrows w u → IsSound u) (sym is.after) (opened_sound w epoch sound is.greater) (step_grows w (event.NewEpoch epoch) v shows is)
+    subst (λ (u : World). OnlyGrows w u → IsSoundWorld u) (sym is.after) (opened_sound w epoch sound is.greater) (step_grows w (event.NewEpoch epoch) v shows is)
 
-pub runs_sound : (w : World) (events : List Event) (v : World) → IsSound w → Runs w events v → IsSound v
+pub runs_sound : (w : World) (events : List Event) (v : World) → IsSoundWorld w → Runs w events v → IsSoundWorld v
 runs_sound w [] v sound same = stays_sound w v sound same
 runs_sound w (e ∷ events) v sound runs = runs_sound runs.0 events v (step_sound w e runs.0 runs.1 sound runs.2) runs.3

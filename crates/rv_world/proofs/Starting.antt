@@ -9,7 +9,7 @@ use Rattle.std.proofs.lemmas.Option.{same_Some, none-some}
 use Rattle.rv_text.specs.declared.message.Message.{Message}
 use Rattle.rv_client.specs.Process.{Process}
 use Rattle.rv_world.specs.Parts.{hello_in, started_by}
-use Rattle.rv_world.specs.Table.{Table, Enters, AreNewest, IsGreatest}
+use Rattle.rv_world.specs.Table.{ClientTable, EntersClient, AreNewest, IsGreatest}
 
 -- a message that is no hello starts nobody; a hello starts its client
 pub sent_quiet : (messages : List Message) (said : Message) → hello_in said ≡ None → started_by (messages ++ said ∷ []) ≡ started_by messages
@@ -56,7 +56,7 @@ module _ (started : List (ℕ × ℕ)) (client incarnation : ℕ) where
     greatest = λ other there. is.greatest other (other_contained one other apart there);
   }
 
-  pub entered_newest : (old new : Table) (process : Process) → AreNewest old.newest started → Enters old new client incarnation process
+  pub entered_newest : (old new : ClientTable) (process : Process) → AreNewest old.newest started → EntersClient old new client incarnation process
       → ((earlier : ℕ) → Contains started (client, earlier) → earlier < incarnation)
       → AreNewest new.newest (started ++ (client, incarnation) ∷ [])
   entered_newest old new process are enters above = record {

@@ -11,8 +11,8 @@ use Rattle.rv_text.specs.declared.call.Call.{Call}
 use Rattle.rv_client.specs.Process.{Process, Asking}
 use Rattle.rv_world.specs.Processes.{asking}
 use Rattle.rv_world.specs.World.{World}
-use Rattle.rv_world.specs.Events.{OnlyTurns}
-use Rattle.rv_world.specs.Table.{Table, running_of, with_process, Stands}
+use Rattle.rv_world.specs.Events.{OnlyChangesProcess}
+use Rattle.rv_world.specs.Table.{ClientTable, running_of, with_process, StandsInTable}
 
 -- ---- lists
 
@@ -64,33 +64,33 @@ some_inside None process is = absurd (none-some _ is)
 some_inside (Some p) process is = ap (λ (o : Option Process). Some o) is
 
 -- who runs stands in the table
-pub runs_there : (table : Table) (client : ℕ) (process : Process) → running_of table client ≡ Some process
+pub runs_there : (table : ClientTable) (client : ℕ) (process : Process) → running_of table client ≡ Some process
     → lookup (nat_eq client) table.processes ≡ Some (Some process)
 runs_there table client process runs = some_inside _ process runs
 
-pub runs_stands : (table : Table) (client : ℕ) (process : Process) → running_of table client ≡ Some process → Stands table client
+pub runs_stands : (table : ClientTable) (client : ℕ) (process : Process) → running_of table client ≡ Some process → StandsInTable table client
 runs_stands table client process runs = subst (λ (o : Option (Option Process)). IsSome o) (sym (runs_there table client process runs)) refl
 
-pub turned_stands : (table : Table) (client : ℕ) (process : Option Process) → Stands table client → Stands (with_process table client process) client
+pub turned_stands : (table : ClientTable) (client : ℕ) (process : Option Process) → StandsInTable table client → StandsInTable (with_process table client process) client
 turned_stands table client process stands =
     subst (λ (o : Option (Option Process)). IsSome o) (sym (own_set client table.processes process stands)) refl
 
-pub turned_own : (table : Table) (client : ℕ) (process : Option Process) → Stands table client → running_of (with_process table client process) client ≡ process
+pub turned_own : (table : ClientTable) (client : ℕ) (process : Option Process) → StandsInTable table client → running_of (with_process table client process) client ≡ process
 turned_own table client process stands =
     ap (λ (o : Option (Option Process)). option_and_then (λ (p : Option Process). p) o) (own_set client table.processes process stands)
 
-pub turned_other : (table : Table) (client other : ℕ) (process : Option Process) → other ≢ client
+pub turned_other : (table : ClientTable) (client other : ℕ) (process : Option Process) → other ≢ client
     → running_of (with_process table client process) other ≡ running_of table other
 turned_other table client other process apart =
     ap (λ (o : Option (Option Process)). option_and_then (λ (p : Option Process). p) o) (other_set client other table.processes process apart)
 
-pub turned_twice : (table : Table) (client : ℕ) (one two : Option Process)
+pub turned_twice : (table : ClientTable) (client : ℕ) (one two : Option Process)
     → with_process (with_process table client one) client two ≡ with_process table client two
 turned_twice table client one two =
     ap (λ (l : List (ℕ × Option Process)). record table { processes = l }) (twice_set client table.processes one two)
 
 -- a process that is put back where it ran changes nothing
-pub turned_back : (table : Table) (client : ℕ) (process : Process) → running_of table client ≡ Some process
+pub turned_back : (table : ClientTable) (client : ℕ) (process : Process) → running_of table client ≡ Some process
     → with_process table client (Some process) ≡ table
 turned_back table client process runs =
     ap (λ (l : List (ℕ × Option Process)). record table { processes = l })
@@ -98,11 +98,11 @@ turned_back table client process runs =
 
 -- ---- worlds
 
--- where the table of the one world is that of the other with another process, only this client turns
-pub only_turns : (w v : World) (old new : Table) (client : ℕ) (process : Option Process) → w.clients ≡ old.processes → v.clients ≡ new.processes
-    → new ≡ with_process old client process → Stands old client → OnlyTurns w v client process
+-- where the table of the one world is that of the other with another process, only this client's process changes
+pub only_turns : (w v : World) (old new : ClientTable) (client : ℕ) (process : Option Process) → w.clients ≡ old.processes → v.clients ≡ new.processes
+    → new ≡ with_process old client process → StandsInTable old client → OnlyChangesProcess w v client process
 only_turns w v old new client process before after is stands =
-    let left : v.clients ≡ set_value (nat_eq client) old.processes process = after ∙ ap (λ (t : Table). t.processes) is in
+    let left : v.clients ≡ set_value (nat_eq client) old.processes process = after ∙ ap (λ (t : ClientTable). t.processes) is in
     record {
       own = ap (λ (l : List (ℕ × Option Process)). option_and_then (λ (p : Option Process). p) (lookup (nat_eq client) l)) left ∙ turned_own old client process stands;
       others = λ other apart. ap (λ (l : List (ℕ × Option Process)). option_and_then (λ (p : Option Process). p) (lookup (nat_eq other) l)) left

@@ -9,11 +9,11 @@ use Rattle.std.proofs.lemmas.Map.Made.{lookup-map_values}
 use Rattle.std.proofs.lemmas.Map.Steps.{set_value_same}
 use Rattle.rv_client.specs.Process.{Process}
 use Rattle.rv_world.specs.Processes.{process_in}
-use Rattle.rv_world.specs.Table.{Table, processes_in, newest_in, running_of, newest_of, with_process, Stands, Enters}
+use Rattle.rv_world.specs.Table.{ClientTable, processes_in, newest_in, running_of, newest_of, with_process, StandsInTable, EntersClient}
 use Rattle.rv_world.specs.declared.clients.Client.{Client}
 use Rattle.rv_world.specs.declared.process.Running.{Running}
 
-abbrev pub table_of : List (ℕ × Client) → Table
+abbrev pub table_of : List (ℕ × Client) → ClientTable
 table_of clients = record { processes = processes_in clients; newest = newest_in clients }
 
 abbrev pub kept_process : Client → Option Process
@@ -40,7 +40,7 @@ mapped_copied None = refl
 mapped_copied (Some r) = refl
 
 -- who stands in the table stands in the list
-pub stands_found : (clients : List (ℕ × Client)) (client : ℕ) → Stands (table_of clients) client → None ≢ lookup (nat_eq client) clients
+pub stands_found : (clients : List (ℕ × Client)) (client : ℕ) → StandsInTable (table_of clients) client → None ≢ lookup (nat_eq client) clients
 stands_found clients client stands none =
     let read : lookup (nat_eq client) (processes_in clients) ≡ None = lookup-map_values kept_process (nat_eq client) clients ∙ ap (λ (o : Option Client). option_map kept_process o) (sym none) in
     false≢true (subst (λ (o : Option (Option Process)). IsSome o) read stands)
@@ -81,7 +81,7 @@ other_key client other apart = grind (arith, nat_tests)
 pub entered : (old new : List (ℕ × Client)) (client newest : ℕ) (process : Running)
     → lookup (nat_eq client) new ≡ Some (record { newest = newest; process = Some process })
     → ((other : ℕ) → nat_eq client other ≡ false → lookup (nat_eq other) new ≡ lookup (nat_eq other) old)
-    → Enters (table_of old) (table_of new) client newest (process_in process)
+    → EntersClient (table_of old) (table_of new) client newest (process_in process)
 entered old new client newest process own others = record {
   own = running_found new client ∙ ap (λ (o : Option Client). option_and_then kept_process o) own;
   others = λ other apart. running_found new other

@@ -12,7 +12,7 @@ use Rattle.rv_text.specs.Calls.{side_of}
 use Rattle.rv_account.specs.Account.{Account, act_at, call_at, call_in, key_in}
 use Rattle.rv_account.specs.Calls.{may_name, opposite}
 use Rattle.rv_book.specs.Legal.{Legal}
-use Rattle.rv_book.specs.Replies.{Gets, HasReply, Meet, RepliesAt, RepliesMet}
+use Rattle.rv_book.specs.Replies.{GetsItem, HasReply, Meet, RepliesAt, RepliesMet}
 use Rattle.rv_book.proofs.CallKinds.{exchanges_item, gives_item}
 use Rattle.rv_book.proofs.Keys.{act_called}
 use Rattle.rv_book.proofs.Leaving.{items_leave_in_order}
@@ -20,7 +20,7 @@ use Rattle.rv_book.proofs.OnePartner.{arrives_once}
 use Rattle.rv_world.specs.World.{World, IsAccountOf, WasAsked, first_world}
 use Rattle.rv_world.specs.Headline.{ArrivesAt, Headline, IsExchanged, IsAnswered, IsAssigned, IsDrained, IsGiven, IsReceipt, IsReplyOf, NeverHandedOver, OrderOfArrival, ReceivedMeansAssigned, TrueExchange}
 use Rattle.rv_world.specs.Laws.{HeadlineHolds}
-use Rattle.rv_world.specs.Sound.{IsSound}
+use Rattle.rv_world.specs.Sound.{IsSoundWorld}
 use Rattle.rv_world.proofs.Drained.{TakesItems, as_many, hands_over_at, meets_named, names_met, partners_rise, takes_items}
 use Rattle.rv_world.proofs.Growth.{runs_grow}
 use Rattle.rv_world.proofs.OneReply.{still_answered}
@@ -30,7 +30,7 @@ use Rattle.rv_world.proofs.Soundness.{first_sound, runs_sound}
 -- ---- a reply that is answered, as its account tells it
 
 -- what follows from the arrival of the request, in its account, follows from the answer
-told_leads : (w : World) (key : Key) (told : Reply) (G : Type 0) → IsSound w → IsAnswered w key told → (told ≡ reply.Cancelled → ⊥)
+told_leads : (w : World) (key : Key) (told : Reply) (G : Type 0) → IsSoundWorld w → IsAnswered w key told → (told ≡ reply.Cancelled → ⊥)
     → ((a : Account) (r : ℕ) (own : Call) → IsAccountOf w key.epoch a → Legal a → ArrivesAt a.entries key r own → RepliesAt a.entries r own told → G) → G
 told_leads w key told G sound answered not_cancelled leads = by_reply (sound.no_two_replies.answered_is key told answered)
   where
@@ -52,7 +52,7 @@ gives_of own other queue is opposes = sym (same_Some _ _ (subst (λ s. opposite 
 exchanges_of : (own other : Side) (exchanger : ℕ) → own ≡ Exchanges exchanger → opposite own ≡ Some other → other ≡ Exchanges exchanger
 exchanges_of own other exchanger is opposes = sym (same_Some _ _ (subst (λ s. opposite s ≡ Some other) is opposes))
 
-module _ (w : World) (key : Key) (sound : IsSound w) (a : Account) (r : ℕ) (own : Call) (is_of : IsAccountOf w key.epoch a) (legal : Legal a) (arrived : ArrivesAt a.entries key r own) where
+module _ (w : World) (key : Key) (sound : IsSoundWorld w) (a : Account) (r : ℕ) (own : Call) (is_of : IsAccountOf w key.epoch a) (legal : Legal a) (arrived : ArrivesAt a.entries key r own) where
   called : call_at a.entries r ≡ Some own
   called = ap (option_and_then call_in) arrived
 
@@ -64,7 +64,7 @@ module _ (w : World) (key : Key) (sound : IsSound w) (a : Account) (r : ℕ) (ow
   arrived_there p again also = arrives_once a p r key again own legal also arrived
 
   -- who hands its item over to the arrival is of the opposite side
-  gets_opposes : (item : List ℕ) → (gets : Gets a.entries r item) → opposite (side_of own) ≡ Some (side_of gets.call)
+  gets_opposes : (item : List ℕ) → (gets : GetsItem a.entries r item) → opposite (side_of own) ≡ Some (side_of gets.call)
   gets_opposes item gets = meet_opposes a r gets.giver own gets.call legal called gets.arrived (meet_back a.entries gets.giver r gets.meet)
 
   received_assigned : (told : Reply) → IsReceipt told → RepliesAt a.entries r own told → IsAssigned w key told
@@ -102,7 +102,7 @@ module _ (w : World) (key : Key) (sound : IsSound w) (a : Account) (r : ℕ) (ow
   item_given : (item : List ℕ) → RepliesAt a.entries r own (reply.Item item) → IsGiven w key item
   item_given item replies = let got = item_got a.entries r own item replies in given got.1.0 got.1.1 got.2 got.0
     where
-      given : (queue : ℕ) → side_of own ≡ Takes queue → may_name own ≡ 1 → Gets a.entries r item → IsGiven w key item
+      given : (queue : ℕ) → side_of own ≡ Takes queue → may_name own ≡ 1 → GetsItem a.entries r item → IsGiven w key item
       given queue takes single gets =
           let gives = gives_of (side_of own) (side_of gets.call) queue takes (gets_opposes item gets) in
           let giver = act_called (act_at a.entries gets.giver) gets.call gets.arrived in
@@ -156,13 +156,13 @@ module _ (w : World) (key : Key) (sound : IsSound w) (a : Account) (r : ℕ) (ow
   swapped_exchanged : (item : List ℕ) → RepliesAt a.entries r own (reply.Swapped item) → IsExchanged w key item
   swapped_exchanged item replies = let got = swapped_got a.entries r own item replies in exchanged got.1.0 got.1.1 got.0
     where
-      exchanged : (exchanger : ℕ) → side_of own ≡ Exchanges exchanger → Gets a.entries r item → IsExchanged w key item
+      exchanged : (exchanger : ℕ) → side_of own ≡ Exchanges exchanger → GetsItem a.entries r item → IsExchanged w key item
       exchanged exchanger side gets =
           let meets : Meet a.entries r gets.giver = meet_back a.entries gets.giver r gets.meet in
           let exchanges = exchanges_of (side_of own) (side_of gets.call) exchanger side (gets_opposes item gets) in
           let own_item = exchanges_item own exchanger side in
           let other = act_called (act_at a.entries gets.giver) gets.call gets.arrived in
-          let back : Gets a.entries gets.giver own_item.0 = record { giver = r; call = own; meet = meets; arrived = called; hands_over = own_item.1 } in
+          let back : GetsItem a.entries gets.giver own_item.0 = record { giver = r; call = own; meet = meets; arrived = called; hands_over = own_item.1 } in
           record {
             account = a;
             is_of = is_of;
@@ -185,7 +185,7 @@ module _ (w : World) (key : Key) (sound : IsSound w) (a : Account) (r : ℕ) (ow
                 (place, one_met a r s gets.giver own legal called (single_exchanger own exchanger side) (subst (λ q. Meet a.entries q s) place swap.3) meets);
           }
 
-pub received_means_assigned : (w : World) → IsSound w → ReceivedMeansAssigned w
+pub received_means_assigned : (w : World) → IsSoundWorld w → ReceivedMeansAssigned w
 received_means_assigned w sound = record {
   received = λ key told answered receipt. told_leads w key told (IsAssigned w key told) sound answered (λ is. subst IsReceipt is receipt)
       (λ a r own is_of legal arrived. received_assigned w key sound a r own is_of legal arrived told receipt);
@@ -197,7 +197,7 @@ received_means_assigned w sound = record {
 
 -- ---- never handed over
 
-pub never_handed_over : (w : World) → IsSound w → NeverHandedOver w
+pub never_handed_over : (w : World) → IsSoundWorld w → NeverHandedOver w
 never_handed_over w sound key told events v answered is_no runs a r own there arrived =
     let after = runs_sound w events v sound runs in
     let is = after.no_two_replies.answered_is key told (still_answered w v key told (runs_grow w events v runs) answered) in
@@ -207,19 +207,19 @@ never_handed_over w sound key told events v answered is_no runs a r own there ar
 
 -- ---- order of arrival
 
-pub order_of_arrival : (w : World) → IsSound w → OrderOfArrival w
+pub order_of_arrival : (w : World) → IsSoundWorld w → OrderOfArrival w
 order_of_arrival w sound a there = items_leave_in_order a (sound.legal_accounts.legal a there)
 
 -- ---- true exchange
 
-pub true_exchange : (w : World) → IsSound w → TrueExchange w
+pub true_exchange : (w : World) → IsSoundWorld w → TrueExchange w
 true_exchange w sound key item answered =
     told_leads w key (reply.Swapped item) (IsExchanged w key item) sound answered (λ is. let no : ⊥ = cc in no)
     (λ a r own is_of legal arrived. swapped_exchanged w key sound a r own is_of legal arrived item)
 
 -- ---- together
 
-pub sound_headline : (w : World) → IsSound w → Headline w
+pub sound_headline : (w : World) → IsSoundWorld w → Headline w
 sound_headline w sound = record {
   no_two_replies = sound.no_two_replies;
   legal_accounts = sound.legal_accounts;

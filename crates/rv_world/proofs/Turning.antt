@@ -9,7 +9,7 @@ use Rattle.rv_text.specs.declared.answer.Reply.{Reply}
 use Rattle.rv_book.proofs.Numbers.{same_or_not}
 use Rattle.rv_client.specs.Process.{Process, New, Idle, Outstanding}
 use Rattle.rv_world.specs.World.{World, IsHeld, WasAsked, process_of}
-use Rattle.rv_world.specs.Events.{OnlyTurns}
+use Rattle.rv_world.specs.Events.{OnlyChangesProcess}
 use Rattle.rv_world.specs.Sound.{IsLastStart, IsProcessOf}
 
 -- each process is that of its client
@@ -60,13 +60,13 @@ still_own w v client (Outstanding asking) same own = record {
 }
 
 -- of the processes one alone is another, and is its client's own
-pub turned_own : (w v : World) (client : ℕ) (process : Option Process) → AreOwn w → OnlyTurns w v client process → ((other : ℕ) → other ≢ client → SameFor w v other)
+pub turned_own : (w v : World) (client : ℕ) (process : Option Process) → AreOwn w → OnlyChangesProcess w v client process → ((other : ℕ) → other ≢ client → SameFor w v other)
     → ((turned : Process) → process ≡ Some turned → IsProcessOf v client turned) → AreOwn v
-turned_own w v client process own turns same turned other is there = elim (same_or_not other client) [
+turned_own w v client process own changes same turned other is there = elim (same_or_not other client) [
   | inl equal ↦
       let here : process_of v client ≡ Some is = subst (λ c. process_of v c ≡ Some is) equal there in
-      subst (λ c. IsProcessOf v c is) (sym equal) (turned is (sym turns.own ∙ here))
-  | inr differ ↦ still_own w v other is (same other differ) (own other is (sym (turns.others other differ) ∙ there))
+      subst (λ c. IsProcessOf v c is) (sym equal) (turned is (sym changes.own ∙ here))
+  | inr differ ↦ still_own w v other is (same other differ) (own other is (sym (changes.others other differ) ∙ there))
 ]
 
 -- the same, where no process is another

@@ -28,13 +28,13 @@ use Rattle.rv_world.specs.World.{World, accounts, empty_account, process_of}
 -- ---- what events change
 
 -- of the clients' processes that of this one alone is another: this process, or none
-pub record OnlyTurns (w v : World) (client : ℕ) (process : Option Process) : Type 0 where
+pub record OnlyChangesProcess (w v : World) (client : ℕ) (process : Option Process) : Type 0 where
   pub own : process_of v client ≡ process
   pub others : (other : ℕ) → other ≢ client → process_of v other ≡ process_of w other
 
 -- the same, and nothing else changes
-pub record Turns (w : World) (client : ℕ) (process : Option Process) (v : World) : Type 0 where
-  pub turns : OnlyTurns w v client process
+pub record ChangesProcess (w : World) (client : ℕ) (process : Option Process) (v : World) : Type 0 where
+  pub changes : OnlyChangesProcess w v client process
   pub rest : v ≡ record w { clients = v.clients }
 
 -- the world in which one message more was sent
@@ -63,7 +63,7 @@ IsNewest w client incarnation = (earlier : ℕ) → Contains w.started (client, 
 pub record Starts (w : World) (client incarnation : ℕ) (version : Version) (v : World) (shows : Seen)
     : Type 0 where
   pub newest : IsNewest w client incarnation
-  pub turns : OnlyTurns w v client (Some (New (starting client incarnation version)))
+  pub changes : OnlyChangesProcess w v client (Some (New (starting client incarnation version)))
   pub rest : v ≡ sends (record w {
     clients = v.clients;
     started = w.started ++ (client, incarnation) ∷ [];
@@ -74,7 +74,7 @@ pub record Starts (w : World) (client incarnation : ℕ) (version : Version) (v 
 pub record Begins (w : World) (client : ℕ) (call : Call) (v : World) (shows : Seen) : Type 0 where
   pub key : Key
   pub idle : process_of w client ≡ Some (Idle (Some key))
-  pub turns : OnlyTurns w v client (Some (Outstanding (record { key = key; call = call })))
+  pub changes : OnlyChangesProcess w v client (Some (Outstanding (record { key = key; call = call })))
   pub rest : v ≡ sends (record w {
     clients = v.clients;
     asked = w.asked ++ (key, call) ∷ [];
@@ -82,7 +82,8 @@ pub record Begins (w : World) (client : ℕ) (call : Call) (v : World) (shows : 
   pub shown : shows ≡ next_message w
 
 -- an outstanding process sends what it says
-pub record Says (w : World) (client : ℕ) (says : Asking → Message) (v : World) (shows : Seen) : Type 0 where
+pub record ProcessSays (w : World) (client : ℕ) (says : Asking → Message) (v : World) (shows : Seen)
+    : Type 0 where
   pub asking : Asking
   pub outstanding : process_of w client ≡ Some (Outstanding asking)
   pub after : v ≡ sends w (says asking)
@@ -92,7 +93,7 @@ pub record Says (w : World) (client : ℕ) (says : Asking → Message) (v : Worl
 pub record Crashes (w : World) (client : ℕ) (v : World) (shows : Seen) : Type 0 where
   pub process : Process
   pub runs : process_of w client ≡ Some process
-  pub ends : Turns w client None v
+  pub ends : ChangesProcess w client None v
   pub shown : shows ≡ sees.Crashed
 
 -- ---- deliveries to the server
@@ -128,29 +129,29 @@ pub record Takes (w : World) (client : ℕ) (answer : Answer) (next : Option Key
     (shows : Seen) : Type 0 where
   pub key : Key
   pub settles : Settles key answer reply
-  pub turns : OnlyTurns w v client (Some (Idle next))
+  pub changes : OnlyChangesProcess w v client (Some (Idle next))
   pub rest : v ≡ record w { clients = v.clients; held = w.held ++ (key, reply) ∷ [] }
   pub shown : shows ≡ sees.Settled key
 
 -- what becomes of the world by an outcome of the client's process
-abbrev pub Becomes : World → ℕ → Answer → Outcome → World → Seen → Type 0
-Becomes w client answer (Welcomed next) v shows =
-    Turns w client (Some (Idle next)) v × (shows ≡ sees.Welcomed)
-Becomes w client answer (TurnedAway same refusal) v shows =
-    Turns w client (Some (New same)) v × (shows ≡ sees.TurnedAway refusal)
-Becomes w client answer (Settled next reply) v shows = Takes w client answer next reply v shows
-Becomes w client answer (EpochEnded key current) v shows =
-    Turns w client None v × (shows ≡ sees.Ended current)
-Becomes w client answer (Replaced key current) v shows =
-    Turns w client None v × (shows ≡ sees.Replaced current)
-Becomes w client answer (Ignored same) v shows = (v ≡ w) × (shows ≡ sees.Ignored)
+abbrev pub WorldBecomes : World → ℕ → Answer → Outcome → World → Seen → Type 0
+WorldBecomes w client answer (Welcomed next) v shows =
+    ChangesProcess w client (Some (Idle next)) v × (shows ≡ sees.Welcomed)
+WorldBecomes w client answer (TurnedAway same refusal) v shows =
+    ChangesProcess w client (Some (New same)) v × (shows ≡ sees.TurnedAway refusal)
+WorldBecomes w client answer (Settled next reply) v shows = Takes w client answer next reply v shows
+WorldBecomes w client answer (EpochEnded key current) v shows =
+    ChangesProcess w client None v × (shows ≡ sees.Ended current)
+WorldBecomes w client answer (Replaced key current) v shows =
+    ChangesProcess w client None v × (shows ≡ sees.Replaced current)
+WorldBecomes w client answer (Ignored same) v shows = (v ≡ w) × (shows ≡ sees.Ignored)
 
 -- a running process hears the answer
 pub record IsHeard (w : World) (process : Process) (packet : Packet) (v : World) (shows : Seen)
     : Type 0 where
   pub outcome : Outcome
   pub hears : Hears process packet.answer outcome
-  pub becomes : Becomes w packet.client packet.answer outcome v shows
+  pub becomes : WorldBecomes w packet.client packet.answer outcome v shows
 
 -- where no process of the client runs the answer is ignored
 abbrev pub ComesTo : Option Process → World → Packet → World → Seen → Type 0
@@ -166,7 +167,7 @@ pub record ReachesClient (w : World) (packet : ℕ) (v : World) (shows : Seen) :
 -- ---- a new server
 
 -- an empty account is opened at moment 0, and its epoch is the present one
-pub record Opens (w : World) (epoch : ℕ) (v : World) (shows : Seen) : Type 0 where
+pub record OpensEpoch (w : World) (epoch : ℕ) (v : World) (shows : Seen) : Type 0 where
   pub greater : w.present.epoch < epoch
   pub after : v ≡ record w { earlier = accounts w; present = empty_account epoch }
   pub shown : shows ≡ sees.Opened epoch
@@ -177,12 +178,12 @@ pub record Opens (w : World) (epoch : ℕ) (v : World) (shows : Seen) : Type 0 w
 abbrev pub Steps : World → Event → World → Seen → Type 0
 Steps w (event.Start client incarnation version) v shows = Starts w client incarnation version v shows
 Steps w (event.Begin client call) v shows = Begins w client call v shows
-Steps w (event.Resend client) v shows = Says w client request_of v shows
-Steps w (event.CancelSent client) v shows = Says w client cancel_of v shows
+Steps w (event.Resend client) v shows = ProcessSays w client request_of v shows
+Steps w (event.CancelSent client) v shows = ProcessSays w client cancel_of v shows
 Steps w (event.Crash client) v shows = Crashes w client v shows
 Steps w (event.ToServer packet moment) v shows = ReachesServer w packet moment v shows
 Steps w (event.ToClient packet) v shows = ReachesClient w packet v shows
-Steps w (event.NewEpoch epoch) v shows = Opens w epoch v shows
+Steps w (event.NewEpoch epoch) v shows = OpensEpoch w epoch v shows
 
 -- ---- refusals
 
@@ -210,21 +211,21 @@ abbrev pub RunsNone : World → ℕ → WorldRefusal → Type 0
 RunsNone w client refusal = (process_of w client ≡ None) × (refusal ≡ refuses.NoSuchClient)
 
 -- for what an event is refused
-abbrev pub Due : World → Event → WorldRefusal → Type 0
-Due w (event.Start client incarnation version) refusal =
+abbrev pub RefusalDue : World → Event → WorldRefusal → Type 0
+RefusalDue w (event.Start client incarnation version) refusal =
     WasStarted w client incarnation × (refusal ≡ refuses.IncarnationNotGreater)
-Due w (event.Begin client call) refusal =
+RefusalDue w (event.Begin client call) refusal =
     RunsNone w client refusal ⊎ (RunsBut w client IsReady × (refusal ≡ refuses.NotIdle))
-Due w (event.Resend client) refusal =
+RefusalDue w (event.Resend client) refusal =
     RunsNone w client refusal ⊎ (RunsBut w client IsAsking × (refusal ≡ refuses.NotOutstanding))
-Due w (event.CancelSent client) refusal =
+RefusalDue w (event.CancelSent client) refusal =
     RunsNone w client refusal ⊎ (RunsBut w client IsAsking × (refusal ≡ refuses.NotOutstanding))
-Due w (event.Crash client) refusal = RunsNone w client refusal
-Due w (event.ToServer packet moment) refusal =
+RefusalDue w (event.Crash client) refusal = RunsNone w client refusal
+RefusalDue w (event.ToServer packet moment) refusal =
     (slice_get w.to_server packet ≡ None) × (refusal ≡ refuses.NoSuchPacket)
-Due w (event.ToClient packet) refusal =
+RefusalDue w (event.ToClient packet) refusal =
     (slice_get w.to_client packet ≡ None) × (refusal ≡ refuses.NoSuchPacket)
-Due w (event.NewEpoch epoch) refusal =
+RefusalDue w (event.NewEpoch epoch) refusal =
     (epoch ≤ w.present.epoch) × (refusal ≡ refuses.EpochNotGreater)
 
 -- the packet is there, and a process of its client runs
@@ -242,16 +243,16 @@ NeedsMemory w (event.ToClient packet) = IsAwaited w packet
 NeedsMemory w _ = Unit {0}
 
 -- no other refusal is due, and memory that the event needs was refused
-pub record LacksMemory (w : World) (e : Event) (refusal : WorldRefusal) : Type 0 where
-  pub nothing_due : (other : WorldRefusal) → ¬ Due w e other
+pub record EventLacksMemory (w : World) (e : Event) (refusal : WorldRefusal) : Type 0 where
+  pub nothing_due : (other : WorldRefusal) → ¬ RefusalDue w e other
   pub needs : NeedsMemory w e
   pub is : refusal ≡ refuses.NoMemory
 
 -- the event is refused: that is due, or, only where nothing is, memory was
-abbrev pub IsRefused : World → Event → WorldRefusal → Type 0
-IsRefused w e refusal = Due w e refusal ⊎ LacksMemory w e refusal
+abbrev pub IsEventRefused : World → Event → WorldRefusal → Type 0
+IsEventRefused w e refusal = RefusalDue w e refusal ⊎ EventLacksMemory w e refusal
 
 -- what comes of an event: a step, or a refusal, which changes nothing
-abbrev pub Comes : World → Event → World → Result Seen WorldRefusal → Type 0
-Comes w e v (Ok shows) = Steps w e v shows
-Comes w e v (Err refusal) = IsRefused w e refusal × (v ≡ w)
+abbrev pub EventComesTo : World → Event → World → Result Seen WorldRefusal → Type 0
+EventComesTo w e v (Ok shows) = Steps w e v shows
+EventComesTo w e v (Err refusal) = IsEventRefused w e refusal × (v ≡ w)

@@ -10,7 +10,7 @@ use Rattle.rv_world.specs.declared.seen.Seen.{Seen}
 use Rattle.rv_world.specs.declared.seen.WorldRefusal.{WorldRefusal}
 use Rattle.rv_world.specs.declared.seen.WorldRefusal.TheVariants as refuses
 use Rattle.rv_world.specs.World.{World, first_world, process_of}
-use Rattle.rv_world.specs.Events.{Comes, Due, Steps}
+use Rattle.rv_world.specs.Events.{EventComesTo, RefusalDue, Steps}
 use Rattle.rv_world.specs.Runs.{Runs}
 use Rattle.rv_world.specs.Headline.{Headline, OnlyGrows}
 
@@ -36,7 +36,7 @@ pub record HadMemory (w v : World) (result : Result Seen WorldRefusal) : Type 0 
 -- same, and the same is seen of it, or it is refused for the same
 abbrev pub OneStep : Type 0
 OneStep = (w x u v : World) (e : Event) (one other : Result Seen WorldRefusal) → AreSame w x
-    → Comes w e u one → Comes x e v other → HadMemory w u one → HadMemory x v other
+    → EventComesTo w e u one → EventComesTo x e v other → HadMemory w u one → HadMemory x v other
     → AreSame u v × (one ≡ other)
 
 -- the event leads to a world, with no want of memory
@@ -48,7 +48,7 @@ pub record CanStep (w : World) (e : Event) : Type 0 where
 
 -- in each world whose present account is legal, an event for which no refusal is due leads to a world
 abbrev pub StepsExist : Type 0
-StepsExist = (w : World) (e : Event) → Legal w.present → ((refusal : WorldRefusal) → ¬ Due w e refusal)
+StepsExist = (w : World) (e : Event) → Legal w.present → ((refusal : WorldRefusal) → ¬ RefusalDue w e refusal)
     → CanStep w e
 
 -- ---- lists of events

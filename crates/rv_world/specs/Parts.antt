@@ -4,9 +4,9 @@ use Rattle.std.specs.List.{filter_map}
 use Rattle.rv_text.specs.declared.message.Message.{Message}
 use Rattle.rv_text.specs.declared.message.Message.TheVariants as message
 use Rattle.rv_account.specs.Account.{Account}
-use Rattle.rv_world.specs.declared.state.State.{State}
+use Rattle.rv_world.specs.declared.state.WorldState.{WorldState}
 use Rattle.rv_world.specs.World.{World}
-use Rattle.rv_world.specs.Sound.{AllFits, IsSound}
+use Rattle.rv_world.specs.Sound.{AllFits, IsSoundWorld}
 use Rattle.rv_world.specs.Table.{AreNewest}
 
 -- the client and incarnation of a hello: each start sends one, and nothing else does
@@ -18,7 +18,7 @@ hello_in (message.Cancel key) = None
 abbrev pub started_by : List Message → List (ℕ × ℕ)
 started_by messages = filter_map hello_in messages
 
-abbrev pub world_of : State → World
+abbrev pub world_of : WorldState → World
 world_of state = record {
   earlier = state.earlier.items;
   present = state.present;
@@ -37,11 +37,11 @@ pub record IsBookOf (books : List Account) (epoch i : ℕ) : Type 0 where
   pub epoch_is : account.epoch ≡ epoch
 
 -- the table knows its clients' greatest incarnations
-abbrev pub KnowsNewest : State → Type 0
+abbrev pub KnowsNewest : WorldState → Type 0
 KnowsNewest state = AreNewest state.clients.newest (started_by state.to_server.items)
 
 -- the world is sound and keeps its limits, and its table is true
-pub record IsSoundState (state : State) : Type 0 where
-  pub sound : IsSound (world_of state)
+pub record IsSoundState (state : WorldState) : Type 0 where
+  pub sound : IsSoundWorld (world_of state)
   pub fits : AllFits (world_of state)
   pub newest : KnowsNewest state

@@ -9,7 +9,7 @@ use Rattle.rv_client.specs.Process.{Welcomed, TurnedAway, Settled, EpochEnded, R
 use Rattle.rv_client.specs.Process as process
 use Rattle.rv_world.specs.declared.process.Running.{Running}
 use Rattle.rv_world.specs.declared.process.Running.TheVariants as running
-use Rattle.rv_world.specs.declared.process.Told.{Told}
+use Rattle.rv_world.specs.declared.process.HeardAnswer.{HeardAnswer}
 use Rattle.rv_world.specs.declared.seen.Seen.{Seen}
 use Rattle.rv_world.specs.declared.seen.Seen.TheVariants as sees
 
@@ -27,25 +27,26 @@ abbrev pub IsIdle : Process → Type 0
 IsIdle process = (next : Option Key) × (process ≡ Idle next)
 
 -- this process then runs, or none; and this is seen
-pub record Leaves (told : Told) (then : Option Process) (held : Option (Key × Reply)) (seen : Seen)
+pub record LeavesProcess (told : HeardAnswer) (then : Option Process) (held : Option (Key × Reply))
+    (seen : Seen)
     : Type 0 where
   pub process : option_map process_in told.process ≡ then
   pub holds : told.held ≡ held
   pub shows : told.seen ≡ seen
 
 -- what is left of an outcome of the answer
-abbrev pub LeavesBy : Answer → Outcome → Told → Type 0
-LeavesBy answer (Welcomed next) told = Leaves told (Some (process.Idle next)) None sees.Welcomed
+abbrev pub LeavesBy : Answer → Outcome → HeardAnswer → Type 0
+LeavesBy answer (Welcomed next) told = LeavesProcess told (Some (process.Idle next)) None sees.Welcomed
 LeavesBy answer (TurnedAway same refusal) told =
-    Leaves told (Some (process.New same)) None (sees.TurnedAway refusal)
+    LeavesProcess told (Some (process.New same)) None (sees.TurnedAway refusal)
 LeavesBy answer (Settled next reply) told = (key : Key) × Settles key answer reply
-    × Leaves told (Some (process.Idle next)) (Some (key, reply)) (sees.Settled key)
-LeavesBy answer (EpochEnded key current) told = Leaves told None None (sees.Ended current)
-LeavesBy answer (Replaced key current) told = Leaves told None None (sees.Replaced current)
-LeavesBy answer (Ignored same) told = Leaves told (Some same) None sees.Ignored
+    × LeavesProcess told (Some (process.Idle next)) (Some (key, reply)) (sees.Settled key)
+LeavesBy answer (EpochEnded key current) told = LeavesProcess told None None (sees.Ended current)
+LeavesBy answer (Replaced key current) told = LeavesProcess told None None (sees.Replaced current)
+LeavesBy answer (Ignored same) told = LeavesProcess told (Some same) None sees.Ignored
 
 -- the process hears the answer, and this is left
-pub record HearsAs (process : Process) (answer : Answer) (told : Told) : Type 0 where
+pub record HearsAs (process : Process) (answer : Answer) (told : HeardAnswer) : Type 0 where
   pub outcome : Outcome
   pub hears : Hears process answer outcome
   pub leaves : LeavesBy answer outcome told

@@ -5,7 +5,7 @@ use Rattle.rv_world.specs.declared.seen.Seen.{Seen}
 use Rattle.rv_world.specs.declared.seen.WorldRefusal.{WorldRefusal}
 use Rattle.rv_world.specs.declared.seen.WorldRefusal.TheVariants as refuses
 use Rattle.rv_world.specs.World.{World, first_world}
-use Rattle.rv_world.specs.Events.{Steps, IsRefused}
+use Rattle.rv_world.specs.Events.{Steps, IsEventRefused}
 
 -- the events lead from the one world to the other, each by its step
 abbrev pub Runs : World → List Event → World → Type 0
@@ -18,7 +18,7 @@ pub record StopsAt (w : World) (events : List Event) (i : ℕ) (refusal : WorldR
   pub event : Event
   pub there : slice_get events i ≡ Some event
   pub runs : Runs w (take i events) world
-  pub refused : IsRefused world event refusal
+  pub refused : IsEventRefused world event refusal
 
 -- the events were refused memory for the world itself, or stopped at one
 abbrev pub StopsIn : List Event → ℕ × WorldRefusal → Type 0

@@ -106,7 +106,7 @@ pub record IsAccountedFor (w : World) : Type 0 where
 
 -- ---- together
 
-pub record IsSound (w : World) : Type 0 where
+pub record IsSoundWorld (w : World) : Type 0 where
   pub epochs_rise : EpochsRise w
   pub no_two_replies : NoTwoReplies w
   pub legal_accounts : LegalAccounts w

@@ -16,42 +16,43 @@ processes_in clients = map (λ entry. (entry.0, option_map process_in entry.1.pr
 abbrev pub newest_in : List (ℕ × Client) → List (ℕ × ℕ)
 newest_in clients = map (λ entry. (entry.0, entry.1.newest)) clients
 
-pub record Table : Type 0 where
+pub record ClientTable : Type 0 where
   pub processes : List (ℕ × Option Process)
   pub newest : List (ℕ × ℕ)
 
 -- the client's process, if one runs
-abbrev pub running_of : Table → ℕ → Option Process
+abbrev pub running_of : ClientTable → ℕ → Option Process
 running_of table client = option_and_then (λ process. process) (lookup (nat_eq client) table.processes)
 
 -- the client's process is outstanding; the client's process has a next key
-abbrev pub IsAskingIn : Table → ℕ → Type 0
+abbrev pub IsAskingIn : ClientTable → ℕ → Type 0
 IsAskingIn table client = (process : Process) × (running_of table client ≡ Some process) × IsAsking process
 
-abbrev pub IsReadyIn : Table → ℕ → Type 0
+abbrev pub IsReadyIn : ClientTable → ℕ → Type 0
 IsReadyIn table client = (process : Process) × (running_of table client ≡ Some process) × IsReady process
 
 -- the client's process is outstanding, and this is what it says
-pub record SaysIn (table : Table) (client : ℕ) (says : Asking → Message) (message : Message) : Type 0 where
+pub record SaysIn (table : ClientTable) (client : ℕ) (says : Asking → Message) (message : Message)
+    : Type 0 where
   pub asking : Asking
   pub outstanding : running_of table client ≡ Some (Outstanding asking)
   pub is : message ≡ says asking
 
 -- the client stands in the table
-abbrev pub Stands : Table → ℕ → Type 0
-Stands table client = IsSome (lookup (nat_eq client) table.processes)
+abbrev pub StandsInTable : ClientTable → ℕ → Type 0
+StandsInTable table client = IsSome (lookup (nat_eq client) table.processes)
 
 -- the client's greatest incarnation, if it was started
-abbrev pub newest_of : Table → ℕ → Option ℕ
+abbrev pub newest_of : ClientTable → ℕ → Option ℕ
 newest_of table client = lookup (nat_eq client) table.newest
 
 -- the table in which the process of a client that stands there is another
-abbrev pub with_process : Table → ℕ → Option Process → Table
+abbrev pub with_process : ClientTable → ℕ → Option Process → ClientTable
 with_process table client process =
     record table { processes = set_value (nat_eq client) table.processes process }
 
 -- the client has this process and this greatest incarnation, and all others have what they had
-pub record Enters (old new : Table) (client incarnation : ℕ) (process : Process) : Type 0 where
+pub record EntersClient (old new : ClientTable) (client incarnation : ℕ) (process : Process) : Type 0 where
   pub own : running_of new client ≡ Some process
   pub others : (other : ℕ) → other ≢ client → running_of new other ≡ running_of old other
   pub newest : newest_of new client ≡ Some incarnation

@@ -26,9 +26,9 @@ pub(crate) struct Clients {
 }
 
 impl Model for Clients {
-    ghost use Rattle.rv_world.specs.Table.{Table, newest_in, processes_in};
+    ghost use Rattle.rv_world.specs.Table.{ClientTable, newest_in, processes_in};
 
-    ghost Value = { Table };
+    ghost Value = { ClientTable };
 
     ghost view = { λ c. record {
       processes = processes_in c.clients.entries;
@@ -37,7 +37,7 @@ impl Model for Clients {
 }
 
 impl Clients {
-    ghost use Rattle.rv_world.specs.Table.{Enters, Stands, newest_of, running_of, with_process};
+    ghost use Rattle.rv_world.specs.Table.{EntersClient, StandsInTable, newest_of, running_of, with_process};
     ghost use Rattle.rv_world.specs.Table.{IsAskingIn, IsReadyIn, SaysIn};
     ghost use Rattle.rv_client.specs.Process.{cancel_of, request_of};
     ghost use Rattle.rv_world.specs.Processes.{asking};
@@ -73,7 +73,7 @@ impl Clients {
         newest: u64,
         process: Running,
     ) -> Result<(), NoMemory>
-        ensures ok { OnOk result (Enters self.old self.new client newest (process_in process)) }
+        ensures ok { OnOk result (EntersClient self.old self.new client newest (process_in process)) }
         ensures err { OnErr result (self.new ≡ self.old) }
     {
         let process = Some(process);
@@ -85,7 +85,7 @@ impl Clients {
 
     // Replaces the process of a client that stands in the table, and gives back what ran.
     pub(crate) fn turn(&mut self, client: u64, process: Option<Running>) -> Option<Running>
-        requires { Stands self.old client }
+        requires { StandsInTable self.old client }
         ensures before { option_map process_in result ≡ running_of self.old client }
         ensures after { self.new ≡ with_process self.old client (option_map process_in process) }
     {
@@ -109,7 +109,7 @@ impl Clients {
 
     // Lays a request of a client that stands in the table aside.
     fn rest(&mut self, client: u64, outstanding: Outstanding)
-        requires { Stands self.old client }
+        requires { StandsInTable self.old client }
         ensures { self.new ≡ with_process self.old client (Some (process.Outstanding outstanding)) }
     {
         self.turn(client, Some(Running::Outstanding(outstanding.park())));

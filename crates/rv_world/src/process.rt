@@ -4,7 +4,7 @@ ghost use Rattle.rv_client.specs.Process as process;
 ghost use Rattle.rv_world.specs.Processes.{HearsAs};
 
 use crate::seen::Seen;
-use rv_client::{Greeted, Heard, Idle, New, Outstanding, Resting};
+use rv_client::{HearOutcome, Idle, New, Outstanding, Resting, WelcomeOutcome};
 use rv_text::{Answer, Key, Reply};
 
 /// A process that runs, as it is kept between events.
@@ -17,7 +17,7 @@ pub(crate) enum Running {
 
 /// What a process makes of an answer.
 #[derive(Drop)]
-pub(crate) struct Told {
+pub(crate) struct HeardAnswer {
     // The process that then runs, if it has not ended.
     pub(crate) process: Option<Running>,
     // The key and the reply that it took as final.
@@ -30,12 +30,12 @@ impl Running {
     ghost use Rattle.rv_world.specs.Processes.{IsIdle, process_in};
 
     // Hears an answer.
-    pub(crate) fn hear(self, answer: Answer) -> Told
+    pub(crate) fn hear(self, answer: Answer) -> HeardAnswer
         ensures { HearsAs (process_in self) answer result }
     {
         match self {
             Running::New(new) => welcome(new, &answer),
-            Running::Idle(idle) => Told::of(Some(Running::Idle(idle)), Seen::Ignored),
+            Running::Idle(idle) => HeardAnswer::of(Some(Running::Idle(idle)), Seen::Ignored),
             Running::Outstanding(resting) => settle(resting.wake(), answer),
         }
     }
@@ -65,15 +65,15 @@ impl Running {
     }
 }
 
-impl Told {
+impl HeardAnswer {
     ghost use Rattle.std.specs.Prelude.{None};
 
     // What holds no reply.
-    fn of(process: Option<Running>, seen: Seen) -> Told
+    fn of(process: Option<Running>, seen: Seen) -> HeardAnswer
         ensures { result ≡ record { process = process; held = None; seen = seen } }
     {
         let held = None;
-        Told {
+        HeardAnswer {
             process,
             held,
             seen,
@@ -82,31 +82,33 @@ impl Told {
 }
 
 // What a new process makes of an answer.
-fn welcome(new: New, answer: &Answer) -> Told
+fn welcome(new: New, answer: &Answer) -> HeardAnswer
     ensures { HearsAs (process.New new) answer.now result }
 {
     match new.welcome(answer) {
-        Greeted::Idle(idle) => Told::of(Some(Running::Idle(idle)), Seen::Welcomed),
-        Greeted::Again(same) => Told::of(Some(Running::New(same)), Seen::Ignored),
-        Greeted::Refused(same, refusal) => {
-            Told::of(Some(Running::New(same)), Seen::TurnedAway(refusal))
+        WelcomeOutcome::Idle(idle) => HeardAnswer::of(Some(Running::Idle(idle)), Seen::Welcomed),
+        WelcomeOutcome::Again(same) => HeardAnswer::of(Some(Running::New(same)), Seen::Ignored),
+        WelcomeOutcome::Refused(same, refusal) => {
+            HeardAnswer::of(Some(Running::New(same)), Seen::TurnedAway(refusal))
         }
     }
 }
 
 // What an outstanding process makes of an answer.
-fn settle(outstanding: Outstanding, answer: Answer) -> Told
+fn settle(outstanding: Outstanding, answer: Answer) -> HeardAnswer
     ensures { HearsAs (process.Outstanding outstanding) answer result }
 {
     let key = outstanding.key();
     match outstanding.hear(answer) {
-        Heard::Settled(idle, reply) => Told {
+        HearOutcome::Settled(idle, reply) => HeardAnswer {
             process: Some(Running::Idle(idle)),
             held: Some((key, reply)),
             seen: Seen::Settled(key),
         },
-        Heard::Still(same) => { Told::of(Some(Running::Outstanding(same.park())), Seen::Ignored) }
-        Heard::EpochEnded(_, current) => Told::of(None, Seen::Ended(current)),
-        Heard::Replaced(_, current) => Told::of(None, Seen::Replaced(current)),
+        HearOutcome::Still(same) => {
+            HeardAnswer::of(Some(Running::Outstanding(same.park())), Seen::Ignored)
+        }
+        HearOutcome::EpochEnded(_, current) => HeardAnswer::of(None, Seen::Ended(current)),
+        HearOutcome::Replaced(_, current) => HeardAnswer::of(None, Seen::Replaced(current)),
     }
 }

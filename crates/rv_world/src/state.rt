@@ -6,7 +6,7 @@ ghost use Rattle.rv_world.specs.declared.seen.Seen.TheVariants as sees;
 use crate::clients::Clients;
 use crate::event::Event;
 use crate::packet::{Packet, copy_answer, copy_message, sender};
-use crate::process::{Running, Told};
+use crate::process::{HeardAnswer, Running};
 use crate::seen::{Seen, WorldRefusal};
 use rv_book::Book;
 use rv_client::New;
@@ -15,7 +15,7 @@ use std::alloc::Global;
 use std::mem;
 
 #[derive(Drop)]
-pub(crate) struct State {
+pub(crate) struct WorldState {
     // The books of the epochs before the present one, in the order in which they were opened.
     pub(crate) earlier: Vec<Book>,
     pub(crate) present: Book,
@@ -48,13 +48,14 @@ fn send_answer(to_client: &mut Vec<Packet>, packet: Packet) -> Seen
     Seen::Answered(number)
 }
 
-impl State {
+impl WorldState {
     ghost use Rattle.std.specs.Prelude.{◌⊎◌, IsSome, OnOk};
     ghost use Rattle.rv_text.specs.Limits.{FitsCall, FitsIdentifier};
     ghost use Rattle.rv_client.specs.Process as process;
     ghost use Rattle.rv_world.specs.Limits.{FitsEvent};
     ghost use Rattle.rv_world.specs.World.{first_world, process_of};
-    ghost use Rattle.rv_world.specs.Events.{Comes, IsAsking, IsHeard, IsNewest, IsReady, RunsBut, RunsNone};
+    ghost use Rattle.rv_world.specs.Events.{EventComesTo, IsAsking, IsHeard, IsNewest, IsReady, RunsBut};
+    ghost use Rattle.rv_world.specs.Events.{RunsNone};
     ghost use Rattle.rv_world.specs.Events.{WasStarted};
     ghost use Rattle.rv_world.specs.Processes.{process_in};
     ghost use Rattle.rv_world.specs.Parts.{IsSoundState, KnowsNewest, world_of};
@@ -62,12 +63,12 @@ impl State {
     ghost use Rattle.rv_world.specs.declared.seen.WorldRefusal.TheVariants as refuses;
 
     // The state of a world that begins in an epoch. It fails only where memory was refused.
-    pub(crate) fn open(alloc: Global, epoch: u64) -> Result<State, NoMemory>
+    pub(crate) fn open(alloc: Global, epoch: u64) -> Result<WorldState, NoMemory>
         requires { FitsIdentifier epoch }
         ensures world { IfOk result (λ state. world_of state ≡ first_world epoch) }
         ensures newest { IfOk result KnowsNewest }
     {
-        Ok(State {
+        Ok(WorldState {
             earlier: Vec::new(alloc),
             present: Book::open(alloc, epoch, 0)?,
             clients: Clients::empty(alloc),
@@ -82,7 +83,7 @@ impl State {
     pub(crate) fn step(&mut self, alloc: Global, event: &Event) -> Result<Seen, WorldRefusal>
         requires sound { IsSoundState self.old }
         requires fits { FitsEvent event.now }
-        ensures comes { Comes (world_of self.old) event.now (world_of self.new) result }
+        ensures comes { EventComesTo (world_of self.old) event.now (world_of self.new) result }
         ensures newest { KnowsNewest self.new }
     {
         match event {
@@ -109,7 +110,7 @@ impl State {
         requires sound { IsSoundState self.old }
         requires client { FitsIdentifier client }
         requires incarnation { FitsIdentifier incarnation }
-        ensures comes { Comes (world_of self.old) (event.Start client incarnation version)
+        ensures comes { EventComesTo (world_of self.old) (event.Start client incarnation version)
             (world_of self.new) result }
         ensures newest { KnowsNewest self.new }
     {
@@ -177,7 +178,8 @@ impl State {
     fn begin(&mut self, alloc: Global, client: u64, call: &Call) -> Result<Seen, WorldRefusal>
         requires sound { IsSoundState self.old }
         requires call { FitsCall call.now }
-        ensures comes { Comes (world_of self.old) (event.Begin client call.now) (world_of self.new) result }
+        ensures comes { EventComesTo (world_of self.old) (event.Begin client call.now)
+            (world_of self.new) result }
         ensures newest { KnowsNewest self.new }
     {
         let key = self.next_key(client)?;
@@ -194,7 +196,7 @@ impl State {
     // A client sends its request again.
     fn resend(&mut self, alloc: Global, client: u64) -> Result<Seen, WorldRefusal>
         requires sound { IsSoundState self.old }
-        ensures comes { Comes (world_of self.old) (event.Resend client) (world_of self.new) result }
+        ensures comes { EventComesTo (world_of self.old) (event.Resend client) (world_of self.new) result }
         ensures newest { KnowsNewest self.new }
     {
         self.must_be_asking(client)?;
@@ -206,7 +208,8 @@ impl State {
     // A client sends the cancel of its request.
     fn send_cancel(&mut self, client: u64) -> Result<Seen, WorldRefusal>
         requires sound { IsSoundState self.old }
-        ensures comes { Comes (world_of self.old) (event.CancelSent client) (world_of self.new) result }
+        ensures comes { EventComesTo (world_of self.old) (event.CancelSent client)
+            (world_of self.new) result }
         ensures newest { KnowsNewest self.new }
     {
         self.must_be_asking(client)?;
@@ -218,7 +221,7 @@ impl State {
     // A client's process ends.
     fn crash(&mut self, client: u64) -> Result<Seen, WorldRefusal>
         requires sound { IsSoundState self.old }
-        ensures comes { Comes (world_of self.old) (event.Crash client) (world_of self.new) result }
+        ensures comes { EventComesTo (world_of self.old) (event.Crash client) (world_of self.new) result }
         ensures newest { KnowsNewest self.new }
     {
         self.process(client)?;
@@ -229,7 +232,8 @@ impl State {
     // A message comes to the server.
     fn to_server(&mut self, alloc: Global, packet: usize, moment: u64) -> Result<Seen, WorldRefusal>
         requires sound { IsSoundState self.old }
-        ensures comes { Comes (world_of self.old) (event.ToServer packet moment) (world_of self.new) result }
+        ensures comes { EventComesTo (world_of self.old) (event.ToServer packet moment)
+            (world_of self.new) result }
         ensures newest { KnowsNewest self.new }
     {
         let message = match self.to_server.get(packet) {
@@ -249,7 +253,7 @@ impl State {
     // An answer comes to its client.
     fn to_client(&mut self, alloc: Global, packet: usize) -> Result<Seen, WorldRefusal>
         requires sound { IsSoundState self.old }
-        ensures comes { Comes (world_of self.old) (event.ToClient packet) (world_of self.new) result }
+        ensures comes { EventComesTo (world_of self.old) (event.ToClient packet) (world_of self.new) result }
         ensures newest { KnowsNewest self.new }
     {
         let Some(packet) = self.to_client.get(packet) else {
@@ -278,7 +282,7 @@ impl State {
             Some(running) => running.hear(answer),
             None => unreachable!(),
         };
-        let Told {
+        let HeardAnswer {
             process,
             held,
             seen,
@@ -294,7 +298,7 @@ impl State {
     fn new_epoch(&mut self, alloc: Global, epoch: u64) -> Result<Seen, WorldRefusal>
         requires sound { IsSoundState self.old }
         requires epoch { FitsIdentifier epoch }
-        ensures comes { Comes (world_of self.old) (event.NewEpoch epoch) (world_of self.new) result }
+        ensures comes { EventComesTo (world_of self.old) (event.NewEpoch epoch) (world_of self.new) result }
         ensures newest { KnowsNewest self.new }
     {
         if epoch <= self.present.account().epoch() {

@@ -6,7 +6,7 @@ ghost use Rattle.rv_world.specs.Parts.{IsBookOf};
 
 use crate::event::Event;
 use crate::seen::{Seen, WorldRefusal};
-use crate::state::State;
+use crate::state::WorldState;
 use rv_book::{Account, Book};
 use rv_text::{Answer, Call, Key, NoMemory, Reply};
 use std::alloc::Global;
@@ -19,7 +19,7 @@ use std::marker::Model;
 /// nothing else is kept.
 #[derive(Drop)]
 pub struct World {
-    state: State,
+    state: WorldState,
 }
 
 // The number of the first of these books whose account is of this epoch.
@@ -45,7 +45,7 @@ impl Model for World {
 
 impl World {
     ghost use Rattle.rv_world.specs.Limits.{FitsEvent};
-    ghost use Rattle.rv_world.specs.Events.{Comes};
+    ghost use Rattle.rv_world.specs.Events.{EventComesTo};
     ghost use Rattle.rv_world.specs.Headline.{Headline, OnlyGrows};
 
     /// The world that begins in an epoch, 1 to 2^53 - 1: a server with an empty account, opened at moment 0,
@@ -54,7 +54,7 @@ impl World {
         requires { FitsIdentifier epoch }
         ensures { IfOk result (λ world. world ≡ first_world epoch) }
     {
-        let state = State::open(alloc, epoch)?;
+        let state = WorldState::open(alloc, epoch)?;
         Ok(World { state })
     }
 
@@ -64,7 +64,7 @@ impl World {
     /// answer that is sent says so.
     pub fn step(&mut self, alloc: Global, event: &Event) -> Result<Seen, WorldRefusal>
         requires { FitsEvent event.now }
-        ensures comes { Comes self.old event.now self.new result }
+        ensures comes { EventComesTo self.old event.now self.new result }
         ensures headline { Headline self.new }
         ensures only_growth { OnlyGrows self.old self.new }
     {

@@ -2,7 +2,7 @@
 ghost use Rattle.std.specs.Prelude.{◌≡◌, ◌<◌, ◌≤◌, [], OnOk, OnErr, IfOk, IfErr, IfSome, true, false, length};
 ghost use Rattle.std.specs.Prelude.{min, take, vec_capacity, vec_len};
 ghost use Rattle.rv_text.specs.Limits.{FitsCall, FitsQueue};
-ghost use Rattle.rv_book.specs.Arriving.{GoesOn, IsRecorded, WillReply, said_of};
+ghost use Rattle.rv_book.specs.Arriving.{GoesOnWaiting, IsRecorded, WillReply, said_of};
 ghost use Rattle.rv_account.specs.Calls.{need_of};
 ghost use Rattle.rv_book.specs.Tables.{Comes, HasSpace, IsRefused, IsRepeat, IsSound, MayRecord, account_of};
 ghost use Rattle.rv_book.specs.Tables.{Becomes, NoEntryDue, SameAccount, Sees, kept_at_once, partners_reply};
@@ -16,8 +16,8 @@ ghost use Rattle.rv_session.specs.Standings.{standing_of};
 ghost use Rattle.rv_session.specs.declared.standing.Standing.TheVariants as standing;
 ghost use Rattle.rv_text.specs.declared.answer.Refusal.TheVariants.{OtherCall};
 
-use super::State;
-use crate::arrived::Arrived;
+use super::BookState;
+use crate::arrival::Arrival;
 use rv_account::{Act, Partners};
 use rv_session::{Kept, Place, Standing};
 use rv_text::{Call, Key, Refusal, Side, Wait};
@@ -69,7 +69,7 @@ fn taken_from(side: Side) -> u64
     }
 }
 
-impl State {
+impl BookState {
     /// Answers a request, and records it where it is no repeat and no refusal is due.
     pub(super) fn request(
         &mut self,
@@ -138,10 +138,10 @@ impl State {
         let place = self.account.len();
         let others = reply_to_partner(call.side(), place);
         let duty = self.sessions.begin(&key, place);
-        let arrived = self.stations.arrive(&call, duty);
+        let arrived = self.waiters.arrive(&call, duty);
         let kept = self.reply_to(&call, arrived.partner);
         self.waiting = arrived.count(self.waiting);
-        let Arrived {
+        let Arrival {
             partner,
             own,
             other,
@@ -156,7 +156,7 @@ impl State {
     // What is kept as the reply of a call that arrived with this partner and doesn't wait.
     fn reply_to(&self, call: &Call, partner: Option<Place>) -> Kept
         requires { FitsCall call.now }
-        ensures { Sees self.now call.now → ¬ GoesOn call.now partner
+        ensures { Sees self.now call.now → ¬ GoesOnWaiting call.now partner
             → WillReply (account_of self.now) call.now partner result }
     {
         match call {
@@ -174,10 +174,10 @@ impl State {
                 None => reply_at_once(*wait, Kept::TimedOut),
             },
             Call::Count { queue } => {
-                let (items, consumers) = self.stations.count(*queue);
+                let (items, consumers) = self.waiters.count(*queue);
                 Kept::Counted { items, consumers }
             }
-            Call::Peek { queue } => match self.stations.front(*queue) {
+            Call::Peek { queue } => match self.waiters.front(*queue) {
                 Some(place) => Kept::Peeked(place),
                 None => Kept::Empty,
             },
@@ -238,7 +238,7 @@ impl State {
         ensures one { result ≡ true → TookItem self.old self.new queue listed.old.items listed.new.items }
         ensures none { result ≡ false → (listed.new ≡ listed.old) × (items_in self.old queue ≡ []) }
     {
-        match self.stations.take_front(queue) {
+        match self.waiters.take_front(queue) {
             Some((duty, place)) => {
                 let taker = self.account.len();
                 self.waiting -= usize::from(duty.is_some());

@@ -14,16 +14,16 @@ ghost use Rattle.rv_book.specs.Tables.{Becomes, Comes, EndsAt, EndsIf, HasSpace,
 ghost use Rattle.rv_book.specs.Tables.{with_due, IsRefused, IsSound, NoEntryDue, SameAccount, SettlesIf};
 ghost use Rattle.rv_book.specs.Tables.{account_of, told_to};
 ghost use Rattle.rv_session.specs.Meanings.{HasLast, HasNext};
-ghost use Rattle.rv_session.specs.declared.session.State.TheVariants as state;
+ghost use Rattle.rv_session.specs.declared.session.RequestState.TheVariants as state;
 ghost use Rattle.rv_session.specs.Standings.{standing_of};
 ghost use Rattle.rv_session.specs.declared.standing.Standing.TheVariants as standing;
 
-use super::State;
+use super::BookState;
 use rv_account::Act;
 use rv_session::{Duty, Kept, Place, Standing};
 use rv_text::{Key, Refusal};
 
-impl State {
+impl BookState {
     /// Times out all requests that are due at a moment, by one tick; where none is, nothing changes. It takes
     /// no memory, and there is always room. Where nothing is due the least limit alone is looked at.
     pub(super) fn time_out(&mut self, moment: u64)
@@ -73,7 +73,7 @@ impl State {
         ensures ended { EndsAt self.old self.new place kept }
     {
         let side = self.account.call(place).unwrap().side();
-        let duty = self.stations.withdraw(side, place);
+        let duty = self.waiters.withdraw(side, place);
         self.settle(duty, kept);
         self.waiting -= 1;
     }
@@ -99,7 +99,7 @@ impl State {
         ensures sessions { SettlesIf self.old.sessions self.new.sessions duty kept }
         ensures due { self.new.due ≡ without_duty (account_of self.old).entries duty self.old.due }
         ensures account { self.new.account ≡ self.old.account }
-        ensures stations { self.new.stations ≡ self.old.stations }
+        ensures waiters { self.new.waiters ≡ self.old.waiters }
         ensures waiting { self.new.waiting ≡ self.old.waiting }
     {
         match duty {

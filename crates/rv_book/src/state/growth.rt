@@ -6,10 +6,10 @@ ghost use Rattle.rv_book.specs.Elapsing.{deadline_after};
 ghost use Rattle.rv_book.specs.Steps.{max_moment};
 ghost use Rattle.rv_text.specs.Calls.{side_of};
 ghost use Rattle.rv_book.specs.Meeting.{HasRoomToName};
-ghost use Rattle.rv_book.specs.Tables.{IsPrepared, IsReady, IsSame, IsSound, NoEntryDue, account_of};
+ghost use Rattle.rv_book.specs.Tables.{HasRoomReady, IsPrepared, IsSame, IsSound, NoEntryDue, account_of};
 
-use super::{MAX_ENTRIES, State};
-use crate::arrived::lasts;
+use super::{BookState, MAX_ENTRIES};
+use crate::arrival::lasts;
 use rv_account::may_name;
 use rv_session::Place;
 use rv_text::{Call, NoMemory, Refusal, Side, Wait};
@@ -35,7 +35,7 @@ fn deadline_after(moment: u64, wait: Option<Wait>) -> Option<u64>
     }
 }
 
-impl State {
+impl BookState {
     /// Tests the epoch's room, and makes all growths that an entry and its side need. It changes room alone;
     /// what follows it can't fail, but for a deadline that is added and a new client's session.
     pub(super) fn make_room(&mut self, need: usize, side: Option<Side>) -> Result<(), Refusal>
@@ -43,7 +43,7 @@ impl State {
         requires small { need ≤ 2 }
         requires fits { IfSome side FitsSide }
         ensures same { IsSame self.old self.new }
-        ensures ok { OnOk result (IsReady self.old self.new need side) }
+        ensures ok { OnOk result (HasRoomReady self.old self.new need side) }
         ensures err { IfErr result (NoEntryDue (account_of self.old) need) }
     {
         let more = self.waiting + need;
@@ -52,7 +52,7 @@ impl State {
         }
         self.account.reserve(more)?;
         if let Some(side) = side {
-            self.stations.reserve(side)?;
+            self.waiters.reserve(side)?;
         }
         Ok(())
     }
@@ -60,9 +60,9 @@ impl State {
     // An empty list, with room for all partners that a call can meet now.
     fn room_to_name(&self, call: &Call) -> Result<Vec<Place>, NoMemory>
         requires { FitsSide (side_of call.now) }
-        ensures { IfOk result (HasRoomToName self.now.stations call.now) }
+        ensures { IfOk result (HasRoomToName self.now.waiters call.now) }
     {
-        let most = self.stations.opposed(call.side()).min(may_name(call));
+        let most = self.waiters.opposed(call.side()).min(may_name(call));
         Vec::with_capacity(self.account.allocator(), most)
     }
 
@@ -72,7 +72,7 @@ impl State {
         requires moment { moment ≤ max_moment }
         requires fits { FitsCall call.now }
         ensures ok { OnOk result (IsPrepared self.old self.new moment call.now) }
-        ensures names { IfOk result (HasRoomToName self.new.stations call.now) }
+        ensures names { IfOk result (HasRoomToName self.new.waiters call.now) }
         ensures same { OnErr result (IsSame self.old self.new) }
         ensures err { IfErr result (NoEntryDue (account_of self.old) (need_of call.now)) }
     {

@@ -10,12 +10,12 @@ ghost use Rattle.rv_session.specs.Meanings.{IsNewer};
 ghost use Rattle.rv_session.specs.Table.{session_of};
 ghost use Rattle.rv_session.specs.Standings.{MayEnter};
 
-use super::State;
+use super::BookState;
 use rv_account::Act;
 use rv_session::{Greeting, Kept, Place};
 use rv_text::{Refusal, Version};
 
-impl State {
+impl BookState {
     /// Answers a hello, and records it where it is no repeat and no refusal is due.
     pub(super) fn greet(
         &mut self,

@@ -3,7 +3,7 @@ use Rattle.std.proofs.Common.{◌∙◌, refl, subst, sym}
 use Rattle.rv_text.specs.Limits.{FitsIdentifier}
 use Rattle.rv_client.specs.Link.{link}
 use Rattle.rv_client.specs.Process.{Starting}
-use Rattle.rv_app.specs.Calling.{HelloEnds, IsPassedBy}
+use Rattle.rv_app.specs.Calling.{HelloEnds, IsHelloInVain}
 use Rattle.rv_app.proofs.Settling.{hello_ended, none_in_vain, one_more_in_vain}
 use Rattle.rv_app.proofs.client.say_hello.Goals as goal
 
@@ -24,7 +24,7 @@ loop-tried-preserved g c =
       incarnation = subst (λ (s : Starting). FitsIdentifier s.incarnation) (sym again.0) c.loop-tried.invariant.incarnation;
       in_vain = one_more_in_vain g.R.Read.remaining g.W.Write.contents c.args.new c.loop-tried._tried (link c.args.from.now c.args.to.now) (link c.loop-tried.from c.loop-tried.to)
           (link c.try_hello.new.from c.try_hello.new.to) c.loop-tried.invariant.in_vain
-          (subst (λ (s : Starting). IsPassedBy g.R.Read.remaining g.W.Write.contents s (link c.loop-tried.from c.loop-tried.to) (link c.try_hello.new.from c.try_hello.new.to)) c.loop-tried.invariant.same again.1);
+          (subst (λ (s : Starting). IsHelloInVain g.R.Read.remaining g.W.Write.contents s (link c.loop-tried.from c.loop-tried.to) (link c.try_hello.new.from c.try_hello.new.to)) c.loop-tried.invariant.same again.1);
     }
 
 pub returns-in-Err : goal.returns-in-Err

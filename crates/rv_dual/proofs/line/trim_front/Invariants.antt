@@ -8,7 +8,7 @@ use Rattle.rv_dual.proofs.line.trim_front.Given as goal
 abbrev pub invariant-loop-slots : goal.invariant-loop-slots
 invariant-loop-slots g l = record {
   same : waiting_in l.slots.items ≡ waiting_in l.fn.slots.items;
-  rises : Rises g.T.Stands.place_of l.slots.items;
+  rises : Rises g.T.StandsInLine.place_of l.slots.items;
   room : KeepsSpare l.fn.slots l.slots;
 }
 

@@ -1,7 +1,7 @@
 -- Each arm writes one body, for one item.
 use Rattle.std.proofs.Common.{subst, sym}
 use Rattle.rv_server.specs.Writing.{IsAnswer}
-use Rattle.rv_server.specs.declared.asking.Told.{Told}
+use Rattle.rv_server.specs.declared.asking.FrameAnswer.{FrameAnswer}
 use Rattle.rv_server.specs.declared.served.Item.TheVariants as item
 use Rattle.rv_server.proofs.Answering.{part_written, whole_written}
 use Rattle.rv_server.proofs.worker.write_told.Goals as goal
@@ -9,13 +9,13 @@ use Rattle.rv_server.proofs.worker.write_told.Goals as goal
 pub returns-in-BadText-clause-whole : goal.returns-in-BadText-clause-whole
 returns-in-BadText-clause-whole g c =
     whole_written g.W.Write.contents _ _ c.args.told.now item.BadText _ c.write_item.result
-    (subst (λ (t : Told). IsAnswer t item.BadText c.bad_text_body.result.now) (sym c.in-BadText.is) c.bad_text_body.ensures.text) c.bad_text_body.ensures.length
+    (subst (λ (t : FrameAnswer). IsAnswer t item.BadText c.bad_text_body.result.now) (sym c.in-BadText.is) c.bad_text_body.ensures.text) c.bad_text_body.ensures.length
     c.write_item.ensures.item c.write_item.ensures.frame
 
 pub returns-in-BadText-clause-part : goal.returns-in-BadText-clause-part
 returns-in-BadText-clause-part g c =
     part_written g.W.Write.contents _ _ c.args.told.now item.BadText _ c.write_item.result
-    (subst (λ (t : Told). IsAnswer t item.BadText c.bad_text_body.result.now) (sym c.in-BadText.is) c.bad_text_body.ensures.text) c.bad_text_body.ensures.length
+    (subst (λ (t : FrameAnswer). IsAnswer t item.BadText c.bad_text_body.result.now) (sym c.in-BadText.is) c.bad_text_body.ensures.text) c.bad_text_body.ensures.length
     c.write_item.ensures.sent c.write_item.ensures.part c.write_item.ensures.failed
 
 pub returns-in-NoMemory-clause-whole : goal.returns-in-NoMemory-clause-whole

@@ -3,9 +3,9 @@ use Rattle.std.proofs.Common.{◌∙◌, ap, subst, sym}
 use Rattle.std.proofs.lemmas.Option.{same_Some}
 use Rattle.rv_text.specs.declared.answer.Answer.TheVariants.{Replied}
 use Rattle.rv_account.specs.Account.{Account, Stored}
-use Rattle.rv_book.specs.declared.verdict.Said as said
+use Rattle.rv_book.specs.declared.verdict.KeptAnswer as said
 use Rattle.rv_book.specs.Saying.{kept_of, said_in}
-use Rattle.rv_book.specs.Verdicts.{IsAsKept, Stamp, reply_of}
+use Rattle.rv_book.specs.Verdicts.{IsAsKept, VerdictView, reply_of}
 use Rattle.rv_book.proofs.Saying.{tells_kept}
 use Rattle.rv_book.proofs.book.Book.answer.Goals as goal
 
@@ -15,8 +15,8 @@ returns-in_ok-reply-in-Replied-clause-ok c =
     let words = c.in-Replied in
     let entries = c.args.self.now.entries in
     let after : Account = c.verdict.inside.after.value.account in
-    let kept = sym (ap (λ (v : Stamp). v.kept) c.verdict.view_is) ∙ ap kept_of words.is in
-    let says = sym (ap (λ (v : Stamp). v.said) c.verdict.view_is) ∙ ap (said_in after) words.is in
+    let kept = sym (ap (λ (v : VerdictView). v.kept) c.verdict.view_is) ∙ ap kept_of words.is in
+    let says = sym (ap (λ (v : VerdictView). v.said) c.verdict.view_is) ∙ ap (said_in after) words.is in
     let tells = tells_kept entries after words.key words.kept
     (subst (λ o. IsAsKept entries o (said_in after (said.TheVariants.Replied words.key words.kept))) kept (subst (IsAsKept entries verdict.kept) says c.requires.says)) in
     let same = ap (λ (stored : Stored). stored.account.entries) c.account.ensures ∙ ap (λ (a : Account). a.entries) c.self.view_is in

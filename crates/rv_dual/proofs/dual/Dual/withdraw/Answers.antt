@@ -1,6 +1,6 @@
 -- Without the request at a place a queue is still one, of one side and rising.
 use Rattle.std.proofs.Common.{List, sym, subst, arith}
-use Rattle.rv_session.specs.Owed.{Owed}
+use Rattle.rv_session.specs.OwedDuty.{OwedDuty}
 use Rattle.rv_dual.specs.declared.giver.Offer.{Offer}
 use Rattle.rv_dual.specs.Queue.{IsDual}
 use Rattle.rv_dual.specs.Withdrawing.{without_giver}
@@ -15,7 +15,7 @@ invariant_of-self c =
 pub invariant_of-self-in-None : goal.invariant_of-self-in-None
 invariant_of-self-in-None c =
     let G : List Offer → Type 0 = λ givers. IsDual givers c.withdraw_taker.new.takers.waiting in
-    let T : List Owed → Type 0 = λ takers. IsDual (without_giver c.args.place c.self.inside.givers.waiting) takers in
+    let T : List OwedDuty → Type 0 = λ takers. IsDual (without_giver c.args.place c.self.inside.givers.waiting) takers in
     subst G (sym c.in-None.ensures.rest)
     (subst T (sym c.withdraw_taker.ensures.rest) (dual_without_taker c.args.place _ _ (dual_without_giver c.args.place _ _ c.self.invariant)))
 

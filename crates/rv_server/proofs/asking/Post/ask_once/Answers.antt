@@ -1,7 +1,7 @@
 -- What is told where the desk isn't asked.
 use Rattle.std.proofs.Common.{◌∙◌, Err, ap}
 use Rattle.rv_server.specs.Stamps.{shown}
-use Rattle.rv_server.specs.declared.asking.Told.TheVariants.{BadText, NoMemory}
+use Rattle.rv_server.specs.declared.asking.FrameAnswer.TheVariants.{BadText, NoMemory}
 use Rattle.rv_server.proofs.Getting.{nothing_told}
 use Rattle.rv_server.proofs.asking.Post.ask_once.Goals as goal
 

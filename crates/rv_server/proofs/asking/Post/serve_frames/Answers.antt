@@ -1,7 +1,7 @@
 -- Frame after frame, to the end or to a fault.
 use Rattle.std.proofs.Common.{◌≡◌, ◌∷◌, [], ℕ, List, Ok, Some, arith, subst, sym}
 use Rattle.rv_server.specs.Reading.{ReadsOn, TakesFrame}
-use Rattle.rv_server.proofs.Advancing.{advance, begin, ends, stopped_reading, stopped_turn, too_long}
+use Rattle.rv_server.proofs.Advancing.{advance, begin, ends, stopped_frame, stopped_reading, too_long}
 use Rattle.rv_server.proofs.Answering.{fault_gives}
 use Rattle.rv_server.proofs.asking.Post.serve_frames.Goals as goal
 
@@ -30,7 +30,7 @@ returns-in_err-serve_frame-in-Some-clause-fault g c =
     let reads = subst (λ (b : List ℕ). ReadsOn g.R.Read.remaining c.loop-number.source c.next_frame.new.source c.loop-number.inlet c.next_frame.new.self (b ∷ []))
     (sym c.as_slice.ensures.value) took.0 in
     fault_gives c.from_residual-in_err-serve_frame-in-Some.result (λ fault. fault ≡ c.in_err-serve_frame-in-Some.field-0.0) _ c.from_residual-in_err-serve_frame-in-Some.ensures.1
-    (λ fault is. stopped_turn g.R.Read.remaining g.W.Write.contents _ _ _ _ _ _ _ _ _ _ _ fault is c.loop-number.invariant
+    (λ fault is. stopped_frame g.R.Read.remaining g.W.Write.contents _ _ _ _ _ _ _ _ _ _ _ fault is c.loop-number.invariant
     c.loop-number-test.true reads c.in_err-serve_frame-in-Some.ensures.fault)
 
 pub returns-in-None-clause-ok : goal.returns-in-None-clause-ok

@@ -2,13 +2,13 @@
 use Rattle.std.proofs.Common.{◌≡◌, ap, sym, subst, ◌∙◌, Some, None}
 use Rattle.rv_client.specs.Process.{Asking, Outstanding}
 use Rattle.rv_world.specs.Processes.{asking}
-use Rattle.rv_world.specs.Table.{Table, Stands, with_process}
+use Rattle.rv_world.specs.Table.{ClientTable, StandsInTable, with_process}
 use Rattle.rv_world.proofs.TableWrites.{turned_stands, turned_twice, runs_stands, same_asking}
 use Rattle.rv_world.proofs.clients.Clients.begin.Goals as goal
 
 pub rest-requires : goal.rest-requires
 rest-requires c =
-    subst (λ (t : Table). Stands t c.args.client) (sym c.turn.ensures.after)
+    subst (λ (t : ClientTable). StandsInTable t c.args.client) (sym c.turn.ensures.after)
     (turned_stands c.args.self.now c.args.client None (runs_stands c.args.self.now c.args.client _ c.requires.1))
 
 pub returns : goal.returns
@@ -16,6 +16,6 @@ returns c = λ key runs.
     let key_is : c.begin-outstanding.result.key ≡ key = cc (runs, c.in-Some.ensures.before, c.idle.ensures, c.begin-outstanding.ensures.key) in
     let rests : c.begin-outstanding.result ≡ asking key c.args.call = same_asking c.begin-outstanding.result key c.args.call key_is c.begin-outstanding.ensures.call in
     c.rest.ensures
-    ∙ ap (λ (t : Table). with_process t c.args.client (Some (Outstanding c.begin-outstanding.result))) c.turn.ensures.after
+    ∙ ap (λ (t : ClientTable). with_process t c.args.client (Some (Outstanding c.begin-outstanding.result))) c.turn.ensures.after
     ∙ turned_twice c.args.self.now c.args.client None (Some (Outstanding c.begin-outstanding.result))
     ∙ ap (λ (a : Asking). with_process c.args.self.now c.args.client (Some (Outstanding a))) rests

@@ -1,6 +1,6 @@
 -- A world that begins is sound.
 use Rattle.std.proofs.Common.{sym, subst}
-use Rattle.rv_world.specs.Sound.{AllFits, IsSound}
+use Rattle.rv_world.specs.Sound.{AllFits, IsSoundWorld}
 use Rattle.rv_world.proofs.Fitting.{first_fits}
 use Rattle.rv_world.proofs.Soundness.{first_sound}
 use Rattle.rv_world.proofs.world.World.open.Goals as goal
@@ -9,7 +9,7 @@ pub invariant_of-result : goal.invariant_of-result
 invariant_of-result c =
     let is = sym c.in_ok-state.ensures.world in
     record {
-      sound = subst IsSound is (first_sound c.args.epoch);
+      sound = subst IsSoundWorld is (first_sound c.args.epoch);
       fits = subst AllFits is (first_fits c.args.epoch c.requires);
       newest = c.in_ok-state.ensures.newest;
     }

@@ -1,0 +1,62 @@
+-- A request for which there is room may be recorded.
+use Rattle.std.proofs.Common.{◌∙◌, length, take, unwrap_or, sym, ap, subst, arith}
+use Rattle.rv_text.specs.Calls.{side_of, wait_of}
+use Rattle.rv_session.specs.declared.kept.Kept.TheVariants as kept
+use Rattle.rv_session.specs.Meanings.{HasNext}
+use Rattle.rv_session.specs.Standings.{standing_of}
+use Rattle.rv_account.specs.Account.{Account}
+use Rattle.rv_book.specs.Elapsing.{deadline_of, with_deadline}
+use Rattle.rv_book.specs.Legal.{KeepsTime, NothingDue}
+use Rattle.rv_book.specs.Arriving.{WillTell}
+use Rattle.rv_book.specs.Draining.{items_in}
+use Rattle.rv_book.specs.Tables.{account_of, with_due}
+use Rattle.rv_book.proofs.Draining.{may_drain}
+use Rattle.rv_book.proofs.Drains.{drain_is, will_drain}
+use Rattle.rv_book.proofs.Keeping.{sound_same}
+use Rattle.rv_book.proofs.state.BookState.arrive.Goals as goal
+
+pub returns-in_err-places-clause-sound : goal.returns-in_err-places-clause-sound
+returns-in_err-places-clause-sound c = sound_same c.args.self.now c.prepare.new.self c.requires.comes.sound c.in_err-places.ensures.same
+
+pub record-requires : goal.record-requires
+record-requires c =
+    let old = c.args.self.now in
+    let new = c.prepare.new.self in
+    let prepared = c.in_ok-places.ensures.ok in
+    let same = prepared.ready.same in
+    let comes = c.requires.comes in
+    record {
+      deadlines = old.due;
+      comes = record {
+        sound = sound_same old (with_due new old.due) comes.sound same;
+        time = subst (λ a. KeepsTime a c.args.moment) (sym same.account) comes.time;
+        moment_fits = comes.moment_fits;
+        nothing_due = subst (λ (a : Account). NothingDue a.entries c.args.moment) (sym same.account) comes.nothing_due;
+        act_fits = comes.act_fits;
+      };
+      due = prepared.due ∙ ap (λ (a : Account). with_deadline (deadline_of c.args.moment c.args.call) (length a.entries) old.due) (sym same.account);
+      stands = ap (λ t. standing_of t c.args.key) same.sessions ∙ c.requires.stands;
+      next = subst (λ t. HasNext t c.args.key) (sym same.sessions) c.requires.next;
+      room = omega (arith, prepared.ready.room, same.waiting);
+      side_room = prepared.ready.side_room;
+      space = let entries = ap (λ (a : Account). length a.entries) same.account in omega (arith, prepared.ready.space, entries, same.waiting);
+      meets_one = ap (λ o. unwrap_or o 1) (sym c.drains.ensures ∙ c.in_default.is);
+      names = c.in_ok-places.ensures.names;
+    }
+
+pub taken_from-queue-requires : goal.taken_from-queue-requires
+taken_from-queue-requires c =
+    let is = drain_is c.args.call c.in-Some.max (sym c.drains.ensures ∙ c.in-Some.is) in
+    (is.0, c.side.ensures ∙ ap side_of is.1)
+
+pub drain-requires-clause-may : goal.drain-requires-clause-may
+drain-requires-clause-may c =
+    let new = c.prepare.new.self in
+    let call = c.args.call in
+    let queue = c.taken_from-queue.result in
+    let max = c.in-Some.max in
+    let drains = sym c.drains.ensures ∙ c.in-Some.is in
+    let is = drain_is call max drains in
+    may_drain c.args.self.now new c.args.moment c.args.key call queue max c.in_ok-places.places (kept.Drained c.len.result) c.requires.comes c.requires.stands c.requires.next
+    (sym c.side.ensures ∙ c.taken_from-queue.ensures) (ap wait_of is.1) (sym (ap (λ o. unwrap_or o 1) drains)) c.in_ok-places.ensures.ok c.in_ok-places.ensures.names
+    (subst (λ n. WillTell (account_of new) call (take max (items_in new queue)) (kept.Drained n)) (sym c.len.ensures) (will_drain (account_of new) call (take max (items_in new queue)) is.0 max is.1))

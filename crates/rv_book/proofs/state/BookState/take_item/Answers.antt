@@ -1,0 +1,55 @@
+-- The oldest item was taken out of its queue, and its giver's session was settled, if it waited.
+use Rattle.std.proofs.Common.{◌≡◌, ◌≤◌, ◌++◌, [], ◌∷◌, length, refl, sym, ap, subst, ◌∙◌, arith}
+use Rattle.std.specs.Bool.{if◌then◌else◌}
+use Rattle.std.specs.Result.{is_ok}
+use Rattle.rv_text.specs.declared.call.Side.TheVariants.{Gives}
+use Rattle.rv_session.specs.declared.kept.Kept.TheVariants as kept
+use Rattle.rv_account.specs.Account.{Among, Stored}
+use Rattle.rv_book.specs.TakingOut.{IsLeft}
+use Rattle.rv_book.specs.Tables.{SettlesIf, account_of}
+use Rattle.rv_book.specs.Meeting.{LeavesFirst, ends_waiting}
+use Rattle.rv_book.specs.Views.{Waiters}
+use Rattle.rv_book.proofs.TakingItems.{ends_by, idle_settled, item_left, least, none_left, one_listed, owed_in}
+use Rattle.rv_book.proofs.state.BookState.take_item.Goals as goal
+
+pub overflow_sub-self : goal.overflow_sub-self
+overflow_sub-self c =
+    let old = c.args.self.now in
+    let most = least old (Among c.args.listed.now.items) (kept.ReceivedBy (length (account_of old).entries)) c.requires.draining c.take_front.new.self (Gives c.args.queue) c.in-Some.duty c.in-Some.place c.in-Some.ensures in
+    let ends : c.from.result ≡ ends_waiting c.in-Some.duty = ends_by c.in-Some.duty c.from.result c.is_some.result c.from.ensures c.is_some.ensures in
+    let fewer : ends_waiting c.in-Some.duty ≤ old.waiting = most in
+    omega arith
+
+pub settle-requires-clause-waits : goal.settle-requires-clause-waits
+settle-requires-clause-waits c =
+    owed_in c.args.self.now (Among c.args.listed.now.items) (kept.ReceivedBy (length (account_of c.args.self.now).entries)) c.requires.draining c.take_front.new.self (Gives c.args.queue) c.in-Some.duty c.in-Some.place c.in-Some.ensures
+
+pub returns-in-Some-clause-draining : goal.returns-in-Some-clause-draining
+returns-in-Some-clause-draining c =
+    let old = c.args.self.now in
+    let new = c.settle.new.self in
+    let places = c.args.listed.now.items in
+    let front = c.in-Some.ensures in
+    let told = kept.ReceivedBy (length (account_of old).entries) in
+    let most : ends_waiting c.in-Some.duty ≤ old.waiting = least old (Among places) told c.requires.draining c.take_front.new.self (Gives c.args.queue) c.in-Some.duty c.in-Some.place front in
+    let ends : c.from.result ≡ ends_waiting c.in-Some.duty = ends_by c.in-Some.duty c.from.result c.is_some.result c.from.ensures c.is_some.ensures in
+    let left = item_left old (Among places) told c.requires.draining (Among _) new (Gives c.args.queue) c.in-Some.place (one_listed places c.in-Some.place) c.in-Some.duty (record {
+      account = c.settle.ensures.account;
+      front = subst (λ (s : Waiters). LeavesFirst old.waiters s (Gives c.args.queue) c.in-Some.duty c.in-Some.place) (sym c.settle.ensures.waiters) front;
+      settles = subst (λ n. SettlesIf old.sessions new.sessions c.in-Some.duty (kept.ReceivedBy n)) c.len-taker.ensures c.settle.ensures.sessions;
+      counted = omega (arith, c.settle.ensures.waiting);
+      due = c.settle.ensures.due;
+    }) in
+    let listed : c.push.new.self.items ≡ places ++ c.in-Some.place ∷ [] = c.push.ensures.items ∙ ap (λ r. if is_ok r then places ++ c.in-Some.place ∷ [] else places) c.unwrap.ensures in
+    let listed_left = subst (λ l. IsLeft new (Among l) told) (sym listed) left in
+    subst (λ (s : Stored). IsLeft new (Among c.push.new.self.items) (kept.ReceivedBy (length s.account.entries))) (sym c.settle.ensures.account) listed_left
+
+pub returns-in-Some-clause-idle : goal.returns-in-Some-clause-idle
+returns-in-Some-clause-idle c =
+    let old = c.args.self.now in
+    let owed = owed_in old (Among c.args.listed.now.items) (kept.ReceivedBy (length (account_of old).entries)) c.requires.draining c.take_front.new.self (Gives c.args.queue) c.in-Some.duty c.in-Some.place c.in-Some.ensures in
+    idle_settled old.sessions c.settle.new.self.sessions c.in-Some.duty (kept.ReceivedBy c.len-taker.result) owed c.settle.ensures.sessions
+
+pub returns-in-None-clause-draining : goal.returns-in-None-clause-draining
+returns-in-None-clause-draining c =
+    none_left c.args.self.now (Among c.args.listed.now.items) (kept.ReceivedBy (length (account_of c.args.self.now).entries)) c.requires.draining _ refl refl refl refl (c.in-None.ensures.1)

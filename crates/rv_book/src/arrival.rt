@@ -1,0 +1,63 @@
+//! What becomes of an arrival: whom it met, and whose duties are to be settled.
+ghost use Rattle.std.specs.Prelude.{◌≡◌, ◌↔◌, None, Some, IsTrue};
+ghost use Rattle.rv_account.specs.Calls.{Lasts};
+
+use rv_session::{Duty, Place};
+use rv_text::Wait;
+
+/// What became of an arrival in its queue or at its exchanger. The duties in it are to be settled.
+pub(crate) struct Arrival {
+    /// The place of the earlier arrival that it met.
+    pub(crate) partner: Option<Place>,
+    /// Its own duty, where it doesn't wait.
+    pub(crate) own: Option<Duty>,
+    /// The duty of the request that it met; a put has none.
+    pub(crate) other: Option<Duty>,
+}
+
+impl Arrival {
+    ghost use Rattle.std.specs.Prelude.{◌≤◌, ◌+◌, ◌^◌};
+    ghost use Rattle.rv_book.specs.Meeting.{ends_waiting, starts_waiting};
+
+    /// It met the earlier arrival at this place.
+    pub(crate) fn met(partner: Place, own: Option<Duty>, other: Option<Duty>) -> Arrival
+        ensures { result ≡ record { partner = Some partner; own = own; other = other } }
+    {
+        Arrival {
+            partner: Some(partner),
+            own,
+            other,
+        }
+    }
+
+    /// It met nobody, and waits where its own duty doesn't come back.
+    pub(crate) fn alone(own: Option<Duty>) -> Arrival
+        ensures { result ≡ record { partner = None; own = own; other = None } }
+    {
+        Arrival {
+            partner: None,
+            own,
+            other: None,
+        }
+    }
+
+    /// How many requests wait after it, where so many did before.
+    pub(crate) fn count(&self, waiting: usize) -> usize
+        requires most { waiting + starts_waiting self.now.own ≤ 2 ^ 32 }
+        requires least { ends_waiting self.now.other ≤ waiting + starts_waiting self.now.own }
+        ensures { result + ends_waiting self.now.other ≡ waiting + starts_waiting self.now.own }
+    {
+        waiting + usize::from(self.own.is_none()) - usize::from(self.other.is_some())
+    }
+}
+
+/// Whether a wait goes on past the moment of arrival.
+pub(crate) fn lasts(wait: Wait) -> bool
+    ensures { IsTrue result ↔ Lasts (Some wait) }
+{
+    match wait {
+        Wait::Now => false,
+        Wait::Millis(millis) => millis > 0,
+        Wait::Forever => true,
+    }
+}

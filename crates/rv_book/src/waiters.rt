@@ -1,0 +1,126 @@
+//! Where requests wait for each other: the queues and the exchangers, by the side of a call.
+ghost use Rattle.std.specs.Prelude.{◌≡◌, OnOk, IfOk, length, slice_get};
+ghost use Rattle.rv_text.specs.Calls.{side_of, wait_of};
+ghost use Rattle.rv_text.specs.Limits.{FitsQueue, FitsSide};
+ghost use Rattle.rv_text.specs.declared.call.Side.TheVariants.{Gives, Takes};
+ghost use Rattle.rv_account.specs.Calls.{opposite};
+ghost use Rattle.rv_book.specs.Meeting.{ArrivedOn, HasRoomOn, LeftFront, Withdrew, opposed_by};
+ghost use Rattle.rv_book.specs.Views.{AreBelow, NobodyWaits, SameWaiters, waiting_on};
+
+use crate::arrival::Arrival;
+use crate::exchangers::Exchangers;
+use crate::queues::Queues;
+use rv_session::{Duty, Place};
+use rv_text::{Call, NoMemory, Side};
+use std::alloc::Global;
+use std::marker::Model;
+
+/// Who waits, and where.
+#[derive(Drop)]
+pub(crate) struct Waiters {
+    queues: Queues,
+    exchangers: Exchangers,
+}
+
+impl Model for Waiters {
+    ghost use Rattle.rv_book.specs.Views as views;
+
+    ghost Value = { views.Waiters };
+
+    ghost view = { λ s. record { queues = s.queues; exchangers = s.exchangers } };
+}
+
+impl Waiters {
+    /// Queues and exchangers where nobody waits.
+    pub(crate) fn empty(alloc: Global) -> Result<Waiters, NoMemory>
+        ensures { IfOk result NobodyWaits }
+    {
+        let queues = Queues::empty(alloc)?;
+        let exchangers = Exchangers::empty(alloc)?;
+        Ok(Waiters { queues, exchangers })
+    }
+
+    /// The place of the oldest item of a queue.
+    pub(crate) fn front(&self, queue: u64) -> Option<Place>
+        requires { FitsQueue queue }
+        ensures { result ≡ slice_get (waiting_on self.now (Gives queue)) 0 }
+    {
+        self.queues.front(queue)
+    }
+
+    /// How many items and how many consumers wait in a queue.
+    pub(crate) fn count(&self, queue: u64) -> (usize, usize)
+        requires { FitsQueue queue }
+        ensures items { result.0 ≡ length (waiting_on self.now (Gives queue)) }
+        ensures consumers { result.1 ≡ length (waiting_on self.now (Takes queue)) }
+    {
+        self.queues.count(queue)
+    }
+
+    /// How many wait whom an arrival of this side meets.
+    pub(crate) fn opposed(&self, side: Side) -> usize
+        requires { FitsSide side }
+        ensures { result ≡ opposed_by self.now (opposite side) }
+    {
+        match side {
+            Side::Gives(queue) => self.count(queue).1,
+            Side::Takes(queue) => self.count(queue).0,
+            Side::Looks(_) => 0,
+            Side::Exchanges(exchanger) => self.exchangers.count(exchanger),
+        }
+    }
+
+    /// Makes room for an arrival of this side; an exchanger needs none. A refused growth changes nothing.
+    pub(crate) fn reserve(&mut self, side: Side) -> Result<(), NoMemory>
+        requires { FitsSide side }
+        ensures same { SameWaiters self.old self.new }
+        ensures room { OnOk result (HasRoomOn self.new side) }
+    {
+        match side {
+            Side::Gives(queue) => self.queues.reserve(queue),
+            Side::Takes(queue) => self.queues.reserve(queue),
+            Side::Looks(_) | Side::Exchanges(_) => Ok(()),
+        }
+    }
+
+    /// The request of a call arrives with its duty: it meets the oldest of the other side, which leaves; or,
+    /// where nobody is there, waits behind the others of its side, if its wait lasts.
+    pub(crate) fn arrive(&mut self, call: &Call, duty: Duty) -> Arrival
+        requires fits { FitsSide (side_of call.now) }
+        requires room { HasRoomOn self.old (side_of call.now) }
+        requires above { AreBelow self.old duty.place }
+        ensures { ArrivedOn self.old self.new (side_of call.now) (wait_of call.now) duty result }
+    {
+        match call.side() {
+            Side::Gives(queue) => self.queues.give(queue, call.wait(), duty),
+            Side::Takes(queue) => self.queues.receive(queue, call.wait().unwrap(), duty),
+            Side::Looks(_) => Arrival::alone(Some(duty)),
+            Side::Exchanges(exchanger) => {
+                self.exchangers
+                    .exchange(exchanger, call.wait().unwrap(), duty)
+            }
+        }
+    }
+
+    /// The oldest item of a queue leaves it, and comes out as its duty, which is None for a put's, and its
+    /// place. It is None where no item waits, and then all that wait stay.
+    pub(crate) fn take_front(&mut self, queue: u64) -> Option<(Option<Duty>, Place)>
+        requires { FitsQueue queue }
+        ensures { LeftFront self.old self.new (Gives queue) result }
+    {
+        self.queues.take_front(queue)
+    }
+
+    /// The request that waits at a place on this side leaves it, and gives its duty back.
+    pub(crate) fn withdraw(&mut self, side: Side, place: Place) -> Option<Duty>
+        requires { FitsSide side }
+        ensures { Withdrew self.old self.new side place result }
+    {
+        match side {
+            Side::Gives(queue) => self.queues.withdraw(queue, place),
+            Side::Takes(queue) => self.queues.withdraw(queue, place),
+            Side::Looks(_) => None,
+            Side::Exchanges(exchanger) => self.exchangers.withdraw(exchanger, place),
+        }
+    }
+}

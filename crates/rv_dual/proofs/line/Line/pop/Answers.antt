@@ -1,6 +1,0 @@
--- What is left when the first goes still rises.
-use Rattle.rv_dual.proofs.Marks.{rises_behind}
-use Rattle.rv_dual.proofs.line.Line.pop.Goals as goal
-
-pub trim-requires : goal.trim-requires
-trim-requires g c = rises_behind g.T.Stands.place_of c.self.inside.slots.items c.pop_front.new.self.items c.pop_front.result c.pop_front.ensures.items c.self.invariant.rises

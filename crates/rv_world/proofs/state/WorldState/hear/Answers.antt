@@ -1,0 +1,45 @@
+-- An answer that a process hears.
+use Rattle.std.proofs.Common.{◌≡◌, refl, sym, ap, subst, ◌∙◌, List, Option, None, option_map}
+use Rattle.std.proofs.lemmas.Option.{same_Some}
+use Rattle.rv_text.specs.declared.message.Key.{Key}
+use Rattle.rv_text.specs.declared.answer.Reply.{Reply}
+use Rattle.rv_client.specs.Process.{Process}
+use Rattle.rv_world.specs.Parts.{world_of}
+use Rattle.rv_world.specs.Processes.{process_in, HearsAs}
+use Rattle.rv_world.specs.Table.{ClientTable, StandsInTable, with_process}
+use Rattle.rv_world.proofs.Hearing.{held_after, heard}
+use Rattle.rv_world.proofs.TableWrites.{runs_stands, turned_stands, turned_twice}
+use Rattle.rv_world.proofs.state.WorldState.hear.Goals as goal
+
+pub turn-requires-2 : goal.turn-requires-2
+turn-requires-2 c =
+    subst (λ (t : ClientTable). StandsInTable t c.args.client) (sym c.turn.ensures.after)
+    (turned_stands c.args.self.now.clients c.args.client None (runs_stands c.args.self.now.clients c.args.client _ (sym c.in-Some.ensures.before)))
+
+pub returns-in-Some-held-clause-heard : goal.returns-in-Some-held-clause-heard
+returns-in-Some-held-clause-heard c = λ running runs.
+    let old = c.args.self.now in
+    let told = c.hear-told.result in
+    let now : process_in c.in-Some.running ≡ running = same_Some _ _ (c.in-Some.ensures.before ∙ runs) in
+    let turned : c.turn-2.new.self ≡ with_process old.clients c.args.client (option_map process_in told.process) =
+    c.turn-2.ensures.after ∙ ap (λ (t : ClientTable). with_process t c.args.client (option_map process_in told.process)) c.turn.ensures.after
+    ∙ turned_twice old.clients c.args.client None _ in
+    let held : c.push_reserved.new.self.items ≡ held_after old.held.items told.held =
+    c.push_reserved.ensures.items ∙ ap (λ (h : Option (Key × Reply)). held_after old.held.items h) (sym c.in-Some-held.is) in
+    let v = world_of (record old { clients = c.turn-2.new.self; held = c.push_reserved.new.self }) in
+    heard (world_of old) v old.clients c.turn-2.new.self c.args.client c.args.answer told refl refl turned
+    (ap (λ (l : List (Key × Reply)). record (world_of old) { clients = c.turn-2.new.self.processes; held = l }) held)
+    running runs (subst (λ (p : Process). HearsAs p c.args.answer told) now c.hear-told.ensures)
+
+pub returns-in_default-clause-heard : goal.returns-in_default-clause-heard
+returns-in_default-clause-heard c = λ running runs.
+    let old = c.args.self.now in
+    let told = c.hear-told.result in
+    let now : process_in c.in-Some.running ≡ running = same_Some _ _ (c.in-Some.ensures.before ∙ runs) in
+    let turned : c.turn-2.new.self ≡ with_process old.clients c.args.client (option_map process_in told.process) =
+    c.turn-2.ensures.after ∙ ap (λ (t : ClientTable). with_process t c.args.client (option_map process_in told.process)) c.turn.ensures.after
+    ∙ turned_twice old.clients c.args.client None _ in
+    let v = world_of (record old { clients = c.turn-2.new.self }) in
+    heard (world_of old) v old.clients c.turn-2.new.self c.args.client c.args.answer told refl refl turned
+    (ap (λ (h : Option (Key × Reply)). record (world_of old) { clients = c.turn-2.new.self.processes; held = held_after old.held.items h }) (sym c.in_default.is))
+    running runs (subst (λ (p : Process). HearsAs p c.args.answer told) now c.hear-told.ensures)
