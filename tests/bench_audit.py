@@ -116,15 +116,19 @@ def start(words, path):
         return subprocess.Popen(words, stdin=source, stdout=subprocess.DEVNULL)
 
 
+def seconds_in_turn(programs, path):
+    """The least seconds of some runs of each program, in turn: what else the machine does then falls on all of them."""
+    took = [[] for _ in programs]
+    for index in list(range(len(programs))) * RUNS:
+        began = time.monotonic()
+        start(programs[index], path).wait()
+        took[index].append(time.monotonic() - began)
+    return [min(runs) for runs in took]
+
+
 def seconds(words, path):
     """The least seconds of some runs."""
-    least = None
-    for _ in range(RUNS):
-        began = time.monotonic()
-        start(words, path).wait()
-        took = time.monotonic() - began
-        least = took if least is None else min(least, took)
-    return least
+    return seconds_in_turn([words], path)[0]
 
 
 def peak(words, path):
