@@ -17,7 +17,7 @@ use Rattle.rv_book.specs.Legal.{Legal}
 use Rattle.rv_book.specs.Limits.{FitsAccount}
 use Rattle.rv_book.specs.Replies.{RepliesAt, RepliesUnmet}
 use Rattle.rv_book.specs.Sessions.{AskedIn}
-use Rattle.rv_book.specs.Tables.{kept_at_once, partners_reply}
+use Rattle.rv_book.specs.Operations.{kept_at_once, partners_reply}
 use Rattle.rv_book.specs.Verdicts.{reply_of}
 use Rattle.rv_book.specs.Waiting.{Met, NamesPartner, Waiting}
 use Rattle.rv_book.proofs.Deciding.{met_or_not}

@@ -12,7 +12,7 @@ use Rattle.rv_session.specs.Table.{Table, OnlyAdvances, OnlySettles, session_for
 use Rattle.rv_account.specs.declared.entry.Act.TheVariants.{Arrive, Cancel}
 use Rattle.rv_account.specs.declared.entry.Entry.{Entry}
 use Rattle.rv_account.specs.Account.{Account, act_at, key_in, with_entry}
-use Rattle.rv_book.specs.Arriving.{IsNext}
+use Rattle.rv_book.proofs.NextKeys.{IsNext}
 use Rattle.rv_book.specs.Legal.{IsNextNumber, Legal, WaitsUnder}
 use Rattle.rv_book.specs.Replies.{CancelledFirst}
 use Rattle.rv_book.specs.Sessions.{LastNumber}

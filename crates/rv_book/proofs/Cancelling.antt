@@ -8,13 +8,15 @@ use Rattle.rv_session.specs.OwedDuty.{OwedDuty}
 use Rattle.rv_session.specs.Table.{OnlyAdvances, OnlySettles}
 use Rattle.rv_session.specs.declared.kept.Kept.TheVariants as kept
 use Rattle.rv_account.specs.Account.{Account, call_in, key_in, with_entry}
-use Rattle.rv_book.specs.Arriving.{IsCancelled, IsNext, entry}
+use Rattle.rv_book.specs.Arriving.{IsCancelled, entry}
+use Rattle.rv_book.proofs.NextKeys.{IsNext}
 use Rattle.rv_account.specs.Calls.{IsPut}
 use Rattle.rv_account.specs.declared.entry.Act.TheVariants.{Cancel}
 use Rattle.rv_account.specs.declared.entry.Entry.{Entry}
 use Rattle.rv_book.specs.declared.state.BookState.{BookState}
 use Rattle.rv_book.specs.Legal.{MayFollow}
-use Rattle.rv_book.specs.Tables.{Comes, EndsAt, HasSpace, IsSound, account_of}
+use Rattle.rv_book.specs.Operations.{Comes, EndsAt, HasSpace}
+use Rattle.rv_book.specs.Tables.{IsSound, account_of}
 use Rattle.rv_book.specs.Waiting.{Open, Waiting}
 use Rattle.rv_book.proofs.FewClients.{few_still}
 use Rattle.rv_book.proofs.Following.{cancel_follows}

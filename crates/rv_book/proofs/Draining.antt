@@ -24,7 +24,8 @@ use Rattle.rv_account.specs.declared.entry.Entry.{Entry}
 use Rattle.rv_account.specs.Account.{Account, Names, call_at, entry, limit_at, limit_in, with_entry}
 use Rattle.rv_account.specs.Calls.{IsPut, Lasts, MayMeet, Stays, limit_after, may_name, need_by, need_of, opposite}
 use Rattle.rv_book.specs.declared.state.BookState.{BookState}
-use Rattle.rv_book.specs.Arriving.{IsKept, IsNext, IsRecorded, WillTell}
+use Rattle.rv_book.specs.Arriving.{IsKept, IsRecorded, WillTell}
+use Rattle.rv_book.proofs.NextKeys.{IsNext}
 use Rattle.rv_book.specs.Counting.{NumberOf}
 use Rattle.rv_book.specs.Draining.{IsDraining, MayDrain, items_in}
 use Rattle.rv_book.specs.Elapsing.{AreDeadlines, deadline_after, with_deadline, without_deadline}
@@ -32,7 +33,8 @@ use Rattle.rv_book.specs.Legal.{KeepsTime, Legal, MayFollow, NothingDue}
 use Rattle.rv_book.specs.Limits.{FitEntries}
 use Rattle.std.specs.Global.{Vec}
 use Rattle.rv_book.specs.Parked.{AreWaiters, IsLine}
-use Rattle.rv_book.specs.Tables.{Comes, IsPrepared, IsSession, IsSound, SettlesAs, account_of, partners_reply, told_to, with_due}
+use Rattle.rv_book.specs.Operations.{Comes, IsPrepared, SettlesAs, partners_reply, told_to, with_due}
+use Rattle.rv_book.specs.Tables.{IsSession, IsSound, account_of}
 use Rattle.rv_book.specs.Sessions.{HasOpened}
 use Rattle.rv_book.specs.TakingOut.{IsLeft, Left}
 use Rattle.rv_book.specs.Waiting.{NamesPartner, Waiting}

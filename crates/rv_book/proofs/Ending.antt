@@ -2,7 +2,8 @@
 use Rattle.std.proofs.Common.{ℕ}
 use Rattle.rv_session.specs.declared.kept.Kept.TheVariants as kept
 use Rattle.rv_book.specs.declared.state.BookState.{BookState}
-use Rattle.rv_book.specs.Tables.{IsSound, MayEnd, account_of}
+use Rattle.rv_book.specs.Operations.{MayEnd}
+use Rattle.rv_book.specs.Tables.{IsSound, account_of}
 use Rattle.rv_book.specs.Waiting.{Waiting}
 use Rattle.rv_book.proofs.TakingOut.{left_at_first, left_may_end}
 

@@ -13,7 +13,8 @@ use Rattle.rv_book.specs.Laws.{CanCancel, CanEnter, CancelsCanEnter, HellosCanEn
 use Rattle.rv_account.specs.declared.entry.Entry.{Entry}
 use Rattle.rv_text.specs.declared.answer.Refusal.TheVariants.{EpochFull}
 use Rattle.rv_book.specs.Sessions.{HasIncarnation, HasOnlyLower, HasOpened, LastHello, LastNumber, SaidHello}
-use Rattle.rv_book.specs.Arriving.{IsNext, entry}
+use Rattle.rv_book.specs.Arriving.{entry}
+use Rattle.rv_book.proofs.NextKeys.{IsNext}
 use Rattle.rv_book.specs.Legal.{KeepsTime, Legal, MayFollow, WaitsUnder}
 use Rattle.rv_text.specs.declared.message.Key.{Key}
 use Rattle.rv_text.specs.declared.version.Version.{Version}

@@ -12,7 +12,9 @@ use Rattle.std.proofs.lemmas.Option.{none-some, same_Some}
 use Rattle.rv_text.specs.Calls.{side_of}
 use Rattle.rv_book.specs.Sessions.{HasIncarnation, HasOnlyLower}
 use Rattle.rv_book.specs.Legal.{IsFreePartner, IsNextNumber, IsOpenOpposite, KeepsLimits, KeepsMoments, KeepsNumbers, KeepsPairs, KeepsTime, MayFollow, NothingDue, SomethingDue, WaitsUnder}
-use Rattle.rv_book.specs.Arriving.{IsNext, MeetsOldest, entry}
+use Rattle.rv_book.specs.Arriving.{entry}
+use Rattle.rv_book.proofs.NextKeys.{IsNext}
+use Rattle.rv_book.proofs.OldestMet.{MeetsOldest}
 use Rattle.rv_account.specs.Calls.{MayMeet, may_name}
 use Rattle.rv_book.specs.Waiting.{OpenAt, SideAt}
 use Rattle.rv_book.proofs.Growing.{call_read, reads_within}

@@ -18,7 +18,8 @@ use Rattle.rv_book.specs.declared.state.BookState.{BookState}
 use Rattle.rv_book.specs.Legal.{HasWaiting, KeepsTime, NothingDue}
 use Rattle.rv_book.specs.Sessions.{HasOnlyLower}
 use Rattle.rv_book.specs.Steps.{ClientsFullDue}
-use Rattle.rv_book.specs.Tables.{AreSessions, Comes, EndsIf, HasRoomReady, HasSpace, IsSound, account_of}
+use Rattle.rv_book.specs.Operations.{Comes, EndsIf, HasRoomReady, HasSpace}
+use Rattle.rv_book.specs.Tables.{AreSessions, IsSound, account_of}
 use Rattle.rv_book.specs.Waiting.{Open, Waiting}
 use Rattle.rv_book.proofs.FewClients.{few_with}
 use Rattle.rv_book.proofs.Following.{hello_follows}

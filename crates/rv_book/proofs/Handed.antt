@@ -17,7 +17,7 @@ use Rattle.rv_book.specs.Arriving.{IsKept, WillReply, entry}
 use Rattle.rv_account.specs.Calls.{may_name, opposite}
 use Rattle.rv_book.specs.Legal.{Legal}
 use Rattle.rv_book.specs.Replies.{GetsItem, RepliesAt}
-use Rattle.rv_book.specs.Tables.{partners_reply}
+use Rattle.rv_book.specs.Operations.{partners_reply}
 use Rattle.rv_book.specs.Verdicts.{item_at, reply_of}
 use Rattle.rv_book.specs.Waiting.{Met, NamesPartner}
 use Rattle.rv_book.proofs.ByMeeting.{ByMeeting, RepliesByMeeting, laws_by}

@@ -17,7 +17,8 @@ use Rattle.std.specs.FinSet.{contains, contains-empty}
 use Rattle.std.specs.FinSet.{empty as no_deadline}
 use Rattle.rv_book.specs.Elapsing.{AreDeadlines}
 use Rattle.rv_book.specs.Parked.{AreWaiters}
-use Rattle.rv_book.specs.Tables.{AreSessions, IsSame, IsSound, account_of}
+use Rattle.rv_book.specs.Operations.{IsSame}
+use Rattle.rv_book.specs.Tables.{AreSessions, IsSound, account_of}
 use Rattle.rv_book.specs.Views.{NobodyWaits}
 use Rattle.rv_book.specs.Waiting.{Waiting}
 use Rattle.rv_book.proofs.Counting.{one_number}

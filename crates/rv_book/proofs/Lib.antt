@@ -68,6 +68,8 @@ pub mod Greeting
 pub mod Cancelling
 pub mod Standing
 pub mod Repeating
+pub mod NextKeys
+pub mod OldestMet
 mod DeadlineTable
 mod Closing
 mod TakenTables

@@ -13,7 +13,7 @@ use Rattle.rv_book.proofs.Counting.{one_number}
 use Rattle.rv_book.proofs.Histories.{one_incarnation, one_last_number}
 use Rattle.rv_book.proofs.Versions.{one_opened}
 use Rattle.rv_book.specs.Legal.{HasWaiting}
-use Rattle.rv_book.specs.Arriving.{IsNext}
+use Rattle.rv_book.proofs.NextKeys.{IsNext}
 
 not_other_epoch : (a : Account) (key : Key) → key.epoch ≡ a.epoch → (refusal : Refusal) → OtherEpochDue a key refusal → ⊥
 not_other_epoch a key same refusal due = due.0 same

@@ -13,7 +13,8 @@ use Rattle.rv_book.specs.Legal.{Legal, MayFollow}
 use Rattle.rv_book.specs.Limits.{FitsAct}
 use Rattle.rv_book.specs.Parked.{AreWaiters}
 use Rattle.rv_book.specs.Steps.{max_moment}
-use Rattle.rv_book.specs.Tables.{AreSessions, EndsAt, HasSpace, IsSound, account_of}
+use Rattle.rv_book.specs.Operations.{EndsAt, HasSpace}
+use Rattle.rv_book.specs.Tables.{AreSessions, IsSound, account_of}
 use Rattle.rv_book.specs.Waiting.{Open, SideAt, Waiting, limit_at}
 use Rattle.rv_book.proofs.Closing.{Closes, closes_same, stops_closes}
 use Rattle.rv_book.proofs.FewClients.{FewClients}

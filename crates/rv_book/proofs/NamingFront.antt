@@ -14,7 +14,7 @@ use Rattle.rv_account.specs.declared.entry.Act.TheVariants.{Arrive}
 use Rattle.rv_account.specs.declared.entry.Entry.{Entry}
 use Rattle.rv_account.specs.Account.{Account, Among, entry}
 use Rattle.rv_account.specs.Calls.{MayMeet, may_name, opposite}
-use Rattle.rv_book.specs.Arriving.{IsNext}
+use Rattle.rv_book.proofs.NextKeys.{IsNext}
 use Rattle.rv_book.specs.Legal.{IsOpenOpposite, KeepsPairs, KeepsTime, MayFollow, NothingDue}
 use Rattle.rv_book.specs.Parked.{IsLine, IsLineOf}
 use Rattle.rv_book.specs.Waiting.{OpenAt}

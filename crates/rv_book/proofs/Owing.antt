@@ -7,7 +7,8 @@ use Rattle.rv_text.specs.declared.message.Key.{Key}
 use Rattle.rv_text.specs.Calls.{side_of, wait_of}
 use Rattle.rv_session.specs.OwedDuty.{OwedDuty}
 use Rattle.rv_account.specs.Account.{Account, act_at, call_in, just}
-use Rattle.rv_book.specs.Arriving.{GoesOnWaiting, MeetsOldest}
+use Rattle.rv_book.specs.Arriving.{GoesOnWaiting}
+use Rattle.rv_book.proofs.OldestMet.{MeetsOldest}
 use Rattle.rv_account.specs.Calls.{IsPut, MayMeet, Stays}
 use Rattle.rv_book.specs.Counting.{NumberOf}
 use Rattle.rv_account.specs.declared.entry.Act.TheVariants.{Arrive}

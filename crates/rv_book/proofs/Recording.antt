@@ -16,7 +16,9 @@ use Rattle.rv_session.specs.declared.session.RequestState.TheVariants.{Waits}
 use Rattle.rv_session.specs.declared.session.Session.{Session}
 use Rattle.rv_session.specs.declared.kept.Kept.{Kept}
 use Rattle.rv_account.specs.Account.{Account, just, with_entry}
-use Rattle.rv_book.specs.Arriving.{GoesOnWaiting, IsKept, IsNext, IsRecorded, MeetsOldest, WillReply, entry}
+use Rattle.rv_book.specs.Arriving.{GoesOnWaiting, IsKept, IsRecorded, WillReply, entry}
+use Rattle.rv_book.proofs.NextKeys.{IsNext}
+use Rattle.rv_book.proofs.OldestMet.{MeetsOldest}
 use Rattle.rv_account.specs.Calls.{MayMeet, may_name, need_of, opposite}
 use Rattle.rv_book.specs.Elapsing.{AreDeadlines, without_duty}
 use Rattle.rv_book.specs.Counting.{NumberOf}
@@ -29,7 +31,8 @@ use Rattle.rv_book.specs.Legal.{Legal, MayFollow}
 use Rattle.rv_book.specs.Limits.{FitEntries}
 use Rattle.rv_book.specs.Meeting.{ArrivedOn, MeetsOrWaits, OwnDuty, PartnersDuty, ends_waiting, opposed_by, starts_waiting}
 use Rattle.rv_book.specs.Parked.{AreWaiters}
-use Rattle.rv_book.specs.Tables.{AreSessions, IsSound, MayRecord, SettlesIf, account_of, partners_reply, told_to, with_due}
+use Rattle.rv_book.specs.Operations.{MayRecord, SettlesIf, partners_reply, told_to, with_due}
+use Rattle.rv_book.specs.Tables.{AreSessions, IsSound, account_of}
 use Rattle.rv_book.specs.Sessions.{HasOpened}
 use Rattle.rv_book.specs.Waiting.{Waiting}
 use Rattle.rv_book.proofs.ArrivedDeadlines.{due_arrived}

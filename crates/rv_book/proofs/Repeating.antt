@@ -12,7 +12,8 @@ use Rattle.rv_book.proofs.Standing.{settled, cancelled_first, waits, refused_lin
 use Rattle.rv_book.proofs.Lines.{line_next, line_old_hello, line_other_version, line_again, line_newer}
 use Rattle.rv_account.specs.Account.{Account, act_at, call_in}
 use Rattle.rv_text.specs.declared.answer.Answer.{Answer}
-use Rattle.rv_book.specs.Tables.{AreSessions, Becomes, IsRepeat}
+use Rattle.rv_book.specs.Operations.{Becomes, IsRepeat}
+use Rattle.rv_book.specs.Tables.{AreSessions}
 use Rattle.rv_text.specs.declared.call.Call.{Call}
 use Rattle.rv_book.specs.Steps.{Answers, EntersOrNoMemory, EpochFullDue, NextAt, OtherCallDue, RefuseOr, Refuses, Repeats, Replies}
 use Rattle.rv_book.specs.Sessions.{HasIncarnation, HasOpened}

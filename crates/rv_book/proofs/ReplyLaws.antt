@@ -14,7 +14,7 @@ use Rattle.rv_book.specs.Sessions.{AskedIn}
 use Rattle.rv_book.specs.Waiting.{NamesPartner, Waiting}
 use Rattle.rv_book.specs.Arriving.{IsKept}
 use Rattle.rv_account.specs.Calls.{opposite}
-use Rattle.rv_book.specs.Tables.{partners_reply}
+use Rattle.rv_book.specs.Operations.{partners_reply}
 use Rattle.rv_text.specs.Calls.{side_of, wait_of}
 
 -- a reply is within its limits, and names a consumer of this epoch, if it names one

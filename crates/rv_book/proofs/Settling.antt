@@ -16,12 +16,15 @@ use Rattle.rv_session.specs.Table.{Table, OnlyAdvances, OnlySets, session_for, s
 use Rattle.rv_account.specs.declared.entry.Entry.{Entry}
 use Rattle.rv_account.specs.declared.entry.Act.TheVariants.{Arrive}
 use Rattle.rv_account.specs.Account.{Account, act_at, call_at, call_in, just, key_in, with_entry}
-use Rattle.rv_book.specs.Arriving.{IsKept, IsNext, MeetsOldest}
+use Rattle.rv_book.specs.Arriving.{IsKept}
+use Rattle.rv_book.proofs.NextKeys.{IsNext}
+use Rattle.rv_book.proofs.OldestMet.{MeetsOldest}
 use Rattle.rv_account.specs.Calls.{opposite}
 use Rattle.rv_book.specs.Legal.{Legal}
 use Rattle.rv_book.specs.Meeting.{OwnDuty, PartnersDuty}
 use Rattle.rv_book.specs.Parked.{owed_at, owed_by, owed_in}
-use Rattle.rv_book.specs.Tables.{AreSessions, IsOwedIn, IsSession, IsSessionOf, SettlesIf, last_key, partners_reply}
+use Rattle.rv_book.specs.Operations.{IsOwedIn, SettlesIf, partners_reply}
+use Rattle.rv_book.specs.Tables.{AreSessions, IsSession, IsSessionOf, last_key}
 use Rattle.rv_book.specs.Sessions.{AskedIn, HasOpened}
 use Rattle.rv_book.specs.Waiting.{NamesPartner, Waiting}
 use Rattle.rv_book.proofs.Growing.{NamesAt-last, act_read, call_read, reads_on}

@@ -14,7 +14,8 @@ use Rattle.rv_book.specs.Legal.{Legal, before}
 use Rattle.rv_book.specs.Laws.{VerdictsStay}
 use Rattle.rv_book.specs.Limits.{FitsAccount}
 use Rattle.rv_book.specs.Steps.{Next, step_moment}
-use Rattle.rv_book.specs.Tables.{BecomesAfterTicks, IsSound, account_of}
+use Rattle.rv_book.specs.Operations.{BecomesAfterTicks}
+use Rattle.rv_book.specs.Tables.{IsSound, account_of}
 use Rattle.rv_book.specs.Saying.{said_in, stamp_of}
 use Rattle.rv_book.specs.Verdicts.{IsOfStep, VerdictView, WasGiven}
 use Rattle.rv_book.proofs.Fitting.{step_fits}

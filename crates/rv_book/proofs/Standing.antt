@@ -20,7 +20,8 @@ use Rattle.rv_text.specs.declared.call.Call.{Call}
 use Rattle.rv_book.specs.Steps.{ClientsFullDue, KeyLines}
 use Rattle.rv_book.specs.Sessions.{HasIncarnation, HasOnlyLower, LastNumber, SaidHello}
 use Rattle.rv_book.specs.Legal.{Legal}
-use Rattle.rv_book.specs.Arriving.{IsKept, IsNext}
+use Rattle.rv_book.specs.Arriving.{IsKept}
+use Rattle.rv_book.proofs.NextKeys.{IsNext}
 use Rattle.std.specs.Prelude.{IsSome}
 use Rattle.rv_text.specs.declared.message.Key.{Key}
 use Rattle.rv_text.specs.declared.version.Version.{Version}

@@ -8,7 +8,7 @@ use Rattle.rv_book.specs.Steps.{Adds, EntersOrNoMemory, EpochFullDue, NextAt, Re
 use Rattle.rv_text.specs.declared.answer.Answer.{Answer}
 use Rattle.rv_book.specs.Counting.{NumberOf}
 use Rattle.rv_book.specs.Waiting.{Waiting}
-use Rattle.rv_book.specs.Tables.{Becomes, NoEntryDue}
+use Rattle.rv_book.specs.Operations.{Becomes, NoEntryDue}
 use Rattle.std.proofs.Common.{IsErrAnd, IfErr, IfOk, OnOk, OnErr, subst, ap, inl, inr, length, refl, sym, ℕ, ◌+◌, ◌≡◌, ◌≤◌}
 use Rattle.rv_book.proofs.Lines.{room_left}
 use Rattle.rv_text.specs.declared.message.Message.{Message}

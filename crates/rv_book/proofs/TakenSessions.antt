@@ -16,7 +16,8 @@ use Rattle.rv_account.specs.declared.entry.Entry.{Entry}
 use Rattle.rv_account.specs.Account.{Account, act_at, call_at, call_in, with_entry}
 use Rattle.rv_book.specs.Arriving.{IsKept}
 use Rattle.rv_book.specs.Legal.{Legal}
-use Rattle.rv_book.specs.Tables.{AreSessions, IsSession, IsSessionOf, IsSettledAt, IsWaitingAt, SettlesAs, StandsInAccount, last_key}
+use Rattle.rv_book.specs.Operations.{SettlesAs}
+use Rattle.rv_book.specs.Tables.{AreSessions, IsSession, IsSessionOf, IsSettledAt, IsWaitingAt, StandsInAccount, last_key}
 use Rattle.rv_book.specs.TakingOut.{AreSessionsLeft, IsSessionLeft, IsSessionLeftOf, IsToldAt, Left, StandsLeft}
 use Rattle.rv_book.specs.Sessions.{AskedIn, HasIncarnation, HasOpened}
 use Rattle.rv_book.specs.Waiting.{Waiting}

@@ -19,7 +19,8 @@ use Rattle.rv_book.specs.Draining.{SameIdle}
 use Rattle.rv_book.specs.Elapsing.{AreDeadlinesOf, without_deadline, without_duty}
 use Rattle.rv_book.specs.Meeting.{LeavesFirst, ends_waiting}
 use Rattle.rv_book.specs.Parked.{IsLineOf, owed_at}
-use Rattle.rv_book.specs.Tables.{IsOwedIn, SettlesAs, SettlesIf, account_of}
+use Rattle.rv_book.specs.Operations.{IsOwedIn, SettlesAs, SettlesIf}
+use Rattle.rv_book.specs.Tables.{account_of}
 use Rattle.rv_book.specs.TakingOut.{AreSessionsLeft, IsLeft, Left}
 use Rattle.rv_book.specs.Views.{SameWaiters, Waiters}
 use Rattle.rv_book.specs.Waiting.{OpenAt, Waiting, limit_at}

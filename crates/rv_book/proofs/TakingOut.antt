@@ -14,7 +14,8 @@ use Rattle.rv_account.specs.Account.{Account, Stored, act_at}
 use Rattle.rv_book.specs.Elapsing.{AreDeadlinesOf}
 use Rattle.rv_book.specs.Meeting.{StandsOn}
 use Rattle.rv_book.specs.Parked.{IsLineOf}
-use Rattle.rv_book.specs.Tables.{EndsAt, IsSound, MayEnd, SettlesAs, account_of, with_due}
+use Rattle.rv_book.specs.Operations.{EndsAt, MayEnd, SettlesAs, with_due}
+use Rattle.rv_book.specs.Tables.{IsSound, account_of}
 use Rattle.rv_book.specs.TakingOut.{IsLeft, Left}
 use Rattle.rv_book.specs.Views.{Waiters, waiting_on}
 use Rattle.rv_book.specs.Waiting.{OpenAt, SideAt, Waiting, limit_at}

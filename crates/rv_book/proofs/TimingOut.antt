@@ -17,7 +17,8 @@ use Rattle.rv_book.specs.Ending.{IsEnding, TakenOut}
 use Rattle.rv_book.specs.Legal.{IsDueAt, KeepsTime, Legal, MayFollow, NothingDue, SomethingDue}
 use Rattle.rv_book.specs.Parked.{AreWaiters}
 use Rattle.rv_book.specs.Steps.{Ticks}
-use Rattle.rv_book.specs.Tables.{AreSessions, EndsAt, IsSound, IsTime, MayEnd, account_of, with_due}
+use Rattle.rv_book.specs.Operations.{EndsAt, IsTime, MayEnd, with_due}
+use Rattle.rv_book.specs.Tables.{AreSessions, IsSound, account_of}
 use Rattle.rv_book.specs.TakingOut.{IsLeft, Left}
 use Rattle.rv_book.specs.Waiting.{Waiting, limit_at}
 use Rattle.rv_book.proofs.Closing.{Closes, waits_on}

@@ -15,7 +15,7 @@ use Rattle.rv_account.specs.declared.entry.Entry.{Entry}
 use Rattle.rv_account.specs.Account.{Account, just, with_entry}
 use Rattle.rv_book.specs.Arriving.{GoesOnWaiting, IsKept, WillReply, entry}
 use Rattle.rv_book.specs.Replies.{RepliesMet}
-use Rattle.rv_book.specs.Tables.{kept_at_once, partners_reply}
+use Rattle.rv_book.specs.Operations.{kept_at_once, partners_reply}
 use Rattle.rv_book.specs.Waiting.{Met, NamesPartner}
 use Rattle.rv_book.proofs.ByMeeting.{RepliesByMeeting, laws_by, unmet_by}
 use Rattle.rv_book.proofs.Growing.{Met-on, NamesAt-last, call_read}

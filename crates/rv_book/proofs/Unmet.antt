@@ -17,7 +17,7 @@ use Rattle.rv_account.specs.Account.{Account, call_at}
 use Rattle.rv_session.specs.Kept.{told_in}
 use Rattle.rv_session.specs.declared.kept.Kept.{Kept}
 use Rattle.rv_book.specs.Arriving.{GoesOnWaiting}
-use Rattle.rv_book.specs.Tables.{kept_at_once}
+use Rattle.rv_book.specs.Operations.{kept_at_once}
 use Rattle.rv_book.specs.Verdicts.{reply_of}
 use Rattle.rv_account.specs.Calls.{Lasts, MayMeet}
 use Rattle.rv_book.specs.Legal.{Legal}

@@ -13,7 +13,7 @@ use Rattle.rv_text.specs.Calls.{side_of, wait_of}
 use Rattle.rv_session.specs.OwedDuty.{OwedDuty}
 use Rattle.rv_dual.specs.Offers.{place_of, places_of}
 use Rattle.rv_account.specs.Account.{Account, Names, act_at, call_at, call_in, just}
-use Rattle.rv_book.specs.Arriving.{MeetsOldest}
+use Rattle.rv_book.proofs.OldestMet.{MeetsOldest}
 use Rattle.rv_account.specs.Calls.{Stays}
 use Rattle.rv_account.specs.declared.entry.Act.TheVariants.{Arrive}
 use Rattle.rv_account.specs.declared.entry.Entry.{Entry}

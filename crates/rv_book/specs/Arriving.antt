@@ -1,8 +1,7 @@
--- What an arrival brings: whom it meets, and what is kept as its reply.
-use Rattle.std.specs.Prelude.{◌≡◌, ◌+◌, ℕ, List, length, Option, Some, None}
+-- What is kept as the reply of an arrival, and how it was recorded.
+use Rattle.std.specs.Prelude.{◌≡◌, ℕ, List, length, Option, Some, None}
 use Rattle.rv_text.specs.declared.version.Version.{Version}
 use Rattle.rv_text.specs.declared.message.Key.{Key}
-use Rattle.rv_text.specs.declared.call.Side.{Side}
 use Rattle.rv_text.specs.declared.call.Call.{Call}
 use Rattle.rv_text.specs.declared.answer.Reply.{Reply}
 use Rattle.rv_text.specs.declared.answer.Reply.TheVariants as reply
@@ -16,28 +15,13 @@ use Rattle.rv_session.specs.declared.kept.Kept.{Kept}
 use Rattle.rv_session.specs.Kept.{told_in}
 use Rattle.rv_account.specs.Account.{Account, just, with_entry}
 pub use Rattle.rv_account.specs.Account.{entry}
-use Rattle.rv_account.specs.Calls.{opposite, IsPut, Stays}
-use Rattle.rv_book.specs.Waiting.{IsOldest, OpenAt}
-use Rattle.rv_book.specs.Sessions.{AskedIn, HasIncarnation, LastNumber}
-use Rattle.rv_book.specs.Legal.{HasWaiting, Legal}
+use Rattle.rv_account.specs.Calls.{IsPut, Stays}
+use Rattle.rv_book.specs.Sessions.{AskedIn}
+use Rattle.rv_book.specs.Legal.{Legal}
 use Rattle.rv_book.specs.Replies.{RepliesAt}
 use Rattle.rv_book.specs.Steps.{Adds, Answers, Replies}
 use Rattle.rv_book.specs.Saying.{answer_of}
 use Rattle.rv_book.specs.Verdicts.{reply_of}
-
--- the key is of its client's session in this epoch, with the next number
-pub record IsNext (a : Account) (key : Key) : Type 0 where
-  pub epoch : key.epoch ≡ a.epoch
-  pub incarnation : HasIncarnation a.entries key.client key.incarnation
-  pub last : ℕ
-  pub is_last : LastNumber a.entries key.client last
-  pub next : key.number ≡ last + 1
-  pub idle : ¬ HasWaiting a.entries key.client
-
--- the partner is the oldest open arrival of the side that a call of this side meets; none where none is open
-abbrev pub MeetsOldest : List Entry → Side → Option ℕ → Type 0
-MeetsOldest entries side None = (other : Side) (r : ℕ) → opposite side ≡ Some other → ¬ OpenAt entries other r
-MeetsOldest entries side (Some p) = (other : Side) × (opposite side ≡ Some other) × IsOldest entries other p
 
 -- what is kept is the reply of the request with this call that arrived at r
 pub record IsKept (entries : List Entry) (r : ℕ) (call : Call) (kept : Kept) : Type 0 where

@@ -18,7 +18,8 @@ use Rattle.rv_account.specs.Account.{Among}
 use Rattle.rv_account.specs.Calls.{may_name}
 use Rattle.rv_book.specs.Arriving.{WillTell}
 use Rattle.rv_book.specs.Meeting.{HasRoomToName}
-use Rattle.rv_book.specs.Tables.{Comes, HasSpace, account_of}
+use Rattle.rv_book.specs.Operations.{Comes, HasSpace}
+use Rattle.rv_book.specs.Tables.{account_of}
 use Rattle.rv_book.specs.declared.state.BookState.{BookState}
 use Rattle.rv_book.specs.TakingOut.{IsLeft}
 use Rattle.rv_book.specs.Views.{waiting_on}

@@ -17,6 +17,7 @@ pub mod Saying
 pub mod Arriving
 pub mod Tables
 -- What only private clauses and proofs cite.
+pub mod Operations
 pub mod Meeting
 pub mod TakingOut
 pub mod Ending

@@ -1,51 +1,25 @@
 -- What the book's private tables say of its account.
-use Rattle.std.specs.Prelude.{◌≡◌, ◌⊎◌, ◌≤◌, ◌+◌, ℕ, length, Option, Some, None, option_map}
-use Rattle.std.specs.Global.{Vec}
+use Rattle.std.specs.Prelude.{◌≡◌, ◌≤◌, ℕ, Option, Some, None}
 use Rattle.rv_text.specs.declared.message.Key.{Key}
-use Rattle.rv_text.specs.declared.version.Version.{Version}
-use Rattle.rv_text.specs.declared.message.Message.{Message}
-use Rattle.rv_text.specs.declared.call.Side.{Side}
-use Rattle.rv_text.specs.declared.call.Wait.{Wait}
-use Rattle.rv_text.specs.declared.call.Wait.TheVariants.{Now, Millis, Forever}
-use Rattle.rv_text.specs.declared.call.Side.TheVariants.{Gives, Takes, Looks, Exchanges}
 use Rattle.rv_text.specs.declared.call.Call.{Call}
-use Rattle.rv_text.specs.declared.answer.Answer.{Answer}
-use Rattle.rv_text.specs.declared.answer.Refusal.{Refusal}
-use Rattle.rv_text.specs.declared.answer.Refusal.TheVariants.{NoMemory}
-use Rattle.rv_text.specs.Calls.{side_of}
 use Rattle.rv_session.specs.declared.kept.Kept.{Kept}
 use Rattle.rv_session.specs.declared.session.Session.{Session}
 use Rattle.rv_session.specs.declared.session.RequestState as state
 use Rattle.rv_session.specs.declared.session.RequestState.{RequestState as StateOf}
-use Rattle.rv_session.specs.Meanings.{HasNext}
-use Rattle.rv_session.specs.Standings.{standing_of}
-use Rattle.rv_session.specs.Kept.{told_in}
-use Rattle.rv_session.specs.Table.{OnlySettles, Table, session_of, version_in, waiting_of}
-use Rattle.rv_session.specs.declared.standing.Standing.TheVariants as standing
+use Rattle.rv_session.specs.Table.{Table, session_of}
 use Rattle.rv_session.specs.declared.kept.Kept.TheVariants as kept
-use Rattle.rv_account.specs.declared.entry.Act.{Act}
 use Rattle.rv_account.specs.declared.entry.Act.TheVariants.{Arrive}
 use Rattle.rv_book.specs.Replies.{CancelledFirst}
 use Rattle.rv_book.specs.declared.state.BookState.{BookState}
-use Rattle.rv_book.specs.declared.verdict.KeptAnswer.{KeptAnswer}
-use Rattle.rv_book.specs.declared.verdict.KeptAnswer.TheVariants.{Refused}
-use Rattle.rv_account.specs.declared.entry.Entry.{Entry}
-use Rattle.rv_account.specs.Account.{Account, act_at, call_at, with_entry}
+use Rattle.rv_account.specs.Account.{Account, act_at}
 use Rattle.rv_book.specs.Arriving.{IsKept}
-use Rattle.rv_book.specs.Legal.{Legal, KeepsTime, NothingDue}
-use Rattle.rv_book.specs.Limits.{FitEntries, FitsAccount, FitsAct}
-use Rattle.rv_account.specs.Calls.{MayMeet, may_name, need_of}
+use Rattle.rv_book.specs.Legal.{Legal}
+use Rattle.rv_book.specs.Limits.{FitsAccount}
 use Rattle.rv_book.specs.Counting.{NumberOf}
-use Rattle.rv_book.specs.Meeting.{HasRoomOn, HasRoomToName, LeavesSide, StandsOn}
-use Rattle.rv_book.specs.Parked.{AreParked, AreWaiters, owed_at}
-use Rattle.rv_book.specs.Elapsing.{AreDeadlines, deadline_of, with_deadline, without_deadline}
+use Rattle.rv_book.specs.Parked.{AreWaiters}
+use Rattle.rv_book.specs.Elapsing.{AreDeadlines}
 use Rattle.rv_book.specs.Sessions.{HasOpened, LastNumber, SaidHello}
-use Rattle.rv_book.specs.Steps.{EpochFullDue, NextAt, Ticks, max_entries, max_moment, step_moment}
-use Rattle.rv_book.specs.Saying.{answer_of}
-use Rattle.rv_book.specs.Views.{SameWaiters}
-use Rattle.rv_session.specs.OwedDuty.{OwedDuty}
-use Rattle.rv_book.specs.Waiting.{Waiting, limit_at}
-use Rattle.rv_due.specs.Deadlines.{Deadlines}
+use Rattle.rv_book.specs.Waiting.{Waiting}
 
 -- ---- sessions
 
@@ -106,188 +80,3 @@ pub record IsSound (state : BookState) : Type 0 where
   pub waiting_is : NumberOf (Waiting (account_of state).entries) state.waiting
   pub due_are : AreDeadlines (account_of state).entries state.due
   pub spare : state.waiting ≤ state.account.room
-
--- a moment comes to a sound state: it keeps time, and is within its limit
-pub record IsTime (state : BookState) (moment : ℕ) : Type 0 where
-  pub sound : IsSound state
-  pub time : KeepsTime (account_of state) moment
-  pub fits : moment ≤ max_moment
-
--- an act comes to a sound state, at a moment at which nothing is due, and within the limits
-pub record Comes (state : BookState) (moment : ℕ) (does : Act) : Type 0 where
-  pub sound : IsSound state
-  pub time : KeepsTime (account_of state) moment
-  pub moment_fits : moment ≤ max_moment
-  pub nothing_due : NothingDue (account_of state).entries moment
-  pub act_fits : FitsAct does
-
--- an arrival of the side that waits has room there; a hello needs none
-abbrev pub HasRoomFor : BookState → Option Side → Type 0
-HasRoomFor state None = Unit {0}
-HasRoomFor state (Some side) = HasRoomOn state.waiters side
-
--- the account and what the tables hold are as they were; their room may have grown
-pub record IsSame (old new : BookState) : Type 0 where
-  pub due : new.due ≡ old.due
-  pub account : account_of new ≡ account_of old
-  pub room : old.account.room ≤ new.account.room
-  pub sessions : new.sessions ≡ old.sessions
-  pub waiters : SameWaiters old.waiters new.waiters
-  pub waiting : new.waiting ≡ old.waiting
-
--- the entry was recorded, and the tables are as they were
-pub record IsPushed (old new : BookState) (e : Entry) : Type 0 where
-  pub entry : account_of new ≡ with_entry (account_of old) e
-  pub room : old.account.room ≤ new.account.room + 1
-  pub sessions : new.sessions ≡ old.sessions
-  pub waiters : new.waiters ≡ old.waiters
-  pub waiting : new.waiting ≡ old.waiting
-  pub due : new.due ≡ old.due
-
--- the epoch has room for so many entries more, beside one for each request that waits
-abbrev pub HasSpace : BookState → ℕ → Type 0
-HasSpace state need = length (account_of state).entries + state.waiting + need ≤ max_entries
-
--- nothing changed but the room: so many entries have their own, each request that waits has too, and so has
--- an arrival of the side that waits
-pub record HasRoomReady (old new : BookState) (need : ℕ) (side : Option Side) : Type 0 where
-  pub same : IsSame old new
-  pub room : old.waiting + need ≤ new.account.room
-  pub side_room : HasRoomFor new side
-  pub space : HasSpace old need
-
--- the state with other deadlines
-abbrev pub with_due : BookState → Deadlines → BookState
-with_due state due = record {
-  account = state.account;
-  sessions = state.sessions;
-  waiters = state.waiters;
-  waiting = state.waiting;
-  due = due;
-}
-
--- all that a request adds has room, and if it may wait its deadline is there already
-pub record IsPrepared (old new : BookState) (moment : ℕ) (call : Call) : Type 0 where
-  pub ready : HasRoomReady old (with_due new old.due) (need_of call) (Some (side_of call))
-  pub due : new.due ≡ with_deadline (deadline_of moment call) (length (account_of old).entries) old.due
-
--- a request that has its session's next number comes to a state that is sound but for the deadline of the
--- request itself, and all that it adds has room
-pub record MayRecord (state : BookState) (moment : ℕ) (key : Key) (call : Call) (places : Vec ℕ) : Type 0
-  where
-    pub deadlines : Deadlines
-    pub comes : Comes (with_due state deadlines) moment (Arrive key call)
-    pub due : state.due
-        ≡ with_deadline (deadline_of moment call) (length (account_of state).entries) deadlines
-    pub stands : standing_of state.sessions key ≡ standing.Next
-    pub next : HasNext state.sessions key
-    pub room : state.waiting + need_of call ≤ state.account.room
-    pub side_room : HasRoomOn state.waiters (side_of call)
-    pub space : HasSpace state (need_of call)
-    pub meets_one : may_name call ≡ 1
-    pub names : HasRoomToName state.waiters call places
-
--- what a call that looks at its queue sees there is what the account says
-abbrev pub Sees : BookState → Call → Type 0
-Sees state call = ¬ MayMeet call → AreWaiters (account_of state).entries state.waiters
-
--- ---- who is settled
-
--- the session of the duty waits at the duty's place
-abbrev pub IsOwedIn : Table → OwedDuty → Type 0
-IsOwedIn t duty = waiting_of t duty.client ≡ Some duty.place
-
--- the client's session was settled with this, as its version tells it
-pub record SettlesAs (old new : Table) (client place : ℕ) (kept : Kept) : Type 0 where
-  pub version : Version
-  pub was : version_in old client ≡ Some version
-  pub settles : OnlySettles old new client place (told_in version kept)
-
--- the request of the duty was settled with this, if there is one
-abbrev pub SettlesIf : Table → Table → Option OwedDuty → Kept → Type 0
-SettlesIf old new None kept = new ≡ old
-SettlesIf old new (Some duty) kept = SettlesAs old new duty.client duty.place kept
-
--- what the session of the duty is told of this, if there is one
-abbrev pub told_to : Table → Option OwedDuty → Kept → Option Kept
-told_to t None kept = None
-told_to t (Some duty) kept = option_map (λ version. told_in version kept) (version_in t duty.client)
-
--- what is kept as the reply of the request that an arrival of the side, at the place, met: who gives or
--- exchanges hands its own item over, and who takes received the other's
-abbrev pub partners_reply : Side → ℕ → Kept
-partners_reply (Gives queue) place = kept.Item place
-partners_reply (Takes queue) place = kept.ReceivedBy place
-partners_reply (Looks queue) place = kept.ReceivedBy place
-partners_reply (Exchanges exchanger) place = kept.Swapped place
-
--- a request waits at the place, by the tables: on its side, with the duty to settle it, and in its session
-pub record MayEnd (state : BookState) (place : ℕ) : Type 0 where
-  pub entries_fit : FitEntries (account_of state).entries
-  pub duty : OwedDuty
-  pub is_at : duty.place ≡ place
-  pub owed : owed_at (account_of state).entries place ≡ Some duty
-  pub due_in : IsOwedIn state.sessions duty
-  pub call : Call
-  pub arrived : call_at (account_of state).entries place ≡ Some call
-  pub parked : AreParked (account_of state).entries state.waiters
-  pub stands : StandsOn state.waiters (side_of call) place
-  pub counted : 1 ≤ state.waiting
-
--- what is kept as the reply of a request that met nobody and doesn't wait, where this is said of nobody there
-abbrev pub kept_at_once : Wait → Kept → Kept
-kept_at_once Now alone = alone
-kept_at_once (Millis millis) alone = kept.TimedOut
-kept_at_once Forever alone = alone
-
--- the request that waited at the place left its side and was settled with this
-pub record EndsAt (old new : BookState) (place : ℕ) (kept : Kept) : Type 0 where
-  pub duty : OwedDuty
-  pub is_at : duty.place ≡ place
-  pub owed : owed_at (account_of old).entries place ≡ Some duty
-  pub call : Call
-  pub arrived : call_at (account_of old).entries place ≡ Some call
-  pub leaves : LeavesSide old.waiters new.waiters (side_of call) duty (Some duty)
-  pub settles : SettlesAs old.sessions new.sessions duty.client place kept
-  pub counted : old.waiting ≡ new.waiting + 1
-  pub due : new.due ≡ without_deadline (limit_at (account_of old).entries place) place old.due
-
--- the request that waited there was, if one did
-abbrev pub EndsIf : BookState → BookState → Option ℕ → Kept → Type 0
-EndsIf old new None kept = new ≡ old
-EndsIf old new (Some place) kept = EndsAt old new place kept
-
--- ---- what became of a message
-
--- the account stayed, and perhaps has room for more
-abbrev pub SameAccount : BookState → BookState → Type 0
-SameAccount old new = account_of new ≡ account_of old
-
--- why an entry that needs so many places was refused: the epoch is full; or it is not, and memory was refused
-abbrev pub NoEntryDue : Account → ℕ → Refusal → Type 0
-NoEntryDue a need refusal = EpochFullDue a need refusal
-    ⊎ (((other : Refusal) → ¬ EpochFullDue a need other) × (refusal ≡ NoMemory))
-
--- what became of a message: this answer, by one step from the one account to the other
-pub record Becomes (a : Account) (moment : ℕ) (m : Message) (b : Account) (said : KeptAnswer) : Type 0 where
-  pub answer : Answer
-  pub is : answer_of b.entries said ≡ Some answer
-  pub step : NextAt a moment m b answer
-
--- what became of a message that came with this moment: this answer, by the time-outs that were due and one
--- step
-pub record BecomesAfterTicks (a : Account) (now : ℕ) (m : Message) (b : Account) (said : KeptAnswer)
-    : Type 0 where
-  pub ticked : Account
-  pub ticks : Ticks a (step_moment a now) ticked
-  pub fits : FitsAccount ticked
-  pub becomes : Becomes ticked (step_moment a now) m b said
-
--- the message was refused so
-abbrev pub IsRefused : Account → ℕ → Message → Account → Refusal → Type 0
-IsRefused a moment m b refusal = Becomes a moment m b (Refused refusal)
-
--- the request that arrived at the place came with this call; where none arrived, any call repeats it
-abbrev pub IsRepeat : Account → Option ℕ → Call → Type 0
-IsRepeat a None call = Unit {0}
-IsRepeat a (Some place) call = call_at a.entries place ≡ Some call

@@ -36,7 +36,8 @@ pub(crate) struct BookState {
 
 impl BookState {
     ghost use Rattle.rv_book.specs.Legal.{KeepsTime, NothingDue};
-    ghost use Rattle.rv_book.specs.Tables.{Becomes, BecomesAfterTicks, IsPushed, IsTime, IsSound, account_of};
+    ghost use Rattle.rv_book.specs.Operations.{Becomes, BecomesAfterTicks, IsPushed, IsTime};
+    ghost use Rattle.rv_book.specs.Tables.{IsSound, account_of};
 
     /// An empty account of an epoch, opened at a moment, and tables with nothing in them.
     pub(crate) fn open(alloc: Global, epoch: u64, opened: u64) -> Result<BookState, NoMemory>

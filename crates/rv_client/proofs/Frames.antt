@@ -1,14 +1,13 @@
 -- Bytes that are fewer than a frame's are no whole frame.
 use Rattle.std.proofs.Common.{◌≡◌, ◌<◌, ◌++◌, ℕ, List, Option, Result, Ok, Err, IfErr, OnOk, ap, arith, false, length, length-append, subst, sym}
 use Rattle.std.proofs.KnownBytes.{Consumes-trans}
-use Rattle.rv_frame.specs.Source.{source_failed}
+use Rattle.rv_frame.specs.Source.{SourceGives, source_failed}
 use Rattle.rv_frame.specs.Cut.{FitsLength, IsUnfinished, length_bytes}
 use Rattle.rv_frame.specs.declared.source.Source.{Source}
 use Rattle.rv_frame.proofs.Cuts.{length_once}
 use Rattle.rv_client.specs.declared.fault.LinkFault.{LinkFault}
 use Rattle.rv_client.specs.declared.fault.LinkFault.TheVariants.{ReadFault, WriteFault, Closed, BadFrame}
 use Rattle.rv_client.specs.declared.fault.LinkFault.TheVariants.{BadBody, NoMemory}
-use Rattle.rv_client.specs.Link.{Gives}
 use Rattle.rv_client.specs.Reading.{BreaksOff, FallsShort, ReadsFrame, StopsFor, Unfailed}
 
 -- a good length, and fewer bytes than it says
@@ -41,12 +40,12 @@ module _ {R : Type 0} (remaining : R → Option (List ℕ)) where
   told T old new buffer NoMemory breaks = absurd breaks.stops
 
   -- a good length came, and then the whole body, or less of it
-  pub reads_on : {T : Type 0} (old mid new : Source R) (body : List ℕ) (n : ℕ) (result : Result T LinkFault) → FitsLength n → Gives remaining old mid (length_bytes n)
-      → Unfailed old mid → OnOk result (Gives remaining mid new body) → OnOk result (length body ≡ n)
+  pub reads_on : {T : Type 0} (old mid new : Source R) (body : List ℕ) (n : ℕ) (result : Result T LinkFault) → FitsLength n → SourceGives remaining old mid (length_bytes n)
+      → Unfailed old mid → OnOk result (SourceGives remaining mid new body) → OnOk result (length body ≡ n)
       → OnOk result ((source_failed mid ≡ false) × (source_failed new ≡ false)) → IfErr result (FallsShort remaining mid new n) → ReadsFrame remaining old new body result
   reads_on {T} old mid new body n (Ok done) fits given unfailed came long works short = record {
     is_body = subst FitsLength (sym long) fits;
-    given = Consumes-trans _ _ _ _ _ (subst (λ m. Gives remaining old mid (length_bytes m)) (sym long) given) came;
+    given = Consumes-trans _ _ _ _ _ (subst (λ m. SourceGives remaining old mid (length_bytes m)) (sym long) given) came;
     unfailed = record { before = unfailed.before; after = works.1 };
   }
   reads_on {T} old mid new body n (Err fault) fits given unfailed came long works short = told T old new body fault (record {

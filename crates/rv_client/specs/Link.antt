@@ -1,12 +1,11 @@
 -- A link: what goes out and comes in while a request is asked, for the answer and for each fault.
 use Rattle.std.specs.Prelude.{ℕ, ◌≡◌, ◌<◌, ◌⊎◌, List, Option, Result, Ok, Err, true, false, length, take}
-use Rattle.std.specs.Io.KnownBytes.{Consumes, IsAtEnd}
 use Rattle.rv_text.specs.Bodies.{IsAnswerBody, message_text}
 use Rattle.rv_text.specs.declared.answer.Answer.{Answer}
 use Rattle.rv_text.specs.declared.message.Message.{Message}
 use Rattle.rv_frame.specs.Cut.{FitsLength, IsFrameBody, IsUnfinished, frame_bytes, length_bytes}
 use Rattle.rv_frame.specs.Sink.{SinkTakes, sink_failed}
-use Rattle.rv_frame.specs.Source.{source_failed, source_remaining}
+use Rattle.rv_frame.specs.Source.{SourceGives, SourceHasEnded, source_failed}
 use Rattle.rv_frame.specs.declared.sink.Sink.{Sink}
 use Rattle.rv_frame.specs.declared.source.Source.{Source}
 use Rattle.rv_client.specs.declared.fault.LinkFault.{LinkFault}
@@ -37,19 +36,11 @@ module _ {R W : Type 0} where
     pub write_before : sink_failed before.sink ≡ false
     pub write_after : sink_failed after.sink ≡ false
 
-module _ {R : Type 0} (remaining : R → Option (List ℕ)) where
-  -- the source gave exactly these bytes, where what it has left is known
-  abbrev pub Gives : Source R → Source R → List ℕ → Type 0
-  Gives old new bytes = Consumes (source_remaining remaining old) (source_remaining remaining new) bytes
-
-  abbrev pub HasEnded : Source R → Type 0
-  HasEnded source = IsAtEnd (source_remaining remaining source)
-
 module _ {R W : Type 0} (remaining : R → Option (List ℕ)) (contents : W → Option (List ℕ)) where
   -- exactly these bytes went out, and exactly these came in
   pub record Moves (before after : Link R W) (out inward : List ℕ) : Type 0 where
     pub sent : SinkTakes contents before.sink after.sink out
-    pub given : Gives remaining before.source after.source inward
+    pub given : SourceGives remaining before.source after.source inward
 
   -- the whole request went out, and the frame of a body with a property came in
   pub record ReadsBody (request : List ℕ) (before after : Link R W) (Has : List ℕ → Type 0) : Type 0 where
@@ -75,7 +66,7 @@ module _ {R W : Type 0} (remaining : R → Option (List ℕ)) (contents : W → 
     pub bytes : List ℕ
     pub unfinished : IsUnfinished bytes
     pub moves : Moves before after request bytes
-    pub ended : HasEnded remaining after.source
+    pub ended : SourceHasEnded remaining after.source
     pub works : LinkHolds before after
 
   -- the whole request went out, and the two bytes that came in are a bad length

@@ -3,23 +3,20 @@ ghost use Rattle.std.specs.Prelude.{◌≡◌, ◌<◌, ◌≤◌, [], false, le
 ghost use Rattle.std.specs.Vec.{vec_capacity};
 ghost use Rattle.rv_text.specs.Limits.{FitsMessage};
 ghost use Rattle.rv_frame.specs.Cut.{length_bytes};
-ghost use Rattle.rv_frame.specs.Source.{source_failed};
-ghost use Rattle.rv_client.specs.Link.{Asks, Gives, link, message_frame};
+ghost use Rattle.rv_frame.specs.Source.{SourceGives, source_failed};
+ghost use Rattle.rv_client.specs.Link.{Asks, link, message_frame};
 ghost use Rattle.rv_client.specs.Reading.{BreaksOff, FallsShort, ReadsFrame};
 
 use crate::fault::LinkFault;
 use rv_frame::{Sink, Source, write_frame};
-use rv_text::{Answer, Message, decode_answer, encode_message};
+use rv_text::{Answer, MAX_BODY_BYTES, Message, decode_answer, encode_message};
 use std::alloc::Global;
 use std::io::{Read, Write};
-
-// The most bytes of a frame's body: two bytes say its length.
-const MAX_BODY_BYTES: usize = 65_535;
 
 // Fills the buffer with the source's next bytes.
 fn fill<R: Read>(source: &mut Source<R>, buffer: &mut [u8]) -> Result<(), LinkFault>
     requires { 0 < length buffer.old }
-    ensures bytes { OnOk result (Gives R.remaining source.old source.new buffer.new) }
+    ensures bytes { OnOk result (SourceGives R.remaining source.old source.new buffer.new) }
     ensures ok { OnOk result ((source_failed source.old ≡ false) × (source_failed source.new ≡ false)) }
     ensures fault { IfErr result (FallsShort R.remaining source.old source.new (length buffer.old)) }
 {
@@ -50,7 +47,7 @@ fn fill_body<R: Read>(
     requires some { 0 < size }
     requires empty { body.old.items ≡ [] }
     requires room { size ≤ vec_capacity body.old }
-    ensures bytes { OnOk result (Gives R.remaining source.old source.new body.new.items) }
+    ensures bytes { OnOk result (SourceGives R.remaining source.old source.new body.new.items) }
     ensures long { OnOk result (length body.new.items ≡ size) }
     ensures ok { OnOk result ((source_failed source.old ≡ false) × (source_failed source.new ≡ false)) }
     ensures fault { IfErr result (FallsShort R.remaining source.old source.new size) }

@@ -1,8 +1,10 @@
--- What the contracts cite.
+-- What a reader must agree with: all that the public contracts and the laws cite.
 pub mod Cut
-pub mod Held
-pub mod Laws
+pub mod Stream
 pub mod Sink
 pub mod Source
-pub mod Stream
+pub mod Laws
+-- What the tests' devices promise.
 pub mod Testing
+-- What only the invariant of `Frames`, private clauses and proofs cite.
+pub mod Held

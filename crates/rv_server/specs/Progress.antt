@@ -4,12 +4,13 @@ use Rattle.rv_frame.specs.Cut.{frame_bytes, row_bytes}
 use Rattle.rv_frame.specs.Sink.{SinkTakes, sink_failed}
 use Rattle.rv_frame.specs.Stream.{HasFed, Stream}
 use Rattle.rv_frame.specs.declared.sink.Sink.{Sink}
+use Rattle.rv_frame.specs.Source.{SourceGives}
 use Rattle.rv_server.specs.declared.fault.WorkFault.{WorkFault}
 use Rattle.rv_server.specs.declared.fault.WorkFault.TheVariants.{NoMemory, WriteFault}
 use Rattle.rv_server.specs.Stamps.{Numbered, added}
 use Rattle.rv_server.specs.AnsweredFrames.{AnsweredFrame, AreAnsweredFrames, IsAnsweredFrame, stamps_of}
 use Rattle.rv_server.specs.Asking.{Cover, GetsStamps}
-use Rattle.rv_server.specs.Works.{Connection, Gives, Listed}
+use Rattle.rv_server.specs.Works.{Connection, Listed}
 
 -- where answers go: the sink, and the share of the seat
 pub record Out (W : Type 0) : Type 0 where
@@ -62,7 +63,7 @@ module _ {R W : Type 0} (remaining : R → Option (List ℕ)) (contents : W → 
     pub bytes : List ℕ
     pub answered : List AnsweredFrame
     pub count : length answered ≡ number
-    pub read : Gives remaining before.source after.source bytes
+    pub read : SourceGives remaining before.source after.source bytes
     pub fed : HasFed bytes (map (λ (frame : AnsweredFrame). frame.body) answered) stream
     pub right : AreAnsweredFrames 0 answered
     pub items : listed.items ≡ map (λ (frame : AnsweredFrame). frame.item) answered

@@ -5,10 +5,10 @@ use Rattle.std.specs.declared.alloc.Global.{Global}
 use Rattle.std.specs.Io.KnownBytes.{Keeps}
 use Rattle.std.specs.List.{All}
 use Rattle.rv_frame.specs.Cut.{Bad, End, IsFrameBody, Open}
-use Rattle.rv_frame.specs.Source.{source_failed, source_remaining}
+use Rattle.rv_frame.specs.Source.{SourceGives, SourceHasEnded, source_failed, source_remaining}
 use Rattle.rv_frame.specs.Stream.{Feeds, HasFed, IsOpen, Stream, rest_length}
 use Rattle.rv_frame.specs.declared.source.Source.{Source}
-use Rattle.rv_server.specs.Works.{Gives, HasEnded, IsCut}
+use Rattle.rv_server.specs.Works.{IsCut}
 use Rattle.rv_server.specs.declared.fault.WorkFault.{WorkFault}
 use Rattle.rv_server.specs.declared.fault.WorkFault.TheVariants.{BadLength, CutFrame, NoMemory, ReadFault}
 use Rattle.rv_server.specs.declared.fault.WorkFault.TheVariants.{TooLong, WriteFault}
@@ -41,7 +41,7 @@ module _ {R : Type 0} (remaining : R → Option (List ℕ)) where
   -- were taken
   pub record ReadsOn (before after : Source R) (old new : Stream) (more : List (List ℕ)) : Type 0 where
     pub bytes : List ℕ
-    pub gives : Gives remaining before after bytes
+    pub gives : SourceGives remaining before after bytes
     pub fed : (all : List ℕ) (taken : List (List ℕ)) → HasFed all taken old
         → HasFed (all ++ bytes) (taken ++ more) new
 
@@ -54,15 +54,15 @@ module _ {R : Type 0} (remaining : R → Option (List ℕ)) where
   -- a piece was read and fed, and what follows the whole frames is short; or none came, at the end; or memory
   -- was refused for the piece that was read; for the proofs
   abbrev pub ReadsPiece : Source R → Source R → Stream → Stream → Result Bool WorkFault → Type 0
-  ReadsPiece before after old new (Ok true) = (piece : List ℕ) × Gives remaining before after piece
+  ReadsPiece before after old new (Ok true) = (piece : List ℕ) × SourceGives remaining before after piece
       × (0 < length piece) × Feeds old piece new × (rest_length new.end < 65537)
   ReadsPiece before after old new (Ok false) =
-      Gives remaining before after [] × HasEnded remaining after × (new ≡ old)
+      SourceGives remaining before after [] × SourceHasEnded remaining after × (new ≡ old)
   ReadsPiece before after old new (Err ReadFault) =
       Keeps (source_remaining remaining before) (source_remaining remaining after)
       × (source_failed after ≡ true) × (new ≡ old)
   ReadsPiece before after old new (Err NoMemory) =
-      (piece : List ℕ) × Gives remaining before after piece × (new ≡ old)
+      (piece : List ℕ) × SourceGives remaining before after piece × (new ≡ old)
   ReadsPiece before after old new (Err CutFrame) = ⊥
   ReadsPiece before after old new (Err (BadLength n)) = ⊥
   ReadsPiece before after old new (Err (WriteFault sent)) = ⊥
@@ -75,11 +75,11 @@ module _ {R : Type 0} (remaining : R → Option (List ℕ)) where
   TakesFrame before after old new (Ok (Some body)) =
       ReadsOn before after old new (body.items ∷ []) × IsFrameBody body.items
   TakesFrame before after old new (Ok None) =
-      ReadsOut before after old new (λ end. end ≡ Open []) × HasEnded remaining after
+      ReadsOut before after old new (λ end. end ≡ Open []) × SourceHasEnded remaining after
   TakesFrame before after old new (Err ReadFault) =
       ReadsOut before after old new (λ end. Unit {0}) × (source_failed after ≡ true)
   TakesFrame before after old new (Err CutFrame) =
-      ReadsOut before after old new IsCut × HasEnded remaining after
+      ReadsOut before after old new IsCut × SourceHasEnded remaining after
   TakesFrame before after old new (Err (BadLength n)) = ReadsOut before after old new (λ end. end ≡ Bad n)
   TakesFrame before after old new (Err NoMemory) = (met : Stream) × ReadsOn before after old met []
   TakesFrame before after old new (Err (WriteFault sent)) = ⊥

@@ -1,10 +1,9 @@
 -- What stands after a worker read a connection to its end, or stopped.
 use Rattle.std.specs.Prelude.{ℕ, ◌≡◌, ◌≢◌, ◌⊎◌, ◌+◌, ◌<◌, ◌≤◌, ◌∷◌, ◌++◌, [], List, Option, None, Some}
 use Rattle.std.specs.Prelude.{map, length, take, true}
-use Rattle.std.specs.Io.KnownBytes.{Consumes, IsAtEnd}
 use Rattle.rv_frame.specs.Cut.{Bad, Cut, End, Open, frame_bytes, row_bytes}
 use Rattle.rv_frame.specs.Sink.{SinkTakes, sink_failed}
-use Rattle.rv_frame.specs.Source.{source_failed, source_remaining}
+use Rattle.rv_frame.specs.Source.{SourceGives, SourceHasEnded, source_failed}
 use Rattle.rv_frame.specs.declared.sink.Sink.{Sink}
 use Rattle.rv_frame.specs.declared.source.Source.{Source}
 use Rattle.rv_server.specs.declared.fault.WorkFault.{WorkFault}
@@ -25,15 +24,6 @@ pub record IsCut (end : End) : Type 0 where
   pub rest : List ℕ
   pub is : end ≡ Open rest
   pub some : rest ≢ []
-
--- the source gave exactly these bytes, where what it has left is known, by its `R.remaining`
-abbrev pub Gives : {R : Type 0} → (R → Option (List ℕ)) → Source R → Source R → List ℕ → Type 0
-Gives remaining old new bytes =
-    Consumes (source_remaining remaining old) (source_remaining remaining new) bytes
-
--- the source has nothing more, by its `R.remaining`
-abbrev pub HasEnded : {R : Type 0} → (R → Option (List ℕ)) → Source R → Type 0
-HasEnded remaining source = IsAtEnd (source_remaining remaining source)
 
 -- a connection, and the share of the seat that serves it
 pub record Connection (R W : Type 0) : Type 0 where
@@ -67,7 +57,7 @@ module _ {R W : Type 0} (remaining : R → Option (List ℕ)) (contents : W → 
       (pending : List Numbered) (broken : List ℕ) : Type 0 where
     pub bytes : List ℕ
     pub answered : List AnsweredFrame
-    pub read : Gives remaining before.source after.source bytes
+    pub read : SourceGives remaining before.source after.source bytes
     pub cut : Cut bytes (map (λ (frame : AnsweredFrame). frame.body) answered ++ more) end
     pub right : AreAnsweredFrames 0 answered
     pub items : list.items ≡ map (λ (frame : AnsweredFrame). frame.item) answered
@@ -105,12 +95,12 @@ module _ {R W : Type 0} (remaining : R → Option (List ℕ)) (contents : W → 
 
   -- what stands by the fault, if there is one
   abbrev pub Works : Connection R W → Connection R W → Listed → Option WorkFault → Type 0
-  Works before after list None = WorkedOut before after list (Open []) × HasEnded remaining after.source
+  Works before after list None = WorkedOut before after list (Open []) × SourceHasEnded remaining after.source
   Works before after list (Some ReadFault) =
       (end : End) × WorkedOut before after list end × (source_failed after.source ≡ true)
   Works before after list (Some (WriteFault sent)) = AnswerBreaksOff before after list sent
   Works before after list (Some CutFrame) =
-      (end : End) × WorkedOut before after list end × IsCut end × HasEnded remaining after.source
+      (end : End) × WorkedOut before after list end × IsCut end × SourceHasEnded remaining after.source
   Works before after list (Some (BadLength n)) = WorkedOut before after list (Bad n)
   Works before after list (Some NoMemory) = WorkLacksMemory before after list
   Works before after list (Some TooLong) = (body : List ℕ) × (later : List (List ℕ)) × (end : End)

@@ -6,7 +6,8 @@ ghost use Rattle.rv_book.specs.Elapsing.{deadline_after};
 ghost use Rattle.rv_book.specs.Steps.{max_moment};
 ghost use Rattle.rv_text.specs.Calls.{side_of};
 ghost use Rattle.rv_book.specs.Meeting.{HasRoomToName};
-ghost use Rattle.rv_book.specs.Tables.{HasRoomReady, IsPrepared, IsSame, IsSound, NoEntryDue, account_of};
+ghost use Rattle.rv_book.specs.Operations.{HasRoomReady, IsPrepared, IsSame, NoEntryDue};
+ghost use Rattle.rv_book.specs.Tables.{IsSound, account_of};
 
 use super::{BookState, MAX_ENTRIES};
 use crate::arrival::lasts;

@@ -3,8 +3,8 @@ use Rattle.std.proofs.Common.{rules, ◌≡◌, ◌∙◌, ◌+◌, ◌≤◌, �
 use Rattle.std.proofs.Math.Seq.{take-append-add}
 use Rattle.std.proofs.lemmas.List.{append-nil, length-take-le, take-append-le}
 use Rattle.std.proofs.KnownBytes.{Consumes-trans}
+use Rattle.rv_frame.specs.Source.{SourceGives}
 use borrow.Rule.Slice.PartMut.{put_mid}
-use Rattle.rv_client.specs.Link.{Gives}
 use Rattle.rv_client.proofs.link.fill.Goals as goal
 
 -- the front of a list whose part behind `filled` was written
@@ -19,7 +19,7 @@ front_filled filled count size old new within fewer =
 pub loop-filled-preserved : goal.loop-filled-preserved
 loop-filled-preserved g c = record {
   within = search rules;
-  given = subst (Gives g.R.Read.remaining c.args.source.now c.read.new.self)
+  given = subst (SourceGives g.R.Read.remaining c.args.source.now c.read.new.self)
       (sym (front_filled c.loop-filled.filled c.in_ok-count.count _ c.loop-filled.buffer c.read.new.buffer c.loop-filled.invariant.within c.in_ok-count.ensures.count.0))
       (Consumes-trans _ _ _ _ _ c.loop-filled.invariant.given c.in_ok-count.ensures.bytes.0);
   same = search rules;
@@ -31,7 +31,7 @@ pub returns-then-count-eq0-clause-fault : goal.returns-then-count-eq0-clause-fau
 returns-then-count-eq0-clause-fault g c = record {
   bytes = take c.loop-filled.filled c.loop-filled.buffer;
   fewer = search rules;
-  given = subst (Gives g.R.Read.remaining c.args.source.now c.read.new.self)
+  given = subst (SourceGives g.R.Read.remaining c.args.source.now c.read.new.self)
       (ap (λ n. take c.loop-filled.filled c.loop-filled.buffer ++ take n c.read.new.buffer) c.if-count-eq0.true ∙ append-nil _)
       (Consumes-trans _ _ _ _ _ c.loop-filled.invariant.given c.in_ok-count.ensures.bytes.0);
   stops = search rules;

@@ -6,7 +6,8 @@ use Rattle.rv_account.specs.declared.entry.Act.TheVariants.{Hello}
 use Rattle.rv_book.specs.declared.state.BookState.{BookState}
 use Rattle.rv_account.specs.Account.{with_entry}
 use Rattle.rv_book.specs.Arriving.{entry}
-use Rattle.rv_book.specs.Tables.{NoEntryDue, account_of}
+use Rattle.rv_book.specs.Operations.{NoEntryDue}
+use Rattle.rv_book.specs.Tables.{account_of}
 use Rattle.rv_book.proofs.Greeting.{comes_ready, sound_idle, space_ready}
 use Rattle.rv_book.proofs.Keeping.{sound_same}
 use Rattle.rv_book.proofs.Lines.{room_left}

@@ -9,7 +9,8 @@ use Rattle.rv_book.specs.Elapsing.{deadline_of, with_deadline}
 use Rattle.rv_book.specs.Legal.{KeepsTime, NothingDue}
 use Rattle.rv_book.specs.Arriving.{WillTell}
 use Rattle.rv_book.specs.Draining.{items_in}
-use Rattle.rv_book.specs.Tables.{account_of, with_due}
+use Rattle.rv_book.specs.Operations.{with_due}
+use Rattle.rv_book.specs.Tables.{account_of}
 use Rattle.rv_book.proofs.Draining.{may_drain}
 use Rattle.rv_book.proofs.Drains.{drain_is, will_drain}
 use Rattle.rv_book.proofs.Keeping.{sound_same}

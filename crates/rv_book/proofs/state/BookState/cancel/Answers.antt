@@ -4,7 +4,8 @@ use Rattle.rv_text.specs.declared.message.Message.TheVariants.{Cancel}
 use Rattle.rv_text.specs.declared.answer.Answer.TheVariants.{Refused, Replied}
 use Rattle.rv_text.specs.declared.answer.Reply.TheVariants.{Cancelled}
 use Rattle.rv_account.specs.declared.entry.Act as act
-use Rattle.rv_book.specs.Tables.{IsRefused, NoEntryDue, account_of}
+use Rattle.rv_book.specs.Operations.{IsRefused, NoEntryDue}
+use Rattle.rv_book.specs.Tables.{account_of}
 use Rattle.rv_book.proofs.Repeating.{cancelled_late, cancelled_waiting, next_cancel, refused_cancel}
 use Rattle.rv_book.proofs.Stepping.{becomes_refused, entered, err_gives, unentered}
 use Rattle.rv_book.proofs.state.BookState.cancel.Goals as goal

@@ -10,7 +10,8 @@ use Rattle.rv_book.specs.Arriving.{IsRecorded}
 use Rattle.rv_book.specs.Draining.{IsDraining, items_in}
 use Rattle.rv_book.specs.Elapsing.{without_deadline}
 use Rattle.rv_book.specs.Limits.{FitEntries}
-use Rattle.rv_book.specs.Tables.{SettlesAs, account_of, told_to}
+use Rattle.rv_book.specs.Operations.{SettlesAs, told_to}
+use Rattle.rv_book.specs.Tables.{account_of}
 use Rattle.rv_book.proofs.Draining.{Began, drained_recorded, drained_sound, fit_drained}
 use Rattle.rv_book.proofs.state.BookState.drain.Goals as goal
 

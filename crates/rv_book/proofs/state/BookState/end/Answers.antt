@@ -6,7 +6,8 @@ use Rattle.rv_text.specs.declared.call.Side.{Side}
 use Rattle.rv_text.specs.Calls.{side_of}
 use Rattle.rv_book.specs.Elapsing.{without_deadline, without_duty}
 use Rattle.rv_book.specs.Meeting.{LeavesSide, StandsOn}
-use Rattle.rv_book.specs.Tables.{IsOwedIn, SettlesAs, SettlesIf, account_of}
+use Rattle.rv_book.specs.Operations.{IsOwedIn, SettlesAs, SettlesIf}
+use Rattle.rv_book.specs.Tables.{account_of}
 use Rattle.rv_book.specs.Waiting.{limit_at}
 use Rattle.rv_book.proofs.state.BookState.end.Goals as goal
 use Rattle.rv_book.specs.Views.{Waiters}

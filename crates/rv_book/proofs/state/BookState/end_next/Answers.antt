@@ -2,7 +2,7 @@
 use Rattle.std.proofs.Common.{◌≡◌, ◌+◌, sym, subst, arith}
 use Rattle.rv_due.specs.Deadlines.{Deadlines}
 use Rattle.rv_session.specs.declared.kept.Kept.TheVariants as kept
-use Rattle.rv_book.specs.Tables.{EndsAt, MayEnd, with_due}
+use Rattle.rv_book.specs.Operations.{EndsAt, MayEnd, with_due}
 use Rattle.rv_book.proofs.TimingOut.{turn_due, turn_ends, turn_may_end}
 use Rattle.rv_book.proofs.state.BookState.end_next.Goals as goal
 

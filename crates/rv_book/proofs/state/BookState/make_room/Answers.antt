@@ -1,6 +1,7 @@
 -- Where no entry is due, the epoch is full or a growth was refused.
 use Rattle.std.proofs.Common.{inr, ◌+◌, ◌≤◌, length, arith}
-use Rattle.rv_book.specs.Tables.{NoEntryDue, account_of}
+use Rattle.rv_book.specs.Operations.{NoEntryDue}
+use Rattle.rv_book.specs.Tables.{account_of}
 use Rattle.rv_book.proofs.Lines.{room_left}
 use Rattle.rv_book.proofs.Stepping.{err_gives}
 use Rattle.rv_book.proofs.state.BookState.make_room.Goals as goal

@@ -1,7 +1,8 @@
 -- Where the partners or the deadline find no memory, a growth was refused.
 use Rattle.std.proofs.Common.{inr, subst}
 use Rattle.rv_account.specs.Calls.{need_of}
-use Rattle.rv_book.specs.Tables.{HasSpace, NoEntryDue, account_of}
+use Rattle.rv_book.specs.Operations.{HasSpace, NoEntryDue}
+use Rattle.rv_book.specs.Tables.{account_of}
 use Rattle.rv_book.proofs.Lines.{room_left}
 use Rattle.rv_book.proofs.Stepping.{err_gives}
 use Rattle.rv_book.proofs.state.BookState.prepare.Goals as goal

@@ -10,7 +10,8 @@ use Rattle.rv_book.specs.Arriving.{IsRecorded, entry}
 use Rattle.rv_book.specs.Elapsing.{without_duty}
 use Rattle.rv_book.specs.Limits.{FitEntries}
 use Rattle.rv_book.specs.Meeting.{ArrivedOn, ends_waiting}
-use Rattle.rv_book.specs.Tables.{account_of, partners_reply, told_to}
+use Rattle.rv_book.specs.Operations.{partners_reply, told_to}
+use Rattle.rv_book.specs.Tables.{account_of}
 use Rattle.rv_account.specs.declared.entry.Act.TheVariants.{Arrive}
 use Rattle.rv_book.specs.Views.{AreBelow}
 use Rattle.rv_book.proofs.Recording.{Arrives, fit_after, least, meets, named_entry, next, room_named, sees, sound_after, told}

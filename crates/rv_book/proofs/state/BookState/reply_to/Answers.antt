@@ -6,7 +6,8 @@ use Rattle.rv_text.specs.declared.call.Side.TheVariants.{Gives, Takes}
 use Rattle.rv_session.specs.declared.kept.Kept.{Kept}
 use Rattle.rv_session.specs.declared.kept.Kept as kept
 use Rattle.rv_book.specs.Arriving.{GoesOnWaiting, WillReply}
-use Rattle.rv_book.specs.Tables.{Sees, account_of}
+use Rattle.rv_book.specs.Operations.{Sees}
+use Rattle.rv_book.specs.Tables.{account_of}
 use Rattle.rv_book.proofs.Counts.{count_replies}
 use Rattle.rv_book.proofs.Drains.{drain_replies}
 use Rattle.rv_book.proofs.Opposites.{looks_alone}

@@ -7,7 +7,8 @@ use Rattle.rv_text.specs.declared.answer.Refusal.TheVariants.{OtherCall}
 use Rattle.rv_account.specs.declared.entry.Act.TheVariants.{Arrive}
 use Rattle.rv_account.specs.Calls.{need_of}
 use Rattle.rv_book.specs.Arriving.{said_of}
-use Rattle.rv_book.specs.Tables.{Becomes, IsRefused, account_of}
+use Rattle.rv_book.specs.Operations.{Becomes, IsRefused}
+use Rattle.rv_book.specs.Tables.{account_of}
 use Rattle.rv_book.proofs.Repeating.{next_key, refused_key, repeated, repeated_otherwise, repeated_waiting, waiting_otherwise}
 use Rattle.rv_book.proofs.Stepping.{becomes_refused, entered, err_both, ok_both, unentered}
 use Rattle.rv_book.proofs.state.BookState.request.Goals as goal

@@ -1,7 +1,8 @@
 -- First what is due is timed out, and then the message takes its own step.
 use Rattle.std.proofs.Common.{subst}
 use Rattle.rv_book.specs.Steps.{Ticks}
-use Rattle.rv_book.specs.Tables.{Becomes, account_of}
+use Rattle.rv_book.specs.Operations.{Becomes}
+use Rattle.rv_book.specs.Tables.{account_of}
 use Rattle.rv_book.proofs.state.BookState.step.Goals as goal
 
 pub returns-clause-step : goal.returns-clause-step

@@ -6,7 +6,8 @@ use Rattle.rv_text.specs.declared.call.Side.TheVariants.{Gives}
 use Rattle.rv_session.specs.declared.kept.Kept.TheVariants as kept
 use Rattle.rv_account.specs.Account.{Among, Stored}
 use Rattle.rv_book.specs.TakingOut.{IsLeft}
-use Rattle.rv_book.specs.Tables.{SettlesIf, account_of}
+use Rattle.rv_book.specs.Operations.{SettlesIf}
+use Rattle.rv_book.specs.Tables.{account_of}
 use Rattle.rv_book.specs.Meeting.{LeavesFirst, ends_waiting}
 use Rattle.rv_book.specs.Views.{Waiters}
 use Rattle.rv_book.proofs.TakingItems.{ends_by, idle_settled, item_left, least, none_left, one_listed, owed_in}

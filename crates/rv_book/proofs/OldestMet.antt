@@ -1,0 +1,11 @@
+-- Whom an arrival meets: the oldest that is open on the other side.
+use Rattle.std.specs.Prelude.{◌≡◌, ℕ, List, Option, Some, None}
+use Rattle.rv_text.specs.declared.call.Side.{Side}
+use Rattle.rv_account.specs.declared.entry.Entry.{Entry}
+use Rattle.rv_account.specs.Calls.{opposite}
+use Rattle.rv_book.specs.Waiting.{IsOldest, OpenAt}
+
+-- the partner is the oldest open arrival of the side that a call of this side meets; none where none is open
+abbrev pub MeetsOldest : List Entry → Side → Option ℕ → Type 0
+MeetsOldest entries side None = (other : Side) (r : ℕ) → opposite side ≡ Some other → ¬ OpenAt entries other r
+MeetsOldest entries side (Some p) = (other : Side) × (opposite side ≡ Some other) × IsOldest entries other p
