@@ -1,5 +1,6 @@
 """Clients that are wrong: a copy of the clients and their tests, with another body in it, which a case must
 find."""
+import concurrent.futures
 import contextlib
 import pathlib
 import shutil
@@ -14,6 +15,8 @@ from serve_parts.wire import demand
 ROOT = pathlib.Path(__file__).resolve().parent.parent.parent
 FOLDERS = ["clients", "examples", "tests/client_parts", "tests/serve_parts", "tests/model_parts"]
 PATIENCE = 1200
+# How many copies run at once.
+AT_ONCE = 4
 
 PYTHON = "clients/python/rendezvous.py"
 PROCESS, SESSION, QUEUE, BODIES, LINK = (
@@ -180,8 +183,12 @@ def selftest(count):
 
 
 def judge_all(count, language, right, wrongs):
-    """The copies in one language."""
+    """The copies in one language: the right ones alone, and then the wrong ones side by side, since some of them wait long
+    for what never comes."""
     for cases in right:
         count.judge(f"a right client in {language}, {cases.rstrip(', ')}", is_right, cases)
-    for wrong in wrongs:
-        count.judge(f"a client in {language} that {wrong.does}", is_found, wrong)
+    named = [(f"a client in {language} that {wrong.does}", wrong) for wrong in wrongs]
+    with concurrent.futures.ThreadPoolExecutor(AT_ONCE) as pool:
+        found = [(name, pool.submit(is_found, wrong)) for name, wrong in named if count.wants(name)]
+        for name, tried in found:
+            count.judge(name, tried.result)
