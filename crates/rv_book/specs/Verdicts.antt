@@ -71,8 +71,8 @@ pub record IsOfStep (v : VerdictView) : Type 0 where
   pub after_has : length after.entries ≡ v.length
   pub step : Next account moment v.asked after v.said
 
--- the stamp was given in the account: a step leads from its entries before to those after, and the account has
--- the reply of that step as the stamp keeps it
+-- the stamp was given in the account: a step leads from its entries before to those after, and the account
+-- has the reply of that step as the stamp keeps it
 pub record WasGiven (a : Account) (v : VerdictView) : Type 0 where
   pub moment : ℕ
   pub step : Next (before a v.before) moment v.asked (before a v.length) v.said

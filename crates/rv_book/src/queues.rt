@@ -153,8 +153,7 @@ impl Queues {
         self.queues[queue as usize].reserve()
     }
 
-    /// Who gives arrives in a queue: it meets the oldest consumer, which leaves; or, where none is there,
-    /// waits behind the other items, if its wait lasts.
+    /// A giver meets the queue's oldest consumer, which leaves; else it waits last, if its wait lasts.
     pub(crate) fn give(&mut self, queue: u64, wait: Option<Wait>, duty: Duty) -> Arrival
         requires fits { FitsQueue queue }
         requires room { 0 < (queue_at self.old queue).room }
@@ -169,8 +168,7 @@ impl Queues {
         }
     }
 
-    /// Who takes arrives in a queue: it meets the oldest item, which leaves; or, where none is there, waits
-    /// behind the other consumers, if its wait lasts.
+    /// A taker meets the queue's oldest item, which leaves; else it waits last, if its wait lasts.
     pub(crate) fn receive(&mut self, queue: u64, wait: Wait, duty: Duty) -> Arrival
         requires fits { FitsQueue queue }
         requires room { 0 < (queue_at self.old queue).room }
@@ -181,8 +179,7 @@ impl Queues {
         receive(&mut self.queues[queue as usize], wait, duty)
     }
 
-    /// The oldest item of a queue leaves it, and comes out as its duty, which is None for a put's, and its
-    /// place. It is None where no item waits, and then all that wait stay.
+    /// A queue's oldest item, if there is one, leaves it: its duty, None for a put's, and its place come out.
     pub(crate) fn take_front(&mut self, queue: u64) -> Option<(Option<Duty>, Place)>
         requires { FitsQueue queue }
         ensures front { TakenFront (queue_at self.old queue) (queue_at self.new queue) result }

@@ -83,8 +83,7 @@ impl Waiters {
         }
     }
 
-    /// The request of a call arrives with its duty: it meets the oldest of the other side, which leaves; or,
-    /// where nobody is there, waits behind the others of its side, if its wait lasts.
+    /// A request meets the oldest of the other side, which leaves; else it waits last, if its wait lasts.
     pub(crate) fn arrive(&mut self, call: &Call, duty: Duty) -> Arrival
         requires fits { FitsSide (side_of call.now) }
         requires room { HasRoomOn self.old (side_of call.now) }
@@ -102,8 +101,7 @@ impl Waiters {
         }
     }
 
-    /// The oldest item of a queue leaves it, and comes out as its duty, which is None for a put's, and its
-    /// place. It is None where no item waits, and then all that wait stay.
+    /// A queue's oldest item, if there is one, leaves it: its duty, None for a put's, and its place come out.
     pub(crate) fn take_front(&mut self, queue: u64) -> Option<(Option<Duty>, Place)>
         requires { FitsQueue queue }
         ensures { LeftFront self.old self.new (Gives queue) result }

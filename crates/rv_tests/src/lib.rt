@@ -1,6 +1,6 @@
 //! What no clause says of the crates below the program: what a book answers and the entries that it has after
-//! worked scripts, a world after a worked play, also where growths of memory are refused; and once, with ample
-//! memory, each call that the program doesn't make.
+//! worked scripts, a world after a worked play, also where growths of memory are refused; and once, with
+//! ample memory, each call that the program doesn't make.
 #![tactic(auto)]
 
 #[cfg(test)]

@@ -1,6 +1,6 @@
-//! The worked scripts on a book: what each message is answered, and the entries that the book has then. With ample
-//! memory no growth is refused. Where one is, as by `tests/refusals`, the message that it stopped is given again,
-//! and all else is as with ample memory.
+//! The worked scripts on a book: what each message is answered, and the entries that the book has then. With
+//! ample memory no growth is refused. Where one is, as by `tests/refusals`, the message that it stopped is
+//! given again, and all else is as with ample memory.
 ghost use Rattle.std.specs.Prelude.{IfOk};
 ghost use Rattle.rv_text.specs.Limits.{FitsMessage};
 
@@ -36,8 +36,8 @@ fn message(rt: &impl Abort, alloc: Global, says: Says) -> Result<Message, NoMemo
     Ok(message)
 }
 
-// Gives the message once. Want of memory is an answer where its step found none, and an error where the text of
-// its answer did.
+// Gives the message once. Want of memory is an answer where its step found none, and an error where the text
+// of its answer did.
 fn give(
     rt: &(impl Abort + AllocGlobal),
     book: &mut Book,
@@ -50,8 +50,8 @@ fn give(
     book.answer(alloc, &verdict)
 }
 
-// Gives the message, and again where it met want of memory. A step that found none left the account, but for a
-// tick; where the text of the answer found none the reply is kept, and the repeat adds no entry.
+// Gives the message, and again where it met want of memory. A step that found none left the account, but for
+// a tick; where the text of the answer found none the reply is kept, and the repeat adds no entry.
 fn send(
     rt: &(impl Abort + AllocGlobal),
     book: &mut Book,

@@ -1,5 +1,6 @@
-//! Worked scripts: messages in the order in which they are given, what each is answered where memory is ample, and
-//! the entries that the account has then. All of it is written by hand, by the rules that MODEL states.
+//! Worked scripts: messages in the order in which they are given, what each is answered where memory is
+//! ample, and the entries that the account has then. All of it is written by hand, by the rules that MODEL
+//! states.
 use crate::answers::Got::{
     Cancelled, Counted, Done, Drained, Empty, Nobody, Peeked, Received, ReceivedBy, Swapped, Text,
     TimedOut,
@@ -15,8 +16,8 @@ use rv_text::Wait::{Forever, Millis, Now};
 /// A message, its moment before it and its answer behind it.
 pub(crate) type Given = (u64, Says, Told);
 
-/// Behind so many of the [`HELLOS`]: messages, and the entries behind those of the hellos. But for [`MOMENTS`] each is
-/// for a book that is opened at moment 0.
+/// Behind so many of the [`HELLOS`]: messages, and the entries behind those of the hellos. But for
+/// [`MOMENTS`] each is for a book that is opened at moment 0.
 #[derive(Clone, Copy)]
 pub(crate) struct Script {
     pub(crate) name: &'static str,
@@ -513,8 +514,9 @@ pub(crate) const BEFORE_FREE: Script = Script {
     ],
 };
 
-/// Messages that take no memory before the text of their answer: repeats, cancels of what waits and of what is
-/// settled, and what a tick comes before. The cancel and the tick add an entry each, and nothing else does.
+/// Messages that take no memory before the text of their answer: repeats, cancels of what waits and of what
+/// is settled, and what a tick comes before. The cancel and the tick add an entry each, and nothing else
+/// does.
 pub(crate) const FREE: &[Given] = &[
     (1, Asks(1, 1, 1, Transfer(3, "a", Millis(10))), Waiting),
     (1, Asks(3, 1, 2, Drain(5, 2)), Gets(Drained(&["b"]))),

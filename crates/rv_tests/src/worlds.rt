@@ -48,8 +48,8 @@ fn a_list_with_an_event_that_is_refused(rt: HostRuntime) {
     assert!(rt; stop == Some((1, WorldRefusal::NoSuchClient)));
 }
 
-// The worked play up to its last reply that is settled: a transfer gets to the server again and again, and its
-// reply to its client twice and late.
+// The worked play up to its last reply that is settled: a transfer gets to the server again and again, and
+// its reply to its client twice and late.
 fn worked_play(alloc: Global) -> Result<[Event; 23], NoMemory> {
     let queue = 3;
     let transfer = Call::Transfer {
@@ -106,8 +106,9 @@ fn is_whole(world: &World) -> bool {
     world.held().len() == 3 && world.asked().len() == 3 && entries == Some(5)
 }
 
-// With ample memory the play leads to its world. Where a growth is refused, an event finds no memory; or an answer
-// says that the server found none, and then a request that was to follow on it may not be begun, or not be settled.
+// With ample memory the play leads to its world. Where a growth is refused, an event finds no memory; or an
+// answer says that the server found none, and then a request that was to follow on it may not be begun, or
+// not be settled.
 #[test]
 fn a_worked_play(rt: HostRuntime) -> Result<(), Fail> {
     let alloc = rt.alloc();
@@ -127,8 +128,8 @@ fn a_worked_play(rt: HostRuntime) -> Result<(), Fail> {
     Ok(())
 }
 
-// The same play event by event. One that finds no memory changes nothing, and is taken when it comes again; what
-// is not idle in the end was told that the server found none.
+// The same play event by event. One that finds no memory changes nothing, and is taken when it comes again;
+// what is not idle in the end was told that the server found none.
 #[test]
 fn a_worked_play_by_steps(rt: HostRuntime) -> Result<(), Fail> {
     let alloc = rt.alloc();
