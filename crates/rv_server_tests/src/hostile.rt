@@ -2,6 +2,7 @@
 //! was answered and is told then, and what a second connection is answered.
 ghost use Rattle.std.specs.Prelude.{◌≡◌, ◌<◌};
 
+use crate::expect::{holds, same};
 use crate::frames::THREE;
 use crate::run::{Ended, Row, Still, answer, closes, connects, one_reader};
 use rv_book::Book;
@@ -146,11 +147,11 @@ fn says_it_once(rt: &impl Abort, items: &[Item], written: &[u8]) {
     let mut frames = written.windows(REFUSED.len());
     let refused = frames.position(|frame| frame == REFUSED);
     let before = refused.expect(rt, "no answer says it");
-    assert_eq!(rt; written.get(..before), THREE.answers.get(..before));
-    assert_eq!(rt; frames.filter(|frame| *frame == REFUSED).count(), 0);
-    assert_eq!(rt; items.len(), 3);
+    same(rt, written.get(..before), THREE.answers.get(..before));
+    same(rt, frames.filter(|frame| *frame == REFUSED).count(), 0);
+    same(rt, items.len(), 3);
     let told = items.iter().filter(|item| **item == Item::NoMemory);
-    assert!(rt; told.count() <= 1);
+    holds(rt, told.count() <= 1, "told once");
 }
 
 // Of the three the first are answered, and then memory is refused; or one answer says that it was; or all are

@@ -1,6 +1,7 @@
 //! A server of one worker, run over bytes in memory.
 ghost use Rattle.std.specs.Prelude.{◌≡◌};
 
+use crate::expect::{holds, same};
 use rv_audit::{Audit, audit};
 use rv_book::{Account, Book};
 use rv_frame::testing::{TestReader, TestWriter};
@@ -77,10 +78,10 @@ impl Row<'_> {
             Ok(served) => (served, None),
             Err((served, fault)) => (served, Some(*fault)),
         };
-        assert_eq!(rt; written, self.answers);
-        assert_eq!(rt; served.items.as_slice(), self.items);
-        assert_eq!(rt; served.stamps.len(), self.stamps);
-        assert_eq!(rt; fault, self.fault);
+        same(rt, written, self.answers);
+        same(rt, served.items.as_slice(), self.items);
+        same(rt, served.stamps.len(), self.stamps);
+        same(rt, fault, self.fault);
     }
 }
 
@@ -103,8 +104,8 @@ pub(crate) fn answer<T: Wait + AllocGlobal, L: Ledger, C: Clock, G: Gate, R: Rea
 // A copy of the account is audited, and legal.
 fn is_legal<R: Abort + AllocGlobal>(rt: &R, account: &Account) {
     let copy = account.clone_out().expect(rt, "no memory");
-    assert_eq!(rt; copy.len(), account.len());
-    assert_eq!(rt; audit(rt.alloc(), &copy).ok(), Some(Audit::Legal));
+    same(rt, copy.len(), account.len());
+    same(rt, audit(rt.alloc(), &copy).ok(), Some(Audit::Legal));
 }
 
 /// The server's entries are those of its seats, and of these moments.
@@ -116,18 +117,19 @@ pub(crate) fn closes<L: Ledger, R: Abort + AllocGlobal>(
 ) {
     match finish(shared, seats) {
         Ok(closing) => {
-            assert_eq!(rt; closing.total, moments.len() as u64);
+            same(rt, closing.total, moments.len() as u64);
             let account = closing.desk.account();
             is_legal(rt, account);
             for (place, moment) in moments.iter().enumerate() {
                 let entry = account.entry(place);
-                assert!(rt;
+                holds(
+                    rt,
                     entry.is_some_and(|entry| entry.moment == *moment),
-                    "{place}"
+                    place,
                 );
             }
         }
-        Err(_) => assert!(rt; false, "a seat is missing"),
+        Err(_) => holds(rt, false, "all seats are there"),
     }
 }
 
@@ -168,7 +170,7 @@ pub(crate) fn connects<L: Ledger, R: Wait + Abort + AllocGlobal, C: Clock>(
     };
     let ended = answer(rt, shared, seat, clock, &gate, reader, &mut writer);
     row.came(rt, &ended, writer.taken());
-    assert_eq!(rt; gate.pauses.load(Ordering::SeqCst), pauses);
+    same(rt, gate.pauses.load(Ordering::SeqCst), pauses);
 }
 
 // A server of one worker over a ledger answers what the reader gives as the row says.
@@ -214,7 +216,8 @@ pub(crate) fn one_worker<R: Wait + Abort + AllocGlobal, C: Clock>(
 ) -> Result<(), Fail> {
     let mut reader = TestReader::new(row.sent, 1);
     one::<Brand, R, C>(rt, Blank::new(1), clock, row, &mut reader, pauses, moments)?;
-    assert!(rt; reader.reads() <= (row.sent.len() as u64).saturating_add(1));
+    let most = (row.sent.len() as u64).saturating_add(1);
+    holds(rt, reader.reads() <= most, reader.reads());
     Ok(())
 }
 
@@ -229,6 +232,6 @@ pub(crate) fn one_reader<R: Wait + Abort + AllocGlobal>(
 ) -> Result<(), Fail> {
     let mut reader = reader;
     one::<Brand, R, Still>(rt, Blank::new(1), &Still(0), row, &mut reader, 0, moments)?;
-    assert_eq!(rt; reader.reads(), reads);
+    same(rt, reader.reads(), reads);
     Ok(())
 }

@@ -2,6 +2,7 @@
 //! connections are served side by side.
 ghost use Rattle.std.specs.Prelude.{◌≡◌};
 
+use crate::expect::{holds, same};
 use crate::meeting::{Event, Meeting};
 use crate::run::{Still, all_are_asked_for};
 use crate::talks::{GIVES, POLLS, PUTS, TAKES, Talk};
@@ -26,7 +27,7 @@ const WELCOME_BYTES: usize = 57;
 fn connect<R: Net<Stream = TcpStream> + Abort>(rt: &R, address: SocketAddr) -> TcpStream {
     let stream = TcpStream::connect(rt, address).expect(rt, "no connection");
     let patience = Some(Duration::from_secs(20));
-    assert!(rt; stream.set_read_timeout(patience).is_ok());
+    same(rt, stream.set_read_timeout(patience).is_ok(), true);
     stream
 }
 
@@ -35,8 +36,8 @@ fn hear<R: Abort + AllocGlobal>(rt: &R, stream: &TcpStream, answers: &[u8]) {
     let mut link = stream;
     let mut heard = vec![in rt.alloc(); 0u8; answers.len()].expect(rt, "no memory");
     let read = link.read_exact(heard.as_mut_slice());
-    assert_eq!(rt; heard.as_slice(), answers);
-    assert!(rt; read.is_ok());
+    same(rt, heard.as_slice(), answers);
+    same(rt, read.is_ok(), true);
 }
 
 // The client sends its frames in one piece, and reads its welcome, of which it may tell, and the others.
@@ -47,7 +48,7 @@ fn converse<R: Abort + AllocGlobal>(
     welcomed: Option<&Event>,
 ) {
     let mut link = stream;
-    assert!(rt; link.write_all(talk.sent).is_ok());
+    same(rt, link.write_all(talk.sent).is_ok(), true);
     let (welcome, others) = talk.answers.split_at(WELCOME_BYTES.min(talk.answers.len()));
     hear(rt, stream, welcome);
     if let Some(event) = welcomed {
@@ -67,7 +68,7 @@ fn served_both<L: Ledger, R: Abort + AllocGlobal>(
 ) -> Result<(), Fail> {
     match ended {
         Ok(report) => {
-            assert_eq!(rt; (report.served, report.faults), (2, 0));
+            same(rt, (report.served, report.faults), (2, 0));
             let Report { seats, .. } = report;
             all_are_asked_for(rt, shared, seats, [0, 0, 0, 0].as_slice())
         }
@@ -115,7 +116,7 @@ where
         || {
             paused.wait(rt);
             welcomed.wait(rt);
-            assert!(rt; !welcomed.is_late(), "no welcome came before the pause");
+            holds(rt, !welcomed.is_late(), "a welcome comes before the pause");
             converse(rt, &second, TAKES, None);
             answered.comes();
         },
@@ -147,8 +148,12 @@ where
             &meeting.answered,
         ),
     );
-    assert!(rt; !meeting.paused.is_late(), "no worker paused");
-    assert!(rt; !meeting.answered.is_late(), "no answer came in a pause");
+    holds(rt, !meeting.paused.is_late(), "a worker pauses");
+    holds(
+        rt,
+        !meeting.answered.is_late(),
+        "an answer comes in a pause",
+    );
     served_both(rt, shared, ended)
 }
 

@@ -2,6 +2,7 @@
 //! messages added.
 ghost use Rattle.std.specs.Prelude.{◌≡◌};
 
+use crate::expect::holds;
 use crate::meeting::Meeting;
 use crate::run::{Ended, Row, Still, all_are_asked_for, answer, closes};
 use crate::talks::{GIVES, TAKES, Talk};
@@ -110,8 +111,12 @@ fn hand_over<L: Ledger + Send + Sync, R: Wait + Threads + Abort + AllocGlobal + 
             &mut telling,
         ),
     );
-    assert!(rt; !meeting.paused.is_late(), "no worker paused");
-    assert!(rt; !meeting.answered.is_late(), "no answer came in a pause");
+    holds(rt, !meeting.paused.is_late(), "a worker pauses");
+    holds(
+        rt,
+        !meeting.answered.is_late(),
+        "an answer comes in a pause",
+    );
     answered(rt, GIVES, 3, &gave, writer.taken());
     answered(rt, TAKES, 2, &took, telling.writer.taken());
     closes(

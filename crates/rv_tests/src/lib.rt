@@ -8,6 +8,8 @@ mod answers;
 #[cfg(test)]
 mod deadlines;
 #[cfg(test)]
+mod expect;
+#[cfg(test)]
 mod line;
 #[cfg(test)]
 mod rows;

@@ -4,6 +4,7 @@
 ghost use Rattle.std.specs.Prelude.{IfOk};
 ghost use Rattle.rv_text.specs.Limits.{FitsMessage};
 
+use crate::expect::{holds, same};
 use crate::line::{Recorded, Says};
 use crate::scripts::{
     BEFORE_FREE, ENDED, FREE, FREE_ENTRIES, Given, HELLO_ENTRIES, HELLOS, MET, MOMENTS, SETTLED,
@@ -61,13 +62,13 @@ fn send(
     let Ok(answer) = give(rt, book, given) else {
         let taken = book.account().len();
         let again = give(rt, book, given)?;
-        assert_eq!(rt; book.account().len(), taken);
+        same(rt, book.account().len(), taken);
         return Ok(again);
     };
     if answer != Answer::Refused(Refusal::NoMemory) {
         return Ok(answer);
     }
-    assert!(rt; is_left(book.account(), before));
+    holds(rt, is_left(book.account(), before), before);
     give(rt, book, given)
 }
 
@@ -75,9 +76,10 @@ fn send(
 fn is_told(alloc: Global, answer: &Answer, given: &Given) -> Result<bool, NoMemory> {
     let (_, says, told) = *given;
     let key = says.key();
-    let want = told
-        .answer(alloc, key)
-        .or_else(|_| told.answer(alloc, key))?;
+    let want = match told.answer(alloc, key) {
+        Ok(want) => want,
+        Err(_) => told.answer(alloc, key)?,
+    };
     Ok(*answer == want)
 }
 
@@ -90,12 +92,23 @@ fn give_all(
 ) -> Result<(), NoMemory> {
     for (place, given) in table.iter().enumerate() {
         let answer = send(rt, book, given)?;
-        assert!(rt;
-            is_told(rt.alloc(), &answer, given)?,
-            "{name}: message {place}"
-        );
+        holds(rt, is_told(rt.alloc(), &answer, given)?, (name, place));
     }
     Ok(())
+}
+
+// Whether the account has this entry at this place.
+fn stands(
+    alloc: Global,
+    account: &Account,
+    place: usize,
+    recorded: &Recorded,
+) -> Result<bool, NoMemory> {
+    let entry = match recorded.entry(alloc) {
+        Ok(entry) => entry,
+        Err(_) => recorded.entry(alloc)?,
+    };
+    Ok(account.entry(place) == Some(&entry))
 }
 
 // Asserts that the account has exactly the entries of some hellos, and these.
@@ -105,16 +118,12 @@ fn records(
     hellos: usize,
     entries: &[Recorded],
 ) -> Result<(), NoMemory> {
-    let alloc = rt.alloc();
-    let mut places = 0..account.len();
-    for recorded in HELLO_ENTRIES.iter().take(hellos).chain(entries) {
-        let entry = recorded.entry(alloc).or_else(|_| recorded.entry(alloc))?;
-        let Some(place) = places.next() else {
-            panic!(rt; "there is an entry less")
-        };
-        assert!(rt; account.entry(place) == Some(&entry), "at {place}");
+    let hellos = HELLO_ENTRIES.get(..hellos).unwrap_or(&[]);
+    for (place, recorded) in hellos.iter().chain(entries).enumerate() {
+        holds(rt, stands(rt.alloc(), account, place, recorded)?, place);
     }
-    assert_eq!(rt; places.next(), None);
+    let others = account.len().checked_sub(hellos.len());
+    same(rt, others, Some(entries.len()));
     Ok(())
 }
 
@@ -163,18 +172,31 @@ fn moments_never_fall(rt: HostRuntime) -> Result<(), Fail> {
     Ok(())
 }
 
+// Gives the message once, and tells its verdict again where the text of the answer found no memory: whether
+// the answer is the one in the table.
+fn is_free(
+    rt: &(impl Abort + AllocGlobal),
+    book: &mut Book,
+    given: &Given,
+) -> Result<bool, NoMemory> {
+    let alloc = rt.alloc();
+    let (moment, says, _) = *given;
+    let message = message(rt, alloc, says)?;
+    let verdict = book.handle(moment, message);
+    let answer = match book.answer(alloc, &verdict) {
+        Ok(answer) => answer,
+        Err(_) => book.answer(alloc, &verdict)?,
+    };
+    is_told(alloc, &answer, given)
+}
+
 // Each is given once: no step meets want of memory, whichever growth is refused. The text of an answer may.
 #[test]
 fn ticks_cancels_and_repeats_take_no_memory(rt: HostRuntime) -> Result<(), Fail> {
-    let alloc = rt.alloc();
     let mut book = played(&rt, 0, &BEFORE_FREE)?;
     for (place, given) in FREE.iter().enumerate() {
-        let (moment, says, _) = *given;
-        let verdict = book.handle(moment, message(&rt, alloc, says)?);
-        let answer = book
-            .answer(alloc, &verdict)
-            .or_else(|_| book.answer(alloc, &verdict))?;
-        assert!(rt; is_told(alloc, &answer, given)?, "at {place}");
+        let told = is_free(&rt, &mut book, given)?;
+        holds(&rt, told, place);
     }
     records(&rt, book.account(), BEFORE_FREE.hellos, FREE_ENTRIES)?;
     Ok(())

@@ -1,4 +1,5 @@
 //! A list of events, which no program runs as a whole: what is left of it in the world that it leads to.
+use crate::expect::{holds, same};
 use rv_text::{Answer, Call, Item, Key, NoMemory, Refusal, Reply, Version, Wait};
 use rv_world::{Event, World, WorldRefusal, run};
 use std::alloc::Global;
@@ -26,9 +27,9 @@ fn a_list_of_events(rt: HostRuntime) -> Result<(), Fail> {
     let Ok(world) = run(alloc, &events) else {
         return Err(Fail::new("an event was refused"));
     };
-    assert_eq!(rt; (world.held().len(), world.asked().len()), (1, 1));
+    same(&rt, (world.held().len(), world.asked().len()), (1, 1));
     let entries = world.account(1).map(|account| account.len());
-    assert_eq!(rt; entries, Some(2));
+    same(&rt, entries, Some(2));
     let key = Key {
         epoch: 1,
         client: 1,
@@ -36,8 +37,9 @@ fn a_list_of_events(rt: HostRuntime) -> Result<(), Fail> {
         number: 1,
     };
     let reply = Reply::Done;
-    assert!(rt; world.answer_packet(1) == Some(&Answer::Replied { key, reply }));
-    assert!(rt; world.answer_packet(2).is_none());
+    let answer = Answer::Replied { key, reply };
+    holds(&rt, world.answer_packet(1) == Some(&answer), "the reply");
+    same(&rt, world.answer_packet(2).is_none(), true);
     Ok(())
 }
 
@@ -45,7 +47,11 @@ fn a_list_of_events(rt: HostRuntime) -> Result<(), Fail> {
 fn a_list_with_an_event_that_is_refused(rt: HostRuntime) {
     let events = [Event::Start(1, 1, Version::One), Event::Crash(2)];
     let stop = run(rt.alloc(), &events).err();
-    assert!(rt; stop == Some((1, WorldRefusal::NoSuchClient)));
+    holds(
+        &rt,
+        stop == Some((1, WorldRefusal::NoSuchClient)),
+        "where it stops",
+    );
 }
 
 // The worked play up to its last reply that is settled: a transfer gets to the server again and again, and
@@ -90,6 +96,14 @@ fn worked_play(alloc: Global) -> Result<[Event; 23], NoMemory> {
     ])
 }
 
+// The same, built again where a growth was refused.
+fn played(alloc: Global) -> Result<[Event; 23], NoMemory> {
+    match worked_play(alloc) {
+        Ok(events) => Ok(events),
+        Err(_) => worked_play(alloc),
+    }
+}
+
 // Whether an answer of the play says that the server found no memory.
 fn lacks(world: &World) -> bool {
     for packet in 0..9 {
@@ -112,17 +126,14 @@ fn is_whole(world: &World) -> bool {
 #[test]
 fn a_worked_play(rt: HostRuntime) -> Result<(), Fail> {
     let alloc = rt.alloc();
-    let events = worked_play(alloc).or_else(|_| worked_play(alloc))?;
+    let events = played(alloc)?;
     assert!(rt; events.iter().all(Event::fits));
     match run(alloc, &events) {
-        Ok(world) => assert!(rt; is_whole(&world) || lacks(&world)),
+        Ok(world) => holds(&rt, is_whole(&world) || lacks(&world), "the end"),
         Err((_, WorldRefusal::NoMemory)) => (),
         Err((at, refusal)) => {
-            assert!(rt; refusal == WorldRefusal::NotIdle, "at {at}");
-            assert!(rt;
-                matches!(events.get(at), Some(Event::Begin(_, _))),
-                "at {at}"
-            );
+            holds(&rt, refusal == WorldRefusal::NotIdle, at);
+            holds(&rt, matches!(events.get(at), Some(Event::Begin(_, _))), at);
         }
     }
     Ok(())
@@ -133,8 +144,11 @@ fn a_worked_play(rt: HostRuntime) -> Result<(), Fail> {
 #[test]
 fn a_worked_play_by_steps(rt: HostRuntime) -> Result<(), Fail> {
     let alloc = rt.alloc();
-    let events = worked_play(alloc).or_else(|_| worked_play(alloc))?;
-    let mut world = World::open(alloc, 1).or_else(|_| World::open(alloc, 1))?;
+    let events = played(alloc)?;
+    let mut world = match World::open(alloc, 1) {
+        Ok(world) => world,
+        Err(_) => World::open(alloc, 1)?,
+    };
     for event in &events {
         assert!(rt; event.fits());
         let mut seen = world.step(alloc, event);
@@ -142,10 +156,14 @@ fn a_worked_play_by_steps(rt: HostRuntime) -> Result<(), Fail> {
             seen = world.step(alloc, event);
         }
         if seen.is_err() {
-            assert!(rt; seen == Err(WorldRefusal::NotIdle) && lacks(&world));
+            holds(
+                &rt,
+                seen == Err(WorldRefusal::NotIdle) && lacks(&world),
+                "a refusal",
+            );
             return Ok(());
         }
     }
-    assert!(rt; is_whole(&world) || lacks(&world));
+    holds(&rt, is_whole(&world) || lacks(&world), "the end");
     Ok(())
 }

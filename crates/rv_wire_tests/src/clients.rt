@@ -2,6 +2,7 @@
 ghost use Rattle.std.specs.Prelude.{◌≡◌, IfOk, Some};
 ghost use Rattle.rv_text.specs.Limits.{FitsCall, FitsMessage};
 
+use crate::expect::{holds, same};
 use rv_client::{CallOutcome, HearOutcome, Idle, LinkFault, New, WelcomeOutcome, ask, call, laws};
 use rv_frame::testing::{Stop, TestReader, TestWriter};
 use rv_frame::{Sink, Source};
@@ -128,13 +129,13 @@ fn calls(
         let mut device = TestWriter::new(alloc, 50);
         let mut sink = Sink::new(&mut device);
         let called = plain(call(alloc, idle()?, &mut source, &mut sink, take(), tries));
-        assert!(rt; called == want);
-        assert_eq!(rt; unread(&mut source), left);
+        holds(rt, called == want, most);
+        same(rt, unread(&mut source), left);
         let mut sent = Vec::new(alloc);
         for _ in 0..times {
             sent.extend_from_slice(&frames(alloc, [REQUEST].as_slice())?)?;
         }
-        assert_eq!(rt; device.taken(), sent.as_slice());
+        same(rt, device.taken(), sent.as_slice());
     }
     Ok(())
 }
@@ -216,10 +217,10 @@ fn an_answer_is_read_to_its_last_byte_and_no_further(rt: HostRuntime) -> Result<
     for (count, want) in [(65_538, waiting), (65_536, Err(LinkFault::Closed))] {
         let given = bytes.get(..count).unwrap_or(b"");
         let (answer, reads, device) = asks(alloc, given, &hello);
-        assert!(rt; answer == want, "{count}");
-        assert_eq!(rt; reads, 65_537);
-        assert_eq!(rt; device.taken(), request.as_slice());
-        assert_eq!(rt; device.writes(), 1);
+        holds(&rt, answer == want, count);
+        same(&rt, reads, 65_537);
+        same(&rt, device.taken(), request.as_slice());
+        same(&rt, device.writes(), 1);
     }
     Ok(())
 }
@@ -270,8 +271,8 @@ fn the_longest_items_are_sent_and_heard(rt: HostRuntime) -> Result<(), Fail> {
         key: key(2, 1, 1),
         reply: Reply::Item(letters(alloc)?),
     };
-    assert!(rt; heard == Ok(want));
-    assert_eq!(rt; device.taken(), request.as_slice());
+    holds(&rt, heard == Ok(want), "what was heard");
+    same(&rt, device.taken(), request.as_slice());
     Ok(())
 }
 
@@ -286,10 +287,10 @@ fn a_read_that_fails(rt: HostRuntime) -> Result<(), Fail> {
         let mut device = TestWriter::new(alloc, 10_000);
         let mut sink = Sink::new(&mut device);
         let answer = ask(alloc, &mut source, &mut sink, &hello);
-        assert!(rt; answer == Err(LinkFault::ReadFault), "{fault}");
-        assert!(rt; source.failed());
-        assert_eq!(rt; reader.reads(), fault);
-        assert_eq!(rt; device.taken().len(), 45);
+        holds(&rt, answer == Err(LinkFault::ReadFault), fault);
+        holds(&rt, source.failed(), fault);
+        same(&rt, reader.reads(), fault);
+        same(&rt, device.taken().len(), 45);
     }
     Ok(())
 }
@@ -306,12 +307,12 @@ fn a_write_that_fails(rt: HostRuntime) -> Result<(), Fail> {
             let mut device = TestWriter::new(alloc, 7).stopping_after(room, stop);
             let mut sink = Sink::new(&mut device);
             let answer = ask(alloc, &mut source, &mut sink, &hello);
-            assert!(rt; answer == Err(LinkFault::WriteFault(room)), "{room}");
-            assert!(rt; sink.failed());
+            holds(&rt, answer == Err(LinkFault::WriteFault(room)), room);
+            holds(&rt, sink.failed(), room);
             let again = ask(alloc, &mut source, &mut sink, &hello);
-            assert!(rt; again == Err(LinkFault::WriteFault(0)), "{room}");
-            assert_eq!(rt; device.taken().len(), room);
-            assert_eq!(rt; reader.reads(), 0);
+            holds(&rt, again == Err(LinkFault::WriteFault(0)), room);
+            same(&rt, device.taken().len(), room);
+            same(&rt, reader.reads(), 0);
         }
     }
     Ok(())
@@ -322,16 +323,20 @@ fn a_write_that_fails(rt: HostRuntime) -> Result<(), Fail> {
 fn what_answers_are_to_a_request(rt: HostRuntime) -> Result<(), Fail> {
     let first = key(2, 1, 1);
     let ended = hears(Answer::Refused(Refusal::OtherEpoch(2)))?;
-    assert!(rt; ended == Came::EpochEnded(first, 2));
+    holds(&rt, ended == Came::EpochEnded(first, 2), "other epoch");
     let replaced = hears(Answer::Refused(Refusal::OldIncarnation(3)))?;
-    assert!(rt; replaced == Came::Replaced(first, 3));
+    holds(&rt, replaced == Came::Replaced(first, 3), "old incarnation");
     let ignored = hears(Answer::Refused(Refusal::OtherEpoch(1)))?;
-    assert!(rt; ignored == Came::Unsettled(first, None));
+    holds(
+        &rt,
+        ignored == Came::Unsettled(first, None),
+        "its own epoch",
+    );
     let late = hears(Answer::Replied {
         key: key(2, 1, 2),
         reply: Reply::Empty,
     })?;
-    assert!(rt; late == Came::Unsettled(first, None));
+    holds(&rt, late == Came::Unsettled(first, None), "another number");
     Ok(())
 }
 
@@ -365,12 +370,12 @@ fn settles(rt: &impl Abort, alloc: Global) -> Result<bool, Fail> {
     match called {
         Came::Settled(_, _) => return Ok(true),
         Came::Unsettled(_, Some(LinkFault::NoMemory)) => {
-            assert!(rt; happened == (0, 0) || happened == (109, 14), "{happened:?}");
+            holds(rt, happened == (0, 0) || happened == (109, 14), happened);
         }
         Came::Unsettled(_, Some(LinkFault::WriteFault(sent))) => {
-            assert_eq!(rt; happened, (sent, 0));
+            same(rt, happened, (sent, 0));
         }
-        _ => assert!(rt; false),
+        _ => holds(rt, false, happened),
     }
     Ok(false)
 }
@@ -419,8 +424,8 @@ fn a_conversation(rt: HostRuntime) -> Result<(), Fail> {
     let mut source = Source::new(TestReader::new(&bytes, 5));
     let mut device = TestWriter::new(alloc, 50);
     let replies = converse(alloc, &mut source, &mut Sink::new(&mut device))?;
-    assert!(rt; replies == (Reply::Done, Reply::Empty));
-    assert_eq!(rt; unread(&mut source), 0);
+    holds(&rt, replies == (Reply::Done, Reply::Empty), "the replies");
+    same(&rt, unread(&mut source), 0);
     Ok(())
 }
 
@@ -428,7 +433,7 @@ fn a_conversation(rt: HostRuntime) -> Result<(), Fail> {
 #[test]
 fn a_refused_growth_leaves_what_it_says(rt: HostRuntime) -> Result<(), Fail> {
     let settled = settles(&rt, rt.alloc())? || settles(&rt, rt.alloc())?;
-    assert!(rt; settled);
+    same(&rt, settled, true);
     Ok(())
 }
 
@@ -452,20 +457,20 @@ fn a_request_is_the_same_each_time(rt: HostRuntime) -> Result<(), Fail> {
     };
     let call = put(alloc)?;
     let mut outstanding = idle()?.begin(call);
-    assert_eq!(rt; outstanding.key(), key(2, 1, 1));
+    same(&rt, outstanding.key(), key(2, 1, 1));
     let cancel = Message::Cancel { key: key(2, 1, 1) };
-    assert!(rt; outstanding.cancel_message() == cancel);
+    holds(&rt, outstanding.cancel_message() == cancel, "the cancel");
     let mut refused = false;
     for _ in 0..3 {
         outstanding = outstanding.park().wake();
         match outstanding.message(alloc) {
-            Ok(message) => assert!(rt; message == want),
+            Ok(message) => holds(&rt, message == want, "the request"),
             Err(_) => {
-                assert!(rt; !refused);
+                same(&rt, refused, false);
                 refused = true;
             }
         }
     }
-    assert_eq!(rt; outstanding.abandon(), key(2, 1, 1));
+    same(&rt, outstanding.abandon(), key(2, 1, 1));
     Ok(())
 }

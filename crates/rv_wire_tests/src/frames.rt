@@ -1,6 +1,7 @@
 //! Frames out of known bytes, in all cuts, and what is written of a frame.
 ghost use Rattle.rv_frame.specs.Cut.{IsFrameBody};
 
+use crate::expect::{holds, same};
 use crate::pieces::frames_of_pieces;
 use rv_frame::testing::{Stop, TestWriter};
 use rv_frame::{FrameFault, Frames, NoMemory, Sink, WriteFault, write_frame};
@@ -32,27 +33,27 @@ fn feed_cut(frames: &mut Frames, bytes: &[u8], cuts: u32) -> Result<(), FrameFau
 // The next frame has this body.
 fn gives(rt: &impl Abort, frames: &mut Frames, body: &[u8]) {
     match frames.next() {
-        Ok(Some(taken)) => assert_eq!(rt; taken.as_slice(), body),
-        _ => assert!(rt; false, "no frame"),
+        Ok(Some(taken)) => same(rt, taken.as_slice(), body),
+        _ => holds(rt, false, "a frame"),
     }
 }
 
 fn gives_none(rt: &impl Abort, frames: &mut Frames) {
-    assert!(rt; matches!(frames.next(), Ok(None)));
+    holds(rt, matches!(frames.next(), Ok(None)), "no frame");
 }
 
 #[test]
 fn frames_in_all_cuts(rt: HostRuntime) {
     for cuts in 0..64u32 {
         let mut frames = Frames::new(rt.alloc());
-        assert_eq!(rt; feed_cut(&mut frames, TWO_FRAMES, cuts), Ok(()));
-        assert_eq!(rt; frames.rest(), 0);
-        assert_eq!(rt; frames.feed(b"\x00"), Ok(()));
-        assert_eq!(rt; frames.rest(), 1);
+        same(&rt, feed_cut(&mut frames, TWO_FRAMES, cuts), Ok(()));
+        same(&rt, frames.rest(), 0);
+        same(&rt, frames.feed(b"\x00"), Ok(()));
+        same(&rt, frames.rest(), 1);
         gives(&rt, &mut frames, b"A");
         gives(&rt, &mut frames, b"BC");
         gives_none(&rt, &mut frames);
-        assert_eq!(rt; frames.rest(), 1);
+        same(&rt, frames.rest(), 1);
     }
 }
 
@@ -63,7 +64,7 @@ fn frames_in_pieces_of_a_size(rt: HostRuntime) -> Result<(), Fail> {
         gives(&rt, &mut frames, b"A");
         gives(&rt, &mut frames, b"BC");
         gives_none(&rt, &mut frames);
-        assert_eq!(rt; frames.rest(), 0);
+        same(&rt, frames.rest(), 0);
     }
     Ok(())
 }
@@ -73,22 +74,22 @@ fn a_bad_length_ends_the_frames(rt: HostRuntime) {
     for cuts in 0..32u32 {
         let mut frames = Frames::new(rt.alloc());
         let bad = Err(FrameFault::BadLength(0));
-        assert_eq!(rt; feed_cut(&mut frames, BAD_AFTER_ONE, cuts), bad);
-        assert_eq!(rt; frames.rest(), 0);
+        same(&rt, feed_cut(&mut frames, BAD_AFTER_ONE, cuts), bad);
+        same(&rt, frames.rest(), 0);
         gives(&rt, &mut frames, b"A");
         gives_none(&rt, &mut frames);
-        assert_eq!(rt; frames.feed(b"A"), bad);
-        assert_eq!(rt; frames.feed(b"\x00\x01A"), bad);
+        same(&rt, frames.feed(b"A"), bad);
+        same(&rt, frames.feed(b"\x00\x01A"), bad);
         gives_none(&rt, &mut frames);
-        assert_eq!(rt; frames.rest(), 0);
+        same(&rt, frames.rest(), 0);
     }
 }
 
 #[test]
 fn a_length_of_4097_is_good(rt: HostRuntime) {
     let mut frames = Frames::new(rt.alloc());
-    assert_eq!(rt; frames.feed(b"\x10\x01"), Ok(()));
-    assert_eq!(rt; frames.rest(), 2);
+    same(&rt, frames.feed(b"\x10\x01"), Ok(()));
+    same(&rt, frames.rest(), 2);
 }
 
 // The length bytes of the longest frame, and then in one piece its body, two frames, and a byte.
@@ -99,10 +100,10 @@ fn a_piece_is_longer_than_a_frame(rt: HostRuntime) -> Result<(), Fail> {
     piece.extend_from_slice(TWO_FRAMES)?;
     piece.push(0)?;
     let mut frames = Frames::new(rt.alloc());
-    assert_eq!(rt; frames.feed(b"\xff\xff"), Ok(()));
-    assert_eq!(rt; frames.rest(), 2);
-    assert_eq!(rt; frames.feed(&piece), Ok(()));
-    assert_eq!(rt; frames.rest(), 1);
+    same(&rt, frames.feed(b"\xff\xff"), Ok(()));
+    same(&rt, frames.rest(), 2);
+    same(&rt, frames.feed(&piece), Ok(()));
+    same(&rt, frames.rest(), 1);
     for body in [body.as_slice(), b"A", b"BC"] {
         gives(&rt, &mut frames, body);
     }
@@ -129,12 +130,16 @@ fn next_again(frames: &mut Frames) -> Result<Option<Vec<u8>>, NoMemory> {
 #[test]
 fn a_refused_growth_changes_nothing(rt: HostRuntime) {
     let mut frames = Frames::new(rt.alloc());
-    assert_eq!(rt; feed_again(&mut frames, b"\x00\x01A\x00"), Ok(()));
-    assert_eq!(rt; feed_again(&mut frames, b"\x02BC\x00\x03DEF\x00"), Ok(()));
+    same(&rt, feed_again(&mut frames, b"\x00\x01A\x00"), Ok(()));
+    same(
+        &rt,
+        feed_again(&mut frames, b"\x02BC\x00\x03DEF\x00"),
+        Ok(()),
+    );
     for body in [b"A".as_slice(), b"BC", b"DEF"] {
         match next_again(&mut frames) {
-            Ok(Some(taken)) => assert_eq!(rt; taken.as_slice(), body),
-            _ => assert!(rt; false, "no frame"),
+            Ok(Some(taken)) => same(&rt, taken.as_slice(), body),
+            _ => holds(&rt, false, "a frame"),
         }
     }
 }
@@ -146,23 +151,28 @@ fn stops(rt: &impl Abort, alloc: Global, body: &[u8], frame: &[u8], room: usize)
     let stop = Stop::Error(ErrorKind::Other);
     let mut device = TestWriter::new(alloc, 1).stopping_after(room, stop);
     let mut sink = Sink::new(&mut device);
-    assert_eq!(rt;
+    same(
+        rt,
         write_frame(&mut sink, body),
-        Err(WriteFault { sent: room })
+        Err(WriteFault { sent: room }),
     );
-    assert!(rt; sink.failed());
-    assert_eq!(rt; write_frame(&mut sink, body), Err(WriteFault { sent: 0 }));
-    assert_eq!(rt; Some(device.taken()), frame.get(..room));
-    assert_eq!(rt; device.flushes(), 0);
+    same(rt, sink.failed(), true);
+    same(
+        rt,
+        write_frame(&mut sink, body),
+        Err(WriteFault { sent: 0 }),
+    );
+    same(rt, Some(device.taken()), frame.get(..room));
+    same(rt, device.flushes(), 0);
 }
 
 #[test]
 fn a_frame_is_written(rt: HostRuntime) {
     let mut device = TestWriter::new(rt.alloc(), 3);
     let mut sink = Sink::new(&mut device);
-    assert_eq!(rt; write_frame(&mut sink, b"A"), Ok(()));
-    assert_eq!(rt; write_frame(&mut sink, b"BC"), Ok(()));
-    assert_eq!(rt; device.taken(), TWO_FRAMES);
+    same(&rt, write_frame(&mut sink, b"A"), Ok(()));
+    same(&rt, write_frame(&mut sink, b"BC"), Ok(()));
+    same(&rt, device.taken(), TWO_FRAMES);
     for room in 0..4 {
         stops(&rt, rt.alloc(), b"BC", b"\x00\x02BC", room);
     }
@@ -174,9 +184,9 @@ fn leaves_in(rt: &impl Abort, alloc: Global, body: &[u8], writes: u64)
 {
     let mut device = TestWriter::new(alloc, 100_000);
     let mut sink = Sink::new(&mut device);
-    assert_eq!(rt; write_frame(&mut sink, body), Ok(()));
-    assert_eq!(rt; device.writes(), writes);
-    assert_eq!(rt; device.taken().len(), body.len() + 2);
+    same(rt, write_frame(&mut sink, body), Ok(()));
+    same(rt, device.writes(), writes);
+    same(rt, device.taken().len(), body.len() + 2);
 }
 
 #[test]

@@ -8,6 +8,8 @@ mod clients;
 #[cfg(test)]
 mod devices;
 #[cfg(test)]
+mod expect;
+#[cfg(test)]
 mod frames;
 #[cfg(test)]
 mod pieces;

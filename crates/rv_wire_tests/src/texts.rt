@@ -1,4 +1,5 @@
 //! The texts of the format byte for byte, and what each answer's body gives.
+use crate::expect::{holds, same};
 use rv_text::{
     BAD_TEXT_BODY, NO_MEMORY_BODY, TextFault, decode_answer, decode_call, decode_message,
     encode_answer, encode_message,
@@ -48,9 +49,9 @@ fn messages_are_read_and_written(rt: HostRuntime) -> Result<(), Fail> {
         };
         let message = decode_message(alloc, text.as_bytes())?;
         assert!(rt; message.fits(), "{text}");
-        assert_eq!(rt; encode_message(alloc, &message)?.as_str(), *text);
+        same(&rt, encode_message(alloc, &message)?.as_str(), *text);
         let found = format!(in alloc; "{message:?}")?;
-        assert!(rt; found.ends_with(want), "{found}");
+        holds(&rt, found.ends_with(want), found);
     }
     Ok(())
 }
@@ -83,7 +84,7 @@ fn calls_are_read(rt: HostRuntime) -> Result<(), Fail> {
             return Err(Fail::new("a row of other than two"));
         };
         let call = decode_call(alloc, text.as_bytes())?;
-        assert_eq!(rt; format!(in alloc; "{call:?}")?.as_str(), *want);
+        same(&rt, format!(in alloc; "{call:?}")?.as_str(), *want);
     }
     Ok(())
 }
@@ -164,9 +165,9 @@ fn answers_are_read_and_written(rt: HostRuntime) -> Result<(), Fail> {
         };
         let answer = decode_answer(alloc, text.as_bytes())?;
         assert!(rt; answer.fits(), "{text}");
-        assert_eq!(rt; encode_answer(alloc, &answer)?.as_str(), *text);
+        same(&rt, encode_answer(alloc, &answer)?.as_str(), *text);
         let found = format!(in alloc; "{answer:?}")?;
-        assert!(rt; found.ends_with(want), "{found}");
+        holds(&rt, found.ends_with(want), found);
     }
     Ok(())
 }
@@ -201,13 +202,13 @@ const NO_ANSWERS: &[(&[u8], TextFault)] = &[
 #[test]
 fn what_is_no_answer_is_told(rt: HostRuntime) -> Result<(), Fail> {
     for (bytes, want) in NO_ANSWERS {
-        assert_eq!(rt; decode_answer(rt.alloc(), bytes).err(), Some(*want));
+        same(&rt, decode_answer(rt.alloc(), bytes).err(), Some(*want));
     }
     for (depth, want) in [(127, TextFault::NotMessage), (128, TextFault::NotJson)] {
         let mut body = "[".repeat(rt.alloc(), depth)?;
         body.push_str("]".repeat(rt.alloc(), depth)?.as_str())?;
         let found = decode_answer(rt.alloc(), body.as_bytes()).err();
-        assert_eq!(rt; found, Some(want));
+        same(&rt, found, Some(want));
     }
     Ok(())
 }
@@ -217,7 +218,7 @@ fn what_is_no_answer_is_told(rt: HostRuntime) -> Result<(), Fail> {
 #[test]
 fn a_refused_growth_is_told(rt: HostRuntime) {
     if let Err(fault) = all_calls(rt.alloc()) {
-        assert_eq!(rt; fault, TextFault::NoMemory);
+        same(&rt, fault, TextFault::NoMemory);
     }
 }
 
