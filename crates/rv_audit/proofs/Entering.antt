@@ -10,13 +10,13 @@ use Rattle.rv_account.specs.declared.entry.Act.TheVariants.{Arrive, Cancel, Hell
 use Rattle.rv_account.specs.Account.{Account, act_at, call_in, key_in}
 use Rattle.rv_account.specs.Calls.{IsPut}
 use Rattle.rv_book.specs.Legal.{IsNextNumber, Legal, MayFollow, NamesFreePartners, WaitsUnder}
-use Rattle.rv_book.specs.Sessions.{HasIncarnation, HasOpened, LastHello, LastNumber, NamesKey, SaidHello}
+use Rattle.rv_book.specs.Sessions.{HasIncarnation, HasOpened, LastNumber, NamesKey, SaidHello}
 use Rattle.rv_book.specs.Waiting.{Waiting}
 use Rattle.rv_book.proofs.Growing.{act_read, call_read, reads_back, reads_within}
 use Rattle.rv_book.proofs.Keys.{NamesKey-back, NamesKey-on, act_called, client_of, key_read}
 use Rattle.rv_book.proofs.Numbers.{same_or_not}
 use Rattle.rv_book.proofs.Places.{get-append_end}
-use Rattle.rv_book.proofs.SessionTable.{IsApart, IsAt, IsAt-on, named_at, other_apart}
+use Rattle.rv_book.proofs.SessionTable.{IsApart, IsAt, IsAt-on, greeted_at, named_at, other_apart}
 use Rattle.rv_book.proofs.Sides.{IsNewRequest, Waiting-back, WasWaiting, cancel_stops, hello_stops}
 use Rattle.rv_book.proofs.Waits.{one_waits, waiting_is_last}
 use Rattle.rv_audit.specs.Passed.{AreAuditSessions, EntersIf, IsAuditSession, IsAuditSessionOf, session_after}
@@ -72,26 +72,6 @@ session_of_on es e client (Some s) free apart is = session_on es e client s free
 
 -- ---- the client's own
 
--- after a hello the session is fresh
-greeted : (es : List Entry) (e : Entry) (c i : ℕ) (v : Version) → e.act ≡ Hello c i v → IsAt (es ++ e ∷ []) c i v 0
-greeted es e c i v is =
-    let own : act_at (es ++ e ∷ []) (length es) ≡ Some (Hello c i v) = ap act_read (get-append_end es e) ∙ ap Some is in
-    let hello : LastHello (es ++ e ∷ []) c i (length es) = record {
-      version = v;
-      hello = own;
-      last = λ r j w later there. elim (reads_back act_read refl es e r (Hello c j w) there) [ inl inside ↦ omega arith | inr last ↦ omega arith ];
-    } in
-    record {
-      opened = record { h = length es; last = hello; version_is = refl };
-      number = record {
-        incarnation = i;
-        h = length es;
-        hello = hello;
-        greatest = λ r key later names. elim (reads_back key_read refl es e r key names.named) [ inl inside ↦ absurd (omega arith) | inr last ↦ absurd (omega arith) ];
-        reached = inl refl;
-      };
-    }
-
 no_call : (e : Entry) (does : Act) → e.act ≡ does → call_in does ≡ None → IsNewRequest e → ⊥
 no_call e does is none new = none-some new.call (sym none ∙ ap call_in (sym is) ∙ new.arrives)
 
@@ -125,7 +105,7 @@ module _ (a : Account) (e : Entry) (legal : Legal a) (follows : MayFollow a e) w
 
   hello_session : (client incarnation : ℕ) (version : Version) → e.act ≡ Hello client incarnation version → IsAuditSession after client (record { incarnation = incarnation; last = 0; request = None })
   hello_session client incarnation version says =
-      let at = greeted es e client incarnation version says in
+      let at = greeted_at es e client incarnation version says in
       record {
         incarnation = opened_in after client incarnation version at.opened;
         number = at.number;

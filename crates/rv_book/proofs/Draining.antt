@@ -21,7 +21,7 @@ use Rattle.rv_session.specs.declared.session.Session.{Session}
 use Rattle.rv_session.specs.declared.session.RequestState.TheVariants.{Settled, Waits}
 use Rattle.rv_account.specs.declared.entry.Act.TheVariants.{Arrive}
 use Rattle.rv_account.specs.declared.entry.Entry.{Entry}
-use Rattle.rv_account.specs.Account.{Account, Names, call_at, entry, limit_at, limit_in, with_entry}
+use Rattle.rv_account.specs.Account.{Account, Names, Stored, call_at, entry, limit_at, limit_in, with_entry}
 use Rattle.rv_account.specs.Calls.{IsPut, Lasts, MayMeet, Stays, limit_after, may_name, need_by, need_of, opposite}
 use Rattle.rv_book.specs.declared.state.BookState.{BookState}
 use Rattle.rv_book.specs.Arriving.{IsKept, IsRecorded, WillTell}
@@ -135,6 +135,28 @@ pub record Began (old mid : BookState) (begun : Table) (moment : ℕ) (key : Key
   pub same : mid.account ≡ old.account
   pub begins : OnlyAdvances mid.sessions begun key (Waits (length (account_of old).entries))
 
+module _ {old : BookState} {moment : ℕ} {key : Key} {call : Call} {queue max : ℕ} {room : Vec ℕ} {k : Kept} {items : List ℕ}
+    (may : MayDrain old moment key call queue max room k) (taken : items ≡ take max (items_in old queue)) where
+  as_many : items ≡ take (may_name call) (items_in old queue)
+  as_many = taken ∙ ap (λ n. take n (items_in old queue)) may.most
+
+  -- the duty was begun for the place behind the last entry
+  pub began_at_last : {mid : BookState} {begun : Table} {place : ℕ} → mid.account ≡ old.account → IsDraining mid items → place ≡ length (account_of mid).entries
+      → OnlyAdvances mid.sessions begun key (Waits place) → Began old mid begun moment key call queue max room k
+  began_at_last {mid = mid} {begun = begun} same draining last begins = record {
+      may = may;
+      draining = subst (IsDraining mid) as_many draining;
+      same = same;
+      begins = subst (λ n. OnlyAdvances mid.sessions begun key (Waits n)) (last ∙ ap (λ (s : Stored). length s.account.entries) same) begins;
+    }
+
+  -- the entry that was recorded names what was taken out
+  pub names_taken : (mid : BookState) {now : Account} {partners : List ℕ} → mid.account ≡ old.account → partners ≡ items → now ≡ with_entry (account_of mid) (entry moment (Arrive key call) partners)
+      → now ≡ with_entry (account_of old) (entry moment (Arrive key call) (take (may_name call) (items_in old queue)))
+  names_taken mid same is pushed =
+      pushed ∙ ap (λ (places : List ℕ). with_entry (account_of mid) (entry moment (Arrive key call) places)) (is ∙ as_many)
+      ∙ ap (λ (s : Stored). with_entry s.account (entry moment (Arrive key call) (take (may_name call) (items_in old queue)))) same
+
 -- then its entry was recorded, and it was settled with this
 pub record Drains (old mid new : BookState) (begun : Table) (moment : ℕ) (key : Key) (call : Call) (queue : ℕ) (k : Kept) : Type 0 where
   pub settles : SettlesAs begun new.sessions key.client (length (account_of old).entries) k
@@ -144,7 +166,7 @@ pub record Drains (old mid new : BookState) (begun : Table) (moment : ℕ) (key 
   pub waiting : new.waiting ≡ mid.waiting
   pub due : new.due ≡ without_deadline (limit_at (account_of new).entries (length (account_of old).entries)) (length (account_of old).entries) mid.due
 
-module _ (old mid : BookState) (begun : Table) (moment : ℕ) (key : Key) (call : Call) (queue max : ℕ) (room : Vec ℕ) (k : Kept) (is : Began old mid begun moment key call queue max room k) where
+module _ {old mid : BookState} {begun : Table} {moment : ℕ} {key : Key} {call : Call} {queue max : ℕ} {room : Vec ℕ} {k : Kept} (is : Began old mid begun moment key call queue max room k) where
   abbrev was : Account
   was = account_of old
 

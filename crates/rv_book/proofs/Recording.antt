@@ -22,7 +22,6 @@ use Rattle.rv_book.proofs.OldestMet.{MeetsOldest}
 use Rattle.rv_account.specs.Calls.{MayMeet, may_name, need_of, opposite}
 use Rattle.rv_book.specs.Elapsing.{AreDeadlines, without_duty}
 use Rattle.rv_book.specs.Counting.{NumberOf}
-use Rattle.rv_account.specs.declared.entry.Act.{Act}
 use Rattle.rv_account.specs.declared.entry.Act.TheVariants.{Arrive}
 use Rattle.rv_account.specs.declared.entry.Entry.{Entry}
 use Rattle.rv_book.specs.declared.arrival.Arrival.{Arrival}
@@ -59,26 +58,34 @@ need_covers call partner duty (Some own) is = let one : 1 ≤ need_of call = nee
 
 -- ---- a request that is recorded
 
--- the entry whose partners are this one, or none
-pub named_entry : (a b : Account) (moment : ℕ) (does : Act) (partners : List ℕ) (partner : Option ℕ) → b ≡ with_entry a (entry moment does partners) → partners ≡ just partner → b ≡ with_entry a (entry moment does (just partner))
-named_entry a b moment does partners partner pushed is = pushed ∙ ap (λ (places : List ℕ). with_entry a (entry moment does places)) is
-
 -- the duty of the request that is recorded
 abbrev pub duty_of_new : BookState → Key → OwedDuty
 duty_of_new old key = record { place = length (account_of old).entries; client = key.client }
 
 -- a request comes to a state in which it may be recorded, and has arrived in its queue
-pub record Arrives (old : BookState) (moment : ℕ) (key : Key) (call : Call) (waiters : Waiters) (arrived : Arrival) : Type 0 where
-  pub places : Vec ℕ
+pub record Arrives (old : BookState) (moment : ℕ) (key : Key) (call : Call) (places : Vec ℕ) (waiters : Waiters) (arrived : Arrival) : Type 0 where
   pub may : MayRecord old moment key call places
   pub on : ArrivedOn old.waiters waiters (side_of call) (wait_of call) (duty_of_new old key) arrived
 
-module _ (old : BookState) (moment : ℕ) (key : Key) (call : Call) (waiters : Waiters) (arrived : Arrival) (is : Arrives old moment key call waiters arrived) where
+-- its duty was begun for the place behind the last entry
+pub arrives : {old : BookState} {moment : ℕ} {key : Key} {call : Call} {places : Vec ℕ} {waiters : Waiters} {arrived : Arrival} {duty : OwedDuty} {place : ℕ} → MayRecord old moment key call places
+    → duty ≡ record { place = place; client = key.client } → place ≡ length (account_of old).entries → ArrivedOn old.waiters waiters (side_of call) (wait_of call) duty arrived
+    → Arrives old moment key call places waiters arrived
+arrives {old = old} {key = key} {call = call} {waiters = waiters} {arrived = arrived} may begun last on = record {
+    may = may;
+    on = subst (λ (d : OwedDuty). ArrivedOn old.waiters waiters (side_of call) (wait_of call) d arrived) (begun ∙ ap (λ n. record { place = n; client = key.client }) last) on;
+  }
+
+module _ {old : BookState} {moment : ℕ} {key : Key} {call : Call} {places : Vec ℕ} {waiters : Waiters} {arrived : Arrival} (is : Arrives old moment key call places waiters arrived) where
   abbrev pub before : Account
   before = account_of old
 
   abbrev pub own_entry : Entry
   own_entry = entry moment (Arrive key call) (just arrived.partner)
+
+  -- the entry that was recorded names whom it met
+  pub named : {now : Account} {partners : List ℕ} → now ≡ with_entry before (entry moment (Arrive key call) partners) → partners ≡ just arrived.partner → now ≡ with_entry before own_entry
+  named pushed is = pushed ∙ ap (λ (partners : List ℕ). with_entry before (entry moment (Arrive key call) partners)) is
 
   abbrev pub sound : IsSound (with_due old is.may.deadlines)
   sound = is.may.comes.sound
@@ -125,16 +132,16 @@ module _ (old : BookState) (moment : ℕ) (key : Key) (call : Call) (waiters : W
       by_partner None (inr goes) = waiters_as_before before.entries old.waiters waiters goes.2 sound.waiters_are
 
   -- the partner that it met has its room
-  pub room_named : IfSome arrived.partner (λ p. 0 < vec_capacity is.places)
+  pub room_named : IfSome arrived.partner (λ p. 0 < vec_capacity places)
   room_named = by_partner arrived.partner is.on.meets
     where
-      by_partner : (partner : Option ℕ) → MeetsOrWaits old.waiters waiters (side_of call) (wait_of call) (length before.entries) partner → IfSome partner (λ p. 0 < vec_capacity is.places)
+      by_partner : (partner : Option ℕ) → MeetsOrWaits old.waiters waiters (side_of call) (wait_of call) (length before.entries) partner → IfSome partner (λ p. 0 < vec_capacity places)
       by_partner None nobody = tt
       by_partner (Some p) first =
           let there : opposed_by old.waiters (opposite (side_of call)) ≡ suc (length (waiting_on waiters first.other)) = ap (opposed_by old.waiters) first.opposes ∙ ap length first.first in
           let one : may_name call ≡ 1 = is.may.meets_one in
           let least : 1 ≤ min (may_name call) (opposed_by old.waiters (opposite (side_of call))) = le-min (omega arith) (omega arith) in
-          let room : min (may_name call) (opposed_by old.waiters (opposite (side_of call))) ≤ vec_capacity is.places = is.may.names.room in
+          let room : min (may_name call) (opposed_by old.waiters (opposite (side_of call))) ≤ vec_capacity places = is.may.names.room in
           omega arith
 
   module _ (kept others : Kept) (will : (GoesOnWaiting call arrived.partner → ⊥) → WillReply before call arrived.partner kept) (begun : Table) (begins : OnlyAdvances old.sessions begun key (Waits (length before.entries)))

@@ -90,7 +90,7 @@ named_at es e key i v n is session above =
     }
 
 -- after a hello the session is fresh
-greeted_at : (es : List Entry) (e : Entry) (c i : ℕ) (v : Version) → e.act ≡ Hello c i v → IsAt (es ++ e ∷ []) c i v 0
+pub greeted_at : (es : List Entry) (e : Entry) (c i : ℕ) (v : Version) → e.act ≡ Hello c i v → IsAt (es ++ e ∷ []) c i v 0
 greeted_at es e c i v is =
     let own : act_at (es ++ e ∷ []) (length es) ≡ Some (Hello c i v) = ap act_read (get-append_end es e) ∙ ap Some is in
     let hello : LastHello (es ++ e ∷ []) c i (length es) = record {

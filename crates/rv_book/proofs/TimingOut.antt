@@ -105,8 +105,28 @@ tick_apart client = record {
   no_key = λ key names of_client. none-some key names;
 }
 
-module _ (old mid : BookState) (moment : ℕ) (is : IsTime old moment) (ending : IsEnding mid moment) (same : mid.account ≡ old.account) (fewer : mid.waiting < old.waiting) (above : AllAbove mid.due moment)
-    (something : SomethingDue (account_of old).entries moment) where
+-- of the state at a moment all that was due is taken out, at least one request, and the tick isn't recorded yet
+pub record AllTakenOut (old mid : BookState) (moment : ℕ) : Type 0 where
+  pub is : IsTime old moment
+  pub ending : IsEnding mid moment
+  pub same : mid.account ≡ old.account
+  pub fewer : mid.waiting < old.waiting
+  pub above : AllAbove mid.due moment
+  pub something : SomethingDue (account_of old).entries moment
+
+-- the first was taken out, and then the others
+pub all_taken_out : (one : BookState) {old mid : BookState} {moment : ℕ} → IsTime old moment → SomethingDue (account_of old).entries moment → one.account ≡ old.account → one.waiting < old.waiting
+    → IsEnding mid moment → mid.account ≡ one.account → mid.waiting ≤ one.waiting → AllAbove mid.due moment → AllTakenOut old mid moment
+all_taken_out one is something first fewer ending others then above = record {
+    is = is;
+    ending = ending;
+    same = others ∙ first;
+    fewer = omega (arith, fewer, then);
+    above = above;
+    something = something;
+  }
+
+module _ {old mid : BookState} {moment : ℕ} (out : AllTakenOut old mid moment) where
   abbrev before : Account
   before = account_of mid
 
@@ -117,13 +137,13 @@ module _ (old mid : BookState) (moment : ℕ) (is : IsTime old moment) (ending :
   overdue = TakenOut before.entries moment mid.due
 
   follows : MayFollow before own_entry
-  follows = subst (λ (s : Stored). MayFollow s.account own_entry) (sym same) (tick_follows (account_of old) moment is.time something)
+  follows = subst (λ (s : Stored). MayFollow s.account own_entry) (sym out.same) (tick_follows (account_of old) moment out.is.time out.something)
 
   closes : Closes before.entries own_entry overdue
-  closes = tick_closes before.entries own_entry mid.due refl refl above
+  closes = tick_closes before.entries own_entry mid.due refl refl out.above
 
   legal_after : Legal (with_entry before own_entry)
-  legal_after = Legal-with_entry before own_entry ending.legal follows
+  legal_after = Legal-with_entry before own_entry out.ending.legal follows
 
   -- who was taken out is told that its time is over
   tells : Tells before own_entry overdue kept.TimedOut
@@ -135,12 +155,12 @@ module _ (old mid : BookState) (moment : ℕ) (is : IsTime old moment) (ending :
 
   pub ticks : (new : BookState) → account_of new ≡ with_entry before own_entry → Ticks (account_of old) moment (account_of new)
   ticks new pushed = inl (
-    something,
+    out.something,
     record {
       entry = own_entry;
       moment_is = refl;
       act_is = refl;
-      follows = pushed ∙ ap (λ (s : Stored). with_entry s.account own_entry) same;
+      follows = pushed ∙ ap (λ (s : Stored). with_entry s.account own_entry) out.same;
       legal = subst Legal (sym pushed) legal_after;
     },
   )
@@ -151,27 +171,27 @@ module _ (old mid : BookState) (moment : ℕ) (is : IsTime old moment) (ending :
   pub time_after : (new : BookState) → account_of new ≡ with_entry before own_entry → new.sessions ≡ mid.sessions → new.waiters ≡ mid.waiters → new.waiting ≡ mid.waiting → new.due ≡ mid.due
       → mid.account.room ≤ new.account.room + 1 → IsTime new moment
   time_after new pushed sessions waiters waiting due room =
-      let filled : length (account_of old).entries + old.waiting ≤ 100000 = is.sound.fits.room old.waiting is.sound.waiting_is in
-      let spare : old.waiting ≤ old.account.room = is.sound.spare in
-      let length_same : length before.entries ≡ length (account_of old).entries = ap (λ (s : Stored). length s.account.entries) same in
-      let room_same : mid.account.room ≡ old.account.room = ap (λ (s : Stored). s.room) same in
-      let less : mid.waiting < old.waiting = fewer in
+      let filled : length (account_of old).entries + old.waiting ≤ 100000 = out.is.sound.fits.room old.waiting out.is.sound.waiting_is in
+      let spare : old.waiting ≤ old.account.room = out.is.sound.spare in
+      let length_same : length before.entries ≡ length (account_of old).entries = ap (λ (s : Stored). length s.account.entries) out.same in
+      let room_same : mid.account.room ≡ old.account.room = ap (λ (s : Stored). s.room) out.same in
+      let less : mid.waiting < old.waiting = out.fewer in
       let waits : new.waiting ≡ mid.waiting = waiting in
       let left : mid.account.room ≤ new.account.room + 1 = room in
       record {
-        sound = sound_with before own_entry new ending.fits (record {
+        sound = sound_with before own_entry new out.ending.fits (record {
           legal = legal_after;
-          entry_fits = (is.fits, tt);
+          entry_fits = (out.is.fits, tt);
           account = pushed;
           sessions_are = subst (AreSessions (with_entry before own_entry)) (sym sessions)
-              (sessions_at_last before own_entry overdue kept.TimedOut legal_after (waits_on before.entries own_entry overdue closes) tells mid.sessions tick_apart ending.sessions_are);
-          waiters_are = subst (AreWaiters (before.entries ++ own_entry ∷ [])) (sym waiters) (waiters_at_last before.entries own_entry overdue closes mid.waiters ending.waiters_are);
-          waiting_is = subst (NumberOf (Waiting (before.entries ++ own_entry ∷ []))) (sym waiting) (number_at_last before.entries own_entry overdue closes mid.waiting ending.waiting_is);
-          due_are = subst (AreDeadlines (before.entries ++ own_entry ∷ [])) (sym due) (due_at_last before.entries own_entry overdue closes mid.due ending.due_are);
-          clients = few_still before.entries own_entry (λ c i v own. absurd (tick_no_hello c i v own)) ending.fits.clients;
+              (sessions_at_last before own_entry overdue kept.TimedOut legal_after (waits_on before.entries own_entry overdue closes) tells mid.sessions tick_apart out.ending.sessions_are);
+          waiters_are = subst (AreWaiters (before.entries ++ own_entry ∷ [])) (sym waiters) (waiters_at_last before.entries own_entry overdue closes mid.waiters out.ending.waiters_are);
+          waiting_is = subst (NumberOf (Waiting (before.entries ++ own_entry ∷ []))) (sym waiting) (number_at_last before.entries own_entry overdue closes mid.waiting out.ending.waiting_is);
+          due_are = subst (AreDeadlines (before.entries ++ own_entry ∷ [])) (sym due) (due_at_last before.entries own_entry overdue closes mid.due out.ending.due_are);
+          clients = few_still before.entries own_entry (λ c i v own. absurd (tick_no_hello c i v own)) out.ending.fits.clients;
           space = omega arith;
           spare = omega arith;
         });
         time = subst (λ b. KeepsTime b moment) (sym pushed) (with_tick before own_entry follows.moments.keeps_time refl legal_after).time;
-        fits = is.fits;
+        fits = out.is.fits;
       }

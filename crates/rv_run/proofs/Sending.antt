@@ -1,11 +1,10 @@
 -- What went out where a write failed, of bytes that went out one after the other.
-use Rattle.std.proofs.Common.{◌≡◌, ◌<◌, ◌≤◌, ◌+◌, ◌-◌, ℕ, List, [], ◌∷◌, ◌++◌, Option, sym, ap, subst, ◌∙◌, length, take, arith, length-append}
+use Rattle.std.proofs.Common.{◌≡◌, ◌+◌, ◌-◌, ℕ, List, ◌++◌, Option, sym, ap, subst, ◌∙◌, length, take, arith, length-append}
 use Rattle.std.proofs.Math.Seq.{take-append-add}
 use Rattle.std.proofs.lemmas.List.{take-append-le}
-use Rattle.std.specs.Io.KnownBytes.{Appends}
 use Rattle.std.proofs.KnownBytes.{Appends-trans}
 use Rattle.rv_frame.specs.declared.sink.Sink.{Sink}
-use Rattle.rv_frame.specs.Sink.{SinkTakes, sink_contents}
+use Rattle.rv_frame.specs.Sink.{SinkTakes}
 use Rattle.rv_run.specs.Output.{StopsAfter}
 
 module _ {W : Type 0} (contents : W → Option (List ℕ)) {bytes : List ℕ} {before sent : ℕ} {old new : Sink W} where

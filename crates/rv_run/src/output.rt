@@ -61,32 +61,14 @@ impl Output {
         ensures gathers { length (gathered self.old) + length text.now + 1 ≤ 131072 → sink.new ≡ sink.old }
     {
         if text.len() >= ROOM {
-            return self.long_line(sink, text);
-        }
-        if self.gathered.len() >= ROOM - text.len() {
             self.flush(sink)?;
+            self.sent = Output::send(sink, self.sent, text)?;
+        } else {
+            if self.gathered.len() >= ROOM - text.len() {
+                self.flush(sink)?;
+            }
+            self.gather(text);
         }
-        self.gather(text);
-        self.gather(b"\n");
-        Ok(())
-    }
-
-    // Sends what was gathered and then a text that passes all room, and takes LF in.
-    fn long_line<W: Write>(&mut self, sink: &mut Sink<W>, text: &[u8]) -> Result<(), OutputFault>
-        requires long { 131072 ≤ length text.now }
-        requires countable { taken_in self.old + length text.now < 2 ^ 128 }
-        ensures ok { OnOk result (Appends (promised (sink_contents W.contents sink.old) self.old)
-            (promised (sink_contents W.contents sink.new) self.new) (text.now ++ 10 ∷ [])) }
-        ensures count { OnOk result (taken_in self.new ≡ taken_in self.old + length text.now + 1) }
-        ensures fault { IfErr result (λ fault. StopsAfter W.contents
-            (gathered self.old ++ (text.now ++ 10 ∷ [])) (sent_before self.old)
-            sink.old sink.new fault.sent) }
-        ensures kept { OnErr result (taken_in self.new ≡ taken_in self.old) }
-        ensures told { FailsWithSink result sink.old sink.new }
-    {
-        self.flush(sink)?;
-        let sent = Output::send(sink, self.sent, text)?;
-        self.sent = sent;
         self.gather(b"\n");
         Ok(())
     }

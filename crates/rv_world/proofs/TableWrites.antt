@@ -96,6 +96,17 @@ turned_back table client process runs =
     ap (λ (l : List (ℕ × Option Process)). record table { processes = l })
     (set_value_same (nat_eq client) table.processes (Some process) (runs_there table client process runs))
 
+-- who was taken out has a place to be put back to
+pub taken_stands : (table : ClientTable) (client : ℕ) {taken : ClientTable} {process : Process} → running_of table client ≡ Some process → taken ≡ with_process table client None → StandsInTable taken client
+taken_stands table client {process = process} runs is =
+    subst (λ (t : ClientTable). StandsInTable t client) (sym is) (turned_stands table client None (runs_stands table client process runs))
+
+-- who was taken out and is put back changes nothing
+pub put_back : (table : ClientTable) (client : ℕ) {taken last : ClientTable} {process : Process} → running_of table client ≡ Some process → taken ≡ with_process table client None
+    → last ≡ with_process taken client (Some process) → last ≡ table
+put_back table client {process = process} runs is put =
+    put ∙ ap (λ (t : ClientTable). with_process t client (Some process)) is ∙ turned_twice table client None (Some process) ∙ turned_back table client process runs
+
 -- ---- worlds
 
 -- where the table of the one world is that of the other with another process, only this client's process changes

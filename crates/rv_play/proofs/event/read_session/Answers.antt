@@ -1,5 +1,5 @@
 -- A session is said in one way: by an incarnation alone, or by one with the number of version 2 behind it.
-use Rattle.std.proofs.Common.{codes, refl, sym, ◌∙◌}
+use Rattle.std.proofs.Common.{refl, sym, ◌∙◌}
 use Rattle.std.proofs.lemmas.Bool.{false≢true}
 use Rattle.rv_play.proofs.Saying.{no_session, no_session_of_two}
 use Rattle.rv_play.proofs.event.read_session.Goals as goal

@@ -3,7 +3,6 @@ use Rattle.std.proofs.Common.{◌∙◌, Option, None, sym, subst}
 use Rattle.rv_text.specs.declared.call.Call.{Call}
 use Rattle.rv_text.specs.declared.call.Call.TheVariants.{Drain, Swap, Take, Transfer}
 use Rattle.rv_text.specs.declared.call.Side.TheVariants.{Gives, Takes}
-use Rattle.rv_session.specs.declared.kept.Kept.{Kept}
 use Rattle.rv_session.specs.declared.kept.Kept as kept
 use Rattle.rv_book.specs.Arriving.{GoesOnWaiting, WillReply}
 use Rattle.rv_book.specs.Operations.{Sees}

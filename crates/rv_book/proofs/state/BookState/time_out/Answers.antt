@@ -1,10 +1,10 @@
 -- What is due is timed out by one tick; where nothing is, nothing changes.
-use Rattle.std.proofs.Common.{◌<◌, ◌≤◌, refl, sym, subst, ◌∙◌, arith}
+use Rattle.std.proofs.Common.{refl, sym, subst}
 use Rattle.rv_book.specs.declared.state.BookState.{BookState}
 use Rattle.rv_book.specs.Legal.{NothingDue}
 use Rattle.rv_book.specs.Steps.{Ticks}
 use Rattle.rv_book.specs.Tables.{account_of}
-use Rattle.rv_book.proofs.TimingOut.{ending_at_first, no_ticks, none_due, none_due_after, ticks, time_after}
+use Rattle.rv_book.proofs.TimingOut.{all_taken_out, ending_at_first, no_ticks, none_due, none_due_after, ticks, time_after}
 use Rattle.rv_book.proofs.state.BookState.time_out.Goals as goal
 
 pub end_next-requires : goal.end_next-requires
@@ -12,31 +12,21 @@ end_next-requires c = ending_at_first c.args.self.now c.args.moment c.requires.s
 
 pub returns-then-end_next-clause-time : goal.returns-then-end_next-clause-time
 returns-then-end_next-clause-time c =
-    let old = c.args.self.now in
-    let mid = c.end_due.new.self in
     let one = c.if-end_next.ensures.one refl in
-    let first : c.end_next.new.self.waiting < old.waiting = one.fewer in
-    let then : mid.waiting ≤ c.end_next.new.self.waiting = c.end_due.ensures.waiting in
-    time_after old mid c.args.moment c.requires c.end_due.ensures.ending (c.end_due.ensures.account ∙ c.end_next.ensures.account) (omega arith) c.end_due.ensures.all one.is_due
+    time_after (all_taken_out c.end_next.new.self c.requires one.is_due c.end_next.ensures.account one.fewer c.end_due.ensures.ending c.end_due.ensures.account c.end_due.ensures.waiting c.end_due.ensures.all)
     c.push.new.self c.push.ensures.entry c.push.ensures.sessions c.push.ensures.waiters c.push.ensures.waiting c.push.ensures.due c.push.ensures.room
 
 pub returns-then-end_next-clause-nothing_due : goal.returns-then-end_next-clause-nothing_due
 returns-then-end_next-clause-nothing_due c =
-    let old = c.args.self.now in
-    let mid = c.end_due.new.self in
     let one = c.if-end_next.ensures.one refl in
-    let first : c.end_next.new.self.waiting < old.waiting = one.fewer in
-    let then : mid.waiting ≤ c.end_next.new.self.waiting = c.end_due.ensures.waiting in
-    none_due_after old mid c.args.moment c.requires c.end_due.ensures.ending (c.end_due.ensures.account ∙ c.end_next.ensures.account) (omega arith) c.end_due.ensures.all one.is_due c.push.new.self c.push.ensures.entry
+    none_due_after (all_taken_out c.end_next.new.self c.requires one.is_due c.end_next.ensures.account one.fewer c.end_due.ensures.ending c.end_due.ensures.account c.end_due.ensures.waiting c.end_due.ensures.all)
+    c.push.new.self c.push.ensures.entry
 
 pub returns-then-end_next-clause-ticks : goal.returns-then-end_next-clause-ticks
 returns-then-end_next-clause-ticks c =
-    let old = c.args.self.now in
-    let mid = c.end_due.new.self in
     let one = c.if-end_next.ensures.one refl in
-    let first : c.end_next.new.self.waiting < old.waiting = one.fewer in
-    let then : mid.waiting ≤ c.end_next.new.self.waiting = c.end_due.ensures.waiting in
-    ticks old mid c.args.moment c.requires c.end_due.ensures.ending (c.end_due.ensures.account ∙ c.end_next.ensures.account) (omega arith) c.end_due.ensures.all one.is_due c.push.new.self c.push.ensures.entry
+    ticks (all_taken_out c.end_next.new.self c.requires one.is_due c.end_next.ensures.account one.fewer c.end_due.ensures.ending c.end_due.ensures.account c.end_due.ensures.waiting c.end_due.ensures.all)
+    c.push.new.self c.push.ensures.entry
 
 pub returns-else-end_next-clause-nothing_due : goal.returns-else-end_next-clause-nothing_due
 returns-else-end_next-clause-nothing_due c =

@@ -1,15 +1,13 @@
 -- What is taken out is put back as a request.
-use Rattle.std.proofs.Common.{◌≡◌, ap, sym, subst, ◌∙◌, Some, None}
+use Rattle.std.proofs.Common.{◌≡◌, ap, ◌∙◌, Some, None}
 use Rattle.rv_client.specs.Process.{Asking, Outstanding}
 use Rattle.rv_world.specs.Processes.{asking}
-use Rattle.rv_world.specs.Table.{ClientTable, StandsInTable, with_process}
-use Rattle.rv_world.proofs.TableWrites.{turned_stands, turned_twice, runs_stands, same_asking}
+use Rattle.rv_world.specs.Table.{ClientTable, with_process}
+use Rattle.rv_world.proofs.TableWrites.{taken_stands, turned_twice, same_asking}
 use Rattle.rv_world.proofs.clients.Clients.begin.Goals as goal
 
 pub rest-requires : goal.rest-requires
-rest-requires c =
-    subst (λ (t : ClientTable). StandsInTable t c.args.client) (sym c.turn.ensures.after)
-    (turned_stands c.args.self.now c.args.client None (runs_stands c.args.self.now c.args.client _ c.requires.1))
+rest-requires c = taken_stands c.args.self.now c.args.client c.requires.1 c.turn.ensures.after
 
 pub returns : goal.returns
 returns c = λ key runs.

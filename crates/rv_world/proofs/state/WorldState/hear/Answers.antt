@@ -6,15 +6,13 @@ use Rattle.rv_text.specs.declared.answer.Reply.{Reply}
 use Rattle.rv_client.specs.Process.{Process}
 use Rattle.rv_world.specs.Parts.{world_of}
 use Rattle.rv_world.specs.Processes.{process_in, HearsAs}
-use Rattle.rv_world.specs.Table.{ClientTable, StandsInTable, with_process}
+use Rattle.rv_world.specs.Table.{ClientTable, with_process}
 use Rattle.rv_world.proofs.Hearing.{held_after, heard}
-use Rattle.rv_world.proofs.TableWrites.{runs_stands, turned_stands, turned_twice}
+use Rattle.rv_world.proofs.TableWrites.{taken_stands, turned_twice}
 use Rattle.rv_world.proofs.state.WorldState.hear.Goals as goal
 
 pub turn-requires-2 : goal.turn-requires-2
-turn-requires-2 c =
-    subst (λ (t : ClientTable). StandsInTable t c.args.client) (sym c.turn.ensures.after)
-    (turned_stands c.args.self.now.clients c.args.client None (runs_stands c.args.self.now.clients c.args.client _ (sym c.in-Some.ensures.before)))
+turn-requires-2 c = taken_stands c.args.self.now.clients c.args.client (sym c.in-Some.ensures.before) c.turn.ensures.after
 
 pub returns-in-Some-held-clause-heard : goal.returns-in-Some-held-clause-heard
 returns-in-Some-held-clause-heard c = λ running runs.
