@@ -144,11 +144,11 @@ module _ {old : BookState} {moment : ℕ} {key : Key} {call : Call} {queue max :
   pub began_at_last : {mid : BookState} {begun : Table} {place : ℕ} → mid.account ≡ old.account → IsDraining mid items → place ≡ length (account_of mid).entries
       → OnlyAdvances mid.sessions begun key (Waits place) → Began old mid begun moment key call queue max room k
   began_at_last {mid = mid} {begun = begun} same draining last begins = record {
-      may = may;
-      draining = subst (IsDraining mid) as_many draining;
-      same = same;
-      begins = subst (λ n. OnlyAdvances mid.sessions begun key (Waits n)) (last ∙ ap (λ (s : Stored). length s.account.entries) same) begins;
-    }
+    may = may;
+    draining = subst (IsDraining mid) as_many draining;
+    same = same;
+    begins = subst (λ n. OnlyAdvances mid.sessions begun key (Waits n)) (last ∙ ap (λ (s : Stored). length s.account.entries) same) begins;
+  }
 
   -- the entry that was recorded names what was taken out
   pub names_taken : (mid : BookState) {now : Account} {partners : List ℕ} → mid.account ≡ old.account → partners ≡ items → now ≡ with_entry (account_of mid) (entry moment (Arrive key call) partners)

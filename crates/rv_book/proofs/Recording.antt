@@ -72,9 +72,9 @@ pub arrives : {old : BookState} {moment : ℕ} {key : Key} {call : Call} {places
     → duty ≡ record { place = place; client = key.client } → place ≡ length (account_of old).entries → ArrivedOn old.waiters waiters (side_of call) (wait_of call) duty arrived
     → Arrives old moment key call places waiters arrived
 arrives {old = old} {key = key} {call = call} {waiters = waiters} {arrived = arrived} may begun last on = record {
-    may = may;
-    on = subst (λ (d : OwedDuty). ArrivedOn old.waiters waiters (side_of call) (wait_of call) d arrived) (begun ∙ ap (λ n. record { place = n; client = key.client }) last) on;
-  }
+  may = may;
+  on = subst (λ (d : OwedDuty). ArrivedOn old.waiters waiters (side_of call) (wait_of call) d arrived) (begun ∙ ap (λ n. record { place = n; client = key.client }) last) on;
+}
 
 module _ {old : BookState} {moment : ℕ} {key : Key} {call : Call} {places : Vec ℕ} {waiters : Waiters} {arrived : Arrival} (is : Arrives old moment key call places waiters arrived) where
   abbrev pub before : Account

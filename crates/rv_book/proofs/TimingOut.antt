@@ -118,13 +118,13 @@ pub record AllTakenOut (old mid : BookState) (moment : ℕ) : Type 0 where
 pub all_taken_out : (one : BookState) {old mid : BookState} {moment : ℕ} → IsTime old moment → SomethingDue (account_of old).entries moment → one.account ≡ old.account → one.waiting < old.waiting
     → IsEnding mid moment → mid.account ≡ one.account → mid.waiting ≤ one.waiting → AllAbove mid.due moment → AllTakenOut old mid moment
 all_taken_out one is something first fewer ending others then above = record {
-    is = is;
-    ending = ending;
-    same = others ∙ first;
-    fewer = omega (arith, fewer, then);
-    above = above;
-    something = something;
-  }
+  is = is;
+  ending = ending;
+  same = others ∙ first;
+  fewer = omega (arith, fewer, then);
+  above = above;
+  something = something;
+}
 
 module _ {old mid : BookState} {moment : ℕ} (out : AllTakenOut old mid moment) where
   abbrev before : Account
