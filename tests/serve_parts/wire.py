@@ -1,4 +1,5 @@
 """Messages and answers on a socket: frames, and a client's end of a connection. Everything has a time-out."""
+import errno
 import socket
 import struct
 import sys
@@ -120,8 +121,14 @@ class Peer:
         self.socket.close()
 
     def end(self):
-        """Sends nothing more; answers may still come."""
-        self.socket.shutdown(socket.SHUT_WR)
+        """Sends nothing more; answers may still come. A connection that was reset before is no longer one for the system,
+        which is a ConnectionError here as at a read."""
+        try:
+            self.socket.shutdown(socket.SHUT_WR)
+        except OSError as fault:
+            if fault.errno == errno.ENOTCONN:
+                raise ConnectionResetError(fault.errno, "the connection was reset") from None
+            raise
 
     def send(self, data):
         self.socket.sendall(data)
