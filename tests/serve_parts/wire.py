@@ -121,8 +121,8 @@ class Peer:
         self.socket.close()
 
     def end(self):
-        """Sends nothing more; answers may still come. A connection that was reset before is no longer one for the system,
-        which is a ConnectionError here as at a read."""
+        """Sends nothing more; answers may still come. Where the server has reset the connection this is a ConnectionError, as a
+        read would be, and not the plain OSError that Python makes of it."""
         try:
             self.socket.shutdown(socket.SHUT_WR)
         except OSError as fault:
