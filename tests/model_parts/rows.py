@@ -409,6 +409,17 @@ ROWS = [
         """),
 ]
 
+# Rows of version 1 that came once there was another: they are no part of what must be as it was before that.
+LATER_ROWS = [
+    ("a swap at its limit, and one that is cancelled, have no partner", 1, THREE + """
+        1#1 swap 5 "a" 10 => waiting
+        @10 2#1 swap 5 "b" forever => waiting
+        @10 1#1 swap 5 "a" 10 => timedout
+        @11 cancel 2#1 => cancelled
+        @12 3#1 swap 5 "c" 0 => timedout
+        """),
+]
+
 # Rows that are too long for the model, which goes over all entries at each line.
 LONG_ROWS = [
     ("1,024 clients wait in take, every second one is cancelled, and the others are met in turn", 1, MANY_TAKERS),
@@ -675,7 +686,7 @@ def row_fault(epoch, lines):
     return None if said == "legal" else f"the account breaks a rule: {said}"
 
 
-def row_faults(rows=ROWS):
+def row_faults(rows=(*ROWS, *LATER_ROWS)):
     """Each row by its name, with what is wrong with it, if something is."""
     for name, epoch, lines in rows:
         yield name, row_fault(epoch, lines)

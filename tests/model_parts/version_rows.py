@@ -5,7 +5,7 @@ import pathlib
 import re
 
 from model_parts.account import Account
-from model_parts.rows import LONG_ROWS, ROWS, WORLDS, pairs_of, play_pairs
+from model_parts.rows import LATER_ROWS, LONG_ROWS, ROWS, WORLDS, pairs_of, play_pairs
 from model_parts.steps import told
 from model_parts.world import World
 
@@ -260,7 +260,7 @@ def second_row_fault(epoch, lines):
 
 def second_faults():
     """Each row and each world of version 1 by its name, with what is wrong where each session has version 2."""
-    for name, epoch, lines in ROWS:
+    for name, epoch, lines in [*ROWS, *LATER_ROWS]:
         yield f"{name}, in version 2", second_row_fault(epoch, lines)
     for name, pairs, _, _ in WORLDS:
         world, pairs = World(), list(second(pairs))
