@@ -14,7 +14,8 @@ try:
 	@echo "unproved: this is the code as it is written, and no proof was made of it; make run proves it first" >&2
 	@cd crates/rv_app && rt try -- book --epoch 1 < ../../examples/first.in
 
-# the gate: proofs, edits and tests, the built program from outside, the documents; the last line counts all of them
+# the gate: proofs, edits and tests, the built program from outside, the documents; the last line counts all of them.
+# rt ci keeps what it passed: a later gate proves and tries what changed and the crates above it; tests/all --anew does all
 test:
 	@command -v python3 > /dev/null || { echo "python3 is missing: the gate is written in it" >&2; exit 1; }
 	@tests/all
@@ -24,7 +25,8 @@ check:
 	@command -v python3 > /dev/null || { echo "python3 is missing: the check is written in it" >&2; exit 1; }
 	@tests/all --kept
 
-# the edits beside the gate's, each of which the prover must refuse, and those that a test must see; NAMES="rv_text .." tries those of some crates
+# the edits beside the gate's, each of which the prover must refuse, and those that a test must see;
+# NAMES="rv_text .." tries those of some crates
 edits:
 	@command -v python3 > /dev/null || { echo "python3 is missing: the script is written in it" >&2; exit 1; }
 	@tests/edits $(NAMES)
