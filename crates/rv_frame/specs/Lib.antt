@@ -6,5 +6,5 @@ pub mod Source
 pub mod Laws
 -- What the tests' devices promise.
 pub mod Testing
--- What only the invariant of `Frames`, private clauses and proofs cite.
+-- What the fields of a `Frames` hold: its model and invariant, private clauses and proofs cite it.
 pub mod Held

@@ -1,9 +1,18 @@
 -- What a clause reads of the devices for tests: what they still give or have taken, and where they stop.
-use Rattle.std.specs.Prelude.{ℕ, List, Option}
+use Rattle.std.specs.Prelude.{ℕ, ◌≡◌, ◌+◌, ◌-◌, ◌^◌, min, zero, suc, List, Option, Some, None, Result, Ok}
+use Rattle.std.specs.Prelude.{IsErrAnd, MatchResult}
+use Rattle.std.specs.IoError.{error_kind}
+use Rattle.std.specs.declared.io.Error.{Error}
 use Rattle.std.specs.declared.io.ErrorKind.{ErrorKind}
+use Rattle.std.specs.declared.io.ErrorKind.TheVariants.{OutOfMemory}
 use Rattle.rv_frame.specs.declared.testing.TestReader.{TestReader}
 use Rattle.rv_frame.specs.declared.testing.TestWriter.{TestWriter}
 use Rattle.rv_frame.specs.declared.testing.Stop.{Stop}
+use Rattle.rv_frame.specs.declared.testing.Stop.TheVariants as stop
+
+-- one more, as far as a count goes
+abbrev pub one_more : ℕ → ℕ
+one_more count = min (count + 1) (2 ^ 64 - 1)
 
 -- the bytes that the reader has left
 abbrev pub reader_rest : TestReader → List ℕ
@@ -40,3 +49,29 @@ writer_writes writer = writer.writes
 -- how often it was flushed
 abbrev pub writer_flushes : TestWriter → ℕ
 writer_flushes writer = writer.flushes
+
+-- the same writer, flushed once more
+abbrev pub flushed_again : TestWriter → TestWriter
+flushed_again writer = record writer { flushes = one_more writer.flushes }
+
+abbrev pub IsNoMemory : Error → Type 0
+IsNoMemory error = error_kind error ≡ OutOfMemory
+
+-- the answer of a write in whose place the writer stops
+abbrev pub AnswersStop : Stop → Result ℕ Error → Type 0
+AnswersStop (stop.Error kind) result = IsErrAnd result (λ error. error_kind error ≡ kind)
+AnswersStop stop.TakesNothing result = result ≡ Ok 0
+
+-- what a write of so many bytes comes to, at most so many a write, where so many go before the stop: it stops
+-- where there is room for none, and for once; else it takes all that it may, unless it found no memory
+abbrev pub WritesBefore : ℕ → Stop → Option (ℕ × Stop) → ℕ → ℕ → Result ℕ Error → Type 0
+WritesBefore zero stop new bytes most result = AnswersStop stop result × (new ≡ None)
+WritesBefore (suc n) stop new bytes most result =
+    MatchResult result (λ count. (count ≡ min bytes (min most (suc n))) × (new ≡ Some (suc n - count, stop)))
+    (λ error. IsNoMemory error × (new ≡ Some (suc n, stop)))
+
+-- the same by how the writer is to stop before and after it, if it is
+abbrev pub WritesAsTold : Option (ℕ × Stop) → Option (ℕ × Stop) → ℕ → ℕ → Result ℕ Error → Type 0
+WritesAsTold None new bytes most result =
+    MatchResult result (λ count. count ≡ min bytes most) IsNoMemory × (new ≡ None)
+WritesAsTold (Some (room, stop)) new bytes most result = WritesBefore room stop new bytes most result

@@ -10,6 +10,7 @@ use thiserror::Error;
 #[derive(Clone, Copy, Debug, PartialEq, Eq, Error)]
 #[error("a write to the device failed after {sent} bytes")]
 pub struct WriteFault {
+    /// How many bytes of the call went out, its first.
     pub sent: usize,
 }
 

@@ -1,5 +1,10 @@
 //! A reader and a writer for tests, which give and take a few bytes at a time and stop where they are told.
-ghost use Rattle.std.specs.Prelude.{◌≡◌, ◌<◌, Some, None, [], IfOk};
+ghost use Rattle.std.specs.Prelude.{◌≡◌, ◌<◌, Some, None, [], length, min};
+ghost use Rattle.std.specs.Prelude.{IfErr, IfOk, IsErr, IsOk, MatchResult};
+ghost use Rattle.std.specs.Io.{ReadsAtMost, WritesAtMost};
+ghost use Rattle.std.specs.Io.KnownBytes.{Keeps, ReadConsumes, WriteAppends};
+ghost use Rattle.std.specs.IoError.{error_kind};
+ghost use Rattle.std.specs.declared.io.ErrorKind.{ErrorKind};
 
 use std::alloc::Global;
 use std::io::{Error, ErrorKind, Read, Result, Write};
@@ -50,17 +55,49 @@ impl<'a> TestReader<'a> {
     {
         self.reads
     }
+
+    // The kind of the error at the latest read, where it is the one that fails.
+    fn fails_now(&self) -> Option<ErrorKind>
+        ensures named { (kind : ErrorKind) → result ≡ Some kind →
+            reader_fault self.now ≡ Some (reader_reads self.now, kind) }
+        ensures other { (kind : ErrorKind) → reader_fault self.now ≡ Some (reader_reads self.now, kind) →
+            result ≡ Some kind }
+    {
+        match self.fault {
+            Some((read, kind)) => if read == self.reads { Some(kind) } else { None },
+            None => None,
+        }
+    }
 }
 
 impl Read for TestReader<'_> {
+    ghost use Rattle.rv_frame.specs.Testing.{one_more, reader_fault, reader_most, reader_reads, reader_rest};
+
     ghost remaining = { λ reader. Some reader.rest.now };
 
-    fn read(&mut self, buffer: &mut [u8]) -> Result<usize> {
+    /// Gives as many bytes as are left, as the buffer has room for, and as one read gives at most. It fails
+    /// at the read that was named, and at no other, and then gives none.
+    fn read(&mut self, buffer: &mut [u8]) -> Result<usize>
+        ensures bound { ReadsAtMost result buffer.new }
+        ensures bytes { ReadConsumes (Some (reader_rest self.old)) (Some (reader_rest self.new))
+            result buffer.new }
+        ensures count { IfOk result (λ count.
+            count ≡ min (min (length (reader_rest self.old)) (length buffer.old)) (reader_most self.old)) }
+        ensures reads { reader_reads self.new ≡ one_more (reader_reads self.old) }
+
+        // It fails where this read was named, and only there, with the error that was named.
+        ensures fails { (kind : ErrorKind) → reader_fault self.old ≡ Some (reader_reads self.new, kind) →
+            IsErr result }
+        ensures only { IfErr result (λ error.
+            reader_fault self.old ≡ Some (reader_reads self.new, error_kind error)) }
+
+        // What it was told stays.
+        ensures most { reader_most self.new ≡ reader_most self.old }
+        ensures fault { reader_fault self.new ≡ reader_fault self.old }
+    {
         self.reads = self.reads.saturating_add(1);
-        if let Some((read, kind)) = self.fault {
-            if read == self.reads {
-                return Err(Error::from(kind));
-            }
+        if let Some(kind) = self.fails_now() {
+            return Err(Error::from(kind));
         }
         let count = self.rest.len().min(buffer.len()).min(self.most);
         let (given, rest) = self.rest.split_at(count);
@@ -80,8 +117,10 @@ pub enum Stop {
 }
 
 impl Stop {
+    ghost use Rattle.rv_frame.specs.Testing.{AnswersStop};
+
     fn answer(self) -> Result<usize>
-        ensures { IfOk result (λ count. count ≡ 0) }
+        ensures { AnswersStop self result }
     {
         match self {
             Stop::Error(kind) => Err(Error::from(kind)),
@@ -102,7 +141,7 @@ pub struct TestWriter {
 
 impl TestWriter {
     ghost use Rattle.rv_frame.specs.Testing.{writer_flushes, writer_most, writer_stop};
-    ghost use Rattle.rv_frame.specs.Testing.{writer_taken, writer_writes};
+    ghost use Rattle.rv_frame.specs.Testing.{writer_taken, writer_writes, IsNoMemory};
 
     /// A writer that has taken nothing, never stops, and takes at most `most` bytes a write.
     pub fn new(alloc: Global, most: usize) -> TestWriter
@@ -153,30 +192,58 @@ impl TestWriter {
     {
         self.flushes
     }
+
+    // Takes the first of these bytes, at most so many.
+    fn take(&mut self, bytes: &[u8], most: usize) -> Result<usize>
+        ensures bytes { WriteAppends (Some (writer_taken self.old)) (Some (writer_taken self.new))
+            result bytes.now }
+        ensures count { MatchResult result (λ count. count ≡ min (length bytes.now) most) IsNoMemory }
+        ensures others { self.new ≡ record self.old { taken = self.new.taken } }
+    {
+        let count = bytes.len().min(most);
+        self.taken.extend_from_slice(&bytes[..count])?;
+        Ok(count)
+    }
 }
 
 impl Write for TestWriter {
+    ghost use Rattle.rv_frame.specs.Testing.{writer_flushes, writer_most, writer_stop, writer_taken};
+    ghost use Rattle.rv_frame.specs.Testing.{writer_writes, one_more, flushed_again, WritesAsTold};
+
     ghost contents = { λ writer. Some writer.taken.items };
 
-    fn write(&mut self, bytes: &[u8]) -> Result<usize> {
+    /// Takes as many of the bytes as one write takes at most, and as there is room for before it stops. It
+    /// stops as it was told at the first write with no room, and never again.
+    fn write(&mut self, bytes: &[u8]) -> Result<usize>
+        ensures bound { WritesAtMost result bytes.now }
+        ensures bytes { WriteAppends (Some (writer_taken self.old)) (Some (writer_taken self.new))
+            result bytes.now }
+        ensures told { WritesAsTold (writer_stop self.old) (writer_stop self.new)
+            (length bytes.now) (writer_most self.old) result }
+        ensures writes { writer_writes self.new ≡ one_more (writer_writes self.old) }
+        ensures most { writer_most self.new ≡ writer_most self.old }
+        ensures flushes { writer_flushes self.new ≡ writer_flushes self.old }
+    {
         self.writes = self.writes.saturating_add(1);
-        let room = match self.stop {
-            Some((0, stop)) => {
+        match self.stop {
+            None => self.take(bytes, self.most),
+            Some((room, stop)) => if room == 0 {
                 self.stop = None;
-                return stop.answer();
-            }
-            Some((room, _)) => room,
-            None => usize::MAX,
-        };
-        let count = bytes.len().min(self.most).min(room);
-        self.taken.extend_from_slice(&bytes[..count])?;
-        if let Some((room, stop)) = self.stop {
-            self.stop = Some((room.saturating_sub(count), stop));
+                stop.answer()
+            } else {
+                let count = self.take(bytes, self.most.min(room))?;
+                self.stop = Some((room.saturating_sub(count), stop));
+                Ok(count)
+            },
         }
-        Ok(count)
     }
 
-    fn flush(&mut self) -> Result<()> {
+    /// Counts the flush, and does nothing else.
+    fn flush(&mut self) -> Result<()>
+        ensures bytes { Keeps (Some (writer_taken self.old)) (Some (writer_taken self.new)) }
+        ensures ok { IsOk result }
+        ensures flushed { self.new ≡ flushed_again self.old }
+    {
         self.flushes = self.flushes.saturating_add(1);
         Ok(())
     }
