@@ -45,6 +45,14 @@ impl Item {
         self.text.as_str()
     }
 
+    /// The item's text, given back. It takes no memory.
+    pub fn into_text(self) -> String
+        ensures { string_bytes result ≡ self }
+    {
+        let Item { text } = self;
+        text
+    }
+
     /// A copy of the item. It fails only where memory was refused.
     pub fn copy(&self, alloc: Global) -> Result<Item, NoMemory>
         ensures same { IfOk result (λ i. i ≡ self.now) }

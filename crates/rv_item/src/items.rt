@@ -43,6 +43,14 @@ impl Items {
         self.items.as_slice()
     }
 
+    /// The items, given back in their order. It takes no memory.
+    pub fn into_vec(self) -> Vec<Item>
+        ensures { result.items ≡ self }
+    {
+        let Items { items } = self;
+        items
+    }
+
     /// No items, which take no memory.
     pub fn new(alloc: Global) -> Items
         ensures { result ≡ [] }
