@@ -116,7 +116,7 @@ item_is_text : (gives : Option (List ℕ)) → IfSome gives IsUtf8 → Each IsTe
 item_is_text None utf8 = tt
 item_is_text (Some bytes) utf8 = (utf8, tt)
 
-call_text : (call : Call) → IfSome (item_of call) IsUtf8 → Each IsText (call_row call)
+pub call_text : (call : Call) → IfSome (item_of call) IsUtf8 → Each IsText (call_row call)
 call_text call utf8 =
     let n = nature_of call in
     let max_or_wait = max_or_wait_row n.drains n.wait in

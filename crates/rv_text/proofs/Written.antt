@@ -2,14 +2,14 @@
 use Rattle.std.proofs.Common.{ℕ, List, map}
 use Rattle.serde_json.specs.Written.{compact_text}
 use Rattle.rv_text.specs.Bodies.{HasBodyLength, Reads}
-use Rattle.rv_text.specs.Laws.{WrittenBody, WrittenAnswer}
+use Rattle.rv_text.specs.Laws.{WrittenBody, WrittenAnswer, WrittenCall}
 use Rattle.rv_text.specs.Members.{Member, field_of, members_of, object_of, IsWithin}
-use Rattle.rv_text.specs.Rows.{message_row, answer_row}
+use Rattle.rv_text.specs.Rows.{message_row, answer_row, call_row}
 use Rattle.rv_text.proofs.Fitting.{body_length}
-use Rattle.rv_text.proofs.ByKind.{Each, IsText, row_is_flat, row_is_text}
+use Rattle.rv_text.proofs.ByKind.{Each, each_within, IsText, row_is_flat, row_is_text}
 use Rattle.rv_text.proofs.Objects.{AllMembers-with_fields}
 use Rattle.rv_text.proofs.Sizes.{IsFlatMember}
-use Rattle.rv_text.proofs.Sound.{IsSound, message_sound, message_within, message_has_text, answer_sound, answer_within, answer_has_text}
+use Rattle.rv_text.proofs.Sound.{IsSound, message_sound, message_within, message_has_text, answer_sound, answer_within, answer_has_text, call_sound, call_text}
 use Rattle.rv_text.proofs.Texts.{read-compact_text, IsTextMember, IsUtf8-compact_text}
 
 abbrev row_text : List Member → List ℕ
@@ -31,4 +31,9 @@ written_body message fits utf8 =
 pub written_answer : WrittenAnswer
 written_answer answer fits utf8 =
     let written = written_row (answer_row answer) (answer_sound answer) (answer_within answer fits) (answer_has_text answer utf8) in
+    (written.0, written.1, fits)
+
+pub written_call : WrittenCall
+written_call call fits utf8 =
+    let written = written_row (call_row call) (call_sound call) (each_within (call_row call) fits.0) (call_text call utf8) in
     (written.0, written.1, fits)

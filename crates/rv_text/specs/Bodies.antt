@@ -61,12 +61,16 @@ pub record Decodes (A : Type 0) (IsBodyOf : List ℕ → A → Type 0)
   pub is_json : result ≡ Err fault.NotMessage → HasBodyLength bytes → ¬ IsNotJson bytes
 
 -- the item is text; every `Item` is, and a variable of a law ranges over all lists of numbers
+abbrev pub CallHasUtf8 : Call → Type 0
+CallHasUtf8 call = IfSome (item_of call) IsUtf8
+
+-- the same of a message
 abbrev pub HasUtf8 : Message → Type 0
 HasUtf8 (message.Hello client incarnation version) = Unit {0}
-HasUtf8 (message.Request key call) = IfSome (item_of call) IsUtf8
+HasUtf8 (message.Request key call) = CallHasUtf8 call
 HasUtf8 (message.Cancel key) = Unit {0}
 
--- the same of an answer
+-- the same of an answer, whose reply may have items
 abbrev pub ReplyHasUtf8 : Reply → Type 0
 ReplyHasUtf8 (reply.Item item) = IsUtf8 item
 ReplyHasUtf8 (reply.Swapped item) = IsUtf8 item
@@ -87,6 +91,10 @@ message_text message = compact_text (object_of (message_row message))
 -- the body that is written for an answer
 abbrev pub answer_text : Answer → List ℕ
 answer_text answer = compact_text (object_of (answer_row answer))
+
+-- the compact text of a call
+abbrev pub call_text : Call → List ℕ
+call_text call = compact_text (object_of (call_row call))
 
 -- the body that is written for a refusal
 unfoldable pub refused_text : Refusal → List ℕ

@@ -13,7 +13,7 @@ pub record Nature : Type 0 where
   pub word : List ℕ
   -- where it acts, and on which side
   pub side : Side
-  -- how long it may wait; none where its kind never waits
+  -- how long it may wait: none for a put, a count and a peek, and now for a drain
   pub wait : Option Wait
   -- how many items it takes at most in one step; none where it meets one partner at most
   pub drains : Option ℕ

@@ -17,8 +17,8 @@ pub enum Reply {
     Done,
     /// A transfer's item was given to a consumer.
     Received,
-    /// The same in a session of version 2: the item was given to the request of this key, whose epoch is,
-    /// within the limits, the answer's.
+    /// The same in a session of version 2: the item was given to the request of this key. In an answer that
+    /// is within its limits both keys have one epoch.
     ReceivedBy(Key),
     /// A transfer that does not wait found no consumer.
     Nobody,
@@ -89,7 +89,8 @@ impl Reply {
     ghost use Rattle.rv_text.specs.Rows.{reply_row};
     ghost use Rattle.rv_text.specs.Limits.{FitsReply, IsOfEpoch};
 
-    // How many members the reply has in a body: its word, and its item, its items or its numbers.
+    // How many members the reply has in a body: its word, and its item, its items, its numbers or what is
+    // told of a consumer's key.
     pub(crate) fn member_count(&self) -> usize
         ensures { result ≡ length (reply_row self.now) }
     {
@@ -197,18 +198,25 @@ impl Refusal {
 pub enum Answer {
     /// A hello was accepted: the client's session has this incarnation and this version in this epoch.
     Welcome {
+        /// The server's epoch.
         epoch: u64,
+        /// Whose session it is.
         client: u64,
+        /// The session's incarnation.
         incarnation: u64,
+        /// The session's version.
         version: Version,
     },
     /// The request of this key has this reply.
     Replied {
+        /// The request that has the reply.
         key: Key,
+        /// What became of it.
         reply: Reply,
     },
     /// The request of this key waits; what becomes of it is told when the message is sent again.
     Waiting {
+        /// The request that waits.
         key: Key,
     },
     /// The message was refused.

@@ -31,38 +31,52 @@ pub enum Wait {
 pub enum Call {
     /// Appends the item at the queue's tail and never waits (Java's `TransferQueue.put`).
     Put {
+        /// The queue, 0 to 63.
         queue: u64,
+        /// What it hands over.
         item: Item,
     },
     /// Hands the item over to a consumer, and may wait for one (Java's `transfer` and `tryTransfer`).
     Transfer {
+        /// The queue, 0 to 63.
         queue: u64,
+        /// What it hands over.
         item: Item,
+        /// How long it waits for a partner.
         wait: Wait,
     },
     /// Takes the queue's oldest item, and may wait for one (Java's `take` and `poll`).
     Take {
+        /// The queue, 0 to 63.
         queue: u64,
+        /// How long it waits for a partner.
         wait: Wait,
     },
     /// Swaps the item for that of another request, and waits for one at least 0 milliseconds: `Now` is no
     /// wait of a swap (Java's `Exchanger.exchange`).
     Swap {
+        /// The exchanger, 0 to 63.
         exchanger: u64,
+        /// What it hands over.
         item: Item,
+        /// How long it waits for a partner.
         wait: Wait,
     },
     /// Counts the items and the consumers that are there.
     Count {
+        /// The queue, 0 to 63.
         queue: u64,
     },
     /// Shows the oldest item and removes nothing.
     Peek {
+        /// The queue, 0 to 63.
         queue: u64,
     },
     /// Takes up to `max` of the oldest items in one step, 1 to 16, and never waits (Java's `drainTo`).
     Drain {
+        /// The queue, 0 to 63.
         queue: u64,
+        /// How many items it takes at most.
         max: u64,
     },
 }
@@ -153,7 +167,7 @@ impl Call {
         }
     }
 
-    /// How long the call may wait; none where its kind never waits.
+    /// How long the call may wait: none for a put, a count and a peek, and now for a drain.
     pub fn wait(&self) -> Option<Wait>
         ensures { result ≡ wait_of self.now }
     {

@@ -122,9 +122,10 @@ impl Body for Call {
         read_call(alloc, members)
     }
 
-    // Its word and its place, its wait or in its stead a drain's greatest number, and its item.
+    // Its word and its place, how many items it drains or else its wait, and its item.
     fn member_count(&self) -> usize {
-        2 + usize::from(self.wait().is_some()) + usize::from(self.item().is_some())
+        2 + usize::from(self.drains().is_some() || self.wait().is_some())
+            + usize::from(self.item().is_some())
     }
 
     fn is_within(&self) -> bool {

@@ -1,5 +1,5 @@
 //! The one text that is written for a message or an answer.
-ghost use Rattle.std.specs.Prelude.{◌≡◌, [], ◌∷◌, Some, OnOk, IfOk, string_bytes};
+ghost use Rattle.std.specs.Prelude.{◌≡◌, ◌<◌, [], ◌∷◌, Some, OnOk, IfOk, length, string_bytes};
 ghost use Rattle.serde_json.specs.Data.{string, number, unsigned};
 ghost use Rattle.serde_json.specs.View.{view};
 ghost use Rattle.rv_text.specs.Members.{texts_value};
@@ -47,11 +47,12 @@ pub fn no_memory_body() -> &'static [u8]
 }
 
 /// The body that is written for an answer: JSON with no white space, its members in byte order of
-/// their names. An answer within its limits has a body of at most 65,535 bytes. It fails only where
+/// their names. An answer within its limits has a body shorter than 65,535 bytes. It fails only where
 /// memory was refused.
 pub fn encode_answer(alloc: Global, answer: &Answer) -> Result<String, NoMemory>
     ensures text { IfOk result (λ s. string_bytes s ≡ answer_text answer.now) }
     ensures short { FitsAnswer answer.now → IfOk result (λ s. HasBodyLength (string_bytes s)) }
+    ensures shorter { FitsAnswer answer.now → IfOk result (λ s. length (string_bytes s) < 65535) }
 {
     let mut members = Map::new(alloc);
     put_answer(&mut members, alloc, answer)?;
@@ -59,11 +60,12 @@ pub fn encode_answer(alloc: Global, answer: &Answer) -> Result<String, NoMemory>
 }
 
 /// The body that is written for a message: JSON with no white space, its members in byte order of
-/// their names. A message within its limits has a body of at most 65,535 bytes. It fails only where
+/// their names. A message within its limits has a body shorter than 65,535 bytes. It fails only where
 /// memory was refused.
 pub fn encode_message(alloc: Global, message: &Message) -> Result<String, NoMemory>
     ensures text { IfOk result (λ s. string_bytes s ≡ message_text message.now) }
     ensures short { FitsMessage message.now → IfOk result (λ s. HasBodyLength (string_bytes s)) }
+    ensures shorter { FitsMessage message.now → IfOk result (λ s. length (string_bytes s) < 65535) }
 {
     let mut members = Map::new(alloc);
     put_message(&mut members, alloc, message)?;

@@ -8,7 +8,8 @@ pub type NoMemory = AllocError;
 /// Why bytes are not read as a message; or not as an answer or a call where that is wanted.
 #[derive(Clone, Copy, Debug, PartialEq, Eq, Error)]
 pub enum TextFault {
-    /// Fault 1: the bytes have the length of a body, and they are no JSON text (RFC 8259).
+    /// Fault 1: the bytes have the length of a body, and `serde_json` has no reading of them: they are
+    /// no JSON text (RFC 8259), or one that it does not take, as one that is nested over 127 deep.
     #[error("the body is not JSON")]
     NotJson,
     /// Fault 2: the length is outside 1 to 65,535 bytes, or the JSON has other members, kinds or

@@ -1,7 +1,8 @@
 //! What holds of messages, answers, calls and their bodies: each contract is a law, no body does anything.
 ghost use Rattle.std.specs.Prelude.{◌≡◌};
 ghost use Rattle.rv_text.specs.Bodies.{refused_text};
-ghost use Rattle.rv_text.specs.Laws.{OneMessage, WrittenBody, OneAnswer, WrittenAnswer, OneCall};
+ghost use Rattle.rv_text.specs.Laws.{OneMessage, WrittenBody, OneAnswer, WrittenAnswer};
+ghost use Rattle.rv_text.specs.Laws.{OneCall, WrittenCall};
 
 use crate::answer::Refusal;
 use crate::encode::{BAD_TEXT_BODY, NO_MEMORY_BODY};
@@ -24,6 +25,11 @@ pub fn one_answer()
 /// Bytes are the text of at most one call.
 pub fn one_call()
     ensures { OneCall }
+{}
+
+/// The compact text of a call within the limits is a text of it.
+pub fn written_call()
+    ensures { WrittenCall }
 {}
 
 /// The text that is written for an answer within the limits is a body of it.

@@ -28,17 +28,23 @@ pub enum Message {
     /// Opens a session of this version, and ends the client's session of a lower incarnation, if it has one.
     /// Said again it is welcomed again.
     Hello {
+        /// Who says hello.
         client: u64,
+        /// Which of the client's lives, greater than all before it.
         incarnation: u64,
+        /// The version that the session is to have.
         version: Version,
     },
     /// Asks for a call; the same key with the same call is a repeat.
     Request {
+        /// What names the request.
         key: Key,
+        /// What it asks for.
         call: Call,
     },
     /// Ends the request of this key where it waits; it may also come before its request.
     Cancel {
+        /// What names the request that is to end.
         key: Key,
     },
 }
