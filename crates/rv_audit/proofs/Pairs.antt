@@ -11,7 +11,7 @@ use Rattle.std.specs.Cmp.{IsTotalOrder, nat_cmp_total, then_total, on_total, ran
 use Rattle.std.proofs.lemmas.Bool.{false≢true}
 use Rattle.rv_audit.specs.declared.marks.Marks.{Marks}
 use Rattle.std.specs.Bool.{IsTrue}
-use Rattle.rv_audit.specs.Marks.{Gains, IsLowest, IsNextMark, Loses, NoneBehind, NoneUnder, NoneUntil}
+use Rattle.rv_audit.specs.Marks.{Gains, IsLeast, IsLowest, IsNextMark, Loses, NoneBehind, NoneUnder, NoneUntil}
 
 abbrev pub Pair : Type 0
 Pair = ℕ × ℕ
@@ -116,6 +116,23 @@ none_until s limit k least above n p until = true_or_false _ (λ other. elim (no
   | inl under ↦ let less : k.0 < n = under in omega arith
   | inr same ↦ let equal : k.0 ≡ n = same.0 in omega arith
 ])
+
+-- where the least is at or below a limit, no number below its own has a mark, and its number none below its place
+pub found_least_until : (s : BTreeSet Pair) (limit : ℕ) (k : Pair) (b : Bool) → IsTrue (contains pair_cmp s k)
+    → ((q : Pair) → IsTrue (contains pair_cmp s q) → is_gt (pair_cmp k q) ≡ false) → nat_le k.0 limit ≡ b → IfSome (then_some b k) (IsLeast (as_marks s) limit)
+found_least_until s limit k true there least until = record {
+  there = there;
+  until = grind (arith, nat_tests);
+  least = λ n p less. true_or_false _ (λ other. elim (not_above k (n, p) (least (n, p) other)) [
+    | inl under ↦ let above : k.0 < n = under in omega arith
+    | inr same ↦ let equal : k.0 ≡ n = same.0 in omega arith
+  ]);
+  lowest = λ p less. true_or_false _ (λ other. elim (not_above k (k.0, p) (least (k.0, p) other)) [
+    | inl under ↦ let above : k.0 < k.0 = under in omega arith
+    | inr same ↦ let most : k.1 ≤ p = same.1 in omega arith
+  ]);
+}
+found_least_until s limit k false there least until = tt
 
 -- ---- what is found
 

@@ -54,11 +54,17 @@ module _ (es : List Entry) (side : Side) (places : List ℕ) where
   pub no_older : (place : ℕ) → ((r : ℕ) → OpenAt es side r → Among places r) → Iff (IsTrue false) (HasOlder es side places place)
   no_older place none = never (HasOlder es side places place) (λ has. has.3 (none has.0 has.2))
 
-  pub has_first : (first : ℕ) → IsOldestBeside es side places first → Iff (IsTrue true) (HasOne es side places)
+  has_first : (first : ℕ) → IsOldestBeside es side places first → Iff (IsTrue true) (HasOne es side places)
   has_first first is = (λ t. (first, is.there, is.beside), λ has. refl)
 
-  pub no_one : ((r : ℕ) → OpenAt es side r → Among places r) → Iff (IsTrue false) (HasOne es side places)
+  no_one : ((r : ℕ) → OpenAt es side r → Among places r) → Iff (IsTrue false) (HasOne es side places)
   no_one none = never (HasOne es side places) (λ has. has.2 (none has.0 has.1))
+
+  -- whether there is one is whether an oldest is found
+  pub any_one : (found : Option ℕ) (b : Bool) → b ≡ is_some found → IfSome found (IsOldestBeside es side places)
+      → IfNone found ((r : ℕ) → OpenAt es side r → Among places r) → Iff (IsTrue b) (HasOne es side places)
+  any_one None b is some none = subst (λ t. Iff (IsTrue t) (HasOne es side places)) (sym is) (no_one none)
+  any_one (Some first) b is some none = subst (λ t. Iff (IsTrue t) (HasOne es side places)) (sym is) (has_first first some)
 
 -- ---- partners
 

@@ -19,6 +19,10 @@ pub record Gains (old new : Marks) (number place : ℕ) : Type 0 where
   pub own : is_marked_under new number place ≡ true
   pub others : (n p : ℕ) → (n ≢ number) ⊎ (p ≢ place) → is_marked_under new n p ≡ is_marked_under old n p
 
+-- what is marked stays
+abbrev pub SameMarks : Marks → Marks → Type 0
+SameMarks old new = (number place : ℕ) → is_marked_under new number place ≡ is_marked_under old number place
+
 -- one is no longer
 pub record Loses (old new : Marks) (number place : ℕ) : Type 0 where
   pub own : is_marked_under new number place ≡ false
@@ -56,10 +60,12 @@ GoesOnAt m number places None = NoneBeside m number places
 GoesOnAt m number places (Some place) = (is_marked_under m number place ≡ true)
     × ((p : ℕ) → p < place → is_marked_under m number p ≡ true → Among places p)
 
--- the place is marked under a number at or below the limit
+-- the place is the lowest that is marked under the least number, which is at or below the limit
 pub record IsLeast (m : Marks) (limit : ℕ) (mark : ℕ × ℕ) : Type 0 where
   pub there : is_marked_under m mark.0 mark.1 ≡ true
   pub until : mark.0 ≤ limit
+  pub least : (n p : ℕ) → n < mark.0 → is_marked_under m n p ≡ false
+  pub lowest : (p : ℕ) → p < mark.1 → is_marked_under m mark.0 p ≡ false
 
 abbrev pub NoneUntil : Marks → ℕ → Type 0
 NoneUntil m limit = (n p : ℕ) → n ≤ limit → is_marked_under m n p ≡ false

@@ -1,10 +1,10 @@
 //! What an audit keeps of the entries that it has passed.
 ghost use Rattle.std.specs.Prelude.{◌≡◌, ◌↔◌, ◌<◌, ◌^◌, ℕ, Some, None, true, false};
-ghost use Rattle.std.specs.Prelude.{option_and_then, option_map, length, IfNone, IfSome, IsTrue, OnOk};
+ghost use Rattle.std.specs.Prelude.{option_and_then, length, IfNone, IfSome, IsTrue, OnOk};
 ghost use Rattle.rv_text.specs.declared.call.Side.{Side};
 ghost use Rattle.rv_text.specs.declared.version.Version.{Version};
 ghost use Rattle.rv_account.specs.declared.entry.Act.TheVariants.{Hello};
-ghost use Rattle.rv_account.specs.Account.{Among, call_at};
+ghost use Rattle.rv_account.specs.Account.{Among};
 ghost use Rattle.rv_book.specs.Legal.{HasWaiting, MayFollow, SomethingDue, WaitsUnder};
 ghost use Rattle.rv_book.specs.Steps.{own_moment};
 ghost use Rattle.rv_book.specs.Waiting.{Met, OpenAt, SideAt, Waiting, limit_at};
@@ -136,22 +136,12 @@ impl<'a> Front<'a> {
         self.lines.oldest_beside(side, places)
     }
 
-    // The call of the arrival at a place, if one stands there.
-    fn call(&self, place: Place) -> Option<&Call>
-        ensures { option_map (λ c. c.now) result ≡ call_at self.now.account.now.account.entries place }
-    {
-        match &self.account.entry(place)?.act {
-            Act::Arrive { call, .. } => Some(call),
-            Act::Hello { .. } | Act::Cancel { .. } | Act::Tick => None,
-        }
-    }
-
     // Whether a request waits at the place.
     fn is_waiting(&self, place: Place) -> bool
         requires { IsFront self.now }
         ensures { IsTrue result ↔ Waiting (passed self.now).entries place }
     {
-        match self.call(place) {
+        match self.account.call(place) {
             Some(call) => call.wait().is_some() && self.lines.has(call.side(), place),
             None => false,
         }
@@ -240,10 +230,7 @@ impl<'a> Front<'a> {
         if place >= self.met.len() {
             return None;
         }
-        match self.call(place) {
-            Some(call) => Some(call.side()),
-            None => None,
-        }
+        self.account.call(place).map(Call::side)
     }
 
     // Whether an open arrival of the side that is none of these stands before the place.
@@ -262,20 +249,14 @@ impl<'a> Front<'a> {
         requires { IsFront self.now }
         ensures { IsTrue result ↔ HasOne (passed self.now).entries side places.now }
     {
-        match self.oldest_beside(side, places) {
-            Some(_) => true,
-            None => false,
-        }
+        self.oldest_beside(side, places).is_some()
     }
 
     // The limit of the request that arrived at a place, if it has one that fits a moment.
     fn limit(&self, place: Place) -> Option<u64>
         ensures { IsFitting (limit_at self.now.account.now.account.entries place) result }
     {
-        match self.account.entry(place) {
-            Some(entry) => limit_of(entry),
-            None => None,
-        }
+        self.account.entry(place).and_then(limit_of)
     }
 
     // Takes the arrival at a place out of the lines and the limits.

@@ -3,7 +3,7 @@ ghost use Rattle.std.specs.Prelude.{◌≡◌, ◌<◌, ℕ, Some, false, true};
 ghost use Rattle.std.specs.Prelude.{IfNone, IfSome, OnErr, OnOk};
 ghost use Rattle.rv_audit.specs.Marks.{Gains, GainsIf, IsLeast, IsLowest, IsLowestBeside, IsNextMark};
 ghost use Rattle.rv_audit.specs.Marks.{Loses, LosesIf, NoneBehind, NoneBeside};
-ghost use Rattle.rv_audit.specs.Marks.{NoneUnder, NoneUntil, count_of, is_marked_under};
+ghost use Rattle.rv_audit.specs.Marks.{NoneUnder, NoneUntil, SameMarks, count_of, is_marked_under};
 
 use rv_book::Place;
 use rv_text::NoMemory;
@@ -37,6 +37,7 @@ impl Marks {
     // Marks the place under the number. Where memory is refused nothing changes.
     pub(crate) fn add(&mut self, number: u64, place: Place) -> Result<(), NoMemory>
         ensures ok { OnOk result (Gains self.old self.new number place) }
+        ensures err { OnErr result (SameMarks self.old self.new) }
     {
         match self.marks.insert((number, place)) {
             Ok(_) => Ok(()),

@@ -33,7 +33,7 @@ pub enum Rule {
     P4,
     /// Who exchanges swaps with who exchanges there, while the partner is open.
     S1,
-    /// Who exchanges swaps where one that exchanges there is open.
+    /// Who exchanges, and names nobody, finds nobody open at its exchanger.
     S2,
 }
 
@@ -64,6 +64,11 @@ impl Rule {
 pub enum Audit {
     /// No rule is broken at any place.
     Legal,
-    /// The first place at which a rule is broken, and of those broken there the first in their order.
-    Fault { place: Place, rule: Rule },
+    /// A rule is broken.
+    Fault {
+        /// The first place at which one is.
+        place: Place,
+        /// Of those that are broken there the first in their order.
+        rule: Rule,
+    },
 }

@@ -5,13 +5,13 @@ ghost use Rattle.rv_text.specs.declared.message.Key.{Key};
 ghost use Rattle.rv_text.specs.declared.call.Call.{Call};
 ghost use Rattle.rv_account.specs.Account.{call_in};
 ghost use Rattle.rv_account.specs.Calls.{may_name, opposite};
-ghost use Rattle.rv_book.specs.Legal.{IsOpenOpposite, WaitsUnder};
+ghost use Rattle.rv_book.specs.Legal.{IsOpenOpposite};
 ghost use Rattle.rv_audit.specs.Breaking.{ArrivesAs, ArrivesToMeet, BreaksBehind, IsOutOfOrder, IsPaired};
 ghost use Rattle.rv_audit.specs.Breaking.{IsSwapped};
 ghost use Rattle.rv_audit.specs.Breaking.{FallsBack, IsNoFreePlace, IsOfNoSession, PassesLimit};
 ghost use Rattle.rv_audit.specs.Breaking.{BreaksCount, MeetsWrongly, MissesPartner, NamesTaken, NamesTooMany};
 ghost use Rattle.rv_audit.specs.Breaking.{NamesWrongly, PassesOver, StartsNoNewer, TicksForNothing};
-ghost use Rattle.rv_audit.specs.Passed.{FindsOne, HasAmong, IsFront, IsPassedBy, LeavesPartner, Misses};
+ghost use Rattle.rv_audit.specs.Passed.{FindsOne, HasAmong, IsFront, IsOf, IsPassedBy, LeavesPartner, Misses};
 ghost use Rattle.rv_audit.specs.Passed.{passed};
 
 use crate::front::Front;
@@ -96,6 +96,15 @@ fn breaks_count(front: &Front<'_>, act: &Act) -> bool
 }
 
 // ---- partners
+
+// How arrivals meet.
+#[derive(Clone, Copy)]
+enum Meeting {
+    // One that gives and one that takes are a pair.
+    Pair,
+    // Two that exchange are a swap.
+    Swap,
+}
 
 // The call of an entry that arrives.
 fn call_of(entry: &Entry) -> Option<&Call>
@@ -214,24 +223,23 @@ fn names_wrongly(front: &Front<'_>, entry: &Entry) -> bool
     names_taken(front, entry) || names_too_many(entry) || !rise(entry.partners.as_slice())
 }
 
-// The call of an entry that gives or takes.
-fn paired(entry: &Entry) -> Option<&Call>
-    ensures some { IfSome result (λ call. ArrivesAs IsPaired entry.now call.now) }
-    ensures none { IfNone result ((call : Call) → ¬ ArrivesAs IsPaired entry.now call) }
+// Whether arrivals of the side meet in this way.
+fn is_of(meeting: Meeting, side: Side) -> bool
+    ensures { IsTrue result ↔ IsOf meeting side }
 {
-    match call_of(entry) {
-        Some(call) if is_paired(call.side()) => Some(call),
-        _ => None,
+    match meeting {
+        Meeting::Pair => is_paired(side),
+        Meeting::Swap => is_swapped(side),
     }
 }
 
-// The call of an entry that exchanges.
-fn swapped(entry: &Entry) -> Option<&Call>
-    ensures some { IfSome result (λ call. ArrivesAs IsSwapped entry.now call.now) }
-    ensures none { IfNone result ((call : Call) → ¬ ArrivesAs IsSwapped entry.now call) }
+// The call of an entry whose arrival meets in this way.
+fn arrival(meeting: Meeting, entry: &Entry) -> Option<&Call>
+    ensures some { IfSome result (λ call. ArrivesAs (IsOf meeting) entry.now call.now) }
+    ensures none { IfNone result ((call : Call) → ¬ ArrivesAs (IsOf meeting) entry.now call) }
 {
     match call_of(entry) {
-        Some(call) if is_swapped(call.side()) => Some(call),
+        Some(call) if is_of(meeting, call.side()) => Some(call),
         _ => None,
     }
 }
@@ -304,11 +312,11 @@ fn any_passed(front: &Front<'_>, partners: &[Place]) -> bool
     false
 }
 
-fn pairs_wrongly(front: &Front<'_>, entry: &Entry) -> bool
+fn meets_wrongly(front: &Front<'_>, meeting: Meeting, entry: &Entry) -> bool
     requires { IsFront front.now }
-    ensures { IsTrue result ↔ MeetsWrongly IsPaired (passed front.now).entries entry.now }
+    ensures { IsTrue result ↔ MeetsWrongly (IsOf meeting) (passed front.now).entries entry.now }
 {
-    match paired(entry) {
+    match arrival(meeting, entry) {
         Some(call) => misses(front, call, entry.partners.as_slice()),
         None => false,
     }
@@ -318,37 +326,17 @@ fn passes_over(front: &Front<'_>, entry: &Entry) -> bool
     requires { IsFront front.now }
     ensures { IsTrue result ↔ PassesOver (passed front.now).entries entry.now }
 {
-    match paired(entry) {
+    match arrival(Meeting::Pair, entry) {
         Some(_) => any_passed(front, entry.partners.as_slice()),
         None => false,
     }
 }
 
-fn pairs_nobody(front: &Front<'_>, entry: &Entry) -> bool
+fn misses_partner(front: &Front<'_>, meeting: Meeting, entry: &Entry) -> bool
     requires { IsFront front.now }
-    ensures { IsTrue result ↔ MissesPartner IsPaired (passed front.now).entries entry.now }
+    ensures { IsTrue result ↔ MissesPartner (IsOf meeting) (passed front.now).entries entry.now }
 {
-    match paired(entry) {
-        Some(call) => leaves(front, call, entry.partners.as_slice()),
-        None => false,
-    }
-}
-
-fn swaps_wrongly(front: &Front<'_>, entry: &Entry) -> bool
-    requires { IsFront front.now }
-    ensures { IsTrue result ↔ MeetsWrongly IsSwapped (passed front.now).entries entry.now }
-{
-    match swapped(entry) {
-        Some(call) => misses(front, call, entry.partners.as_slice()),
-        None => false,
-    }
-}
-
-fn swaps_nobody(front: &Front<'_>, entry: &Entry) -> bool
-    requires { IsFront front.now }
-    ensures { IsTrue result ↔ MissesPartner IsSwapped (passed front.now).entries entry.now }
-{
-    match swapped(entry) {
+    match arrival(meeting, entry) {
         Some(call) => leaves(front, call, entry.partners.as_slice()),
         None => false,
     }
@@ -369,10 +357,10 @@ pub(crate) fn breaks(front: &Front<'_>, rule: Rule, entry: &Entry) -> bool
         Rule::N2 => is_of_no_session(front, &entry.act),
         Rule::N3 => breaks_count(front, &entry.act),
         Rule::P1 => names_wrongly(front, entry),
-        Rule::P2 => pairs_wrongly(front, entry),
+        Rule::P2 => meets_wrongly(front, Meeting::Pair, entry),
         Rule::P3 => passes_over(front, entry),
-        Rule::P4 => pairs_nobody(front, entry),
-        Rule::S1 => swaps_wrongly(front, entry),
-        Rule::S2 => swaps_nobody(front, entry),
+        Rule::P4 => misses_partner(front, Meeting::Pair, entry),
+        Rule::S1 => meets_wrongly(front, Meeting::Swap, entry),
+        Rule::S2 => misses_partner(front, Meeting::Swap, entry),
     }
 }

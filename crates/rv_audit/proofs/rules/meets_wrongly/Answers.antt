@@ -2,7 +2,7 @@ use Rattle.std.proofs.Common.{ℕ, List, subst}
 use Rattle.std.specs.Bool.{IsTrue}
 use Rattle.rv_audit.proofs.Telling.{Iff, wrong_met}
 use Rattle.rv_audit.specs.Passed.{Misses, passed}
-use Rattle.rv_audit.proofs.rules.swaps_wrongly.Goals as goal
+use Rattle.rv_audit.proofs.rules.meets_wrongly.Goals as goal
 
 pub returns-in-Some : goal.returns-in-Some
 returns-in-Some c =

@@ -2,7 +2,7 @@ use Rattle.std.proofs.Common.{ℕ, List, subst}
 use Rattle.std.specs.Bool.{IsTrue}
 use Rattle.rv_audit.proofs.Telling.{Iff, nobody_met}
 use Rattle.rv_audit.specs.Passed.{LeavesPartner, passed}
-use Rattle.rv_audit.proofs.rules.pairs_nobody.Goals as goal
+use Rattle.rv_audit.proofs.rules.misses_partner.Goals as goal
 
 pub returns-in-Some : goal.returns-in-Some
 returns-in-Some c =
