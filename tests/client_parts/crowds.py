@@ -147,10 +147,8 @@ def a_crowd(program, seed, seconds):
                 parts.append(lambda: java_crowd(proxy.port, seconds, seed, told))
             together(*parts, limit=seconds + 2 * LONGER)
         server.use_up()
-        account = server.ended()
-        if account is not None:
-            judge(account, told)
-            server.audited()
+        judge(server.ended(), told)
+        server.audited()
     demand(not lacking(told, proxy, seconds), lacking(told, proxy, seconds))
     named, received = receipts_of(told)
     return f"{len(told.asked)} calls, {received} receipts, of which {named} name the consumer"

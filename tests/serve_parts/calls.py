@@ -50,7 +50,7 @@ def hand_over(program, gives, takes, receipt):
                 giver.judge(replied(given, **receipt) + b"\n" + replied(after[0], reply="swapped", item="c") + b"\n")
         asked = {given: gift, got: WISH, after[0]: first, after[1]: second}
         account = server.judged(asked, [(given, receipt), (got, {"reply": "item", "item": "a"})])
-        demand(account is None or len(account.entries) == 6, "the account has other than six entries")
+        demand(len(account.entries) == 6, "the account has other than six entries")
 
 
 def swapped(item):

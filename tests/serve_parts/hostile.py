@@ -166,7 +166,7 @@ def a_thousand_hostile_connections(program, seed):
         together(good.run, bad)
         server.use_up()
         account = server.judged(good.asked, [])
-        clients = {entry.act.client for entry in account.entries if isinstance(entry.act, Hello)} if account else set()
+        clients = {entry.act.client for entry in account.entries if isinstance(entry.act, Hello)}
         demand(clients <= {1, *HOSTILE, NEVER_READS}, f"the account has hellos of {clients}")
 
 

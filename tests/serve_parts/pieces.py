@@ -97,10 +97,8 @@ def one_connection(program, chance):
     with Server(program, workers=1, connections=1, epoch=epoch) as server:
         with server.connect() as peer:
             together(lambda: send(chance, peer, data), lambda: hear(peer, talk))
-        account = server.ended()
-        if account is not None:
-            demand(shape(account) == shape(script.account), "the account has other entries than the model's")
-            server.audited()
+        demand(shape(server.ended()) == shape(script.account), "the account has other entries than the model's")
+        server.audited()
 
 
 def shape(account: Account):

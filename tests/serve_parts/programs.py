@@ -167,29 +167,26 @@ class Server(Process):
         demand(served == self.connections, f"{served} connections were served, not {self.connections}")
 
     def ended(self, patience=PATIENCE):
-        """The account that the server printed at its end, which must be a good one; None where it prints none."""
+        """The account that the server printed at its end, which must be a good one."""
         status = self.status(patience)
         demand((status, self.said) == (0, b""), f"serve ended with status {status} and said {self.said!r}")
-        if not self.printed:
-            return None
         account = read_account(self.printed)
         demand(account.epoch == self.epoch and account.opened == 0, "the account's first line is another")
         return account
 
     def judged(self, asked, told, patience=PATIENCE):
-        """Ends with an account, if it is printed, in which all that was told stands; `asked` has each key's call."""
+        """Ends with an account in which all that was told stands; `asked` has each key's call."""
         account = self.ended(patience)
-        if account is not None:
-            fault = account_fault(account, asked, told)
-            demand(not fault, f"the account: {fault}")
-            self.audited()
+        fault = account_fault(account, asked, told)
+        demand(not fault, f"the account: {fault}")
+        self.audited()
         return account
 
     def audited(self):
-        """The program's own audit, where it has one, must find the account legal."""
+        """The program's own audit must find the account legal."""
         ran = subprocess.run([self.program, "audit"], input=self.printed, capture_output=True, timeout=4 * PATIENCE)
-        known = (ran.returncode, ran.stderr) != (2, b"command fault 1\n")
-        demand(not known or ran.stdout == b"legal\n", f"rv audit says {ran.stdout!r} {ran.stderr!r} of the account")
+        told = (ran.stdout, ran.stderr, ran.returncode)
+        demand(told == (b"legal\n", b"", 0), f"rv audit says {told} of the account")
 
 
 class Caller(Process):

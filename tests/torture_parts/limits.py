@@ -148,6 +148,7 @@ def few_threads(program):
             until("threads are started, or none was", lambda: not server.runs() or threads(server) > 1)
             if not server.runs():
                 ends_with(server, (1, b"serve fault 1\n"))
+                demand(server.printed == b"epoch 1 opened 0\n", f"printed {server.printed}")
                 continue
             asked, told = {}, []
             for client in range(1, 7):
