@@ -54,10 +54,10 @@ fn first_broken(front: &Front<'_>, entry: &Entry) -> Option<Rule>
 /// broken, and of the rules that are broken there the first in their order. It fails only where memory was
 /// refused. The account stays as it is.
 ///
-/// An entry takes time logarithmic in the number of entries before it, for itself, for each of its partners and
-/// for each request whose wait it ends. Beside that, whether one is passed over is asked of each partner, by a
-/// search beside all of them: that is cubic in their number, but comes behind P1, where they are no more than
-/// the entry's call may name.
+/// An entry takes time logarithmic in the number of entries before it: for itself, for each of its partners,
+/// and for each request whose wait it ends. Beside that, whether one is passed over is asked of each partner,
+/// by a search beside all of them. That is cubic in their number, but comes behind P1, so that they are no
+/// more than the entry's call may name.
 pub fn audit(alloc: Global, account: &Account) -> Result<Audit, NoMemory>
     ensures told { IfOk result (IsToldOf account.now.account) }
     ensures legal { IfOk result (λ told. (told ≡ tells.Legal) ↔ Legal account.now.account) }

@@ -30,7 +30,7 @@ fn play_event(alloc: Global, world: &mut World, event: &Event) -> Result<String,
     requires { FitsEvent event.now }
     ensures { IfOk result (PlaysEvent world.old event.now world.new) }
 {
-    match world.step(alloc, event) {
+    match world.step(event) {
         Ok(seen) => seen_text(alloc, world, event, seen),
         Err(refusal) => format!(in alloc; "refused {}", number_of(refusal)),
     }

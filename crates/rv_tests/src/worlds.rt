@@ -1,7 +1,8 @@
 //! A list of events, which no program runs as a whole: what is left of it in the world that it leads to.
 use crate::expect::{holds, same};
+use rv_book::Account;
 use rv_text::{Answer, Call, Item, Key, NoMemory, Refusal, Reply, Version, Wait};
-use rv_world::{Event, World, WorldRefusal, run};
+use rv_world::{Audit, Event, World, WorldRefusal, audit, run};
 use std::alloc::Global;
 use std::test::Fail;
 
@@ -104,6 +105,66 @@ fn played(alloc: Global) -> Result<[Event; 23], NoMemory> {
     }
 }
 
+// The key of a client's request of this number, in epoch 1 and incarnation 1.
+fn key(client: u64, number: u64) -> Key {
+    Key {
+        epoch: 1,
+        client,
+        incarnation: 1,
+        number,
+    }
+}
+
+// Whether its clients hold the replies of the play, in the order in which these were settled.
+fn holds_its_replies(world: &World) -> bool {
+    let [transfer, take, put] = world.held() else {
+        return false;
+    };
+    let taken = match &take.1 {
+        Reply::Item(item) => item.as_str() == "a",
+        _ => false,
+    };
+    transfer.0 == key(1, 1)
+        && transfer.1 == Reply::Received
+        && take.0 == key(2, 1)
+        && taken
+        && put.0 == key(1, 2)
+        && put.1 == Reply::Done
+}
+
+// Whether the take alone names a partner: the transfer, at place 2.
+fn is_met_once(account: &Account) -> bool {
+    for place in 0..5 {
+        let met: &[usize] = if place == 3 { &[2] } else { &[] };
+        if account
+            .entry(place)
+            .is_none_or(|entry| entry.partners.as_slice() != met)
+        {
+            return false;
+        }
+    }
+    account.len() == 5
+}
+
+// With ample memory the whole play is run as one list.
+#[test]
+fn a_worked_play_is_run(rt: HostRuntime) -> Result<(), Fail> {
+    let alloc = rt.alloc();
+    let events = worked_play(alloc)?;
+    assert!(rt; events.iter().all(Event::fits));
+    let Ok(world) = run(alloc, &events) else {
+        return Err(Fail::new("an event was refused"));
+    };
+    same(&rt, world.asked().len(), 3);
+    holds(&rt, holds_its_replies(&world), "the replies");
+    let Some(account) = world.account(1) else {
+        return Err(Fail::new("there is no account"));
+    };
+    holds(&rt, is_met_once(account), "the entries");
+    same(&rt, audit(alloc, account)?, Audit::Legal);
+    Ok(())
+}
+
 // Whether an answer of the play says that the server found no memory.
 fn lacks(world: &World) -> bool {
     for packet in 0..9 {
@@ -151,9 +212,9 @@ fn a_worked_play_by_steps(rt: HostRuntime) -> Result<(), Fail> {
     };
     for event in &events {
         assert!(rt; event.fits());
-        let mut seen = world.step(alloc, event);
+        let mut seen = world.step(event);
         if seen == Err(WorldRefusal::NoMemory) {
-            seen = world.step(alloc, event);
+            seen = world.step(event);
         }
         if seen.is_err() {
             holds(

@@ -349,6 +349,7 @@ first_sound epoch =
         held_answered = λ key told held. absurd (nothing_there (key, told) held);
         answered_asked = λ key told answered. absurd (nothing_there (record { client = answered.0; answer = answers.Replied key told }) answered.1);
         answered_is = λ key told answered. absurd (nothing_there (record { client = answered.0; answer = answers.Replied key told }) answered.1);
+        one_reply = λ key one other answered also. absurd (nothing_there (record { client = answered.0; answer = answers.Replied key one }) answered.1);
       };
       legal_accounts = legal_accounts w rises (λ a there. elim (Contains-push_cases [] (empty_account epoch) a there) [
         | inl before ↦ absurd (nothing_there a before)

@@ -43,7 +43,7 @@ pub record IsReplyOf (w : World) (key : Key) (told : Reply) : Type 0 where
   pub has : HasReply account.entries key told
 
 -- no key was asked twice, nor under two calls, and none is held twice; what is held was answered; what
--- is answered was asked, and is the reply in the account
+-- is answered was asked, and is the reply in the account; no key is answered with two different replies
 pub record NoTwoReplies (w : World) : Type 0 where
   pub asked_once : HasEachKeyOnce w.asked
   pub held_once : HasEachKeyOnce w.held
@@ -51,6 +51,8 @@ pub record NoTwoReplies (w : World) : Type 0 where
   pub answered_asked : (key : Key) (told : Reply) → IsAnswered w key told
       → (call : Call) × WasAsked w key call
   pub answered_is : (key : Key) (told : Reply) → IsAnswered w key told → IsReplyOf w key told
+  pub one_reply : (key : Key) (one other : Reply) → IsAnswered w key one → IsAnswered w key other
+      → one ≡ other
 
 -- ---- 2: legal accounts
 

@@ -37,12 +37,11 @@ impl Event {
                 fits_identifier(*client) && fits_identifier(*incarnation)
             }
             Event::Begin(client, call) => fits_identifier(*client) && call.fits(),
-            Event::Resend(client) => fits_identifier(*client),
-            Event::CancelSent(client) => fits_identifier(*client),
-            Event::Crash(client) => fits_identifier(*client),
-            Event::ToServer(_, _) => true,
-            Event::ToClient(_) => true,
-            Event::NewEpoch(epoch) => fits_identifier(*epoch),
+            Event::Resend(number)
+            | Event::CancelSent(number)
+            | Event::Crash(number)
+            | Event::NewEpoch(number) => fits_identifier(*number),
+            Event::ToServer(..) | Event::ToClient(_) => true,
         }
     }
 }

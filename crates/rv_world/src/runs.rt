@@ -1,9 +1,9 @@
 //! Lists of events.
-ghost use Rattle.std.specs.Prelude.{IfErr, IfOk};
+ghost use Rattle.std.specs.Prelude.{IfErr, IfOk, OnOk};
 ghost use Rattle.std.specs.List.{All};
 ghost use Rattle.rv_world.specs.Headline.{Headline};
 ghost use Rattle.rv_world.specs.Limits.{FitsEvent};
-ghost use Rattle.rv_world.specs.Runs.{Runs, StopsIn};
+ghost use Rattle.rv_world.specs.Runs.{Runs, StopsAt, StopsIn};
 ghost use Rattle.rv_world.specs.World.{first_world};
 
 use crate::event::Event;
@@ -11,9 +11,23 @@ use crate::seen::WorldRefusal;
 use crate::world::World;
 use std::alloc::Global;
 
+// Gives a world each of these events; or tells the number of the first that is refused, and its refusal.
+fn take_each(world: &mut World, events: &[Event]) -> Result<(), (usize, WorldRefusal)>
+    requires { All FitsEvent events.now }
+    ensures runs { OnOk result (Runs world.old events.now world.new) }
+    ensures stops { IfErr result (λ stop. StopsAt world.old events.now stop.0 stop.1) }
+{
+    for (i, event) in events.iter().enumerate() {
+        if let Err(refusal) = world.step(event) {
+            return Err((i, refusal));
+        }
+    }
+    Ok(())
+}
+
 /// The world after a list of events, each of which keeps its limits, from epoch 1. Where an event is refused,
-/// the number of the first that is, from 0, and its refusal; number 0 and want of memory stand also where the
-/// world found none to begin with.
+/// the first such ends the list, and the error is its number, from 0, with its refusal. Where memory for the
+/// world itself was refused, before any event, the error is `(0, NoMemory)` too, also of an empty list.
 pub fn run(alloc: Global, events: &[Event]) -> Result<World, (usize, WorldRefusal)>
     requires { All FitsEvent events.now }
     ensures runs { IfOk result (Runs (first_world 1) events.now) }
@@ -24,10 +38,6 @@ pub fn run(alloc: Global, events: &[Event]) -> Result<World, (usize, WorldRefusa
         Ok(world) => world,
         Err(_) => return Err((0, WorldRefusal::NoMemory)),
     };
-    for (i, event) in events.iter().enumerate() {
-        if let Err(refusal) = world.step(alloc, event) {
-            return Err((i, refusal));
-        }
-    }
+    take_each(&mut world, events)?;
     Ok(world)
 }

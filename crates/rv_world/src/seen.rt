@@ -15,7 +15,7 @@ pub enum Seen {
     TurnedAway(Refusal),
     /// The request of this key has its reply.
     Settled(Key),
-    /// The answer says nothing to its client.
+    /// The answer says nothing to its client, or no process of the client runs.
     Ignored,
     /// A client's request ended: this later epoch is there.
     Ended(u64),

@@ -79,13 +79,19 @@ impl WorldState {
         })
     }
 
+    // The allocator that the state keeps.
+    fn allocator(&self) -> Global {
+        *self.asked.allocator()
+    }
+
     // Takes one event.
-    pub(crate) fn step(&mut self, alloc: Global, event: &Event) -> Result<Seen, WorldRefusal>
+    pub(crate) fn step(&mut self, event: &Event) -> Result<Seen, WorldRefusal>
         requires sound { IsSoundState self.old }
         requires fits { FitsEvent event.now }
         ensures comes { EventComesTo (world_of self.old) event.now (world_of self.new) result }
         ensures newest { KnowsNewest self.new }
     {
+        let alloc = self.allocator();
         match event {
             Event::Start(client, incarnation, version) => {
                 self.start(*client, *incarnation, *version)
@@ -94,8 +100,8 @@ impl WorldState {
             Event::Resend(client) => self.resend(alloc, *client),
             Event::CancelSent(client) => self.send_cancel(*client),
             Event::Crash(client) => self.crash(*client),
-            Event::ToServer(packet, moment) => self.to_server(alloc, *packet, *moment),
-            Event::ToClient(packet) => self.to_client(alloc, *packet),
+            Event::ToServer(packet, moment) => self.deliver_message(alloc, *packet, *moment),
+            Event::ToClient(packet) => self.deliver_answer(alloc, *packet),
             Event::NewEpoch(epoch) => self.new_epoch(alloc, *epoch),
         }
     }
@@ -155,8 +161,7 @@ impl WorldState {
     {
         match self.process(client)? {
             Running::Idle(idle) => idle.next_key().ok_or(WorldRefusal::NotIdle),
-            Running::New(_) => Err(WorldRefusal::NotIdle),
-            Running::Outstanding(_) => Err(WorldRefusal::NotIdle),
+            Running::New(_) | Running::Outstanding(_) => Err(WorldRefusal::NotIdle),
         }
     }
 
@@ -169,8 +174,7 @@ impl WorldState {
     {
         match self.process(client)? {
             Running::Outstanding(_) => Ok(()),
-            Running::New(_) => Err(WorldRefusal::NotOutstanding),
-            Running::Idle(_) => Err(WorldRefusal::NotOutstanding),
+            Running::New(_) | Running::Idle(_) => Err(WorldRefusal::NotOutstanding),
         }
     }
 
@@ -230,7 +234,12 @@ impl WorldState {
     }
 
     // A message comes to the server.
-    fn to_server(&mut self, alloc: Global, packet: usize, moment: u64) -> Result<Seen, WorldRefusal>
+    fn deliver_message(
+        &mut self,
+        alloc: Global,
+        packet: usize,
+        moment: u64,
+    ) -> Result<Seen, WorldRefusal>
         requires sound { IsSoundState self.old }
         ensures comes { EventComesTo (world_of self.old) (event.ToServer packet moment)
             (world_of self.new) result }
@@ -251,7 +260,7 @@ impl WorldState {
     }
 
     // An answer comes to its client.
-    fn to_client(&mut self, alloc: Global, packet: usize) -> Result<Seen, WorldRefusal>
+    fn deliver_answer(&mut self, alloc: Global, packet: usize) -> Result<Seen, WorldRefusal>
         requires sound { IsSoundState self.old }
         ensures comes { EventComesTo (world_of self.old) (event.ToClient packet) (world_of self.new) result }
         ensures newest { KnowsNewest self.new }

@@ -1,5 +1,5 @@
 //! The world: every server, client and packet, and one event at a time.
-ghost use Rattle.std.specs.Prelude.{◌≡◌, ◌⊎◌, IfOk, IfSome, IfNone, None, option_map, slice_get, ℕ};
+ghost use Rattle.std.specs.Prelude.{◌≡◌, IfOk, IfSome, IfNone, option_map, slice_get, ℕ};
 ghost use Rattle.rv_text.specs.Limits.{FitsAnswer, FitsIdentifier};
 ghost use Rattle.rv_world.specs.World.{IsAccountOf, first_world};
 ghost use Rattle.rv_world.specs.Parts.{IsBookOf};
@@ -14,9 +14,11 @@ use std::marker::Model;
 
 /// Servers, clients, and a link that loses, repeats and reorders what was sent.
 ///
-/// A delivery to the server costs what the book's step costs, and any other event at most three look-ups of a
-/// client. What was sent, asked, held or started is never forgotten, nor is a book; of a process that ended
-/// nothing else is kept.
+/// An event looks a client up at most three times. A delivery to the server also copies the message, and
+/// costs what the book's step and its answer cost; one to a client copies the answer; a call that is begun is
+/// copied three times, and once each time that it is sent again; a new epoch opens a book, with 64 queues and
+/// 64 exchangers. What was sent, asked, held or started is never forgotten, nor is a book; of a process that
+/// ended nothing else is kept.
 #[derive(Drop)]
 pub struct World {
     state: WorldState,
@@ -62,13 +64,13 @@ impl World {
     /// nothing. Want of memory is told only where no other refusal is due, and never of a crash, nor of an
     /// answer whose client has no process. Where the server itself lacks memory the event is not refused: the
     /// answer that is sent says so.
-    pub fn step(&mut self, alloc: Global, event: &Event) -> Result<Seen, WorldRefusal>
+    pub fn step(&mut self, event: &Event) -> Result<Seen, WorldRefusal>
         requires { FitsEvent event.now }
         ensures comes { EventComesTo self.old event.now self.new result }
         ensures headline { Headline self.new }
         ensures only_growth { OnlyGrows self.old self.new }
     {
-        self.state.step(alloc, event)
+        self.state.step(event)
     }
 
     /// The replies that clients took as final, with their keys.
@@ -85,7 +87,8 @@ impl World {
         &self.state.asked
     }
 
-    /// The account of an epoch, if it was opened.
+    /// The account of an epoch, if it was opened. Where it isn't the present one, it is looked for among all
+    /// earlier books, from the first on.
     pub fn account(&self, epoch: u64) -> Option<&Account>
         ensures found { IfSome result (λ account. IsAccountOf self.now epoch account.now.account) }
         ensures none { IfNone result ((a : _) → ¬ IsAccountOf self.now epoch a) }

@@ -9,7 +9,7 @@ use Rattle.rv_world.specs.declared.event.Event.TheVariants as event
 use Rattle.rv_world.proofs.Hearing.{awaited, comes_heard}
 use Rattle.rv_world.proofs.Refused.{lacks_memory, sent_due}
 use Rattle.rv_world.proofs.TableWrites.{same_world}
-use Rattle.rv_world.proofs.state.WorldState.to_client.Goals as goal
+use Rattle.rv_world.proofs.state.WorldState.deliver_answer.Goals as goal
 
 pub returns-in_err-answer-clause-comes : goal.returns-in_err-answer-clause-comes
 returns-in_err-answer-clause-comes c =

@@ -1,8 +1,7 @@
 -- The events so far lead to the world.
 use Rattle.std.proofs.Common.{take}
 use Rattle.rv_world.specs.Runs.{Runs}
-use Rattle.rv_world.specs.World.{first_world}
-use Rattle.rv_world.proofs.runs.run.Given as goal
+use Rattle.rv_world.proofs.runs.take_each.Given as goal
 
 abbrev pub invariant-loop-i : goal.invariant-loop-i
-invariant-loop-i l = Runs (first_world 1) (take l.i l.events) l.world
+invariant-loop-i l = Runs l.fn.world (take l.i l.events) l.world
