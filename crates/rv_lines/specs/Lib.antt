@@ -1,8 +1,9 @@
--- The definitions that the contracts of this crate cite.
-pub mod Entries
-pub mod Faults
+-- What a reader must agree with: all that the public contracts and the laws cite.
 pub mod Laws
 pub mod Lines
 pub mod Number
 pub mod Reading
 pub mod Written
+-- What only private clauses and proofs cite.
+pub mod Entries
+pub mod Faults

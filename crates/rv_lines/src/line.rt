@@ -1,12 +1,13 @@
 //! Cuts an input into lines, and a line into its fields.
 ghost use Rattle.std.specs.Prelude.{◌≡◌, ◌≢◌, ◌<◌, ◌∷◌, ◌++◌, [], length, None, IfSome};
 ghost use Rattle.std.specs.List.{All};
-ghost use Rattle.rv_lines.specs.Lines.{lines};
+ghost use Rattle.rv_lines.specs.Lines.{BeginsWithLine, lines};
 
 /// The first line and the bytes after it, or `None` where there are no bytes. A line ends before
 /// an LF, which is dropped, or with the bytes.
 pub fn first_line(bytes: &[u8]) -> Option<(&[u8], &[u8])>
     ensures some { IfSome result (λ p. lines bytes.now ≡ p.0.now ∷ lines p.1.now) }
+    ensures cut { IfSome result (λ p. BeginsWithLine bytes.now p.0.now p.1.now) }
     ensures shorter { IfSome result (λ p. length p.1.now < length bytes.now) }
     ensures none { result ≡ None → bytes.now ≡ [] }
 {

@@ -1,15 +1,19 @@
 -- What was read of a run's input, and what is left where a run ends before it prints.
-use Rattle.std.specs.Prelude.{ℕ, ◌≡◌, ◌<◌, ◌≤◌, true, false, IfSome, List, Option, length}
+use Rattle.std.specs.Prelude.{ℕ, ◌≡◌, ◌+◌, ◌<◌, ◌≤◌, true, false, IfSome, List, Option, length}
 use Rattle.std.specs.Io.KnownBytes.{IsAtEnd}
 use Rattle.rv_frame.specs.declared.sink.Sink.{Sink}
 use Rattle.rv_frame.specs.declared.source.Source.{Source}
-use Rattle.rv_frame.specs.Source.{source_failed, source_remaining}
+use Rattle.rv_frame.specs.Source.{SourceGives, source_failed, source_remaining}
 use Rattle.rv_run.specs.declared.fault.RunFault.{RunFault}
 use Rattle.rv_run.specs.declared.fault.RunFault.TheVariants.{NoMemory, ReadFault, TooLong, WriteFault}
 
 -- the most bytes of an input: 512 MiB
 abbrev pub max_input : ℕ
 max_input = 536870912
+
+-- the most bytes that are asked for at a time
+abbrev pub max_piece : ℕ
+max_piece = 65536
 
 module _ {R : Type 0} (remaining : R → Option (List ℕ)) where
   -- all bytes of the source were read, they keep the limit, and no read failed
@@ -25,6 +29,21 @@ module _ {R : Type 0} (remaining : R → Option (List ℕ)) where
   StopsReading old new NoMemory = source_failed new ≡ false
   StopsReading old new TooLong = (source_failed new ≡ false)
       × IfSome (source_remaining remaining old) (λ input. max_input < length input)
+
+  -- the source gave so many bytes, at least and at most
+  pub record GaveBetween (least most : ℕ) (old new : Source R) : Type 0 where
+    pub bytes : List ℕ
+    pub gave : SourceGives remaining old new bytes
+    pub at_least : least ≤ length bytes
+    pub at_most : length bytes ≤ most
+
+  -- how much the source gave before this fault: no more than the limit, and where there is more, at most the
+  -- piece that passes it
+  abbrev pub GaveBefore : Source R → Source R → RunFault → Type 0
+  GaveBefore old new ReadFault = GaveBetween 0 max_input old new
+  GaveBefore old new (WriteFault fault) = ⊥
+  GaveBefore old new NoMemory = GaveBetween 0 max_input old new
+  GaveBefore old new TooLong = GaveBetween (max_input + 1) (max_input + max_piece) old new
 
 module _ {R W : Type 0} where
   -- the input is longer than its limit

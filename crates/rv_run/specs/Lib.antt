@@ -1,4 +1,4 @@
--- The definitions that the contracts of this crate cite.
+-- What a reader must agree with: all that the public contracts cite.
 pub mod Faults
 pub mod Input
 pub mod Output

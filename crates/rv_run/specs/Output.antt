@@ -1,9 +1,11 @@
 -- What a clause reads of an `Output`: the bytes that it gathered, and how many it sent before.
-use Rattle.std.specs.Prelude.{ℕ, List, Option, String, ◌+◌, ◌-◌, ◌<◌, ◌≤◌, length, string_bytes, take}
+use Rattle.std.specs.Prelude.{ℕ, List, Option, String, [], ◌≡◌, ◌+◌, ◌-◌, ◌<◌, ◌≤◌, ◌⊎◌}
+use Rattle.std.specs.Prelude.{length, string_bytes, take}
 use Rattle.std.specs.declared.alloc.Global.{Global}
 use Rattle.std.specs.Io.KnownBytes.{append_known}
 use Rattle.rv_frame.specs.declared.sink.Sink.{Sink}
 use Rattle.rv_frame.specs.Sink.{SinkTakes}
+pub use Rattle.rv_lines.specs.Lines.{IsShort}
 use Rattle.rv_run.specs.declared.output.Output.{Output}
 
 -- the bytes that wait to be sent
@@ -17,10 +19,6 @@ sent_before output = output.sent
 -- how many bytes were taken in: those that went out, and those that wait
 abbrev pub taken_in : Output → ℕ
 taken_in output = sent_before output + length (gathered output)
-
--- the text fits a printed line: a body, and the words before it
-abbrev pub IsShort : List ℕ → Type 0
-IsShort text = length text < 65727
 
 abbrev pub IsShortText : String Global → Type 0
 IsShortText text = IsShort (string_bytes text)
@@ -36,3 +34,13 @@ pub record StopsAfter {W : Type 0} (contents : W → Option (List ℕ)) (bytes :
   pub past_those_sent : before ≤ sent
   pub not_all : sent < before + length bytes
   pub went_out : SinkTakes contents old new (take (sent - before) bytes)
+
+-- all that was gathered is among the bytes that went out, so many in all, and nothing waits
+pub record SentGathered (old new : Output) (sent : ℕ) : Type 0 where
+  pub went_out : taken_in old ≤ sent
+  pub count_stays : taken_in new ≡ taken_in old
+  pub none_waits : gathered new ≡ []
+
+-- a write failed after so many bytes in all: what was gathered waits as it did, or all of it went out
+abbrev pub KeepsOrSends : Output → Output → ℕ → Type 0
+KeepsOrSends old new sent = (new ≡ old) ⊎ SentGathered old new sent

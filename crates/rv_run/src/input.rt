@@ -1,7 +1,7 @@
 //! Reads the whole input of a run.
 ghost use Rattle.std.specs.Prelude.{◌≡◌, ◌≤◌, vec_len, IfErr, IfOk, IfSome, OnOk};
 ghost use Rattle.rv_frame.specs.Source.{source_remaining};
-ghost use Rattle.rv_run.specs.Input.{ReadsAll, StopsReading, max_input};
+ghost use Rattle.rv_run.specs.Input.{GaveBefore, ReadsAll, StopsReading, max_input};
 
 use crate::fault::RunFault;
 use rv_frame::Source;
@@ -15,13 +15,15 @@ const MAX_INPUT_BYTES: usize = 536_870_912;
 const PIECE_BYTES: usize = 65_536;
 
 /// All the bytes that the source has left. It is a fault where they are more than
-/// 536,870,912, or where memory was refused or a read failed.
+/// 536,870,912, or where memory was refused or a read failed. It asks for 65,536 at a time, and for none
+/// behind the piece that passes the limit.
 pub fn read_input<R: Read>(alloc: Global, source: &mut Source<R>) -> Result<Vec<u8>, RunFault>
     ensures bytes { IfOk result (λ input.
         IfSome (source_remaining R.remaining source.old) (λ bytes. input.items ≡ bytes)) }
     ensures within { IfOk result (λ input. vec_len input ≤ max_input) }
     ensures all { OnOk result (ReadsAll R.remaining source.old source.new) }
     ensures fault { IfErr result (StopsReading R.remaining source.old source.new) }
+    ensures gave { IfErr result (GaveBefore R.remaining source.old source.new) }
 {
     let mut input = Vec::new(alloc);
     let mut piece = [0u8; PIECE_BYTES];

@@ -9,8 +9,9 @@ use std::alloc::{AllocError, Global};
 use std::io::Write;
 use thiserror::Error;
 
-/// A write of the output failed. Of all that the output had taken in, and of the line that it was to take in
-/// then, exactly the first `sent` bytes went out, and not all.
+/// A write of the output failed. Of a first fault this says that of all that the output had taken in, and of
+/// the line that it was to take in then, exactly the first `sent` bytes went out, and not all. A later one
+/// doesn't count what went out at the first.
 #[derive(Clone, Copy, Debug, PartialEq, Eq, Error)]
 #[error("a write failed after {sent} bytes")]
 pub struct OutputFault {
@@ -30,7 +31,8 @@ pub struct Output {
 }
 
 impl Output {
-    ghost use Rattle.rv_run.specs.Output.{StopsAfter, gathered, promised, sent_before, taken_in};
+    ghost use Rattle.rv_run.specs.Output.{KeepsOrSends, StopsAfter, gathered, promised};
+    ghost use Rattle.rv_run.specs.Output.{sent_before, taken_in};
 
     /// An output that has taken nothing in.
     pub fn new(alloc: Global) -> Result<Output, AllocError>
@@ -45,7 +47,8 @@ impl Output {
 
     /// Takes a text of any length in, and LF after it. Where there is no room left for both, what was
     /// gathered is sent first; else the sink is not asked. Only a text of at least 131,072 bytes is sent by
-    /// itself, and so only such a one can be cut. A text whose call ends by a fault is not taken in.
+    /// itself, and so only such a one can be cut. A text whose call ends by a fault is not taken in; what was
+    /// gathered before it waits as it did, or all of it went out.
     pub fn line<W: Write>(&mut self, sink: &mut Sink<W>, text: &[u8]) -> Result<(), OutputFault>
         requires { taken_in self.old + length text.now + 1 < 2 ^ 128 }
         ensures ok { OnOk result (Appends (promised (sink_contents W.contents sink.old) self.old)
@@ -56,7 +59,7 @@ impl Output {
             sink.old sink.new fault.sent) }
         ensures cut_before { length text.now < 131072 → IfErr result (λ fault. StopsAfter W.contents
             (gathered self.old) (sent_before self.old) sink.old sink.new fault.sent) }
-        ensures kept { OnErr result (taken_in self.new ≡ taken_in self.old) }
+        ensures kept { IfErr result (λ fault. KeepsOrSends self.old self.new fault.sent) }
         ensures told { FailsWithSink result sink.old sink.new }
         ensures gathers { length (gathered self.old) + length text.now + 1 ≤ 131072 → sink.new ≡ sink.old }
     {
@@ -73,7 +76,8 @@ impl Output {
         Ok(())
     }
 
-    /// Sends what was gathered. The sink is not asked where that is nothing.
+    /// Sends what was gathered. The sink is not asked where that is nothing. A fault leaves the output as it
+    /// was, and says how much went out.
     pub fn flush<W: Write>(&mut self, sink: &mut Sink<W>) -> Result<(), OutputFault>
         requires { taken_in self.old < 2 ^ 128 }
         ensures empty { OnOk result (gathered self.new ≡ []) }
@@ -81,7 +85,7 @@ impl Output {
         ensures count { OnOk result (taken_in self.new ≡ taken_in self.old) }
         ensures fault { IfErr result (λ fault. StopsAfter W.contents (gathered self.old)
             (sent_before self.old) sink.old sink.new fault.sent) }
-        ensures kept { OnErr result (taken_in self.new ≡ taken_in self.old) }
+        ensures kept { OnErr result (self.new ≡ self.old) }
         ensures told { FailsWithSink result sink.old sink.new }
         ensures idle { gathered self.old ≡ [] → sink.new ≡ sink.old }
     {
