@@ -1,5 +1,6 @@
 """Messages and answers on a socket: frames, and a client's end of a connection. Everything has a time-out."""
 import errno
+import os
 import socket
 import struct
 import sys
@@ -9,8 +10,9 @@ import time
 from model_parts.account import Key
 from model_parts.texts import KEY, members_of_version, read_json, written
 
-# How long a client waits for bytes, for room, or for a server that is to end, in seconds.
-PATIENCE = 120
+# How long a client waits for bytes, for room, or for a server that is to end, in seconds: long, for a slow machine, but
+# where servers are tried that never answer.
+PATIENCE = int(os.environ.get("RV_PATIENCE", "120"))
 MAX_FRAME = 65_535
 BAD_TEXT = b'{"code":1,"kind":"refused"}'
 
