@@ -38,7 +38,7 @@ said_fits line (event.NewEpoch epoch) says = says.rest.1
 
 -- ---- one cut
 
-word_lacks_space : (e : Event) → Lacks 32 (word_of e)
+pub word_lacks_space : (e : Event) → Lacks 32 (word_of e)
 word_lacks_space (event.Start client incarnation version) = greater_lack 32 (codes "start") refl
 word_lacks_space (event.Begin client call) = greater_lack 32 (codes "begin") refl
 word_lacks_space (event.Resend client) = greater_lack 32 (codes "resend") refl

@@ -6,7 +6,12 @@ use Rattle.rv_world.specs.declared.event.Event.{Event}
 use Rattle.rv_world.specs.Headline.{Headline}
 use Rattle.rv_world.specs.Runs.{Runs}
 use Rattle.rv_world.specs.World.{World, first_world}
+use Rattle.rv_play.specs.Reading.{SaysEvent}
 use Rattle.rv_play.specs.Turns.{Given, LineOutcome, LineTurn, NoEvent, Plays, TellsLineOutcome, turn_texts}
+
+-- a line says one event at most
+abbrev pub OneEvent : Type 0
+OneEvent = (line : List ℕ) (d e : Event) → SaysEvent line d → SaysEvent line e → d ≡ e
 
 -- the event that the world took, if it was given one and did not refuse it
 abbrev pub taken : LineOutcome → List Event

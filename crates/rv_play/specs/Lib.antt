@@ -1,8 +1,8 @@
--- The definitions that the contracts of this crate cite: first what a reader must agree with, then what only
--- private clauses and proofs cite.
+-- What a reader must agree with: all that the public contracts and the laws cite.
 pub mod Reading
 pub mod Turns
 pub mod Plays
 pub mod Laws
+-- What only private clauses and proofs cite.
 pub mod Parts
 pub mod Told

@@ -1,5 +1,12 @@
 //! What holds of plays as such: each contract is a law, and no body does anything.
-ghost use Rattle.rv_play.specs.Laws.{HeadlineOfPlays, OneLineEach, PlayIsRun, TextsStay};
+ghost use Rattle.rv_play.specs.Laws.{HeadlineOfPlays, OneEvent, OneLineEach, PlayIsRun, TextsStay};
+
+/// A line says one event at most.
+pub fn one_event()
+    ensures { OneEvent }
+{
+    rv_text::laws::one_call();
+}
 
 /// The events that the world took in a play, those that were not refused, are a run of the world.
 pub fn play_is_run()

@@ -2,7 +2,6 @@
 ghost use Rattle.std.specs.Prelude.{◌≡◌, ◌≤◌, [], length, Err, IfErr, OnOk};
 ghost use Rattle.rv_run.specs.Input.{FailedReading, FoundTooLong, max_input};
 ghost use Rattle.rv_run.specs.Output.{gathered, taken_in};
-ghost use Rattle.rv_run.specs.declared.fault.RunFault.TheVariants.{NoMemory, ReadFault, TooLong, WriteFault};
 ghost use Rattle.rv_world.specs.World.{first_world};
 ghost use Rattle.rv_play.specs.Plays.{Played, PrintsAll, StoppedForMemory, StoppedPrinting, StopsPlaying};
 
@@ -20,8 +19,7 @@ use std::io::{Read, Write};
 ///
 /// The whole input is read before the first line is looked at, and read faults, too long an input and want of
 /// memory up to there are found before anything is written. Where a line's reading or a result's text finds
-/// no memory, the run ends behind the results of the lines before it, and the clause says no more than that
-/// they are those of some first lines, and not of all. Write faults may come at any line.
+/// no memory, the run ends behind the results of the lines before it. Write faults may come at any line.
 pub fn play_run<R: Read, W: Write>(
     alloc: Global,
     source: &mut Source<R>,
