@@ -20,7 +20,7 @@ use rv_text::Version;
 use std::alloc::{AllocError, Global};
 use thiserror::Error;
 
-// The most workers of a server.
+// The most workers of a server. That rv_server takes so many is proved where a server is started.
 const MAX_WORKERS: u64 = 64;
 
 // The most of what is only counted: connections and tries.
@@ -225,8 +225,8 @@ fn program<'a>(alloc: Global) -> Result<clap::Command<'a>, AllocError>
     ensures { IfOk result (λ c. app_of c ≡ rv_app) }
 {
     local_program(alloc)?
-        .subcommand(serve(alloc)?)?
-        .subcommand(call(alloc)?)
+        .subcommand(serve_words(alloc)?)?
+        .subcommand(call_words(alloc)?)
 }
 
 // Those of its subcommands that use no socket.
@@ -234,13 +234,13 @@ fn local_program<'a>(alloc: Global) -> Result<clap::Command<'a>, AllocError>
     ensures { IfOk result (λ c. app_of c ≡ local_app) }
 {
     clap::Command::new(alloc, "rv")
-        .subcommand(book(alloc)?)?
-        .subcommand(play(alloc))?
-        .subcommand(audit(alloc))
+        .subcommand(book_words(alloc)?)?
+        .subcommand(play_words(alloc))?
+        .subcommand(audit_words(alloc))
 }
 
 // `book --epoch E`, as clap reads it.
-fn book<'a>(alloc: Global) -> Result<clap::Command<'a>, AllocError>
+fn book_words<'a>(alloc: Global) -> Result<clap::Command<'a>, AllocError>
     ensures shape { IfOk result (λ c. shape_of c ≡ book_app.top) }
     ensures local { IfOk result (λ c. (out-Command c).has_globals ≡ false) }
 {
@@ -248,7 +248,7 @@ fn book<'a>(alloc: Global) -> Result<clap::Command<'a>, AllocError>
 }
 
 // `play`, as clap reads it.
-fn play<'a>(alloc: Global) -> clap::Command<'a>
+fn play_words<'a>(alloc: Global) -> clap::Command<'a>
     ensures shape { shape_of result ≡ play_app.top }
     ensures local { (out-Command result).has_globals ≡ false }
 {
@@ -256,7 +256,7 @@ fn play<'a>(alloc: Global) -> clap::Command<'a>
 }
 
 // `audit`, as clap reads it.
-fn audit<'a>(alloc: Global) -> clap::Command<'a>
+fn audit_words<'a>(alloc: Global) -> clap::Command<'a>
     ensures shape { shape_of result ≡ audit_app.top }
     ensures local { (out-Command result).has_globals ≡ false }
 {
@@ -264,7 +264,7 @@ fn audit<'a>(alloc: Global) -> clap::Command<'a>
 }
 
 // `serve --listen ADDR --epoch E --workers W --connections N`, as clap reads it.
-fn serve<'a>(alloc: Global) -> Result<clap::Command<'a>, AllocError>
+fn serve_words<'a>(alloc: Global) -> Result<clap::Command<'a>, AllocError>
     ensures shape { IfOk result (λ c. shape_of c ≡ serve_app.top) }
     ensures local { IfOk result (λ c. (out-Command c).has_globals ≡ false) }
 {
@@ -276,17 +276,17 @@ fn serve<'a>(alloc: Global) -> Result<clap::Command<'a>, AllocError>
 }
 
 // `call --connect ADDR --client C --incarnation I --tries T --speak V`, as clap reads it.
-fn call<'a>(alloc: Global) -> Result<clap::Command<'a>, AllocError>
+fn call_words<'a>(alloc: Global) -> Result<clap::Command<'a>, AllocError>
     ensures shape { IfOk result (λ c. shape_of c ≡ call_app.top) }
     ensures local { IfOk result (λ c. (out-Command c).has_globals ≡ false) }
 {
-    caller(alloc)?
+    caller_words(alloc)?
         .arg(required_option(alloc, "tries"))?
         .arg(required_option(alloc, "speak"))
 }
 
 // Those of its options that say who calls, and where.
-fn caller<'a>(alloc: Global) -> Result<clap::Command<'a>, AllocError>
+fn caller_words<'a>(alloc: Global) -> Result<clap::Command<'a>, AllocError>
     ensures shape { IfOk result (λ c. shape_of c ≡ caller_app.top) }
     ensures local { IfOk result (λ c. (out-Command c).has_globals ≡ false) }
 {
