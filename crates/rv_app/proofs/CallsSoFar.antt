@@ -16,7 +16,7 @@ use Rattle.rv_app.specs.declared.calls.CallSaid.TheVariants.{Stopped, Whole}
 use Rattle.rv_run.specs.declared.fault.RunFault.{RunFault}
 use Rattle.rv_run.specs.declared.fault.RunFault.TheVariants.{NoMemory, ReadFault, TooLong, WriteFault}
 use Rattle.rv_app.specs.declared.word.Word.{Word}
-use Rattle.rv_app.specs.CallRuns.{CutsLine, CutsText, RanCalls, RunsCalls, SaysNext, SettlesFirst, Stops, StopsText, TakesLines, TakesText}
+use Rattle.rv_app.specs.CallRuns.{CutsLine, CutsText, RanCalls, RunsCalls, TextComesNext, SettlesFirst, Stops, StopsText, TakesLines, TakesText}
 use Rattle.rv_app.specs.declared.client.Halt.TheVariants as halt
 use Rattle.rv_app.specs.Calling.{HaltsAt, HasNumbers, IsTurnedAway, IsWelcomed, SettlesLine, SettlesLines, StopsWithWord, key_behind}
 use Rattle.rv_app.specs.Lines.{lines}
@@ -180,7 +180,7 @@ module _ {O R W : Type 0} (taken : O → Option (List ℕ)) (remaining : R → O
 
     -- the next line is settled
     says_next : (line later text : List ℕ) (after : Link R W) → lines rest ≡ line ∷ lines later
-        → SettlesLine remaining contents tries (key_behind (first_key starting epoch) (length so_far.texts)) line text at after → SaysNext remaining contents starting tries all so_far.texts text before after
+        → SettlesLine remaining contents tries (key_behind (first_key starting epoch) (length so_far.texts)) line text at after → TextComesNext remaining contents starting tries all so_far.texts text before after
     says_next line later text after cut here = inl (record {
       first = so_far.first ++ line ∷ [];
       later = lines later;

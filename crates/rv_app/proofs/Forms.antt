@@ -7,7 +7,7 @@ use Rattle.std.proofs.lemmas.Bool.{cases_lt}
 use Rattle.std.proofs.lemmas.Bool.Decides.{eqb_tells}
 use Rattle.rv_text.specs.Bodies.{HasBodyLength}
 use Rattle.rv_app.specs.Lines.{HasForm, IsBadLine}
-use Rattle.rv_app.specs.Number.{IsDigits}
+use Rattle.rv_lines.specs.Number.{IsDigits}
 use Rattle.rv_lines.proofs.Cutting.{Lacks, cut_once, digits_lack_space, not_lacking}
 
 -- the fact holds, or it does not

@@ -1,8 +1,10 @@
 -- What is written of an account, for each outcome of the writing.
-use Rattle.std.specs.Prelude.{ℕ, ◌≡◌, ◌<◌, true, List, Option, length, take}
+use Rattle.std.specs.Prelude.{ℕ, ◌≡◌, ◌<◌, true, IfErr, List, OnOk, Option, Result, length, take}
 use Rattle.rv_frame.specs.declared.sink.Sink.{Sink}
 use Rattle.rv_frame.specs.Sink.{SinkTakes, sink_failed}
 use Rattle.rv_account.specs.Account.{Account}
+use Rattle.rv_book.specs.Legal.{Legal}
+use Rattle.rv_book.specs.Limits.{FitsAccount}
 use Rattle.rv_lines.specs.Lines.{printed}
 use Rattle.rv_lines.specs.Written.{account_lines}
 use Rattle.rv_run.specs.declared.fault.RunFault.{RunFault}
@@ -33,3 +35,12 @@ module _ {W : Type 0} (contents : W → Option (List ℕ)) where
   StopsWriting a old new (WriteFault fault) = WritesFront a old new fault.sent
   StopsWriting a old new NoMemory = WritesSome a old new
   StopsWriting a old new TooLong = ⊥
+
+  -- a server ended: the account of its book, which is legal and keeps the limits, was written, or its writing
+  -- stopped
+  pub record EndsWithAccount {T : Type 0} (old new : Sink W) (written : Result T RunFault) : Type 0 where
+    pub account : Account
+    pub legal : Legal account
+    pub fits : FitsAccount account
+    pub all : OnOk written (WritesAll account old new)
+    pub stopped : IfErr written (StopsWriting account old new)

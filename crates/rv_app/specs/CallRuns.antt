@@ -63,8 +63,8 @@ module _ {R W : Type 0} (remaining : R → Option (List ℕ)) (contents : W → 
     pub settles : SettlesAll first texts before after
 
   -- behind these texts comes this one: that of one more settled line, or the word that ends the run
-  abbrev pub SaysNext : List (List ℕ) → List (List ℕ) → List ℕ → Link R W → Link R W → Type 0
-  SaysNext all texts text before after = SettlesFirst all (texts ++ text ∷ []) before after
+  abbrev pub TextComesNext : List (List ℕ) → List (List ℕ) → List ℕ → Link R W → Link R W → Type 0
+  TextComesNext all texts text before after = SettlesFirst all (texts ++ text ∷ []) before after
       ⊎ ((word : Word) × Stops all texts word before after × (text ≡ word_text word))
 
 -- ---- what the output took
@@ -125,7 +125,7 @@ module _ {O R W : Type 0} (taken : O → Option (List ℕ)) (remaining : R → O
       : Type 0 where
     pub texts : List (List ℕ)
     pub text : List ℕ
-    pub says : SaysNext remaining contents starting tries all texts text before after
+    pub says : TextComesNext remaining contents starting tries all texts text before after
     pub cut : CutsLine taken texts text sent out out'
 
   -- memory was refused behind lines that were settled and have these texts: to read the line behind them, of
@@ -133,7 +133,7 @@ module _ {O R W : Type 0} (taken : O → Option (List ℕ)) (remaining : R → O
   pub record RunsShort (all : List (List ℕ)) (before after : Link R W) (out out' : Sink O) : Type 0 where
     pub texts : List (List ℕ)
     pub leaves : SettlesFirst remaining contents starting tries all texts before after
-        ⊎ ((text : List ℕ) × SaysNext remaining contents starting tries all texts text before after)
+        ⊎ ((text : List ℕ) × TextComesNext remaining contents starting tries all texts text before after)
     pub took : TakesLines taken texts out out'
 
   -- what a run over the lines leaves, by what it answers

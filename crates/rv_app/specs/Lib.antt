@@ -1,11 +1,12 @@
--- The definitions that the contracts of this crate cite.
+-- What a reader must agree with: all that the public contracts and the laws cite.
 pub mod Accounts
 pub mod Audits
-pub mod Body
 pub mod CallRuns
 pub mod Calling
+pub mod Laws
 pub mod Lines
-pub mod Number
 pub mod Outcomes
 pub mod Run
 pub mod Word
+-- What only private clauses and proofs cite.
+pub mod Body

@@ -47,7 +47,7 @@ AnswersLine line a b body =
     RefusesLine line a b body ⊎ (SaysAnswer line a b body ⊎ LineLacksMemory line a b body)
 
 -- the message takes its step and the body says the answer, or the body says that memory was refused
-pub record SaysNext (moment : ℕ) (message : Message) (a b : Account) (body : List ℕ) : Type 0 where
+pub record AnswersMessage (moment : ℕ) (message : Message) (a b : Account) (body : List ℕ) : Type 0 where
   pub answer : Answer
   pub step : Next a moment message b answer
   pub body_is : (body ≡ answer_text answer) ⊎ (body ≡ refused_text NoMemory)

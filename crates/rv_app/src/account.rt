@@ -1,8 +1,8 @@
 //! Writes an account as lines.
-ghost use Rattle.std.specs.Prelude.{◌≡◌, ◌<◌, [], IfErr, OnOk, length};
+ghost use Rattle.std.specs.Prelude.{◌≡◌, [], IfErr, OnOk};
 ghost use Rattle.rv_lines.specs.Written.{head_text};
 ghost use Rattle.rv_app.specs.Accounts.{StopsWriting, WritesAll};
-ghost use Rattle.rv_run.specs.Output.{gathered, taken_in};
+ghost use Rattle.rv_run.specs.Output.{IsShort, gathered, taken_in};
 
 use rv_book::Account;
 use rv_frame::Sink;
@@ -42,7 +42,7 @@ fn write_lines<W: Write>(
     sink: &mut Sink<W>,
 ) -> Result<(), RunFault>
     requires head { head.now ≡ head_text account.now.account.epoch account.now.account.opened }
-    requires short { length head.now < 65727 }
+    requires short { IsShort head.now }
     requires nothing_gathered { gathered output.old ≡ [] }
     requires nothing_sent { taken_in output.old ≡ 0 }
     ensures all { OnOk result (WritesAll W.contents account.now.account sink.old sink.new) }

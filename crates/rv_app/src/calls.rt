@@ -13,10 +13,10 @@ ghost use Rattle.rv_run.specs.Output.{IsShortText};
 ghost use Rattle.rv_app.specs.Word.{word_text};
 
 use crate::client::{Halt, call_line, say_hello};
-use crate::line::first_line;
 use crate::word::Word;
 use rv_client::{Idle, New};
 use rv_frame::{Sink, Source};
+use rv_lines::first_line;
 use rv_run::{OutputFault, RunFault, read_input};
 use rv_text::Version;
 use std::alloc::Global;

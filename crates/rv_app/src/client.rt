@@ -1,9 +1,9 @@
 //! The client of a run of calls: it says hello, and makes the call that a line says.
-ghost use Rattle.std.specs.Prelude.{◌≡◌, IfErr, IfOk, IfSome, IsSome, Ok, Some, string_bytes};
+ghost use Rattle.std.specs.Prelude.{◌≡◌, IfErr, IfOk, IfSome, IsSome, Ok, string_bytes};
 ghost use Rattle.rv_text.specs.Bodies.{HasBodyLength, IsCallBody};
 ghost use Rattle.rv_text.specs.Limits.{FitsIdentifier, FitsKey};
 ghost use Rattle.rv_client.specs.Link.{link};
-ghost use Rattle.rv_client.specs.Process.{PassesBy, key_after};
+ghost use Rattle.rv_client.specs.Process.{key_after};
 ghost use Rattle.rv_app.specs.Calling.{HaltsAt, HaltsReading, HelloEnds, IsHelloInVain, SettlesLine};
 ghost use Rattle.rv_app.specs.Calling.{WelcomesOrNot};
 

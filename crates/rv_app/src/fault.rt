@@ -2,18 +2,21 @@
 use rv_command::CommandFault;
 use rv_run::RunFault;
 use rv_server::ServeFault;
-use std::alloc::AllocError;
 use thiserror::Error;
 
 /// Why the program ends before its command is done.
 #[derive(Clone, Copy, Debug, Error)]
 pub(crate) enum ProgramFault {
+    /// The words name no command, or found no memory.
     #[error("{0}")]
     Command(CommandFault),
+    /// A run over the lines of an input ended early, or the writing of a served book's account did.
     #[error("{0}")]
     Run(RunFault),
+    /// The server ended early.
     #[error("{0}")]
     Serve(ServeFault),
+    /// No socket listens at the address, or none connects to it.
     #[error("address fault")]
     Address,
 }
@@ -34,20 +37,8 @@ impl From<CommandFault> for ProgramFault {
     }
 }
 
-impl From<AllocError> for ProgramFault {
-    fn from(_error: AllocError) -> ProgramFault {
-        ProgramFault::Command(CommandFault::NoMemory)
-    }
-}
-
 impl From<RunFault> for ProgramFault {
     fn from(fault: RunFault) -> ProgramFault {
         ProgramFault::Run(fault)
-    }
-}
-
-impl From<ServeFault> for ProgramFault {
-    fn from(fault: ServeFault) -> ProgramFault {
-        ProgramFault::Serve(fault)
     }
 }

@@ -1,10 +1,9 @@
 //! Reads the moment and the message that a line of the book's input says.
 ghost use Rattle.std.specs.Prelude.{◌≡◌, ◌∷◌, ◌++◌, ℕ, List, None, IfSome, IfOk, Err};
 ghost use Rattle.rv_app.specs.Lines.{HasForm, IsBadLine, ReadsLine};
-ghost use Rattle.rv_app.specs.Number.{WritesNumber};
+ghost use Rattle.rv_lines.specs.Number.{WritesNumber};
 
-use rv_lines::{cut_at, read_number};
-pub(crate) use rv_lines::{LineFault, first_line};
+use rv_lines::{LineFault, cut_at, read_number};
 use rv_text::{Message, decode_message};
 use std::alloc::Global;
 

@@ -25,8 +25,10 @@ pub use rv_command::{Command, CommandFault, read_command};
 use rv_frame::{Sink, Source};
 pub use rv_play::play_run;
 pub use rv_run::{OutputFault, RunFault};
+use rv_server::ServeFault;
 use rv_text::Version;
 use server::serve_epoch;
+use std::alloc::Global;
 use std::io::ErrorKind;
 use std::net::{TcpListener, TcpStream};
 use std::process::ExitCode;
@@ -52,7 +54,7 @@ fn run_program<T: Threads + Wait + AllocGlobal + time::Clock + Sync>(
     threads: &T,
 ) -> Result<ExitCode, ProgramFault> {
     let words = words_of(rt)?;
-    let words: Vec<&str> = words.iter().map(|word| word.as_str()).collect(rt.alloc())?;
+    let words = borrowed(rt.alloc(), &words)?;
     match read_command(rt.alloc(), &words)? {
         Command::Book(epoch) => run_book(rt, epoch)?,
         Command::Play => run_play(rt)?,
@@ -81,6 +83,11 @@ fn words_of(rt: &HostRuntime) -> Result<Vec<String>, CommandFault> {
         Err(error) if error.kind() == ErrorKind::OutOfMemory => Err(CommandFault::NoMemory),
         Err(_) => Err(CommandFault::Bad),
     }
+}
+
+// The words, lent as `read_command` takes them.
+fn borrowed(alloc: Global, words: &[String]) -> Result<Vec<&str>, CommandFault> {
+    Ok(words.iter().map(|word| word.as_str()).collect(alloc)?)
 }
 
 fn run_book(rt: &HostRuntime, epoch: u64) -> Result<(), RunFault>
@@ -114,7 +121,10 @@ fn run_serve<T: Threads + Wait + AllocGlobal + time::Clock + Sync>(
         return Err(ProgramFault::Address);
     };
     let mut sink = Sink::new(rt.stdout());
-    serve_epoch(threads, listener, epoch, workers, connections, &mut sink)
+    match serve_epoch(threads, listener, epoch, workers, connections, &mut sink) {
+        Ok(served) => served.told(),
+        Err(_) => Err(ProgramFault::Serve(ServeFault::NoMemory)),
+    }
 }
 
 // The status tells whether the account is legal.
@@ -127,7 +137,8 @@ fn run_audit(rt: &HostRuntime) -> Result<ExitCode, ProgramFault> {
     }
 }
 
-// Connects first, and then reads the lines. Where small frames are held back all goes on, slower.
+// Connects first, and then reads the lines. Where the delay of small packets cannot be switched off, the run
+// goes on, slower.
 fn run_call(
     rt: &HostRuntime,
     connect: &str,

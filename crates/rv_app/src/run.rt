@@ -6,10 +6,10 @@ ghost use Rattle.rv_run.specs.Output.{gathered, taken_in};
 ghost use Rattle.rv_app.specs.Outcomes.{FailedReading, FoundTooLong, LackedMemory, Ran};
 ghost use Rattle.rv_app.specs.Outcomes.{SendsAll, SendsFront, StoppedWriting, max_input};
 
-use crate::line::first_line;
 use crate::turn::answer_line;
 use rv_book::Book;
 use rv_frame::{Sink, Source};
+use rv_lines::first_line;
 use rv_run::{Output, OutputFault, RunFault, read_input};
 use std::alloc::Global;
 use std::io::{Read, Write};

@@ -1,5 +1,7 @@
 //! Serves the book of an epoch over the connections of a listener, from its opening to its account.
-ghost use Rattle.std.specs.Prelude.{◌≡◌, ◌≤◌};
+ghost use Rattle.std.specs.Prelude.{◌≡◌, ◌≤◌, Err, IfErr, IfOk, IsOk, OnErr, OnOk};
+ghost use Rattle.rv_app.specs.Accounts.{EndsWithAccount};
+ghost use Rattle.rv_app.specs.declared.fault.ProgramFault.TheVariants as program;
 ghost use Rattle.rv_text.specs.Limits.{FitsIdentifier};
 
 use crate::account::write_account;
@@ -8,6 +10,7 @@ use rv_book::Book;
 use rv_frame::Sink;
 use rv_run::RunFault;
 use rv_server::{Clock, Closing, Gate, ServeFault, Shared, finish, serve};
+use rv_text::NoMemory;
 use std::alloc::Global;
 use std::io::Write;
 use std::marker::Brand;
@@ -59,9 +62,34 @@ impl<'a, R: time::Clock> Gate for Sleeping<'a, R> {
     }
 }
 
+/// How a server ended whose book was opened, and how the writing of the book's account did.
+#[derive(Clone, Copy)]
+pub(crate) struct Served {
+    ended: Result<(), ServeFault>,
+    written: Result<(), RunFault>,
+}
+
+impl Served {
+    /// Of a fault of the server and one of the writing the first is told.
+    pub(crate) fn told(&self) -> Result<(), ProgramFault>
+        ensures server { IfErr self.now.ended (λ fault. result ≡ Err (program.Serve fault)) }
+        ensures writing { OnOk self.now.ended
+            (IfErr self.now.written (λ fault. result ≡ Err (program.Run fault))) }
+        ensures whole { OnOk self.now.ended (OnOk self.now.written (IsOk result)) }
+    {
+        match self.ended {
+            Err(fault) => Err(ProgramFault::Serve(fault)),
+            Ok(()) => match self.written {
+                Err(fault) => Err(ProgramFault::Run(fault)),
+                Ok(()) => Ok(()),
+            },
+        }
+    }
+}
+
 /// Opens the book of an epoch at moment 0 and serves so many connections, by at most so many workers at once.
-/// When all were served, and after a fault of the server too, it writes the book's account. Of a fault of the
-/// server and one of that writing the first is told.
+/// When all were served, and after a fault of the server too, it writes the book's account. Where there is no
+/// memory for the book, its lock and its seats, nothing is served or written.
 pub(crate) fn serve_epoch<R: Threads + Wait + AllocGlobal + time::Clock + Sync, W: Write>(
     rt: &R,
     listener: TcpListener,
@@ -69,10 +97,13 @@ pub(crate) fn serve_epoch<R: Threads + Wait + AllocGlobal + time::Clock + Sync, 
     workers: usize,
     connections: u32,
     sink: &mut Sink<W>,
-) -> Result<(), ProgramFault>
+) -> Result<Served, NoMemory>
     requires epoch { FitsIdentifier epoch }
     requires some { 1 ≤ workers }
     requires most { workers ≤ 64 }
+    ensures account { IfOk result (λ served.
+        EndsWithAccount W.contents sink.old sink.new served.written) }
+    ensures nothing { OnErr result (sink.new ≡ sink.old) }
 {
     let blank = Blank::new(workers as u64);
     serve_book::<Brand, R, W>(rt, blank, listener, epoch, workers, connections, sink)
@@ -87,7 +118,7 @@ fn serve_book<L, R, W>(
     workers: usize,
     connections: u32,
     sink: &mut Sink<W>,
-) -> Result<(), ProgramFault>
+) -> Result<Served, NoMemory>
 where
     L: Ledger + Send + Sync,
     R: Threads + Wait + AllocGlobal + time::Clock + Sync,
@@ -98,16 +129,15 @@ where
     requires epoch { FitsIdentifier epoch }
     requires some { 1 ≤ workers }
     requires most { workers ≤ 64 }
+    ensures account { IfOk result (λ served.
+        EndsWithAccount W.contents sink.old sink.new served.written) }
+    ensures nothing { OnErr result (sink.new ≡ sink.old) }
 {
     let alloc = rt.alloc();
     let clock = SinceStart::new(rt);
     let gate = Sleeping { rt };
-    let Ok(book) = Book::open(alloc, epoch, 0) else {
-        return Err(ProgramFault::Serve(ServeFault::NoMemory));
-    };
-    let Ok((shared, seats)) = Shared::<Book, L>::open(alloc, blank, book, workers) else {
-        return Err(ProgramFault::Serve(ServeFault::NoMemory));
-    };
+    let book = Book::open(alloc, epoch, 0)?;
+    let (shared, seats) = Shared::<Book, L>::open(alloc, blank, book, workers)?;
     let (seats, ended) = match serve(
         rt,
         alloc,
@@ -124,14 +154,15 @@ where
     match finish(shared, seats) {
         Ok(Closing { desk, total: _ }) => {
             let written = write_book(alloc, &desk, sink);
-            ended?;
-            Ok(written?)
+            Ok(Served { ended, written })
         }
         Err(_) => unreachable!(),
     }
 }
 
 // Writes the account of a book.
-fn write_book<W: Write>(alloc: Global, book: &Book, sink: &mut Sink<W>) -> Result<(), RunFault> {
+fn write_book<W: Write>(alloc: Global, book: &Book, sink: &mut Sink<W>) -> Result<(), RunFault>
+    ensures { EndsWithAccount W.contents sink.old sink.new result }
+{
     write_account(alloc, book.account(), sink)
 }

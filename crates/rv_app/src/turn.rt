@@ -3,12 +3,12 @@ ghost use Rattle.std.specs.Prelude.{◌≡◌, string_bytes, IfOk};
 ghost use Rattle.rv_text.specs.Bodies.{HasBodyLength, answer_text};
 ghost use Rattle.rv_book.specs.Verdicts.{WasGiven};
 ghost use Rattle.rv_text.specs.Limits.{FitsAnswer, FitsMessage};
-ghost use Rattle.rv_book.specs.Steps.{Next};
 ghost use Rattle.rv_app.specs.Body.{HasTextOfBody, body_text};
-ghost use Rattle.rv_app.specs.Run.{AnswersLine, SaysNext};
+ghost use Rattle.rv_app.specs.Run.{AnswersLine, AnswersMessage};
 
-use crate::line::{LineFault, read_line};
+use crate::line::read_line;
 use rv_book::{Book, Verdict};
+use rv_lines::LineFault;
 use rv_text::{Message, NoMemory, bad_text_body, encode_answer, no_memory_body};
 use std::alloc::Global;
 
@@ -54,7 +54,7 @@ pub(crate) fn answer_line(alloc: Global, book: &mut Book, line: &[u8]) -> LineBo
 // Hands the message to the book.
 fn answer_message(alloc: Global, book: &mut Book, moment: u64, message: Message) -> LineBody
     requires { FitsMessage message }
-    ensures says { SaysNext moment message book.old book.new (body_text result) }
+    ensures says { AnswersMessage moment message book.old book.new (body_text result) }
     ensures of_body { HasTextOfBody result }
 {
     let verdict = book.handle(moment, message);

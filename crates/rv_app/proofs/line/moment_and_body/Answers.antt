@@ -1,7 +1,7 @@
 -- A moment and a body are found where the line has them.
 use Rattle.std.proofs.Common.{◌≡◌, ◌∷◌, ◌++◌, refl, subst, sym, ◌∙◌}
 use Rattle.std.proofs.lemmas.Bool.{false≢true}
-use Rattle.rv_app.specs.Number.{IsDigits}
+use Rattle.rv_lines.specs.Number.{IsDigits}
 use Rattle.rv_lines.proofs.Cutting.{Lacks, digits_lack_space, not_lacking, cut_once}
 use Rattle.rv_app.proofs.line.moment_and_body.Goals as goal
 
