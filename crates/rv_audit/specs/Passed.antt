@@ -16,8 +16,8 @@ use Rattle.rv_text.specs.Calls.{side_of}
 use Rattle.rv_book.specs.Waiting.{Met, Open, OpenAt, SideAt, StoppedAt, Waiting, limit_at, limit_in}
 use Rattle.rv_audit.specs.Breaking.{BreaksBehind, IsPaired, IsSwapped, rank_of}
 use Rattle.rv_audit.specs.declared.rule.Rule.{Rule}
-use Rattle.rv_audit.specs.declared.rules.Meeting.{Meeting}
-use Rattle.rv_audit.specs.declared.rules.Meeting.TheVariants as meeting
+use Rattle.rv_audit.specs.declared.rules.MeetingKind.{MeetingKind}
+use Rattle.rv_audit.specs.declared.rules.MeetingKind.TheVariants as kinds
 use Rattle.rv_audit.specs.Lines.{stands_in}
 pub use Rattle.rv_audit.specs.Lines.{ClosesIf, OpensIf}
 use Rattle.rv_audit.specs.Marks.{count_of, is_marked_under}
@@ -128,9 +128,9 @@ abbrev pub FindsOne : List Entry → Call → List ℕ → Type 0
 FindsOne entries call places = (r : ℕ) × IsOpenOpposite entries call r × (¬ Among places r)
 
 -- the side is of those that meet in this way
-abbrev pub IsOf : Meeting → Side → Type 0
-IsOf meeting.Pair side = IsPaired side
-IsOf meeting.Swap side = IsSwapped side
+abbrev pub IsOf : MeetingKind → Side → Type 0
+IsOf kinds.Pair side = IsPaired side
+IsOf kinds.Swap side = IsSwapped side
 
 -- one of these places is such a one; before a number of them none is
 abbrev pub HasAmong : (ℕ → Type 0) → List ℕ → Type 0

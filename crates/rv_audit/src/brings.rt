@@ -17,9 +17,7 @@ pub(crate) fn limit_of(entry: &Entry) -> Option<u64>
     match &entry.act {
         Act::Arrive { call, .. } => match call.wait() {
             Some(Wait::Millis(millis)) => entry.moment.checked_add(millis),
-            Some(Wait::Now) => None,
-            Some(Wait::Forever) => None,
-            None => None,
+            Some(Wait::Now | Wait::Forever) | None => None,
         },
         Act::Hello { .. } | Act::Cancel { .. } | Act::Tick => None,
     }
@@ -30,10 +28,9 @@ fn lasts(wait: Option<Wait>) -> bool
     ensures { IsTrue result ↔ Lasts wait }
 {
     match wait {
-        None => true,
         Some(Wait::Now) => false,
         Some(Wait::Millis(millis)) => millis > 0,
-        Some(Wait::Forever) => true,
+        Some(Wait::Forever) | None => true,
     }
 }
 

@@ -99,7 +99,7 @@ fn breaks_count(front: &Front<'_>, act: &Act) -> bool
 
 // How arrivals meet.
 #[derive(Clone, Copy)]
-enum Meeting {
+enum MeetingKind {
     // One that gives and one that takes are a pair.
     Pair,
     // Two that exchange are a swap.
@@ -120,10 +120,8 @@ fn is_paired(side: Side) -> bool
     ensures { IsTrue result ↔ IsPaired side }
 {
     match side {
-        Side::Gives(_) => true,
-        Side::Takes(_) => true,
-        Side::Looks(_) => false,
-        Side::Exchanges(_) => false,
+        Side::Gives(_) | Side::Takes(_) => true,
+        Side::Looks(_) | Side::Exchanges(_) => false,
     }
 }
 
@@ -131,9 +129,7 @@ fn is_swapped(side: Side) -> bool
     ensures { IsTrue result ↔ IsSwapped side }
 {
     match side {
-        Side::Gives(_) => false,
-        Side::Takes(_) => false,
-        Side::Looks(_) => false,
+        Side::Gives(_) | Side::Takes(_) | Side::Looks(_) => false,
         Side::Exchanges(_) => true,
     }
 }
@@ -224,22 +220,22 @@ fn names_wrongly(front: &Front<'_>, entry: &Entry) -> bool
 }
 
 // Whether arrivals of the side meet in this way.
-fn is_of(meeting: Meeting, side: Side) -> bool
-    ensures { IsTrue result ↔ IsOf meeting side }
+fn is_of(kind: MeetingKind, side: Side) -> bool
+    ensures { IsTrue result ↔ IsOf kind side }
 {
-    match meeting {
-        Meeting::Pair => is_paired(side),
-        Meeting::Swap => is_swapped(side),
+    match kind {
+        MeetingKind::Pair => is_paired(side),
+        MeetingKind::Swap => is_swapped(side),
     }
 }
 
 // The call of an entry whose arrival meets in this way.
-fn arrival(meeting: Meeting, entry: &Entry) -> Option<&Call>
-    ensures some { IfSome result (λ call. ArrivesAs (IsOf meeting) entry.now call.now) }
-    ensures none { IfNone result ((call : Call) → ¬ ArrivesAs (IsOf meeting) entry.now call) }
+fn arrival(kind: MeetingKind, entry: &Entry) -> Option<&Call>
+    ensures some { IfSome result (λ call. ArrivesAs (IsOf kind) entry.now call.now) }
+    ensures none { IfNone result ((call : Call) → ¬ ArrivesAs (IsOf kind) entry.now call) }
 {
     match call_of(entry) {
-        Some(call) if is_of(meeting, call.side()) => Some(call),
+        Some(call) if is_of(kind, call.side()) => Some(call),
         _ => None,
     }
 }
@@ -312,11 +308,11 @@ fn any_passed(front: &Front<'_>, partners: &[Place]) -> bool
     false
 }
 
-fn meets_wrongly(front: &Front<'_>, meeting: Meeting, entry: &Entry) -> bool
+fn meets_wrongly(front: &Front<'_>, kind: MeetingKind, entry: &Entry) -> bool
     requires { IsFront front.now }
-    ensures { IsTrue result ↔ MeetsWrongly (IsOf meeting) (passed front.now).entries entry.now }
+    ensures { IsTrue result ↔ MeetsWrongly (IsOf kind) (passed front.now).entries entry.now }
 {
-    match arrival(meeting, entry) {
+    match arrival(kind, entry) {
         Some(call) => misses(front, call, entry.partners.as_slice()),
         None => false,
     }
@@ -326,17 +322,17 @@ fn passes_over(front: &Front<'_>, entry: &Entry) -> bool
     requires { IsFront front.now }
     ensures { IsTrue result ↔ PassesOver (passed front.now).entries entry.now }
 {
-    match arrival(Meeting::Pair, entry) {
+    match arrival(MeetingKind::Pair, entry) {
         Some(_) => any_passed(front, entry.partners.as_slice()),
         None => false,
     }
 }
 
-fn misses_partner(front: &Front<'_>, meeting: Meeting, entry: &Entry) -> bool
+fn misses_partner(front: &Front<'_>, kind: MeetingKind, entry: &Entry) -> bool
     requires { IsFront front.now }
-    ensures { IsTrue result ↔ MissesPartner (IsOf meeting) (passed front.now).entries entry.now }
+    ensures { IsTrue result ↔ MissesPartner (IsOf kind) (passed front.now).entries entry.now }
 {
-    match arrival(meeting, entry) {
+    match arrival(kind, entry) {
         Some(call) => leaves(front, call, entry.partners.as_slice()),
         None => false,
     }
@@ -357,10 +353,10 @@ pub(crate) fn breaks(front: &Front<'_>, rule: Rule, entry: &Entry) -> bool
         Rule::N2 => is_of_no_session(front, &entry.act),
         Rule::N3 => breaks_count(front, &entry.act),
         Rule::P1 => names_wrongly(front, entry),
-        Rule::P2 => meets_wrongly(front, Meeting::Pair, entry),
+        Rule::P2 => meets_wrongly(front, MeetingKind::Pair, entry),
         Rule::P3 => passes_over(front, entry),
-        Rule::P4 => misses_partner(front, Meeting::Pair, entry),
-        Rule::S1 => meets_wrongly(front, Meeting::Swap, entry),
-        Rule::S2 => misses_partner(front, Meeting::Swap, entry),
+        Rule::P4 => misses_partner(front, MeetingKind::Pair, entry),
+        Rule::S1 => meets_wrongly(front, MeetingKind::Swap, entry),
+        Rule::S2 => misses_partner(front, MeetingKind::Swap, entry),
     }
 }
