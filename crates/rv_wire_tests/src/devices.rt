@@ -55,9 +55,15 @@ fn writes_all_in_any_pieces(rt: HostRuntime) {
 
 #[test]
 fn a_failed_write_is_the_last(rt: HostRuntime) {
-    for room in 0..TEXT.len() {
-        stops_for_good(&rt, rt.alloc(), room, Stop::Error(ErrorKind::Interrupted));
-        stops_for_good(&rt, rt.alloc(), room, Stop::TakesNothing);
+    for stop in [
+        Stop::Error(ErrorKind::Interrupted),
+        Stop::Error(ErrorKind::WouldBlock),
+        Stop::Error(ErrorKind::Other),
+        Stop::TakesNothing,
+    ] {
+        for room in 0..TEXT.len() {
+            stops_for_good(&rt, rt.alloc(), room, stop);
+        }
     }
 }
 

@@ -1,8 +1,8 @@
 //! The texts of the format byte for byte, and what each answer's body gives.
 use crate::expect::{holds, same};
 use rv_text::{
-    BAD_TEXT_BODY, NO_MEMORY_BODY, TextFault, decode_answer, decode_call, decode_message,
-    encode_answer, encode_message,
+    BAD_TEXT_BODY, Item, Items, NO_MEMORY_BODY, TextFault, decode_answer, decode_call,
+    decode_message, encode_answer, encode_message,
 };
 use std::alloc::Global;
 use std::test::Fail;
@@ -209,6 +209,19 @@ fn what_is_no_answer_is_told(rt: HostRuntime) -> Result<(), Fail> {
         body.push_str("]".repeat(rt.alloc(), depth)?.as_str())?;
         let found = decode_answer(rt.alloc(), body.as_bytes()).err();
         same(&rt, found, Some(want));
+    }
+    Ok(())
+}
+
+#[test]
+fn items_are_given_back(rt: HostRuntime) -> Result<(), Fail> {
+    let alloc = rt.alloc();
+    let mut items = Items::new(alloc);
+    items.push(Item::from_text(String::from_str(alloc, "a")?))?;
+    let items = items.into_vec();
+    same(&rt, items.len(), 1);
+    for item in items {
+        same(&rt, item.into_text().as_str(), "a");
     }
     Ok(())
 }
