@@ -1,7 +1,6 @@
 pub mod Removing
 pub mod Found
 pub mod Withdrawn
-pub mod Above
 pub mod Marks
 pub mod Arriving
 pub mod Searching

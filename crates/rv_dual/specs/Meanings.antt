@@ -10,7 +10,7 @@ use Rattle.rv_dual.specs.declared.pair.TakeOutcome as taken
 use Rattle.rv_dual.specs.declared.pair.TryOutcome.{TryOutcome}
 use Rattle.rv_dual.specs.declared.pair.TryOutcome as tried
 use Rattle.rv_dual.specs.Offers.{Meeting, duty_of, place_of}
-use Rattle.rv_dual.specs.Queue.{Queue, KeepsRoom, SameLists, UsesRoom}
+use Rattle.rv_dual.specs.Queue.{Queue, KeepsRoom, UsesRoom}
 
 -- the offer met the first of the takers, which left
 pub record MeetsTaker (old new : Queue) (offer : Offer) (pair : Meeting) : Type 0 where
@@ -56,19 +56,17 @@ pub record ParksTaker (old new : Queue) (duty : OwedDuty) : Type 0 where
   pub givers : new.givers ≡ old.givers
   pub room : UsesRoom old new
 
--- no taker was there, the duty came back, and all that wait stay
+-- no taker was there, the duty came back, and nothing changed
 pub record FindsNoTaker (old new : Queue) (duty returned : OwedDuty) : Type 0 where
   pub nobody : old.takers ≡ []
   pub back : returned ≡ duty
-  pub same : SameLists old new
-  pub room : KeepsRoom old new
+  pub same : new ≡ old
 
 -- the same where no item was there
 pub record FindsNoGiver (old new : Queue) (duty returned : OwedDuty) : Type 0 where
   pub nobody : old.givers ≡ []
   pub back : returned ≡ duty
-  pub same : SameLists old new
-  pub room : KeepsRoom old new
+  pub same : new ≡ old
 
 abbrev pub GiveMeans : Queue → Queue → Offer → GiveOutcome → Type 0
 GiveMeans old new offer (given.TheVariants.Met pair) = MeetsTaker old new offer pair

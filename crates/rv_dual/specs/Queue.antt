@@ -34,6 +34,6 @@ pub record SameLists (old new : Queue) : Type 0 where
 abbrev pub KeepsRoom : Queue → Queue → Type 0
 KeepsRoom old new = old.room ≤ new.room
 
--- the room for one is used, and no more
+-- one more waits in the room that was made: what is left is no more than before, and less by one at most
 abbrev pub UsesRoom : Queue → Queue → Type 0
-UsesRoom old new = old.room ≤ new.room + 1
+UsesRoom old new = (new.room ≤ old.room) × (old.room ≤ new.room + 1)

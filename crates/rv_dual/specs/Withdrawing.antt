@@ -26,10 +26,11 @@ abbrev pub WaitsAt : Queue → ℕ → OwedDuty → Type 0
 WaitsAt q place duty = GivesAt q.givers place duty ⊎ TakesAt q.takers place duty
 
 -- the result is the duty that waits at the place, if there is one; all others stay, in their order, and so
--- does the room
+-- does the room; where there is none, nothing changed
 pub record Withdraws (old new : Queue) (place : ℕ) (result : Option OwedDuty) : Type 0 where
   pub some : IfSome result (WaitsAt old place)
   pub none : IfNone result ((duty : OwedDuty) → ¬ WaitsAt old place duty)
+  pub same : IfNone result (new ≡ old)
   pub givers : new.givers ≡ without_giver place old.givers
   pub takers : new.takers ≡ without_taker place old.takers
   pub room : KeepsRoom old new

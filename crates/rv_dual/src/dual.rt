@@ -17,8 +17,9 @@ use std::marker::Model;
 /// side there is room.
 ///
 /// Places arrive in rising order, so a place stands at most once. [`withdraw`](Dual::withdraw) finds it in
-/// time logarithmic in the queue. All else takes constant time, on average over the calls so far: a slot
-/// that a withdrawal left is passed over once.
+/// time logarithmic in the slots between the oldest that waits and the newest. All else takes constant time,
+/// on average over the calls so far: a slot that a withdrawal left is passed over once. Until then it takes
+/// the memory of one who waits.
 #[derive(Drop)]
 pub struct Dual {
     givers: SlotLine<Offer>,
@@ -44,6 +45,7 @@ impl Model for Dual {
 fn withdraw_giver(givers: &mut SlotLine<Offer>, place: Place) -> Option<Duty>
     ensures some { IfSome result (GivesAt givers.old.waiting place) }
     ensures none { IfNone result (PassesNowhere (waits_at place) givers.old.waiting) }
+    ensures same { IfNone result (givers.new ≡ givers.old) }
     ensures rest { givers.new.waiting ≡ without_giver place givers.old.waiting }
     ensures room { givers.old.room ≤ givers.new.room }
 {
@@ -54,6 +56,7 @@ fn withdraw_giver(givers: &mut SlotLine<Offer>, place: Place) -> Option<Duty>
 fn withdraw_taker(takers: &mut SlotLine<Parked>, place: Place) -> Option<Duty>
     ensures some { IfSome result (TakesAt takers.old.waiting place) }
     ensures none { IfNone result (PassesNowhere (is_at place) takers.old.waiting) }
+    ensures same { IfNone result (takers.new ≡ takers.old) }
     ensures rest { takers.new.waiting ≡ without_taker place takers.old.waiting }
     ensures room { takers.old.room ≤ takers.new.room }
 {

@@ -156,7 +156,7 @@ impl<T: StandsInLine> SlotLine<T> {
         requires room { 0 < self.old.room }
         requires above { All (λ x. T.place_of x < T.place_of arrival) self.old.waiting }
         ensures last { self.new.waiting ≡ self.old.waiting ++ arrival ∷ [] }
-        ensures room { self.old.room ≤ self.new.room + 1 }
+        ensures room { self.old.room ≡ self.new.room + 1 }
     {
         append(&mut self.slots, arrival);
         self.count += 1;
@@ -170,7 +170,7 @@ impl<T: StandsInLine> SlotLine<T> {
         ensures rest { self.new.waiting ≡ drop 1 self.old.waiting }
         ensures room { self.old.room ≤ self.new.room }
     {
-        let oldest = self.slots.pop_front()?.into_holder()?;
+        let oldest = self.slots.pop_front()?.into_holder().unwrap();
         self.count -= 1;
         trim(&mut self.slots);
         Some(oldest)
@@ -180,11 +180,12 @@ impl<T: StandsInLine> SlotLine<T> {
     pub(crate) fn withdraw(&mut self, place: Place) -> Option<T>
         ensures some { IfSome result (λ x. Contains self.old.waiting x × (T.waits_at place x ≡ true)) }
         ensures none { IfNone result (PassesNowhere (T.waits_at place) self.old.waiting) }
+        ensures same { IfNone result (self.new ≡ self.old) }
         ensures rest { self.new.waiting ≡ filter (λ x. not (T.waits_at place x)) self.old.waiting }
         ensures room { self.old.room ≤ self.new.room }
     {
         let index = index_of(&self.slots, place)?;
-        let out = mark(&mut self.slots, index, place)?;
+        let out = mark(&mut self.slots, index, place).unwrap();
         self.count -= 1;
         trim(&mut self.slots);
         Some(out)

@@ -4,7 +4,7 @@ use Rattle.rv_session.specs.OwedDuty.{OwedDuty}
 use Rattle.rv_dual.specs.declared.giver.Offer.{Offer}
 use Rattle.rv_dual.specs.Queue.{IsDual}
 use Rattle.rv_dual.specs.Withdrawing.{without_giver}
-use Rattle.rv_dual.proofs.Withdrawn.{dual_without_giver, dual_without_taker, withdraws_taker}
+use Rattle.rv_dual.proofs.Withdrawn.{dual_without_giver, dual_without_taker, same_lines, withdraws_taker}
 use Rattle.rv_dual.proofs.dual.Dual.withdraw.Goals as goal
 
 pub invariant_of-self : goal.invariant_of-self
@@ -21,4 +21,4 @@ invariant_of-self-in-None c =
 
 pub returns-in-None : goal.returns-in-None
 returns-in-None c =
-    rw (← c.self.view_is) (withdraws_taker _ _ c.args.place _ c.in-None.ensures.none c.withdraw_taker.ensures.some c.withdraw_taker.ensures.none c.in-None.ensures.rest c.withdraw_taker.ensures.rest (omega (arith, c.in-None.ensures.room, c.withdraw_taker.ensures.room)))
+    rw (← c.self.view_is) (withdraws_taker _ _ c.args.place _ c.in-None.ensures.none c.withdraw_taker.ensures.some c.withdraw_taker.ensures.none c.in-None.ensures.rest c.withdraw_taker.ensures.rest (omega (arith, c.in-None.ensures.room, c.withdraw_taker.ensures.room)) (same_lines _ _ _ _ _ c.in-None.ensures.same c.withdraw_taker.ensures.same))

@@ -19,30 +19,30 @@ mark-requires g c = slice_get_within c.self.inside.slots.items c.in_ok-index.ind
 
 pub overflow_sub-self : goal.overflow_sub-self
 overflow_sub-self g c =
-    let both = held_at (g.T.StandsInLine.waits_at c.args.place) c.self.inside.slots.items c.in_ok-index.index c.in_ok-out.out c.in_ok-index.ensures.found c.in_ok-out.ensures.out in
-    omega (arith, c.self.invariant.counted, one_fewer c.self.inside.slots.items c.in_ok-index.index c.args.place c.in_ok-out.out both.0)
+    let both = held_at (g.T.StandsInLine.waits_at c.args.place) c.self.inside.slots.items c.in_ok-index.index c.unwrap-out.result c.in_ok-index.ensures.found (sym c.unwrap-out.ensures ∙ c.mark.ensures.out) in
+    omega (arith, c.self.invariant.counted, one_fewer c.self.inside.slots.items c.in_ok-index.index c.args.place c.unwrap-out.result both.0)
 
 pub trim-requires : goal.trim-requires
 trim-requires g c =
-    let both = held_at (g.T.StandsInLine.waits_at c.args.place) c.self.inside.slots.items c.in_ok-index.index c.in_ok-out.out c.in_ok-index.ensures.found c.in_ok-out.ensures.out in
-    subst (λ (l : List (Slot _)). Rises g.T.StandsInLine.place_of l) (sym c.in_ok-out.ensures.rest)
-    (rises_marked g.T.StandsInLine.place_of c.args.place c.self.inside.slots.items c.in_ok-index.index c.in_ok-out.out both.0 (g.met.T.StandsInLine.at_its_place c.args.place c.in_ok-out.out both.1) c.self.invariant.rises)
+    let both = held_at (g.T.StandsInLine.waits_at c.args.place) c.self.inside.slots.items c.in_ok-index.index c.unwrap-out.result c.in_ok-index.ensures.found (sym c.unwrap-out.ensures ∙ c.mark.ensures.out) in
+    subst (λ (l : List (Slot _)). Rises g.T.StandsInLine.place_of l) (sym c.mark.ensures.rest)
+    (rises_marked g.T.StandsInLine.place_of c.args.place c.self.inside.slots.items c.in_ok-index.index c.unwrap-out.result both.0 (g.met.T.StandsInLine.at_its_place c.args.place c.unwrap-out.result both.1) c.self.invariant.rises)
 
-pub invariant_of-self-2 : goal.invariant_of-self-2
-invariant_of-self-2 g c =
-    let both = held_at (g.T.StandsInLine.waits_at c.args.place) c.self.inside.slots.items c.in_ok-index.index c.in_ok-out.out c.in_ok-index.ensures.found c.in_ok-out.ensures.out in
-    let is_marked = ap (λ (l : List (Slot _)). length (waiting_in l)) c.in_ok-out.ensures.rest in
+pub invariant_of-self : goal.invariant_of-self
+invariant_of-self g c =
+    let both = held_at (g.T.StandsInLine.waits_at c.args.place) c.self.inside.slots.items c.in_ok-index.index c.unwrap-out.result c.in_ok-index.ensures.found (sym c.unwrap-out.ensures ∙ c.mark.ensures.out) in
+    let is_marked = ap (λ (l : List (Slot _)). length (waiting_in l)) c.mark.ensures.rest in
     let counted : length (waiting_in c.mark.new.slots.items) ≡ c.self.inside.count - 1 =
-    omega (arith, is_marked, c.self.invariant.counted, one_fewer c.self.inside.slots.items c.in_ok-index.index c.args.place c.in_ok-out.out both.0) in
+    omega (arith, is_marked, c.self.invariant.counted, one_fewer c.self.inside.slots.items c.in_ok-index.index c.args.place c.unwrap-out.result both.0) in
     subst (λ (n : ℕ). IsSlotLine g.T.StandsInLine.place_of c.trim.new.slots.items n) counted c.trim.ensures.line
 
 pub returns-clause-some : goal.returns-clause-some
 returns-clause-some g c =
-    let both = held_at (g.T.StandsInLine.waits_at c.args.place) c.self.inside.slots.items c.in_ok-index.index c.in_ok-out.out c.in_ok-index.ensures.found c.in_ok-out.ensures.out in
-    rw (← c.self.view_is) ((waits_there c.self.inside.slots.items c.in_ok-index.index c.in_ok-out.out both.0, both.1))
+    let both = held_at (g.T.StandsInLine.waits_at c.args.place) c.self.inside.slots.items c.in_ok-index.index c.unwrap-out.result c.in_ok-index.ensures.found (sym c.unwrap-out.ensures ∙ c.mark.ensures.out) in
+    rw (← c.self.view_is) ((waits_there c.self.inside.slots.items c.in_ok-index.index c.unwrap-out.result both.0, both.1))
 
 pub returns-clause-rest : goal.returns-clause-rest
 returns-clause-rest g c =
-    let both = held_at (g.T.StandsInLine.waits_at c.args.place) c.self.inside.slots.items c.in_ok-index.index c.in_ok-out.out c.in_ok-index.ensures.found c.in_ok-out.ensures.out in
-    rw (← c.self.view_is) (c.trim.ensures.same ∙ ap waiting_in c.in_ok-out.ensures.rest
-    ∙ waiting_marked g.T.StandsInLine.place_of c.args.place (g.T.StandsInLine.waits_at c.args.place) (g.met.T.StandsInLine.at_its_place c.args.place) c.self.inside.slots.items c.in_ok-index.index c.in_ok-out.out c.self.invariant.rises both.0 both.1)
+    let both = held_at (g.T.StandsInLine.waits_at c.args.place) c.self.inside.slots.items c.in_ok-index.index c.unwrap-out.result c.in_ok-index.ensures.found (sym c.unwrap-out.ensures ∙ c.mark.ensures.out) in
+    rw (← c.self.view_is) (c.trim.ensures.same ∙ ap waiting_in c.mark.ensures.rest
+    ∙ waiting_marked g.T.StandsInLine.place_of c.args.place (g.T.StandsInLine.waits_at c.args.place) (g.met.T.StandsInLine.at_its_place c.args.place) c.self.inside.slots.items c.in_ok-index.index c.unwrap-out.result c.self.invariant.rises both.0 both.1)
