@@ -60,3 +60,11 @@ need_by (Some Forever) = 2
 
 abbrev pub need_of : Call → ℕ
 need_of call = need_by (wait_of call)
+
+-- the deadline of a wait that begins at a moment: its limit, if it has one and isn't over at once
+abbrev pub deadline_after : ℕ → Option Wait → Option ℕ
+deadline_after moment None = None
+deadline_after moment (Some Now) = None
+deadline_after moment (Some (Millis zero)) = None
+deadline_after moment (Some (Millis (suc n))) = Some (moment + suc n)
+deadline_after moment (Some Forever) = None

@@ -2,31 +2,17 @@
 ghost use Rattle.std.specs.Prelude.{◌≡◌, ◌↔◌, ◌<◌, ◌≤◌, ◌+◌, ◌==◌, [], Some, IfOk, IsSome, IsTrue, OnOk};
 ghost use Rattle.std.specs.Prelude.{length, option_map, slice_get};
 ghost use Rattle.std.specs.Option.{option_copied};
-ghost use Rattle.rv_text.specs.Members.{FitsWait};
 ghost use Rattle.rv_account.specs.Account.{call_at, entry, item_at, key_at, items_at, limit_at, own_moment};
 ghost use Rattle.rv_account.specs.Account.{partners_items, with_entry};
-ghost use Rattle.rv_account.specs.Calls.{limit_after};
-ghost use Rattle.rv_account.specs.Limits.{FitEntries, max_moment};
+ghost use Rattle.rv_account.specs.Limits.{FitEntries};
 
 use crate::entry::{Act, Entry};
 use crate::partners::Partners;
+use crate::waits::limit_after;
 use rv_session::Place;
-use rv_text::{Call, Item, Items, Key, NoMemory, Wait};
+use rv_text::{Call, Item, Items, Key, NoMemory};
 use std::alloc::Global;
 use std::marker::Model;
-
-// The moment at which a wait that begins at a moment has elapsed, if it ends by itself.
-fn limit_after(moment: u64, wait: Wait) -> Option<u64>
-    requires moment { moment ≤ max_moment }
-    requires wait { FitsWait wait }
-    ensures { result ≡ limit_after moment wait }
-{
-    match wait {
-        Wait::Now => None,
-        Wait::Millis(millis) => Some(moment + millis),
-        Wait::Forever => None,
-    }
-}
 
 /// All entries of an epoch, in the order in which they were recorded. Contracts see its epoch, its opening
 /// moment and the list of its entries; and beside that, for how many entries more it has room.
@@ -102,8 +88,8 @@ impl Account {
         self.call(place).is_some_and(|other| other.is_same(call))
     }
 
-    /// The limit of the request that arrived at a place, if it has one. The account's moments, numbers and
-    /// items keep their limits.
+    /// The limit of the request that arrived at a place, in milliseconds, if it has one. It is asked only of
+    /// an account whose moments, numbers and items keep their limits.
     pub fn limit(&self, place: Place) -> Option<u64>
         requires { FitEntries self.now.account.entries }
         ensures { result ≡ limit_at self.now.account.entries place }
@@ -112,8 +98,8 @@ impl Account {
         limit_after(entry.moment, self.call(place)?.wait()?)
     }
 
-    /// The key that the entry at a place names: of the request that arrived there, or that is cancelled. An
-    /// arrival or a cancel stands there.
+    /// The key that the entry at a place names: of the request that arrived there, or that is cancelled. It
+    /// is asked only where an arrival or a cancel stands.
     pub fn key(&self, place: Place) -> Key
         requires { IsSome (key_at self.now.account.entries place) }
         ensures { key_at self.now.account.entries place ≡ Some result }
@@ -121,7 +107,8 @@ impl Account {
         self.entry(place).and_then(|entry| entry.act.key()).unwrap()
     }
 
-    /// The item that the arrival at a place hands over. One that hands an item over stands there.
+    /// The item that the arrival at a place hands over. It is asked only where one stands that hands an item
+    /// over.
     pub fn item(&self, place: Place) -> &Item
         requires { IsSome (item_at self.now.account.entries place) }
         ensures { item_at self.now.account.entries place ≡ Some result.now }
@@ -130,8 +117,8 @@ impl Account {
     }
 
     /// Copies of the items that the partners of the entry at a place hand over, in the order in which it
-    /// names them. An entry stands there, and each of its partners hands an item over. It fails only where
-    /// memory was refused.
+    /// names them. It is asked only where an entry stands each of whose partners hands an item over. It fails
+    /// only where memory was refused.
     pub fn partners_items(&self, place: Place) -> Result<Items, NoMemory>
         requires { IsSome (partners_items self.now.account.entries place) }
         ensures { IfOk result (λ items. partners_items self.now.account.entries place ≡ Some items) }
@@ -190,21 +177,21 @@ impl Account {
     pub fn push(&mut self, moment: u64, act: Act, partners: Partners)
         requires { 0 < self.old.room }
         ensures entry { self.new.account ≡ with_entry self.old.account (entry moment act partners) }
-        ensures room { self.old.room ≤ self.new.room + 1 }
+        ensures room { self.old.room ≡ self.new.room + 1 }
     {
         let entry = Entry {
             moment,
             act,
             partners,
         };
-        self.entries.push(entry).unwrap();
+        self.entries.push_reserved(entry);
     }
 
     /// Records one entry more, which has its room, and names no partner.
     pub fn push_alone(&mut self, moment: u64, act: Act)
         requires { 0 < self.old.room }
         ensures entry { self.new.account ≡ with_entry self.old.account (entry moment act []) }
-        ensures room { self.old.room ≤ self.new.room + 1 }
+        ensures room { self.old.room ≡ self.new.room + 1 }
     {
         self.push(moment, act, Partners::none(self.allocator()));
     }

@@ -4,8 +4,10 @@
 mod account;
 mod entry;
 mod partners;
+mod waits;
 
 pub use account::Account;
 pub use entry::{Act, Entry};
 pub use partners::{Partners, may_name};
 pub use rv_session::Place;
+pub use waits::{deadline_after, lasts, need_of};

@@ -74,7 +74,7 @@ module _ (old : BookState) (moment : ℕ) (key : Key) (comes : Comes old moment 
         marks (cancel_follows before moment key comes.time comes.nothing_due last.epoch last.incarnation (inl (record { place = place; call = there.call; arrived = there.arrived; waits = there.waits })))
 
     pub ended_sound : (mid new : BookState) → EndsAt old mid place kept.Cancelled → mid.account ≡ old.account → account_of new ≡ with_entry (account_of mid) own_entry → new.sessions ≡ mid.sessions → new.waiters ≡ mid.waiters
-        → new.waiting ≡ mid.waiting → new.due ≡ mid.due → mid.account.room ≤ new.account.room + 1 → IsSound new
+        → new.waiting ≡ mid.waiting → new.due ≡ mid.due → mid.account.room ≡ new.account.room + 1 → IsSound new
     ended_sound mid new ends same pushed sessions waiters waiting due room =
         let legal = legal_after old moment (Cancel key) UnderKey ends_marks in
         let owed = waiting_owed before.entries place key there.call there.waits there.arrived in

@@ -161,7 +161,7 @@ module _ {old : BookState} {moment : ℕ} {key : Key} {call : Call} {queue max :
 pub record Drains (old mid new : BookState) (begun : Table) (moment : ℕ) (key : Key) (call : Call) (queue : ℕ) (k : Kept) : Type 0 where
   pub settles : SettlesAs begun new.sessions key.client (length (account_of old).entries) k
   pub pushed : account_of new ≡ with_entry (account_of old) (entry moment (Arrive key call) (take (may_name call) (items_in old queue)))
-  pub room_left : old.account.room ≤ new.account.room + 1
+  pub room_left : old.account.room ≡ new.account.room + 1
   pub waiters : new.waiters ≡ mid.waiters
   pub waiting : new.waiting ≡ mid.waiting
   pub due : new.due ≡ without_deadline (limit_at (account_of new).entries (length (account_of old).entries)) (length (account_of old).entries) mid.due
@@ -263,7 +263,7 @@ module _ {old mid : BookState} {begun : Table} {moment : ℕ} {key : Key} {call 
     drained_sound =
         let space : length was.entries + old.waiting + 1 ≤ 100000 = is.may.space in
         let enough : old.waiting + 1 ≤ old.account.room = is.may.room in
-        let left_room : old.account.room ≤ new.account.room + 1 = drains.room_left in
+        let left_room : old.account.room ≡ new.account.room + 1 = drains.room_left in
         let same : new.waiting ≡ mid.waiting = drains.waiting in
         let less : mid.waiting ≤ old.waiting = fewer in
         sound_with was new_entry new own_sound.fits (record {

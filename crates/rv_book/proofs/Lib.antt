@@ -2,6 +2,7 @@ pub mod Numbers
 pub mod Places
 pub mod Naming
 pub mod Counting
+pub mod Capacity
 pub mod Growing
 pub mod CallKinds
 pub mod Opposites

@@ -182,7 +182,7 @@ module _ {old : BookState} {moment : ℕ} {key : Key} {call : Call} {places : Ve
 
       pub sound_after : (new : BookState) → account_of new ≡ with_entry before own_entry → new.sessions ≡ last → new.waiters ≡ waiters
           → new.due ≡ without_duty (before.entries ++ own_entry ∷ []) arrived.own (without_duty (before.entries ++ own_entry ∷ []) arrived.other old.due) → new.waiting + ends_waiting arrived.other ≡ old.waiting + starts_waiting arrived.own
-          → old.account.room ≤ new.account.room + 1 → IsSound new
+          → old.account.room ≡ new.account.room + 1 → IsSound new
       sound_after new pushed same_sessions same_waiters same_due counted room =
           let k = count_after.0 in
           let told_count : old.waiting + starts_waiting arrived.own ≡ k + ends_waiting arrived.other = count_after.1 in

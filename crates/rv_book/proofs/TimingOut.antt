@@ -169,7 +169,7 @@ module _ {old mid : BookState} {moment : ℕ} (out : AllTakenOut old mid moment)
   none_due_after new pushed = subst (λ (b : Account). NothingDue b.entries moment) (sym pushed) (tick_ends before.entries own_entry follows.pairs.names_free_partners refl)
 
   pub time_after : (new : BookState) → account_of new ≡ with_entry before own_entry → new.sessions ≡ mid.sessions → new.waiters ≡ mid.waiters → new.waiting ≡ mid.waiting → new.due ≡ mid.due
-      → mid.account.room ≤ new.account.room + 1 → IsTime new moment
+      → mid.account.room ≡ new.account.room + 1 → IsTime new moment
   time_after new pushed sessions waiters waiting due room =
       let filled : length (account_of old).entries + old.waiting ≤ 100000 = out.is.sound.fits.room old.waiting out.is.sound.waiting_is in
       let spare : old.waiting ≤ old.account.room = out.is.sound.spare in
@@ -177,7 +177,7 @@ module _ {old mid : BookState} {moment : ℕ} (out : AllTakenOut old mid moment)
       let room_same : mid.account.room ≡ old.account.room = ap (λ (s : Stored). s.room) out.same in
       let less : mid.waiting < old.waiting = out.fewer in
       let waits : new.waiting ≡ mid.waiting = waiting in
-      let left : mid.account.room ≤ new.account.room + 1 = room in
+      let left : mid.account.room ≡ new.account.room + 1 = room in
       record {
         sound = sound_with before own_entry new out.ending.fits (record {
           legal = legal_after;

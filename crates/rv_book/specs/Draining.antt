@@ -1,4 +1,4 @@
--- What a drain takes out of a queue, one item a turn, before its entry is recorded.
+-- What a drain takes out of a queue, one item a pass, before its entry is recorded.
 use Rattle.std.specs.Prelude.{◌≡◌, ◌+◌, ◌≤◌, ◌++◌, [], ◌∷◌, ℕ, List, Some, None, length, take}
 use Rattle.std.specs.Global.{Vec}
 use Rattle.rv_text.specs.declared.call.Call.{Call}

@@ -1,13 +1,12 @@
 -- What the table of deadlines says of a list of entries.
-use Rattle.std.specs.Prelude.{◌≡◌, ◌+◌, ℕ, suc, zero, List, Option, Some, None, true}
+use Rattle.std.specs.Prelude.{◌≡◌, ℕ, List, Option, Some, None, true}
 use Rattle.std.specs.FinSet.{contains, insert, remove}
-use Rattle.rv_text.specs.declared.call.Wait.{Wait}
-use Rattle.rv_text.specs.declared.call.Wait.TheVariants.{Now, Millis, Forever}
 use Rattle.rv_text.specs.declared.call.Call.{Call}
 use Rattle.rv_text.specs.Calls.{wait_of}
 use Rattle.rv_due.specs.Deadlines.{Deadlines}
 use Rattle.rv_session.specs.OwedDuty.{OwedDuty}
 use Rattle.rv_account.specs.declared.entry.Entry.{Entry}
+pub use Rattle.rv_account.specs.Calls.{deadline_after}
 use Rattle.rv_book.specs.Waiting.{limit_at, Waiting}
 
 -- the deadlines are those of the requests with a property, each with its limit
@@ -34,13 +33,6 @@ abbrev pub without_duty : List Entry → Option OwedDuty → Deadlines → Deadl
 without_duty entries None due = due
 without_duty entries (Some duty) due = without_deadline (limit_at entries duty.place) duty.place due
 
--- the deadline of a wait that begins at a moment: its limit, if it has one and isn't over at once
-abbrev pub deadline_after : ℕ → Option Wait → Option ℕ
-deadline_after moment None = None
-deadline_after moment (Some Now) = None
-deadline_after moment (Some (Millis zero)) = None
-deadline_after moment (Some (Millis (suc n))) = Some (moment + suc n)
-deadline_after moment (Some Forever) = None
-
+-- the deadline of a call that arrives at a moment, if it may wait and has a limit
 abbrev pub deadline_of : ℕ → Call → Option ℕ
 deadline_of moment call = deadline_after moment (wait_of call)

@@ -1,4 +1,4 @@
--- What the tables say while a time-out takes out what is due, one request a turn: what the account says
+-- What the tables say while a time-out takes out what is due, one request a pass: what the account says
 -- before the tick, but for the requests that were taken out.
 use Rattle.std.specs.Prelude.{◌≡◌, ◌<◌, ℕ, List, false}
 use Rattle.std.specs.FinSet.{contains}

@@ -72,11 +72,16 @@ pub record IsSame (old new : BookState) : Type 0 where
 -- the entry was recorded, and the tables are as they were
 pub record IsPushed (old new : BookState) (e : Entry) : Type 0 where
   pub entry : account_of new ≡ with_entry (account_of old) e
-  pub room : old.account.room ≤ new.account.room + 1
+  pub room : old.account.room ≡ new.account.room + 1
   pub sessions : new.sessions ≡ old.sessions
   pub waiters : new.waiters ≡ old.waiters
   pub waiting : new.waiting ≡ old.waiting
   pub due : new.due ≡ old.due
+
+-- the account took no memory: beside what was recorded it has the room that it had
+abbrev pub TakesNoMemory : BookState → BookState → Type 0
+TakesNoMemory old new = old.account.room + length (account_of old).entries
+    ≡ new.account.room + length (account_of new).entries
 
 -- the epoch has room for so many entries more, beside one for each request that waits
 abbrev pub HasSpace : BookState → ℕ → Type 0

@@ -1,4 +1,4 @@
--- What the tables say while some of those who wait are taken out, one a turn, before an entry says so: what
+-- What the tables say while some of those who wait are taken out, one a pass, before an entry says so: what
 -- the account says, but for these.
 use Rattle.std.specs.Prelude.{◌≡◌, ◌⊎◌, ◌≤◌, ℕ, List, Option, Some, None}
 use Rattle.rv_text.specs.declared.call.Side.{Side}

@@ -1,9 +1,7 @@
 //! What becomes of an arrival: whom it met, and whose duties are to be settled.
-ghost use Rattle.std.specs.Prelude.{◌≡◌, ◌↔◌, None, Some, IsTrue};
-ghost use Rattle.rv_account.specs.Calls.{Lasts};
+ghost use Rattle.std.specs.Prelude.{◌≡◌, None, Some};
 
 use rv_session::{Duty, Place};
-use rv_text::Wait;
 
 /// What became of an arrival in its queue or at its exchanger. The duties in it are to be settled.
 pub(crate) struct Arrival {
@@ -48,16 +46,5 @@ impl Arrival {
         ensures { result + ends_waiting self.now.other ≡ waiting + starts_waiting self.now.own }
     {
         waiting + usize::from(self.own.is_none()) - usize::from(self.other.is_some())
-    }
-}
-
-/// Whether a wait goes on past the moment of arrival.
-pub(crate) fn lasts(wait: Wait) -> bool
-    ensures { IsTrue result ↔ Lasts (Some wait) }
-{
-    match wait {
-        Wait::Now => false,
-        Wait::Millis(millis) => millis > 0,
-        Wait::Forever => true,
     }
 }

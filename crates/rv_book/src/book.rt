@@ -61,10 +61,11 @@ impl Book {
     }
 
     /// Takes one step with a message that came at a moment in milliseconds. First, where some waiting
-    /// request has a limit at or before the moment, one tick times out all such requests; then the message
-    /// is refused, and the account stays as it is then, or it is recorded. It always gives a verdict; where
-    /// a growth was refused the verdict is refusal 11, and nothing changed but by the tick, which takes no
-    /// memory. A moment before the book's own counts as the book's own, one above 2^62 as 2^62.
+    /// request has a limit at or before the moment, one tick times out all such requests. Then the message is
+    /// recorded; or it is refused, or repeats one that was answered and is told the same again, and the
+    /// account stays as it is. It always gives a verdict; where a growth was refused the verdict is refusal
+    /// 11, and nothing changed but by the tick, which takes no memory. A moment before the book's own counts
+    /// as the book's own, one above 2^62 as 2^62.
     ///
     /// The cost grows neither with the entries nor with the clients, on average. To end a wait by a time-out,
     /// a cancel or a hello searches the queue of its request, and a limit that comes or goes is searched for

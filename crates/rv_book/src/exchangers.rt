@@ -1,16 +1,28 @@
 //! The exchangers: who waits at each.
-ghost use Rattle.std.specs.Prelude.{◌≡◌, IfOk, length};
+ghost use Rattle.std.specs.Prelude.{◌≡◌, IfOk, Some, length};
 ghost use Rattle.rv_text.specs.Limits.{FitsSide};
 ghost use Rattle.rv_text.specs.declared.call.Side.TheVariants.{Exchanges};
 ghost use Rattle.rv_book.specs.Meeting.{Exchanged, LeftExchanger};
 ghost use Rattle.rv_book.specs.Views.{AllFree, OnlyExchanger, exchanger_at, place_of_duty};
 
-use crate::arrival::{Arrival, lasts};
+use crate::arrival::Arrival;
+use rv_account::lasts;
 use rv_session::{Duty, Place};
-use rv_swap::{Swap, SwapTry};
+use rv_swap::{Swap, SwapOutcome, SwapTry};
 use rv_text::{MAX_EXCHANGER, NoMemory, Wait};
 use std::alloc::Global;
 use std::marker::Model;
+
+// Two met at an exchanger, the earlier one and the one that arrives now.
+fn swapped(earlier: Duty, later: Duty) -> Arrival
+    ensures { result ≡ record {
+      partner = Some earlier.place;
+      own = Some later;
+      other = Some earlier;
+    } }
+{
+    Arrival::met(earlier.place(), Some(later), Some(earlier))
+}
 
 // A request arrives at an exchanger: where nobody is there it waits, or goes.
 fn exchange(exchanger: &mut Swap, wait: Wait, duty: Duty) -> Arrival
@@ -18,14 +30,12 @@ fn exchange(exchanger: &mut Swap, wait: Wait, duty: Duty) -> Arrival
 {
     if lasts(wait) {
         match exchanger.arrive(duty) {
-            rv_swap::SwapOutcome::Met(earlier, later) => {
-                Arrival::met(earlier.place(), Some(later), Some(earlier))
-            }
-            rv_swap::SwapOutcome::Parked => Arrival::alone(None),
+            SwapOutcome::Met(earlier, later) => swapped(earlier, later),
+            SwapOutcome::Parked => Arrival::alone(None),
         }
     } else {
         match exchanger.try_arrive(duty) {
-            SwapTry::Met(one, other) => Arrival::met(one.place(), Some(other), Some(one)),
+            SwapTry::Met(earlier, later) => swapped(earlier, later),
             SwapTry::Alone(duty) => Arrival::alone(Some(duty)),
         }
     }

@@ -8,7 +8,8 @@ ghost use Rattle.rv_dual.specs.Withdrawing.{Withdraws};
 ghost use Rattle.rv_book.specs.Meeting.{Gave, Took};
 ghost use Rattle.rv_book.specs.Views.{AllEmpty, OnlyQueue, SameQueues, queue_at};
 
-use crate::arrival::{Arrival, lasts};
+use crate::arrival::Arrival;
+use rv_account::lasts;
 use rv_dual::{Dual, GiveOutcome, Giver, Pair, TakeOutcome, TryOutcome};
 use rv_session::{Duty, Place};
 use rv_text::{MAX_QUEUE, NoMemory, Wait};

@@ -5,8 +5,9 @@ use crate::kept::Place;
 use std::marker::Model;
 
 /// The one right and duty to settle a request that waits. It can be neither copied nor dropped: only
-/// [`Sessions::begin`](crate::Sessions::begin) makes one, and [`Sessions::settle`](crate::Sessions::settle)
-/// spends it. Contracts see the place of the request and the client whose session waits there.
+/// [`Sessions::begin`](crate::Sessions::begin) makes one, which comes back where it was [`Parked`], and
+/// [`Sessions::settle`](crate::Sessions::settle) spends it. Contracts see the place of the request and the
+/// client whose session waits there.
 pub struct Duty {
     place: Place,
     client: u64,

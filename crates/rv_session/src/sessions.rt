@@ -136,13 +136,12 @@ impl Sessions {
         requires { standing_of self.old key.now ≡ Next }
         ensures { OnlyAdvances self.old self.new key.now state }
     {
-        if let Some(session) = self.session_of(key.client) {
-            self.set(key.client, Session::of(key, session.version, state));
-        }
+        let session = self.session_of(key.client).unwrap();
+        self.set(key.client, Session::of(key, session.version, state));
     }
 
     /// Makes the next number of a key's session its last, whose request arrived at a place and waits there,
-    /// and gives the duty to settle it.
+    /// and gives the duty to settle it. It is asked where [`look`](Sessions::look) gives `Next`.
     pub fn begin(&mut self, key: &Key, place: Place) -> Duty
         requires { standing_of self.old key.now ≡ Next }
         ensures duty { result ≡ record { place = place; client = key.now.client } }
@@ -167,13 +166,12 @@ impl Sessions {
         ensures { OnlySettles self.old self.new duty.client duty.place kept }
     {
         let (place, client) = duty.spend();
-        if let Some(session) = self.session_of(client) {
-            self.set(client, session.settled(Some(place), kept));
-        }
+        let session = self.session_of(client).unwrap();
+        self.set(client, session.settled(Some(place), kept));
     }
 
     /// Makes the next number of a key's session its last, and settles it as cancelled: no request arrived
-    /// with it.
+    /// with it. It is asked where [`look`](Sessions::look) gives `Next`.
     pub fn bury(&mut self, key: &Key)
         requires { standing_of self.old key.now ≡ Next }
         ensures { OnlyAdvances self.old self.new key.now (Settled None Cancelled) }

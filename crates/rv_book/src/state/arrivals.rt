@@ -212,7 +212,7 @@ impl BookState {
         self.settle(Some(duty), kept)
     }
 
-    // Takes up to so many of the oldest items out of a queue, one a turn, and lists their places.
+    // Takes up to so many of the oldest items out of a queue, one a pass, and lists their places.
     fn take_items(&mut self, queue: u64, max: usize, places: &mut Vec<Place>)
         requires fits { FitsQueue queue }
         requires sound { IsSound self.old }

@@ -12,7 +12,7 @@ ghost use Rattle.rv_book.specs.Limits.{FitEntries};
 ghost use Rattle.rv_book.specs.Waiting.{Waiting, limit_at};
 ghost use Rattle.rv_book.specs.Operations.{Becomes, Comes, EndsAt, EndsIf, HasSpace, IsOwedIn, IsRefused};
 ghost use Rattle.rv_book.specs.Operations.{IsTime, MayEnd, NoEntryDue, SameAccount, SettlesIf};
-ghost use Rattle.rv_book.specs.Operations.{told_to, with_due};
+ghost use Rattle.rv_book.specs.Operations.{TakesNoMemory, told_to, with_due};
 ghost use Rattle.rv_book.specs.Tables.{IsSound, account_of};
 ghost use Rattle.rv_session.specs.Meanings.{HasLast, HasNext};
 ghost use Rattle.rv_session.specs.declared.session.RequestState.TheVariants as state;
@@ -32,6 +32,7 @@ impl BookState {
         ensures time { IsTime self.new moment }
         ensures nothing_due { NothingDue (account_of self.new).entries moment }
         ensures ticks { Ticks (account_of self.old) moment (account_of self.new) }
+        ensures memory { TakesNoMemory self.old self.new }
     {
         if self.end_next(moment) {
             self.end_due(moment);
@@ -39,7 +40,7 @@ impl BookState {
         }
     }
 
-    // Ends all requests that are due at a moment, one a turn, the least limit first.
+    // Ends all requests that are due at a moment, one a pass, the least limit first.
     fn end_due(&mut self, moment: u64)
         requires { IsEnding self.old moment }
         ensures ending { IsEnding self.new moment }
@@ -155,6 +156,7 @@ impl BookState {
         requires waits { HasLast self.old.sessions key (state.Waits place) }
         ensures sound { IsSound self.new }
         ensures cancelled { IsCancelled (account_of self.old) (account_of self.new) moment key }
+        ensures memory { TakesNoMemory self.old self.new }
     {
         self.end(place, Kept::Cancelled);
         self.push(moment, Act::Cancel { key });

@@ -1,5 +1,5 @@
 -- After a drain the account and its tables are sound, and it is told what is kept.
-use Rattle.std.proofs.Common.{◌+◌, ◌≤◌, Some, length, take, sym, ap, subst, ◌∙◌}
+use Rattle.std.proofs.Common.{◌≡◌, ◌+◌, ◌≤◌, Some, length, take, sym, ap, subst, ◌∙◌}
 use Rattle.rv_session.specs.OwedDuty.{OwedDuty}
 use Rattle.rv_account.specs.Account.{Account, Stored, limit_at}
 use Rattle.rv_account.specs.Calls.{may_name}
@@ -34,8 +34,8 @@ returns-clause-sound c =
     drained_sound began new (record {
       settles = subst (λ (d : OwedDuty). SettlesAs c.begin-duty.new.self new.sessions d.client d.place c.args.kept) duty c.settle.ensures.sessions;
       pushed = ap (λ (s : Stored). s.account) c.settle.ensures.account ∙ pushed;
-      room_left = subst (λ (s : Stored). old.account.room ≤ s.room + 1) (sym c.settle.ensures.account)
-          (subst (λ (s : Stored). s.room ≤ c.push.new.self.room + 1) c.take_items.ensures.account c.push.ensures.room);
+      room_left = subst (λ (s : Stored). old.account.room ≡ s.room + 1) (sym c.settle.ensures.account)
+          (subst (λ (s : Stored). s.room ≡ c.push.new.self.room + 1) c.take_items.ensures.account c.push.ensures.room);
       waiters = c.settle.ensures.waiters;
       waiting = c.settle.ensures.waiting;
       due = c.settle.ensures.due ∙ ap (λ (d : OwedDuty). without_deadline (limit_at c.push.new.self.account.entries d.place) d.place mid.due) duty

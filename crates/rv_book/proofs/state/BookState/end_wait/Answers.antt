@@ -4,6 +4,7 @@ use Rattle.rv_account.specs.Account.{with_entry}
 use Rattle.rv_book.specs.Arriving.{IsCancelled, entry}
 use Rattle.rv_account.specs.declared.entry.Act.TheVariants.{Cancel}
 use Rattle.rv_book.specs.Tables.{account_of}
+use Rattle.rv_book.proofs.Capacity.{recorded_in_room}
 use Rattle.rv_book.proofs.Cancelling.{ended_cancelled, ended_sound, there}
 use Rattle.rv_book.proofs.Ending.{may_end}
 use Rattle.rv_book.proofs.state.BookState.end_wait.Goals as goal
@@ -26,3 +27,7 @@ returns-clause-cancelled c =
     let e = entry c.args.moment (Cancel c.args.key) [] in
     let pushed = c.push.ensures.entry ∙ ap (λ stored. with_entry stored.account e) c.end.ensures.account in
     subst (λ b. IsCancelled (account_of old) b c.args.moment c.args.key) (sym pushed) (ended_cancelled old c.args.moment c.args.key c.requires.comes c.args.place c.requires.waits)
+
+pub returns-clause-memory : goal.returns-clause-memory
+returns-clause-memory c =
+    recorded_in_room c.args.self.now c.end.new.self c.push.new.self _ c.end.ensures.account c.push.ensures.entry c.push.ensures.room

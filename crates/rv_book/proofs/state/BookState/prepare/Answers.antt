@@ -11,7 +11,7 @@ pub returns-in_err-places-clause-err : goal.returns-in_err-places-clause-err
 returns-in_err-places-clause-err c =
     let old = c.args.self.now in
     let need = need_of c.args.call.now in
-    let space = subst (HasSpace old) c.needed.ensures.exact c.in_ok-make_room.ensures.ok.space in
+    let space = subst (HasSpace old) c.need_of.ensures.exact c.in_ok-make_room.ensures.ok.space in
     err_gives c.from_residual-in_err-places.result _ (NoEntryDue (account_of old) need) c.from_residual-in_err-places.ensures.1
     (λ refusal is. inr (room_left (account_of old) old.waiting need c.requires.sound.waiting_is space, is))
 
@@ -19,6 +19,6 @@ pub returns-in_err-add-clause-err : goal.returns-in_err-add-clause-err
 returns-in_err-add-clause-err c =
     let old = c.args.self.now in
     let need = need_of c.args.call.now in
-    let space = subst (HasSpace old) c.needed.ensures.exact c.in_ok-make_room.ensures.ok.space in
+    let space = subst (HasSpace old) c.need_of.ensures.exact c.in_ok-make_room.ensures.ok.space in
     err_gives c.from_residual-in_err-add.result _ (NoEntryDue (account_of old) need) c.from_residual-in_err-add.ensures.1
     (λ refusal is. inr (room_left (account_of old) old.waiting need c.requires.sound.waiting_is space, is))

@@ -1,5 +1,5 @@
 -- After a request that was recorded the account and its tables are sound, and it is told its reply or that it waits.
-use Rattle.std.proofs.Common.{◌∙◌, ◌≤◌, ◌+◌, Option, length, refl, sym, ap, subst}
+use Rattle.std.proofs.Common.{◌≡◌, ◌∙◌, ◌≤◌, ◌+◌, Option, length, refl, sym, ap, subst}
 use Rattle.rv_text.specs.Calls.{side_of}
 use Rattle.rv_session.specs.OwedDuty.{OwedDuty}
 use Rattle.rv_session.specs.Table.{OnlyAdvances}
@@ -81,7 +81,7 @@ returns-clause-sound c =
     c.settle.new.self.sessions c.settle-2.new.self.sessions c.settle.ensures.sessions c.settle-2.ensures.sessions c.settle-2.new.self
     (ap (λ (stored : _). stored.account) stored ∙ pushed) refl (c.settle-2.ensures.waiters ∙ c.settle.ensures.waiters) own_due
     (ap (λ n. n + ends_waiting arrived.other) (c.settle-2.ensures.waiting ∙ c.settle.ensures.waiting) ∙ c.count-self.ensures)
-    (subst (λ (stored : _). old.account.room ≤ stored.room + 1) (sym stored) c.push.ensures.room)
+    (subst (λ (stored : _). old.account.room ≡ stored.room + 1) (sym stored) c.push.ensures.room)
 
 pub returns-clause-recorded : goal.returns-clause-recorded
 returns-clause-recorded c =

@@ -1,9 +1,11 @@
 -- What is due is timed out by one tick; where nothing is, nothing changes.
-use Rattle.std.proofs.Common.{refl, sym, subst}
+use Rattle.std.proofs.Common.{◌∙◌, refl, sym, subst}
 use Rattle.rv_book.specs.declared.state.BookState.{BookState}
 use Rattle.rv_book.specs.Legal.{NothingDue}
+use Rattle.rv_book.specs.Operations.{TakesNoMemory}
 use Rattle.rv_book.specs.Steps.{Ticks}
 use Rattle.rv_book.specs.Tables.{account_of}
+use Rattle.rv_book.proofs.Capacity.{recorded_in_room}
 use Rattle.rv_book.proofs.TimingOut.{all_taken_out, ending_at_first, no_ticks, none_due, none_due_after, ticks, time_after}
 use Rattle.rv_book.proofs.state.BookState.time_out.Goals as goal
 
@@ -38,3 +40,12 @@ returns-else-end_next-clause-ticks c =
     let none = c.if-end_next.ensures.none refl in
     let old = c.args.self.now in
     subst (λ (s : BookState). Ticks (account_of old) c.args.moment (account_of s)) (sym none.0) (no_ticks (account_of old) c.args.moment (none_due old c.args.moment c.requires.sound none.1))
+
+pub returns-then-end_next-clause-memory : goal.returns-then-end_next-clause-memory
+returns-then-end_next-clause-memory c =
+    recorded_in_room c.args.self.now c.end_due.new.self c.push.new.self _ (c.end_due.ensures.account ∙ c.end_next.ensures.account) c.push.ensures.entry c.push.ensures.room
+
+pub returns-else-end_next-clause-memory : goal.returns-else-end_next-clause-memory
+returns-else-end_next-clause-memory c =
+    let none = c.if-end_next.ensures.none refl in
+    subst (λ (s : BookState). TakesNoMemory c.args.self.now s) (sym none.0) refl
