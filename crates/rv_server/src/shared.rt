@@ -8,7 +8,7 @@ use crate::desk::Desk;
 use rv_text::{Answer, Message, NoMemory};
 use std::alloc::Global;
 use std::marker::Model;
-use std::sync::ledger::{Blank, Book, Ledger, Share};
+use std::sync::ledger::{Blank, Book as Tally, Ledger, Share};
 use std::sync::{Mutex, MutexGuard, Wait};
 use thiserror::Error;
 
@@ -20,7 +20,7 @@ pub const MAX_WORKERS: usize = 64;
 #[derive(Drop)]
 pub struct Locked<D: Desk, L: Ledger> {
     desk: D,
-    total: Book<L>,
+    total: Tally<L>,
 }
 
 impl<D: Desk, L: Ledger> Model for Locked<D, L> {
@@ -201,8 +201,9 @@ fn merged<L: Ledger>(seats: Vec<Seat<L>>) -> Share<L>
 }
 
 /// Takes the desk out again, where all seats are handed in. The total is the number of its entries, and the
-/// sum of the seats' shares: nothing else reached the desk. With another number of seats all is handed
-/// back. That the seats are those of this server is said by the ledger's type. It takes no memory.
+/// sum of the seats' shares: each entry was added by a message that was counted in one of these seats. With
+/// another number of seats all is handed back. That the seats are those of this server is said by the
+/// ledger's type. It takes no memory.
 pub fn finish<D: Desk, L: Ledger>(
     shared: Shared<D, L>,
     seats: Vec<Seat<L>>,

@@ -4,21 +4,21 @@ use std::sync::atomic::{AtomicBool, AtomicU64, Ordering};
 use std::time::Duration;
 use std::{thread, time};
 
-// The most turns of a wait, of a millisecond each.
-const MAX_TURNS: u64 = 10_000;
+// The most sleeps of a wait, of a millisecond each.
+const MAX_SLEEPS: u64 = 10_000;
 
 /// What one thread does and another waits for.
 #[derive(Drop)]
 pub(crate) struct Event {
     came: AtomicBool,
-    turns: AtomicU64,
+    sleeps: AtomicU64,
 }
 
 impl Event {
     fn new() -> Event {
         Event {
             came: AtomicBool::new(false),
-            turns: AtomicU64::new(0),
+            sleeps: AtomicU64::new(0),
         }
     }
 
@@ -27,18 +27,18 @@ impl Event {
         self.came.store(true, Ordering::SeqCst);
     }
 
-    /// Whether all turns were waited.
+    /// Whether it slept as often as it may.
     pub(crate) fn is_late(&self) -> bool {
-        self.turns.load(Ordering::SeqCst) >= MAX_TURNS
+        self.sleeps.load(Ordering::SeqCst) >= MAX_SLEEPS
     }
 
-    /// Waits for it, at most 10,000 turns in all calls.
+    /// Waits for it, with at most 10,000 sleeps in all calls together.
     pub(crate) fn wait(&self, clock: &impl time::Clock) {
-        for _turn in 0..MAX_TURNS {
+        for _sleep in 0..MAX_SLEEPS {
             if self.came.load(Ordering::SeqCst) || self.is_late() {
                 return;
             }
-            self.turns.fetch_add(1, Ordering::SeqCst);
+            self.sleeps.fetch_add(1, Ordering::SeqCst);
             thread::sleep(clock, Duration::from_millis(1));
         }
     }

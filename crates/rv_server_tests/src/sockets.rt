@@ -5,7 +5,7 @@ ghost use Rattle.std.specs.Prelude.{◌≡◌};
 use crate::expect::{holds, same};
 use crate::meeting::{Event, Meeting};
 use crate::run::{Still, all_are_asked_for};
-use crate::talks::{GIVES, POLLS, PUTS, TAKES, Talk};
+use crate::talks::{CUTS, GIVES, POLLS, PUTS, TAKES, Talk};
 use rv_book::Book;
 use rv_server::{Report, Seat, ServeFault, Shared, serve};
 use std::alloc::AllocGlobal;
@@ -60,15 +60,16 @@ fn converse<R: Abort + AllocGlobal>(
 // What serving ended with.
 type Ended<L> = Result<Report<L>, (Report<L>, ServeFault)>;
 
-// Both connections were served, and left four entries. All seats are asked for.
-fn served_both<L: Ledger, R: Abort + AllocGlobal>(
+// Two connections were served, and left four entries; so many more were faults. All seats are asked for.
+fn served_two<L: Ledger, R: Abort + AllocGlobal>(
     rt: &R,
     shared: Shared<Book, L>,
     ended: Ended<L>,
+    faults: u32,
 ) -> Result<(), Fail> {
     match ended {
         Ok(report) => {
-            same(rt, (report.served, report.faults), (2, 0));
+            same(rt, (report.served, report.faults), (2, faults));
             let Report { seats, .. } = report;
             all_are_asked_for(rt, shared, seats, [0, 0, 0, 0].as_slice())
         }
@@ -76,13 +77,15 @@ fn served_both<L: Ledger, R: Abort + AllocGlobal>(
     }
 }
 
-// One client puts an item and closes; then another polls it, and closes.
+// One client puts an item and closes; then another polls it, and closes. Where one more cuts its connection
+// short, that is a fault.
 fn one_by_one<L, R>(
     rt: &R,
     shared: Shared<Book, L>,
     seats: Vec<Seat<L>>,
     listener: TcpListener,
     address: SocketAddr,
+    cut: bool,
 ) -> Result<(), Fail>
 where
     L: Ledger + Send + Sync,
@@ -90,16 +93,30 @@ where
 {
     let alloc = rt.alloc();
     let meeting = Meeting::new(rt);
+    let faults = u32::from(cut);
+    let connections = 2 + faults;
     let (ended, ()) = thread::join(
         rt,
-        || serve(rt, alloc, &shared, seats, &Still(0), &meeting, listener, 2),
+        || serve(
+            rt,
+            alloc,
+            &shared,
+            seats,
+            &Still(0),
+            &meeting,
+            listener,
+            connections,
+        ),
         || {
             for talk in [PUTS, POLLS] {
                 converse(rt, &connect(rt, address), talk, None);
             }
+            if cut {
+                converse(rt, &connect(rt, address), CUTS, None);
+            }
         },
     );
-    served_both(rt, shared, ended)
+    served_two(rt, shared, ended, faults)
 }
 
 // Two clients are connected. The second says nothing until the first one's worker pauses and the first has
@@ -154,11 +171,19 @@ where
         !meeting.answered.is_late(),
         "an answer comes in a pause",
     );
-    served_both(rt, shared, ended)
+    served_two(rt, shared, ended, 0)
 }
 
-// A server of two workers on a socket of its own, for clients one by one or side by side.
-fn on_sockets<L, R>(rt: &R, blank: Blank, at_once: bool) -> Result<(), Fail>
+// How the clients of a server come.
+#[derive(Clone, Copy)]
+enum Come {
+    OneByOne,
+    WithOneCut,
+    SideBySide,
+}
+
+// A server of two workers on a socket of its own, and its clients.
+fn on_sockets<L, R>(rt: &R, blank: Blank, come: Come) -> Result<(), Fail>
 where
     L: Ledger + Send + Sync,
     R: Wait
@@ -177,19 +202,24 @@ where
     let (shared, seats) = Shared::<Book, L>::open(alloc, blank, desk, 2)?;
     let listener = TcpListener::bind(rt, "127.0.0.1:0")?;
     let address = listener.local_addr()?;
-    if at_once {
-        side_by_side(rt, shared, seats, listener, address)
-    } else {
-        one_by_one(rt, shared, seats, listener, address)
+    match come {
+        Come::OneByOne => one_by_one(rt, shared, seats, listener, address, false),
+        Come::WithOneCut => one_by_one(rt, shared, seats, listener, address, true),
+        Come::SideBySide => side_by_side(rt, shared, seats, listener, address),
     }
 }
 
 #[test]
 fn connections_are_served_one_by_one(rt: HostRuntime) -> Result<(), Fail> {
-    on_sockets::<Brand, HostRuntime>(&rt, Blank::new(2), false)
+    on_sockets::<Brand, HostRuntime>(&rt, Blank::new(2), Come::OneByOne)
+}
+
+#[test]
+fn a_connection_that_is_cut_short_is_a_fault(rt: HostRuntime) -> Result<(), Fail> {
+    on_sockets::<Brand, HostRuntime>(&rt, Blank::new(2), Come::WithOneCut)
 }
 
 #[test]
 fn connections_are_served_side_by_side(rt: HostRuntime) -> Result<(), Fail> {
-    on_sockets::<Brand, HostRuntime>(&rt, Blank::new(2), true)
+    on_sockets::<Brand, HostRuntime>(&rt, Blank::new(2), Come::SideBySide)
 }

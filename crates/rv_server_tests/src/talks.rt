@@ -37,6 +37,12 @@ pub(crate) const PUTS: Talk = Talk {
         \"reply\":\"done\"}",
 };
 
+/// Somebody sends the length of a frame that can't be, and is told nothing.
+pub(crate) const CUTS: Talk = Talk {
+    sent: b"\x00\x00",
+    answers: b"",
+};
+
 /// Client 2 takes it, and would not wait.
 pub(crate) const POLLS: Talk = Talk {
     sent: b"\x00\x2b{\"client\":2,\"incarnation\":1,\"kind\":\"hello\"}\
