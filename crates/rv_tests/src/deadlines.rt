@@ -1,6 +1,8 @@
 //! The life of a few deadlines.
 use crate::expect::same;
 use rv_due::Due;
+use std::alloc::AllocGlobal;
+use std::process::Abort;
 use std::test::Fail;
 
 #[test]
@@ -19,4 +21,28 @@ fn deadlines_come_in_their_order(rt: HostRuntime) -> Result<(), Fail> {
     same(&rt, due.pop_until(30), Some((10, 7)));
     same(&rt, due.len(), 0);
     Ok(())
+}
+
+// Forty deadlines are added, each perhaps again as soon as it is there.
+fn add_forty<R: Abort + AllocGlobal>(rt: &R, again: bool) -> Result<(), Fail> {
+    let mut due = Due::new(rt.alloc());
+    for place in 0..40 {
+        due.add(10, place)?;
+        if again {
+            due.add(10, place)?;
+        }
+    }
+    same(rt, due.len(), 40);
+    Ok(())
+}
+
+// This and the next ask for as many growths (tests/refusals): to add what is there takes no memory.
+#[test]
+fn forty_are_added(rt: HostRuntime) -> Result<(), Fail> {
+    add_forty(&rt, false)
+}
+
+#[test]
+fn forty_are_added_twice(rt: HostRuntime) -> Result<(), Fail> {
+    add_forty(&rt, true)
 }
