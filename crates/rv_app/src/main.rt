@@ -122,7 +122,7 @@ fn run_serve<T: Threads + Wait + AllocGlobal + time::Clock + Sync>(
     };
     let mut sink = Sink::new(rt.stdout());
     match serve_epoch(threads, listener, epoch, workers, connections, &mut sink) {
-        Ok(served) => served.told(),
+        Ok(end) => end.told(),
         Err(_) => Err(ProgramFault::Serve(ServeFault::NoMemory)),
     }
 }

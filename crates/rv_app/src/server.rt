@@ -64,12 +64,12 @@ impl<'a, R: time::Clock> Gate for Sleeping<'a, R> {
 
 /// How a server ended whose book was opened, and how the writing of the book's account did.
 #[derive(Clone, Copy)]
-pub(crate) struct Served {
+pub(crate) struct ServerEnd {
     ended: Result<(), ServeFault>,
     written: Result<(), RunFault>,
 }
 
-impl Served {
+impl ServerEnd {
     /// Of a fault of the server and one of the writing the first is told.
     pub(crate) fn told(&self) -> Result<(), ProgramFault>
         ensures server { IfErr self.now.ended (λ fault. result ≡ Err (program.Serve fault)) }
@@ -97,12 +97,12 @@ pub(crate) fn serve_epoch<R: Threads + Wait + AllocGlobal + time::Clock + Sync, 
     workers: usize,
     connections: u32,
     sink: &mut Sink<W>,
-) -> Result<Served, NoMemory>
+) -> Result<ServerEnd, NoMemory>
     requires epoch { FitsIdentifier epoch }
     requires some { 1 ≤ workers }
     requires most { workers ≤ 64 }
-    ensures account { IfOk result (λ served.
-        EndsWithAccount W.contents sink.old sink.new served.written) }
+    ensures account { IfOk result (λ end.
+        EndsWithAccount W.contents sink.old sink.new end.written) }
     ensures nothing { OnErr result (sink.new ≡ sink.old) }
 {
     let blank = Blank::new(workers as u64);
@@ -118,7 +118,7 @@ fn serve_book<L, R, W>(
     workers: usize,
     connections: u32,
     sink: &mut Sink<W>,
-) -> Result<Served, NoMemory>
+) -> Result<ServerEnd, NoMemory>
 where
     L: Ledger + Send + Sync,
     R: Threads + Wait + AllocGlobal + time::Clock + Sync,
@@ -129,8 +129,8 @@ where
     requires epoch { FitsIdentifier epoch }
     requires some { 1 ≤ workers }
     requires most { workers ≤ 64 }
-    ensures account { IfOk result (λ served.
-        EndsWithAccount W.contents sink.old sink.new served.written) }
+    ensures account { IfOk result (λ end.
+        EndsWithAccount W.contents sink.old sink.new end.written) }
     ensures nothing { OnErr result (sink.new ≡ sink.old) }
 {
     let alloc = rt.alloc();
@@ -154,7 +154,7 @@ where
     match finish(shared, seats) {
         Ok(Closing { desk, total: _ }) => {
             let written = write_book(alloc, &desk, sink);
-            Ok(Served { ended, written })
+            Ok(ServerEnd { ended, written })
         }
         Err(_) => unreachable!(),
     }

@@ -28,9 +28,8 @@ fn lasts(wait: Option<Wait>) -> bool
     ensures { IsTrue result ↔ Lasts wait }
 {
     match wait {
-        Some(Wait::Now) => false,
-        Some(Wait::Millis(millis)) => millis > 0,
-        Some(Wait::Forever) | None => true,
+        Some(wait) => rv_account::lasts(wait),
+        None => true,
     }
 }
 
