@@ -12,5 +12,5 @@ mod waiters;
 
 pub use book::Book;
 pub use rv_account::{Account, Act, Entry, Partners, Place};
-pub use state::MAX_MOMENT;
+pub use state::{MAX_ENTRIES, MAX_MOMENT};
 pub use verdict::Verdict;

@@ -10,12 +10,9 @@ use crate::entry::read_entry;
 use crate::fault::{AccountFault, LineFault};
 use crate::line::{cut_at, first_line};
 use crate::number::read_plain;
-use rv_book::{Account, Entry, MAX_MOMENT};
+use rv_book::{Account, Entry, MAX_ENTRIES, MAX_MOMENT};
 use rv_text::{MAX_IDENTIFIER, NoMemory};
 use std::alloc::Global;
-
-// The most entries of an account.
-const MAX_ENTRIES: usize = 100_000;
 
 /// The account that the lines of an input say, legal or not. Lines end by LF, which the last one may lack.
 ///

@@ -20,6 +20,6 @@ pub use encode::{
     BAD_TEXT_BODY, NO_MEMORY_BODY, bad_text_body, encode_answer, encode_message, no_memory_body,
 };
 pub use fault::{NoMemory, TextFault};
-pub use message::{Key, MAX_IDENTIFIER, Message};
+pub use message::{Key, MAX_IDENTIFIER, Message, fits_identifier};
 pub use rv_item::{Item, Items, MAX_DRAIN};
 pub use version::Version;

@@ -81,8 +81,8 @@ impl Message {
     }
 }
 
-// Whether an epoch, a client, an incarnation or a number is within its limits.
-pub(crate) fn fits_identifier(number: u64) -> bool
+/// Whether an epoch, a client, an incarnation or a number is within its limits: 1 to 2^53 - 1.
+pub fn fits_identifier(number: u64) -> bool
     ensures { IsTrue result ↔ FitsIdentifier number }
 {
     (1..=MAX_IDENTIFIER).contains(&number)

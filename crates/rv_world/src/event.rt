@@ -1,9 +1,8 @@
 //! What may happen in the world.
 ghost use Rattle.std.specs.Prelude.{◌↔◌, IsTrue};
-ghost use Rattle.rv_text.specs.Limits.{FitsIdentifier};
 ghost use Rattle.rv_world.specs.Limits.{FitsEvent};
 
-use rv_text::{Call, MAX_IDENTIFIER, Version};
+use rv_text::{Call, Version, fits_identifier};
 
 /// One event. Packets of each direction are numbered from 0, and may be delivered never, once, or again and
 /// again, in any order.
@@ -44,11 +43,4 @@ impl Event {
             Event::ToServer(..) | Event::ToClient(_) => true,
         }
     }
-}
-
-// Whether a client, an incarnation or an epoch is within its limits.
-fn fits_identifier(number: u64) -> bool
-    ensures { IsTrue result ↔ FitsIdentifier number }
-{
-    (1..=MAX_IDENTIFIER).contains(&number)
 }
