@@ -21,7 +21,7 @@ use Rattle.rv_app.specs.declared.client.Halt.TheVariants as halt
 use Rattle.rv_app.specs.Calling.{HaltsAt, HasNumbers, IsTurnedAway, IsWelcomed, SettlesLine, SettlesLines, StopsWithWord, key_behind}
 use Rattle.rv_app.specs.Lines.{lines}
 use Rattle.rv_app.specs.Outcomes.{ReadsAll}
-use Rattle.rv_app.specs.Run.{printed}
+use Rattle.rv_app.specs.Run.{printed_lines}
 use Rattle.rv_app.specs.Word.{word_text}
 use Rattle.rv_run.proofs.Printing.{printed_append}
 use Rattle.rv_app.proofs.Settling.{key_behind_none, key_behind_on, key_next, settles_more}
@@ -41,22 +41,22 @@ module _ {O : Type 0} (taken : O → Option (List ℕ)) where
 
   pub takes_more : (texts : List (List ℕ)) (text : List ℕ) (a b c : Sink O) → TakesLines taken texts a b → TakesText taken text b c → TakesLines taken (texts ++ text ∷ []) a c
   takes_more texts text a b c lines one = record {
-    went_out = subst (Appends (sink_contents taken a) (sink_contents taken c)) (sym (printed_append texts (text ∷ []))) (Appends-trans _ _ _ (printed texts) _ lines.went_out one.went_out);
+    went_out = subst (Appends (sink_contents taken a) (sink_contents taken c)) (sym (printed_append texts (text ∷ []))) (Appends-trans _ _ _ (printed_lines texts) _ lines.went_out one.went_out);
     sink_stays = one.sink_stays ∙ lines.sink_stays;
   }
 
-  pub cuts_more : (texts : List (List ℕ)) (text : List ℕ) (before sent : ℕ) (a b c : Sink O) → TakesLines taken texts a b → before ≡ length (printed texts) → CutsText taken text before sent b c
+  pub cuts_more : (texts : List (List ℕ)) (text : List ℕ) (before sent : ℕ) (a b c : Sink O) → TakesLines taken texts a b → before ≡ length (printed_lines texts) → CutsText taken text before sent b c
       → CutsLine taken texts text sent a c
   cuts_more texts text before sent a b c lines count cut =
       let joined = printed_append texts (text ∷ []) in
-      let whole : length (printed (texts ++ text ∷ [])) ≡ before + length text + 1 = omega (arith, ap length joined, length-append (printed texts) (text ++ 10 ∷ []), length-append text (10 ∷ []), count) in
-      let places : sent ≡ length (printed texts) + (sent - before) = omega (arith, count, cut.past_others) in
-      let front : take sent (printed (texts ++ text ∷ [])) ≡ printed texts ++ take (sent - before) (text ++ 10 ∷ []) =
-      ap (λ n. take n (printed (texts ++ text ∷ []))) places ∙ ap (take (length (printed texts) + (sent - before))) joined ∙ take-append-add (printed texts) (text ++ 10 ∷ []) (sent - before) in
+      let whole : length (printed_lines (texts ++ text ∷ [])) ≡ before + length text + 1 = omega (arith, ap length joined, length-append (printed_lines texts) (text ++ 10 ∷ []), length-append text (10 ∷ []), count) in
+      let places : sent ≡ length (printed_lines texts) + (sent - before) = omega (arith, count, cut.past_others) in
+      let front : take sent (printed_lines (texts ++ text ∷ [])) ≡ printed_lines texts ++ take (sent - before) (text ++ 10 ∷ []) =
+      ap (λ n. take n (printed_lines (texts ++ text ∷ []))) places ∙ ap (take (length (printed_lines texts) + (sent - before))) joined ∙ take-append-add (printed_lines texts) (text ++ 10 ∷ []) (sent - before) in
       record {
         past_others = omega (arith, count, cut.past_others);
         not_all = omega (arith, whole, cut.not_all);
-        went_out = subst (Appends (sink_contents taken a) (sink_contents taken c)) (sym front) (Appends-trans _ _ _ (printed texts) _ lines.went_out cut.went_out);
+        went_out = subst (Appends (sink_contents taken a) (sink_contents taken c)) (sym front) (Appends-trans _ _ _ (printed_lines texts) _ lines.went_out cut.went_out);
         sink_fails = cut.sink_fails;
       }
 
@@ -70,7 +70,7 @@ module _ {O R W : Type 0} (taken : O → Option (List ℕ)) (remaining : R → O
     pub cut : all ≡ first ++ lines rest
     pub settled : SettlesLines remaining contents tries key first texts greeted at
     pub took : TakesLines taken texts out out'
-    pub counted : count ≡ length (printed texts)
+    pub counted : count ≡ length (printed_lines texts)
     pub next : idle ≡ Some (key_behind key (length texts))
 
   pub none_so_far : (key : Key) (at : Link R W) (out : Sink O) (idle : Option Key) (input : List ℕ) → idle ≡ Some key → SoFar (lines input) key at at out out idle input 0
@@ -101,7 +101,7 @@ module _ {O R W : Type 0} (taken : O → Option (List ℕ)) (remaining : R → O
         cut = so_far.cut ∙ ap (λ l. so_far.first ++ l) cut ∙ sym (append_assoc so_far.first (line ∷ []) (lines after));
         settled = settles_more remaining contents tries key so_far.first so_far.texts line text greeted at at' so_far.settled here;
         took = takes_more taken so_far.texts text a b c so_far.took out;
-        counted = omega (arith, more, so_far.counted, ap length joined, length-append (printed so_far.texts) (text ++ 10 ∷ []), length-append text (10 ∷ []));
+        counted = omega (arith, more, so_far.counted, ap length joined, length-append (printed_lines so_far.texts) (text ++ 10 ∷ []), length-append text (10 ∷ []));
         next = then ∙ key_next (key_behind key n) (omega (arith, room, shorter)) ∙ ap Some (key_behind_on key n) ∙ ap (λ (m : ℕ). Some (key_behind key m)) (sym (length-append so_far.texts (text ∷ [])));
       }
 
@@ -110,7 +110,7 @@ module _ {O R W : Type 0} (taken : O → Option (List ℕ)) (remaining : R → O
 module _ {O R W : Type 0} (taken : O → Option (List ℕ)) (remaining : R → Option (List ℕ)) (contents : W → Option (List ℕ)) (starting : Starting) (tries : ℕ) where
   -- behind the texts a word is printed, or it is not
   pub runs_by_word : (all texts : List (List ℕ)) (word : Word) (before after : Link R W) (count : ℕ) (a b c : Sink O) (result : Result CallSaid RunFault)
-      → Stops remaining contents starting tries all texts word before after → TakesLines taken texts a b → count ≡ length (printed texts)
+      → Stops remaining contents starting tries all texts word before after → TakesLines taken texts a b → count ≡ length (printed_lines texts)
       → IfOk result (λ said. said ≡ Stopped) → OnOk result (TakesText taken (word_text word) b c) → IfErr result (StopsText taken (word_text word) count b c)
       → RunsCalls taken remaining contents starting tries all before after a c result
   runs_by_word all texts word before after count a b c (Ok Stopped) stops took counted said out cut =

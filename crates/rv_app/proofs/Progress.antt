@@ -10,13 +10,13 @@ use Rattle.rv_frame.specs.declared.sink.Sink.{Sink}
 use Rattle.rv_frame.specs.Sink.{SinkTakes, sink_contents}
 use Rattle.rv_run.specs.declared.output.Output.{Output}
 use Rattle.rv_run.specs.declared.output.OutputFault.{OutputFault}
-use Rattle.rv_run.specs.Output.{StopsAfter, gathered, sent_before}
+use Rattle.rv_run.specs.Output.{StopsAfter, gathered_bytes, sent_before}
 use Rattle.rv_app.specs.Outcomes.{SendsAll, SendsFront}
 use Rattle.rv_app.specs.Lines.{lines}
 use Rattle.rv_app.proofs.Forms.{formless_is_bad, has_form}
 use Rattle.rv_run.proofs.Printing.{Appends-nothing, all_out, part_out, printed_append}
 use Rattle.rv_text.specs.Bodies.{refused_text}
-use Rattle.rv_app.specs.Run.{AnswersLine, RunsLines, printed}
+use Rattle.rv_app.specs.Run.{AnswersLine, RunsLines, printed_lines}
 
 -- ---- runs, one after the other
 
@@ -45,8 +45,8 @@ pub record Progress (contents : Option (List ℕ)) (a : Account) (input : List �
   pub bodies : List (List ℕ)
   pub cut : lines input ≡ first ++ lines rest
   pub run : RunsLines a first bodies b
-  pub took : Appends contents (append_known now waiting) (printed bodies)
-  pub count : sent + length waiting ≡ length (printed bodies)
+  pub took : Appends contents (append_known now waiting) (printed_lines bodies)
+  pub count : sent + length waiting ≡ length (printed_lines bodies)
   pub small : sent + length waiting + 65536 * length rest ≤ 65536 * length input
 
 pub progress_start : (contents : Option (List ℕ)) (a : Account) (input waiting : List ℕ) (sent : ℕ) → waiting ≡ [] → sent + length waiting ≡ 0 → Progress contents a input contents a input waiting sent
@@ -70,48 +70,48 @@ module _ {contents : Option (List ℕ)} {a : Account} {input : List ℕ} {now : 
     bodies = so_far.bodies ++ body ∷ [];
     cut = so_far.cut ∙ ap (λ l. so_far.first ++ l) cut ∙ sym (append_assoc so_far.first (line ∷ []) (lines after));
     run = runs_append a b b' so_far.first (line ∷ []) so_far.bodies (body ∷ []) so_far.run (b', answers, refl);
-    took = subst (Appends contents (append_known now' waiting')) (sym (printed_append so_far.bodies (body ∷ []))) (Appends-trans _ _ _ (printed so_far.bodies) (body ++ 10 ∷ []) so_far.took took);
-    count = omega (arith, ap length (printed_append so_far.bodies (body ∷ [])), length-append (printed so_far.bodies) (body ++ 10 ∷ []), length-append body (10 ∷ []), so_far.count);
+    took = subst (Appends contents (append_known now' waiting')) (sym (printed_append so_far.bodies (body ∷ []))) (Appends-trans _ _ _ (printed_lines so_far.bodies) (body ++ 10 ∷ []) so_far.took took);
+    count = omega (arith, ap length (printed_append so_far.bodies (body ∷ [])), length-append (printed_lines so_far.bodies) (body ++ 10 ∷ []), length-append body (10 ∷ []), so_far.count);
     small = omega (arith, so_far.small);
   }
 
 -- ---- the end of a run
 
 module _ {W : Type 0} (contents : W → Option (List ℕ)) {a : Account} {input : List ℕ} (start now : Sink W) {b : Account} {rest : List ℕ} (output : Output)
-    (so_far : Progress (sink_contents contents start) a input (sink_contents contents now) b rest (gathered output) (sent_before output)) where
+    (so_far : Progress (sink_contents contents start) a input (sink_contents contents now) b rest (gathered_bytes output) (sent_before output)) where
   -- all lines are answered, and what was gathered went out
-  pub sends_all : (now' : Sink W) → rest ≡ [] → SinkTakes contents now now' (gathered output) → SendsAll contents a input start now'
+  pub sends_all : (now' : Sink W) → rest ≡ [] → SinkTakes contents now now' (gathered_bytes output) → SendsAll contents a input start now'
   sends_all now' none out =
       let all : lines input ≡ so_far.first = so_far.cut ∙ ap (λ bytes. so_far.first ++ lines bytes) none ∙ append-nil so_far.first in
       record {
-        output = printed so_far.bodies;
+        output = printed_lines so_far.bodies;
         is_printed = record { bodies = so_far.bodies; last = b; run = subst (λ (l : List (List ℕ)). RunsLines a l so_far.bodies b) (sym all) so_far.run; output_is = refl };
-        went_out = all_out (sink_contents contents start) (sink_contents contents now) (sink_contents contents now') (gathered output) (printed so_far.bodies) so_far.took out;
+        went_out = all_out (sink_contents contents start) (sink_contents contents now) (sink_contents contents now') (gathered_bytes output) (printed_lines so_far.bodies) so_far.took out;
       }
 
   -- a write failed: what went out is the front of what one run prints
-  pub sends_front : (now' : Sink W) (out : ℕ) → StopsAfter contents (gathered output) (sent_before output) now now' out → SendsFront contents a input start now' out
+  pub sends_front : (now' : Sink W) (out : ℕ) → StopsAfter contents (gathered_bytes output) (sent_before output) now now' out → SendsFront contents a input start now' out
   sends_front now' out stops =
       let later = runs_on b (lines rest) in
       let bodies = so_far.bodies ++ later.0 in
       let run = runs_append a b b so_far.first (lines rest) so_far.bodies later.0 so_far.run later.1 in
       let joined = printed_append so_far.bodies later.0 in
-      let front : take out (printed bodies) ≡ take out (printed so_far.bodies) = ap (take out) joined ∙ take-append-le out (printed so_far.bodies) (printed later.0) (omega (arith, so_far.count, stops.not_all)) in
-      let went = part_out (sink_contents contents start) (sink_contents contents now) (sink_contents contents now') (gathered output) (printed so_far.bodies) (sent_before output) out so_far.took so_far.count stops.past_those_sent stops.not_all stops.went_out in
+      let front : take out (printed_lines bodies) ≡ take out (printed_lines so_far.bodies) = ap (take out) joined ∙ take-append-le out (printed_lines so_far.bodies) (printed_lines later.0) (omega (arith, so_far.count, stops.not_all)) in
+      let went = part_out (sink_contents contents start) (sink_contents contents now) (sink_contents contents now') (gathered_bytes output) (printed_lines so_far.bodies) (sent_before output) out so_far.took so_far.count stops.past_those_sent stops.not_all stops.went_out in
       record {
-        output = printed bodies;
+        output = printed_lines bodies;
         is_printed = record { bodies = bodies; last = b; run = subst (λ (l : List (List ℕ)). RunsLines a l bodies b) (sym so_far.cut) run; output_is = refl };
-        not_all = omega (arith, so_far.count, ap length joined, length-append (printed so_far.bodies) (printed later.0), stops.not_all);
+        not_all = omega (arith, so_far.count, ap length joined, length-append (printed_lines so_far.bodies) (printed_lines later.0), stops.not_all);
         went_out = subst (Appends (sink_contents contents start) (sink_contents contents now')) (sym front) went;
       }
 
   -- the same of an answer of `flush`
-  pub sends_all_on_ok : {T : Type 0} (now' : Sink W) (answer : Result T OutputFault) → rest ≡ [] → OnOk answer (SinkTakes contents now now' (gathered output))
+  pub sends_all_on_ok : {T : Type 0} (now' : Sink W) (answer : Result T OutputFault) → rest ≡ [] → OnOk answer (SinkTakes contents now now' (gathered_bytes output))
       → OnOk answer (SendsAll contents a input start now')
   sends_all_on_ok now' (Ok x) none out = sends_all now' none out
   sends_all_on_ok now' (Err fault) none out = tt
 
-  pub sends_front_if_err : {T : Type 0} (now' : Sink W) (answer : Result T OutputFault) → IfErr answer (λ fault. StopsAfter contents (gathered output) (sent_before output) now now' fault.sent)
+  pub sends_front_if_err : {T : Type 0} (now' : Sink W) (answer : Result T OutputFault) → IfErr answer (λ fault. StopsAfter contents (gathered_bytes output) (sent_before output) now now' fault.sent)
       → IfErr answer (λ fault. SendsFront contents a input start now' fault.sent)
   sends_front_if_err now' (Ok x) stops = tt
   sends_front_if_err now' (Err fault) stops = sends_front now' fault.sent stops

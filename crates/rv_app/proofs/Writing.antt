@@ -9,7 +9,7 @@ use Rattle.rv_frame.specs.Sink.{SinkTakes, sink_contents, sink_failed}
 use Rattle.rv_account.specs.declared.entry.Entry.{Entry}
 use Rattle.rv_account.specs.Account.{Account}
 use Rattle.rv_book.proofs.Places.{within}
-use Rattle.rv_lines.specs.Lines.{printed}
+use Rattle.rv_lines.specs.Lines.{printed_lines}
 use Rattle.rv_lines.specs.Written.{account_lines, entry_text}
 use Rattle.rv_app.specs.Accounts.{WritesAll, WritesFront, WritesSome}
 use Rattle.rv_run.specs.Output.{StopsAfter}
@@ -45,8 +45,8 @@ pub record Wrote (contents : Option (List ℕ)) (a : Account) (now : Option (Lis
   pub many : ℕ
   pub many_is : many ≡ place + 1
   pub inside : place ≤ length a.entries
-  pub took : Appends contents (append_known now waiting) (printed (take many (account_lines a)))
-  pub count : sent + length waiting ≡ length (printed (take many (account_lines a)))
+  pub took : Appends contents (append_known now waiting) (printed_lines (take many (account_lines a)))
+  pub count : sent + length waiting ≡ length (printed_lines (take many (account_lines a)))
   pub small : sent + length waiting ≤ 65727 + 18446744073709551616 * place
 
 module _ {contents : Option (List ℕ)} {a : Account} {now : Option (List ℕ)} {place : ℕ} {waiting : List ℕ} {sent : ℕ} (so_far : Wrote contents a now place waiting sent) where
@@ -55,16 +55,16 @@ module _ {contents : Option (List ℕ)} {a : Account} {now : Option (List ℕ)} 
       → Wrote contents a now' (place + 1) waiting' sent'
   wrote_more now' waiting' text e sent' there is took count short =
       let front = take so_far.many (account_lines a) in
-      let next : printed (take (suc so_far.many) (account_lines a)) ≡ printed front ++ (entry_text e ++ 10 ∷ []) =
-      ap printed (take_next (account_lines a) so_far.many (entry_text e) (line_at a so_far.many place e so_far.many_is there)) ∙ printed_append front (entry_text e ∷ []) in
+      let next : printed_lines (take (suc so_far.many) (account_lines a)) ≡ printed_lines front ++ (entry_text e ++ 10 ∷ []) =
+      ap printed_lines (take_next (account_lines a) so_far.many (entry_text e) (line_at a so_far.many place e so_far.many_is there)) ∙ printed_append front (entry_text e ∷ []) in
       let same : text ++ 10 ∷ [] ≡ entry_text e ++ 10 ∷ [] = ap (λ (t : List ℕ). t ++ 10 ∷ []) is in
       record {
         many = suc so_far.many;
         many_is = omega (arith, so_far.many_is);
         inside = omega (arith, within a.entries place e there);
-        took = subst (Appends contents (append_known now' waiting')) (ap (λ (t : List ℕ). printed front ++ t) same ∙ sym next)
-            (Appends-trans contents (append_known now waiting) (append_known now' waiting') (printed front) (text ++ 10 ∷ []) so_far.took took);
-        count = omega (arith, count, so_far.count, ap length next, length-append (printed front) (entry_text e ++ 10 ∷ []), length-append (entry_text e) (10 ∷ []), ap length is);
+        took = subst (Appends contents (append_known now' waiting')) (ap (λ (t : List ℕ). printed_lines front ++ t) same ∙ sym next)
+            (Appends-trans contents (append_known now waiting) (append_known now' waiting') (printed_lines front) (text ++ 10 ∷ []) so_far.took took);
+        count = omega (arith, count, so_far.count, ap length next, length-append (printed_lines front) (entry_text e ++ 10 ∷ []), length-append (entry_text e) (10 ∷ []), ap length is);
         small = omega (arith, so_far.small, count, short);
       }
 
@@ -79,15 +79,15 @@ module _ {contents : Option (List ℕ)} {a : Account} {now : Option (List ℕ)} 
 module _ {W : Type 0} (contents : W → Option (List ℕ)) {a : Account} (start now : Sink W) {place : ℕ} {waiting : List ℕ} {sent : ℕ}
     (so_far : Wrote (sink_contents contents start) a (sink_contents contents now) place waiting sent) where
   -- what was gathered went out
-  front_out : (now' : Sink W) → SinkTakes contents now now' waiting → SinkTakes contents start now' (printed (take so_far.many (account_lines a)))
+  front_out : (now' : Sink W) → SinkTakes contents now now' waiting → SinkTakes contents start now' (printed_lines (take so_far.many (account_lines a)))
   front_out now' out =
-      all_out (sink_contents contents start) (sink_contents contents now) (sink_contents contents now') waiting (printed (take so_far.many (account_lines a))) so_far.took out
+      all_out (sink_contents contents start) (sink_contents contents now) (sink_contents contents now') waiting (printed_lines (take so_far.many (account_lines a))) so_far.took out
 
   pub writes_all : (now' : Sink W) → slice_get a.entries place ≡ None → sink_failed now' ≡ sink_failed start → SinkTakes contents now now' waiting → WritesAll contents a start now'
   writes_all now' none stays out =
       let all : take so_far.many (account_lines a) ≡ account_lines a =
       take_all so_far.many (account_lines a) (omega (arith, so_far.many_is, past_end a.entries place none, length-map a.entries entry_text)) in
-      record { went_out = subst (λ (l : List (List ℕ)). SinkTakes contents start now' (printed l)) all (front_out now' out); sink_stays = stays }
+      record { went_out = subst (λ (l : List (List ℕ)). SinkTakes contents start now' (printed_lines l)) all (front_out now' out); sink_stays = stays }
 
   -- a line has no text, for want of memory
   pub writes_some : (now' : Sink W) (e : Entry) → slice_get a.entries place ≡ Some e → sink_failed now' ≡ sink_failed start → SinkTakes contents now now' waiting → WritesSome contents a start now'
@@ -103,11 +103,11 @@ module _ {W : Type 0} (contents : W → Option (List ℕ)) {a : Account} (start 
   writes_front now' out stops fails =
       let first = take so_far.many (account_lines a) in
       let later = drop so_far.many (account_lines a) in
-      let joined : printed (account_lines a) ≡ printed first ++ printed later = ap printed (sym (take-append-drop so_far.many (account_lines a))) ∙ printed_append first later in
-      let front : take out (printed (account_lines a)) ≡ take out (printed first) = ap (take out) joined ∙ take-append-le out (printed first) (printed later) (omega (arith, so_far.count, stops.not_all)) in
-      let went = part_out (sink_contents contents start) (sink_contents contents now) (sink_contents contents now') waiting (printed first) sent out so_far.took so_far.count stops.past_those_sent stops.not_all stops.went_out in
+      let joined : printed_lines (account_lines a) ≡ printed_lines first ++ printed_lines later = ap printed_lines (sym (take-append-drop so_far.many (account_lines a))) ∙ printed_append first later in
+      let front : take out (printed_lines (account_lines a)) ≡ take out (printed_lines first) = ap (take out) joined ∙ take-append-le out (printed_lines first) (printed_lines later) (omega (arith, so_far.count, stops.not_all)) in
+      let went = part_out (sink_contents contents start) (sink_contents contents now) (sink_contents contents now') waiting (printed_lines first) sent out so_far.took so_far.count stops.past_those_sent stops.not_all stops.went_out in
       record {
-        not_all = omega (arith, so_far.count, ap length joined, length-append (printed first) (printed later), stops.not_all);
+        not_all = omega (arith, so_far.count, ap length joined, length-append (printed_lines first) (printed_lines later), stops.not_all);
         went_out = subst (SinkTakes contents start now') (sym front) went;
         sink_fails = fails;
       }

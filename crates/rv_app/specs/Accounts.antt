@@ -5,7 +5,7 @@ use Rattle.rv_frame.specs.Sink.{SinkTakes, sink_failed}
 use Rattle.rv_account.specs.Account.{Account}
 use Rattle.rv_book.specs.Legal.{Legal}
 use Rattle.rv_book.specs.Limits.{FitsAccount}
-use Rattle.rv_lines.specs.Lines.{printed}
+use Rattle.rv_lines.specs.Lines.{printed_lines}
 use Rattle.rv_lines.specs.Written.{account_lines}
 use Rattle.rv_run.specs.declared.fault.RunFault.{RunFault}
 use Rattle.rv_run.specs.declared.fault.RunFault.TheVariants.{NoMemory, ReadFault, TooLong, WriteFault}
@@ -13,20 +13,20 @@ use Rattle.rv_run.specs.declared.fault.RunFault.TheVariants.{NoMemory, ReadFault
 module _ {W : Type 0} (contents : W → Option (List ℕ)) where
   -- the sink took exactly the account's lines
   pub record WritesAll (a : Account) (old new : Sink W) : Type 0 where
-    pub went_out : SinkTakes contents old new (printed (account_lines a))
+    pub went_out : SinkTakes contents old new (printed_lines (account_lines a))
     pub sink_stays : sink_failed new ≡ sink_failed old
 
   -- a write failed: of the account's lines the sink took exactly so many bytes, and not all
   pub record WritesFront (a : Account) (old new : Sink W) (sent : ℕ) : Type 0 where
-    pub not_all : sent < length (printed (account_lines a))
-    pub went_out : SinkTakes contents old new (take sent (printed (account_lines a)))
+    pub not_all : sent < length (printed_lines (account_lines a))
+    pub went_out : SinkTakes contents old new (take sent (printed_lines (account_lines a)))
     pub sink_fails : sink_failed new ≡ true
 
   -- the sink took exactly some first lines of the account, whole, and not all
   pub record WritesSome (a : Account) (old new : Sink W) : Type 0 where
     pub count : ℕ
     pub not_all : count < length (account_lines a)
-    pub went_out : SinkTakes contents old new (printed (take count (account_lines a)))
+    pub went_out : SinkTakes contents old new (printed_lines (take count (account_lines a)))
     pub sink_stays : sink_failed new ≡ sink_failed old
 
   -- not all lines went out, for this fault; no other comes

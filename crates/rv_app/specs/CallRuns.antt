@@ -15,7 +15,7 @@ use Rattle.rv_app.specs.declared.word.Word.{Word}
 use Rattle.rv_app.specs.Calling.{IsTurnedAway, IsWelcomed, SettlesLines, StopsWithWord, key_behind}
 use Rattle.rv_app.specs.Lines.{lines}
 use Rattle.rv_app.specs.Outcomes.{ReadsAll}
-use Rattle.rv_app.specs.Run.{printed}
+use Rattle.rv_app.specs.Run.{printed_lines}
 use Rattle.rv_app.specs.Word.{word_text}
 
 -- ---- what came of the lines
@@ -72,14 +72,14 @@ module _ {R W : Type 0} (remaining : R → Option (List ℕ)) (contents : W → 
 module _ {O : Type 0} (contents : O → Option (List ℕ)) where
   -- these lines, whole
   pub record TakesLines (texts : List (List ℕ)) (old new : Sink O) : Type 0 where
-    pub went_out : SinkTakes contents old new (printed texts)
+    pub went_out : SinkTakes contents old new (printed_lines texts)
     pub sink_stays : sink_failed new ≡ sink_failed old
 
   -- these lines, and of one more a part: so many bytes in all
   pub record CutsLine (texts : List (List ℕ)) (text : List ℕ) (sent : ℕ) (old new : Sink O) : Type 0 where
-    pub past_others : length (printed texts) ≤ sent
-    pub not_all : sent < length (printed (texts ++ text ∷ []))
-    pub went_out : SinkTakes contents old new (take sent (printed (texts ++ text ∷ [])))
+    pub past_others : length (printed_lines texts) ≤ sent
+    pub not_all : sent < length (printed_lines (texts ++ text ∷ []))
+    pub went_out : SinkTakes contents old new (take sent (printed_lines (texts ++ text ∷ [])))
     pub sink_fails : sink_failed new ≡ true
 
   -- ---- for private clauses: one line behind others

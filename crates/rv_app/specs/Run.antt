@@ -6,7 +6,7 @@ use Rattle.rv_text.specs.declared.message.Message.{Message}
 use Rattle.rv_text.specs.Bodies.{answer_text, refused_text}
 use Rattle.rv_account.specs.Account.{Account}
 use Rattle.rv_book.specs.Steps.{Next}
-pub use Rattle.rv_lines.specs.Lines.{printed}
+pub use Rattle.rv_lines.specs.Lines.{printed_lines}
 use Rattle.rv_app.specs.Lines.{HasForm, IsBadLine, ReadsLine, lines}
 
 -- the account of an epoch that was opened at this moment, with no entry yet
@@ -66,4 +66,4 @@ pub record Prints (a : Account) (input output : List ℕ) : Type 0 where
   pub bodies : List (List ℕ)
   pub last : Account
   pub run : RunsLines a (lines input) bodies last
-  pub output_is : output ≡ printed bodies
+  pub output_is : output ≡ printed_lines bodies

@@ -2,7 +2,7 @@
 ghost use Rattle.std.specs.Prelude.{◌≡◌, [], IfErr, OnOk};
 ghost use Rattle.rv_lines.specs.Written.{head_text};
 ghost use Rattle.rv_app.specs.Accounts.{StopsWriting, WritesAll};
-ghost use Rattle.rv_run.specs.Output.{IsShort, gathered, taken_in};
+ghost use Rattle.rv_run.specs.Output.{IsShort, gathered_bytes, taken_in};
 
 use rv_book::Account;
 use rv_frame::Sink;
@@ -43,7 +43,7 @@ fn write_lines<W: Write>(
 ) -> Result<(), RunFault>
     requires head { head.now ≡ head_text account.now.account.epoch account.now.account.opened }
     requires short { IsShort head.now }
-    requires nothing_gathered { gathered output.old ≡ [] }
+    requires nothing_gathered { gathered_bytes output.old ≡ [] }
     requires nothing_sent { taken_in output.old ≡ 0 }
     ensures all { OnOk result (WritesAll W.contents account.now.account sink.old sink.new) }
     ensures part { IfErr result (StopsWriting W.contents account.now.account sink.old sink.new) }

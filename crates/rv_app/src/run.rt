@@ -2,7 +2,7 @@
 ghost use Rattle.std.specs.Prelude.{◌≡◌, ◌≤◌, [], length, Err, IfErr, OnOk};
 ghost use Rattle.rv_text.specs.Limits.{FitsIdentifier};
 ghost use Rattle.rv_frame.specs.Sink.{FailsWithSink};
-ghost use Rattle.rv_run.specs.Output.{gathered, taken_in};
+ghost use Rattle.rv_run.specs.Output.{gathered_bytes, taken_in};
 ghost use Rattle.rv_app.specs.Outcomes.{FailedReading, FoundTooLong, LackedMemory, Ran};
 ghost use Rattle.rv_app.specs.Outcomes.{SendsAll, SendsFront, StoppedWriting, max_input};
 
@@ -64,7 +64,7 @@ fn answer_lines<W: Write>(
     sink: &mut Sink<W>,
 ) -> Result<(), OutputFault>
     requires within { length input.now ≤ max_input }
-    requires nothing_gathered { gathered output.old ≡ [] }
+    requires nothing_gathered { gathered_bytes output.old ≡ [] }
     requires nothing_sent { taken_in output.old ≡ 0 }
     ensures all { OnOk result (SendsAll W.contents book.old input.now sink.old sink.new) }
     ensures part { IfErr result (λ fault.

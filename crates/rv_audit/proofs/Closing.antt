@@ -17,7 +17,7 @@ use Rattle.rv_book.proofs.Sides.{one_side}
 use Rattle.rv_audit.proofs.Named.{all_first, first_back, first_on, first_own, none_first, one_at}
 use Rattle.rv_audit.specs.Lines.{Closes, stands_in}
 use Rattle.rv_audit.specs.Marks.{IsLeast, Loses, is_marked_under}
-use Rattle.rv_audit.specs.Passed.{AmongFirst, AreAuditSessions, AreLimits, AreLines, AreMet, AreTables, ClosesIf, Gone, IsArrived, IsFitting, IsFront, IsTakingOut, LosesIf, SameRest, TakesEach, TakesOutPlace, gone_at, none_gone, passed, with_gone, with_tables}
+use Rattle.rv_audit.specs.Passed.{AmongFirst, AreAuditSessions, AreLimits, AreLines, AreMet, AreTables, ClosesIf, Gone, IsArrived, IsFitting, IsFront, IsTakingOut, LosesIf, SameRest, TakesEach, TakesOutPlace, gone_at, none_gone, passed_account, with_gone, with_tables}
 use Rattle.rv_audit.specs.declared.front.Front.{Front}
 use Rattle.rv_audit.specs.declared.lines.OpenLines.{OpenLines}
 use Rattle.rv_audit.specs.declared.marks.Marks.{Marks}
@@ -125,8 +125,8 @@ tables_with a gone left old new rest are lines limits = record {
 pub same_rest : (one two three : Front) → SameRest one two → SameRest two three → SameRest one three
 same_rest one two three first second = second ∙ ap (λ (f : Front). with_tables f three.lines three.limits) first
 
-pub same_passed : (old new : Front) → SameRest old new → passed new ≡ passed old
-same_passed old new rest = ap passed rest
+pub same_passed : (old new : Front) → SameRest old new → passed_account new ≡ passed_account old
+same_passed old new rest = ap passed_account rest
 
 -- who is marked as due is
 pub marked_due : (a : Account) (gone : Gone) (front : Front) (moment : ℕ) (mark : ℕ × ℕ) → AreTables a gone front → IsLeast front.limits moment mark → IsDueAt a.entries moment mark.1 × (limit_at a.entries mark.1 ≡ Some mark.0)
@@ -138,13 +138,13 @@ pub due_arrived : (es : List Entry) (moment r : ℕ) → IsDueAt es moment r →
 due_arrived es moment r due = (due.waits.is_open.call, due.waits.is_open.arrived)
 
 -- one turn of taking out
-pub took_out : (start old new : Front) (moment place : ℕ) → IsTakingOut start old moment → TakesOutPlace old new place → IsDueAt (passed start).entries moment place → IsTakingOut start new moment
+pub took_out : (start old new : Front) (moment place : ℕ) → IsTakingOut start old moment → TakesOutPlace old new place → IsDueAt (passed_account start).entries moment place → IsTakingOut start new moment
 took_out start old new moment place is out due =
-    let same : passed old ≡ passed start = same_passed start old is.rest in
+    let same : passed_account old ≡ passed_account start = same_passed start old is.rest in
     record {
       gone = with_gone is.gone place;
       due = λ r went. elim (who_is_gone is.gone place r went) [
-        | inl here ↦ subst (IsDueAt (passed start).entries moment) (sym here) due
+        | inl here ↦ subst (IsDueAt (passed_account start).entries moment) (sym here) due
         | inr before ↦ is.due r before
       ];
       rest = same_rest start old new is.rest out.rest;
@@ -202,7 +202,7 @@ pub takes_next : (start old new : Front) (places : List ℕ) (n : ℕ) → n < l
     → TakesEach (AmongFirst places (n + 1)) start new
 takes_next start old new places n inside is out =
     let place = get_or places n 0 in
-    let same : passed old ≡ passed start = same_passed start old is.rest in
+    let same : passed_account old ≡ passed_account start = same_passed start old is.rest in
     record {
       gone = with_gone is.gone place;
       are = λ r. (
@@ -227,7 +227,7 @@ takes_all start new places n whole is = record {
   tables = is.tables;
 }
 
-pub still_arrived : (start old : Front) (places : List ℕ) (n : ℕ) → n < length places → TakesEach (AmongFirst places n) start old → ((p : ℕ) → Among places p → IsArrived (passed start).entries p)
-    → IsArrived (passed old).entries (get_or places n 0)
+pub still_arrived : (start old : Front) (places : List ℕ) (n : ℕ) → n < length places → TakesEach (AmongFirst places n) start old → ((p : ℕ) → Among places p → IsArrived (passed_account start).entries p)
+    → IsArrived (passed_account old).entries (get_or places n 0)
 still_arrived start old places n inside is arrived =
     subst (λ (a : Account). IsArrived a.entries (get_or places n 0)) (sym (same_passed start old is.rest)) (arrived (get_or places n 0) (one_at places n inside))

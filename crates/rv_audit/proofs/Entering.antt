@@ -17,7 +17,7 @@ use Rattle.rv_book.proofs.Keys.{NamesKey-back, NamesKey-on, act_called, client_o
 use Rattle.rv_book.proofs.Numbers.{same_or_not}
 use Rattle.rv_book.proofs.Places.{get-append_end}
 use Rattle.rv_book.proofs.SessionTable.{IsApart, IsAt, IsAt-on, greeted_at, named_at, other_apart}
-use Rattle.rv_book.proofs.Sides.{IsNewRequest, Waiting-back, WasWaiting, cancel_stops, hello_stops}
+use Rattle.rv_book.proofs.Sides.{ComesToWait, Waiting-back, WasWaiting, cancel_stops, hello_stops}
 use Rattle.rv_book.proofs.Waits.{one_waits, waiting_is_last}
 use Rattle.rv_audit.specs.Passed.{AreAuditSessions, EntersIf, IsAuditSession, IsAuditSessionOf, session_after}
 use Rattle.rv_audit.specs.Sessions.{EntersSession, session_in}
@@ -72,7 +72,7 @@ session_of_on es e client (Some s) free apart is = session_on es e client s free
 
 -- ---- the client's own
 
-no_call : (e : Entry) (does : Act) → e.act ≡ does → call_in does ≡ None → IsNewRequest e → ⊥
+no_call : (e : Entry) (does : Act) → e.act ≡ does → call_in does ≡ None → ComesToWait e → ⊥
 no_call e does is none new = none-some new.call (sym none ∙ ap call_in (sym is) ∙ new.arrives)
 
 module _ (a : Account) (e : Entry) (legal : Legal a) (follows : MayFollow a e) where

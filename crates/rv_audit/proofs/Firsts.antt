@@ -9,7 +9,7 @@ use Rattle.rv_book.specs.Legal.{Legal, MayFollow, before}
 use Rattle.rv_book.proofs.Fronts.{Legal-before}
 use Rattle.rv_book.proofs.Places.{get-take}
 use Rattle.rv_audit.specs.Breaking.{BreaksBehind, FirstFault, KeepsRules, rank_of}
-use Rattle.rv_audit.specs.Passed.{BreaksFirst, BreaksFirstOf, BreaksNone, BreaksNoneOf, IsFront, MayPass, passed}
+use Rattle.rv_audit.specs.Passed.{BreaksFirst, BreaksFirstOf, BreaksNone, BreaksNoneOf, IsFront, MayPass, passed_account}
 use Rattle.rv_audit.specs.declared.front.Front.{Front}
 use Rattle.rv_audit.specs.declared.rule.Audit.TheVariants as tells
 use Rattle.rv_audit.specs.declared.rule.Rule.{Rule}
@@ -99,8 +99,8 @@ pub all_passed : (a : Account) (n : ℕ) → Legal (before a n) → slice_get a.
 all_passed a n legal none = subst (λ (es : List Entry). Legal (record { epoch = a.epoch; opened = a.opened; entries = es })) (take_past a.entries n none) legal
 
 -- the next entry may be passed
-pub may_pass : (front : Front) (e : Entry) → IsFront front → slice_get front.account.now.account.entries (length front.met.items) ≡ Some e → BreaksNone (passed front) e → MayPass front e
-may_pass front e is there none = record { there = there; follows = may_follow (passed front) e is.legal none }
+pub may_pass : (front : Front) (e : Entry) → IsFront front → slice_get front.account.now.account.entries (length front.met.items) ≡ Some e → BreaksNone (passed_account front) e → MayPass front e
+may_pass front e is there none = record { there = there; follows = may_follow (passed_account front) e is.legal none }
 
 -- ---- what a front tells, at the place that comes next
 
@@ -109,13 +109,13 @@ module _ (front : Front) (a : Stored) (n : ℕ) (is : IsFront front) (same : fro
   next_there e there =
       ap (λ (s : Stored). slice_get s.account.entries (length front.met.items)) same ∙ ap (slice_get a.account.entries) (sym at) ∙ sym there
 
-  pub fault_told : (e : Entry) (rule : Rule) (place : ℕ) → place ≡ length front.met.items → Some e ≡ slice_get a.account.entries n → BreaksFirst (passed front) e rule → FirstFault a.account place rule
+  pub fault_told : (e : Entry) (rule : Rule) (place : ℕ) → place ≡ length front.met.items → Some e ≡ slice_get a.account.entries n → BreaksFirst (passed_account front) e rule → FirstFault a.account place rule
   fault_told e rule place here there first =
       subst (λ m. FirstFault a.account m rule) (sym here)
       (subst (λ (s : Stored). FirstFault s.account (length front.met.items) rule) same
       (first_fault front.account.now.account (length front.met.items) e rule is.legal (next_there e there) first))
 
-  pub next_may : (e : Entry) → Some e ≡ slice_get a.account.entries n → BreaksNone (passed front) e → MayPass front e
+  pub next_may : (e : Entry) → Some e ≡ slice_get a.account.entries n → BreaksNone (passed_account front) e → MayPass front e
   next_may e there none = may_pass front e is (next_there e there) none
 
   pub legal_told : None ≡ slice_get a.account.entries n → Legal a.account

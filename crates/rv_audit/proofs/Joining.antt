@@ -24,7 +24,7 @@ use Rattle.rv_book.proofs.WaitersBySide.{met_last, open_inside}
 use Rattle.rv_audit.specs.Lines.{IsOpenable, stands_in}
 use Rattle.rv_audit.specs.Marks.{is_marked_under}
 use Rattle.rv_audit.specs.Passed.{AreLimits, AreLines, AreMet, AreTouched, AreWithin, EntersIf, Flags, GainsIf, Gone, IsNewOn, IsNewRequest, OpensIf, OpensOn, SetsFlags, WaitsUntil, is_any, none_gone, session_after}
-use Rattle.rv_audit.specs.Passed.{AreTables, HasPassed, IsReadyFor, passed}
+use Rattle.rv_audit.specs.Passed.{AreTables, HasPassed, IsReadyFor, passed_account}
 use Rattle.rv_audit.specs.declared.front.Front.{Front}
 use Rattle.rv_audit.proofs.Entering.{sessions_joined}
 use Rattle.rv_audit.proofs.Named.{is_any_or_none, some_among}
@@ -242,14 +242,14 @@ take_next (y ∷ ys) (suc n) x there = ap (λ zs. y ∷ zs) (take_next ys n x th
 
 pub partner_within : (front : Front) (e : Entry) → IsReadyFor front e → AreWithin e.partners (length front.met.items)
 partner_within front e ready p names =
-    let inside : p < length (passed front).entries = (ready.may.follows.pairs.names_free_partners.free p names).earlier in
-    let count : length front.met.items ≡ length (passed front).entries = ready.tables.met.count in
+    let inside : p < length (passed_account front).entries = (ready.may.follows.pairs.names_free_partners.free p names).earlier in
+    let count : length front.met.items ≡ length (passed_account front).entries = ready.tables.met.count in
     omega arith
 
 module _ (old new : Front) (e : Entry) (place : ℕ) (ready : IsReadyFor old e) (at : place ≡ length old.met.items) (account : new.account ≡ old.account)
     (met : Flags old.met.items new.met.items e.partners) where
   abbrev b : Account
-  b = passed old
+  b = passed_account old
 
   counted : length new.met.items ≡ length old.met.items + 1
   counted =
@@ -258,7 +258,7 @@ module _ (old new : Front) (e : Entry) (place : ℕ) (ready : IsReadyFor old e) 
       let m = met.sets.count in
       omega arith
 
-  grown : passed new ≡ with_entry b e
+  grown : passed_account new ≡ with_entry b e
   grown =
       let next : length new.met.items ≡ suc (length old.met.items) = let c = counted in omega arith in
       ap (λ x. before x.now.account (length new.met.items)) account

@@ -102,10 +102,10 @@ module _ (whole : List Entry) (n r : ℕ) where
   )
 
 -- the client's request that waits is where its session says
-abbrev request_of : Option AuditSession → Option ℕ
-request_of s = option_and_then (λ (x : AuditSession). x.request) s
+abbrev request_in : Option AuditSession → Option ℕ
+request_in s = option_and_then (λ (x : AuditSession). x.request) s
 
-pub waits_at : (a : Account) (client : ℕ) (s : Option AuditSession) → Legal a → IsAuditSessionOf a.entries client s → (w : HasWaiting a.entries client) → request_of s ≡ Some w.place
+pub waits_at : (a : Account) (client : ℕ) (s : Option AuditSession) → Legal a → IsAuditSessionOf a.entries client s → (w : HasWaiting a.entries client) → request_in s ≡ Some w.place
 waits_at a client (Some s) legal is w = is.alone w.place w.key w.waits w.names
 waits_at a client None legal is w =
     let named = act_called (act_at a.entries w.place) w.waits.is_open.call w.waits.is_open.arrived in
@@ -114,21 +114,21 @@ waits_at a client None legal is w =
     let of_client : named.0.client ≡ client = ap (λ (k : Key). k.client) same ∙ w.names.of_client in
     absurd (is (has.0, named.0.incarnation, has.1.version, subst (λ c. act_at a.entries has.0 ≡ Some (Hello c named.0.incarnation has.1.version)) of_client has.1.hello))
 
-pub named_by : (es : List Entry) (client r : ℕ) (s : Option AuditSession) → IsAuditSessionOf es client s → request_of s ≡ Some r → (key : Key) × NamesKey es client r key
+pub named_by : (es : List Entry) (client r : ℕ) (s : Option AuditSession) → IsAuditSessionOf es client s → request_in s ≡ Some r → (key : Key) × NamesKey es client r key
 named_by es client r (Some s) is there = is.named r there
 named_by es client r None is there = absurd (none-some r there)
 
-pub some_waits : (es : List Entry) (client r : ℕ) (s : Option AuditSession) (b : Bool) → IsAuditSessionOf es client s → request_of s ≡ Some r → (IsTrue b → Waiting es r)
+pub some_waits : (es : List Entry) (client r : ℕ) (s : Option AuditSession) (b : Bool) → IsAuditSessionOf es client s → request_in s ≡ Some r → (IsTrue b → Waiting es r)
     → IfSome (then_some b r) (WaitsOf es client)
 some_waits es client r s true is there waits = let named = named_by es client r s is there in record { waits = waits refl; key = named.0; names = named.1 }
 some_waits es client r s false is there waits = tt
 
-pub none_waits : (a : Account) (client r : ℕ) (s : Option AuditSession) (b : Bool) → Legal a → IsAuditSessionOf a.entries client s → request_of s ≡ Some r → (Waiting a.entries r → IsTrue b)
+pub none_waits : (a : Account) (client r : ℕ) (s : Option AuditSession) (b : Bool) → Legal a → IsAuditSessionOf a.entries client s → request_in s ≡ Some r → (Waiting a.entries r → IsTrue b)
     → IfNone (then_some b r) (HasWaiting a.entries client → ⊥)
 none_waits a client r s true legal is there waits = tt
 none_waits a client r s false legal is there waits = λ w.
     let same : w.place ≡ r = same_Some _ _ (sym (waits_at a client s legal is w) ∙ there) in
     false≢true (waits (subst (Waiting a.entries) same w.waits))
 
-pub nobody_waits : (a : Account) (client : ℕ) (s : Option AuditSession) → Legal a → IsAuditSessionOf a.entries client s → request_of s ≡ None → HasWaiting a.entries client → ⊥
+pub nobody_waits : (a : Account) (client : ℕ) (s : Option AuditSession) → Legal a → IsAuditSessionOf a.entries client s → request_in s ≡ None → HasWaiting a.entries client → ⊥
 nobody_waits a client s legal is none w = none-some w.place (sym none ∙ waits_at a client s legal is w)

@@ -21,7 +21,7 @@ use Rattle.rv_book.proofs.Keys.{act_called}
 use Rattle.rv_book.proofs.Sides.{IsRequestOf, IsRequestUnder, arrival_stops_nobody, cancel_stops, due_until, hello_stops, stopped_by_cancel, stopped_by_hello, stopped_by_tick, tick_stops, until_due}
 use Rattle.rv_book.proofs.Waits.{one_waits}
 use Rattle.rv_audit.specs.Marks.{NoneUntil}
-use Rattle.rv_audit.specs.Passed.{AreTables, AreTouched, ArrivesWith, Gone, IsArrived, IsFront, IsTakingOut, SameRest, TakesEach, TakesTouched, WaitsOf, WaitsWith, gone_at, passed}
+use Rattle.rv_audit.specs.Passed.{AreTables, AreTouched, ArrivesWith, Gone, IsArrived, IsFront, IsTakingOut, SameRest, TakesEach, TakesTouched, WaitsOf, WaitsWith, gone_at, passed_account}
 use Rattle.rv_audit.specs.declared.front.Front.{Front}
 
 at_gone : (o : Option ℕ) (r : ℕ) → gone_at o r ≡ true → o ≡ Some r
@@ -140,28 +140,28 @@ module _ (a : Account) (e : Entry) (legal : Legal a) (follows : MayFollow a e) w
 
 -- ---- what is taken out
 
-pub takes_partners : (start new : Front) (e : Entry) (key : Key) (call : Call) → IsFront start → MayFollow (passed start) e → e.act ≡ Arrive key call → TakesEach (Names e) start new → TakesTouched start new e
+pub takes_partners : (start new : Front) (e : Entry) (key : Key) (call : Call) → IsFront start → MayFollow (passed_account start) e → e.act ≡ Arrive key call → TakesEach (Names e) start new → TakesTouched start new e
 takes_partners start new e key call front follows arrives takes = record {
   gone = takes.gone;
-  touched = arrival_touches (passed start) e front.legal follows key call takes.gone arrives takes.are;
+  touched = arrival_touches (passed_account start) e front.legal follows key call takes.gone arrives takes.are;
   rest = takes.rest;
   tables = takes.tables;
 }
 
-pub takes_stopped : (start new : Front) (e : Entry) (o : Option ℕ) → AreTouched (passed start).entries e (gone_at o) → SameRest start new → AreTables (passed start) (gone_at o) new → TakesTouched start new e
+pub takes_stopped : (start new : Front) (e : Entry) (o : Option ℕ) → AreTouched (passed_account start).entries e (gone_at o) → SameRest start new → AreTables (passed_account start) (gone_at o) new → TakesTouched start new e
 takes_stopped start new e o touched rest tables = record { gone = gone_at o; touched = touched; rest = rest; tables = tables }
 
 -- ---- a tick
 
-pub tick_touches : (start new : Front) (e : Entry) → MayFollow (passed start) e → e.act ≡ Tick → e.moment < 18446744073709551616 → IsTakingOut start new e.moment → NoneUntil new.limits e.moment → TakesTouched start new e
+pub tick_touches : (start new : Front) (e : Entry) → MayFollow (passed_account start) e → e.act ≡ Tick → e.moment < 18446744073709551616 → IsTakingOut start new e.moment → NoneUntil new.limits e.moment → TakesTouched start new e
 tick_touches start new e follows says fits out none = record {
   gone = out.gone;
   touched = record {
-    touched = λ r opened went. inr (tick_stops (passed start).entries e r says (due_until (passed start).entries e.moment r (out.due r went)));
+    touched = λ r opened went. inr (tick_stops (passed_account start).entries e r says (due_until (passed_account start).entries e.moment r (out.due r went)));
     untouched = λ r opened left touches. elim touches [
-      | inl named ↦ names_nobody (passed start) e Tick r follows says refl named
+      | inl named ↦ names_nobody (passed_account start) e Tick r follows says refl named
       | inr stopped ↦
-          let due = until_due (passed start).entries e.moment r opened (stopped_by_tick (passed start).entries e r says stopped) in
+          let due = until_due (passed_account start).entries e.moment r opened (stopped_by_tick (passed_account start).entries e r says stopped) in
           let elapsed : due.limit ≤ e.moment = due.elapsed in
           false≢true (sym (none due.limit r elapsed) ∙ out.tables.limits.each due.limit r (record { waits = due.waits; left = left; has = due.has; fits = omega arith }))
     ];

@@ -31,8 +31,8 @@ use Rattle.rv_audit.specs.declared.sessions.AuditSession.{AuditSession}
 use Rattle.rv_audit.specs.declared.sessions.AuditSessions.{AuditSessions}
 
 -- the account of the entries that were passed
-abbrev pub passed : Front → Account
-passed front = before front.account.now.account (length front.met.items)
+abbrev pub passed_account : Front → Account
+passed_account front = before front.account.now.account (length front.met.items)
 
 -- which places were taken out already, by the entry that is about to be passed
 abbrev pub Gone : Type 0
@@ -94,7 +94,7 @@ pub record AreTables (a : Account) (gone : Gone) (front : Front) : Type 0 where
 
 -- the tables are what the entries say that were passed
 abbrev pub IsFront : Front → Type 0
-IsFront front = AreTables (passed front) none_gone front
+IsFront front = AreTables (passed_account front) none_gone front
 
 -- ---- what is asked of them
 
@@ -199,18 +199,18 @@ SameRest old new = new ≡ with_tables old new.lines new.limits
 -- the place was taken out
 pub record TakesOutPlace (old new : Front) (place : ℕ) : Type 0 where
   pub rest : SameRest old new
-  pub tables : (gone : Gone) → AreTables (passed old) gone old
-      → AreTables (passed old) (with_gone gone place) new
-  pub fewer : (limit : ℕ) → limit < 2 ^ 64 → limit_at (passed old).entries place ≡ Some limit
+  pub tables : (gone : Gone) → AreTables (passed_account old) gone old
+      → AreTables (passed_account old) (with_gone gone place) new
+  pub fewer : (limit : ℕ) → limit < 2 ^ 64 → limit_at (passed_account old).entries place ≡ Some limit
       → is_marked_under old.limits limit place ≡ true
       → count_of new.limits < count_of old.limits
 
 -- since a front requests were taken out that are due at the moment
 pub record IsTakingOut (start front : Front) (moment : ℕ) : Type 0 where
   pub gone : Gone
-  pub due : (r : ℕ) → gone r ≡ true → IsDueAt (passed start).entries moment r
+  pub due : (r : ℕ) → gone r ≡ true → IsDueAt (passed_account start).entries moment r
   pub rest : SameRest start front
-  pub tables : AreTables (passed start) gone front
+  pub tables : AreTables (passed_account start) gone front
 
 abbrev pub IsUnderway : Front → ℕ → Type 0
 IsUnderway front moment = (start : Front) × IsTakingOut start front moment
@@ -220,14 +220,14 @@ pub record TakesEach (Is : ℕ → Type 0) (old new : Front) : Type 0 where
   pub gone : Gone
   pub are : (r : ℕ) → (gone r ≡ true) ↔ Is r
   pub rest : SameRest old new
-  pub tables : AreTables (passed old) gone new
+  pub tables : AreTables (passed_account old) gone new
 
 -- all that the entry touches was taken out
 pub record TakesTouched (old new : Front) (e : Entry) : Type 0 where
   pub gone : Gone
-  pub touched : AreTouched (passed old).entries e gone
+  pub touched : AreTouched (passed_account old).entries e gone
   pub rest : SameRest old new
-  pub tables : AreTables (passed old) gone new
+  pub tables : AreTables (passed_account old) gone new
 
 -- ---- what an entry brings
 
@@ -295,13 +295,13 @@ session_after Tick place = None
 -- the entry may be passed next, and all that it touches was taken out
 pub record MayPass (front : Front) (e : Entry) : Type 0 where
   pub there : slice_get front.account.now.account.entries (length front.met.items) ≡ Some e
-  pub follows : MayFollow (passed front) e
+  pub follows : MayFollow (passed_account front) e
 
 pub record IsReadyFor (front : Front) (e : Entry) : Type 0 where
   pub may : MayPass front e
   pub gone : Gone
-  pub touched : AreTouched (passed front).entries e gone
-  pub tables : AreTables (passed front) gone front
+  pub touched : AreTouched (passed_account front).entries e gone
+  pub tables : AreTables (passed_account front) gone front
 
 -- one more entry was passed
 pub record HasPassed (old new : Front) : Type 0 where

@@ -3,7 +3,7 @@ ghost use Rattle.std.specs.Prelude.{◌≡◌, ◌↔◌, IfNone, IfOk, IfSome};
 ghost use Rattle.rv_book.specs.Legal.{Legal};
 ghost use Rattle.rv_audit.specs.Breaking.{IsToldOf};
 ghost use Rattle.rv_audit.specs.Passed.{BreaksFirst, BreaksFirstOf, BreaksNone, BreaksNoneOf};
-ghost use Rattle.rv_audit.specs.Passed.{IsFront, passed};
+ghost use Rattle.rv_audit.specs.Passed.{IsFront, passed_account};
 ghost use Rattle.rv_audit.specs.declared.rule.Audit.TheVariants as tells;
 
 use crate::front::Front;
@@ -16,8 +16,8 @@ use std::alloc::Global;
 // The first of these rules that the entry breaks.
 fn first_of(front: &Front<'_>, rules: &[Rule], entry: &Entry) -> Option<Rule>
     requires { IsFront front.now }
-    ensures some { IfSome result (BreaksFirstOf rules.now (passed front.now) entry.now) }
-    ensures none { IfNone result (BreaksNoneOf rules.now (passed front.now) entry.now) }
+    ensures some { IfSome result (BreaksFirstOf rules.now (passed_account front.now) entry.now) }
+    ensures none { IfNone result (BreaksNoneOf rules.now (passed_account front.now) entry.now) }
 {
     for rule in rules {
         if breaks(front, *rule, entry) {
@@ -30,8 +30,8 @@ fn first_of(front: &Front<'_>, rules: &[Rule], entry: &Entry) -> Option<Rule>
 // The first rule that the entry breaks, in the order in which they are asked at one place.
 fn first_broken(front: &Front<'_>, entry: &Entry) -> Option<Rule>
     requires { IsFront front.now }
-    ensures some { IfSome result (BreaksFirst (passed front.now) entry.now) }
-    ensures none { IfNone result (BreaksNone (passed front.now) entry.now) }
+    ensures some { IfSome result (BreaksFirst (passed_account front.now) entry.now) }
+    ensures none { IfNone result (BreaksNone (passed_account front.now) entry.now) }
 {
     let rules = [
         Rule::M1,

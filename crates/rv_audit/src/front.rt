@@ -1,4 +1,4 @@
-//! What an audit keeps of the entries that it has passed.
+//! What an audit keeps of the entries that it has passed_account.
 ghost use Rattle.std.specs.Prelude.{◌≡◌, ◌↔◌, ◌<◌, ◌^◌, ℕ, Some, None, true, false};
 ghost use Rattle.std.specs.Prelude.{option_and_then, length, IfNone, IfSome, IsTrue, OnOk};
 ghost use Rattle.rv_text.specs.declared.call.Side.{Side};
@@ -16,7 +16,7 @@ ghost use Rattle.rv_audit.specs.Passed.{HasPassed, IsArrivalOf, IsArrived, IsFit
 ghost use Rattle.rv_audit.specs.Passed.{IsOldestBeside, IsReadyFor, IsTakingOut, IsUnderway, MayPass};
 ghost use Rattle.rv_audit.specs.Passed.{SameRest};
 ghost use Rattle.rv_audit.specs.Passed.{SetsFlags, TakesEach, TakesOutPlace, TakesTouched};
-ghost use Rattle.rv_audit.specs.Passed.{WaitsOf, WaitsWith, gone_at, passed};
+ghost use Rattle.rv_audit.specs.Passed.{WaitsOf, WaitsWith, gone_at, passed_account};
 ghost use Rattle.rv_audit.specs.declared.front.Front.{Front as FrontOf};
 
 use crate::brings::{limit_of, opening, session_after, waiting_until};
@@ -96,7 +96,7 @@ impl<'a> Front<'a> {
     // The moment of the last entry, or the opening moment.
     pub(crate) fn moment(&self) -> u64
         requires { IsFront self.now }
-        ensures { result ≡ own_moment (passed self.now) }
+        ensures { result ≡ own_moment (passed_account self.now) }
     {
         self.moment
     }
@@ -104,7 +104,7 @@ impl<'a> Front<'a> {
     // Whether a waiting request has a limit at or below the moment.
     pub(crate) fn has_due(&self, moment: u64) -> bool
         requires { IsFront self.now }
-        ensures { IsTrue result ↔ SomethingDue (passed self.now).entries moment }
+        ensures { IsTrue result ↔ SomethingDue (passed_account self.now).entries moment }
     {
         self.limits.least_until(moment).is_some()
     }
@@ -112,8 +112,8 @@ impl<'a> Front<'a> {
     // Whether an entry was passed at the place that is in no pair or swap.
     pub(crate) fn is_free(&self, place: Place) -> bool
         requires { IsFront self.now }
-        ensures { IsTrue result ↔ ((place < length (passed self.now).entries)
-            × (¬ Met (passed self.now).entries place)) }
+        ensures { IsTrue result ↔ ((place < length (passed_account self.now).entries)
+            × (¬ Met (passed_account self.now).entries place)) }
     {
         self.met.get(place) == Some(&false)
     }
@@ -121,7 +121,7 @@ impl<'a> Front<'a> {
     // Whether an open arrival of the side stands at the place.
     pub(crate) fn is_open(&self, side: Side, place: Place) -> bool
         requires { IsFront self.now }
-        ensures { IsTrue result ↔ OpenAt (passed self.now).entries side place }
+        ensures { IsTrue result ↔ OpenAt (passed_account self.now).entries side place }
     {
         self.lines.has(side, place)
     }
@@ -129,9 +129,9 @@ impl<'a> Front<'a> {
     // The oldest open arrival of the side that is none of these.
     fn oldest_beside(&self, side: Side, places: &[Place]) -> Option<Place>
         requires { IsFront self.now }
-        ensures some { IfSome result (IsOldestBeside (passed self.now).entries side places.now) }
+        ensures some { IfSome result (IsOldestBeside (passed_account self.now).entries side places.now) }
         ensures none { IfNone result ((place : ℕ)
-            → OpenAt (passed self.now).entries side place → Among places.now place) }
+            → OpenAt (passed_account self.now).entries side place → Among places.now place) }
     {
         self.lines.oldest_beside(side, places)
     }
@@ -139,7 +139,7 @@ impl<'a> Front<'a> {
     // Whether a request waits at the place.
     fn is_waiting(&self, place: Place) -> bool
         requires { IsFront self.now }
-        ensures { IsTrue result ↔ Waiting (passed self.now).entries place }
+        ensures { IsTrue result ↔ Waiting (passed_account self.now).entries place }
     {
         match self.account.call(place) {
             Some(call) => call.wait().is_some() && self.lines.has(call.side(), place),
@@ -157,8 +157,8 @@ impl<'a> Front<'a> {
     // Where the request of the client waits, if one does.
     pub(crate) fn waiting(&self, client: u64) -> Option<Place>
         requires { IsFront self.now }
-        ensures some { IfSome result (WaitsOf (passed self.now).entries client) }
-        ensures none { IfNone result (¬ HasWaiting (passed self.now).entries client) }
+        ensures some { IfSome result (WaitsOf (passed_account self.now).entries client) }
+        ensures none { IfNone result (¬ HasWaiting (passed_account self.now).entries client) }
     {
         match self.request(client) {
             Some(place) => self.is_waiting(place).then_some(place),
@@ -169,7 +169,7 @@ impl<'a> Front<'a> {
     // Whether a request waits that has this key.
     pub(crate) fn waits_under(&self, key: &Key) -> bool
         requires { IsFront self.now }
-        ensures { IsTrue result ↔ WaitsUnder (passed self.now).entries key.now }
+        ensures { IsTrue result ↔ WaitsUnder (passed_account self.now).entries key.now }
     {
         match self.waiting(key.client) {
             Some(place) => self.has_key(place, key),
@@ -190,8 +190,8 @@ impl<'a> Front<'a> {
     // Whether the client said a hello of this incarnation or a greater one.
     pub(crate) fn reaches(&self, client: u64, incarnation: u64) -> bool
         requires { IsFront self.now }
-        ensures { (version : Version)
-            → IsTrue result ↔ StartsNoNewer (passed self.now).entries (Hello client incarnation version) }
+        ensures { (version : Version) → IsTrue result
+            ↔ StartsNoNewer (passed_account self.now).entries (Hello client incarnation version) }
     {
         match self.sessions.of(client) {
             Some(session) => incarnation <= session.incarnation,
@@ -202,7 +202,7 @@ impl<'a> Front<'a> {
     // Whether the key has the account's epoch and its client's incarnation.
     pub(crate) fn has_session(&self, key: &Key) -> bool
         requires { IsFront self.now }
-        ensures { IsTrue result ↔ IsOfSessionOf (passed self.now) key.now }
+        ensures { IsTrue result ↔ IsOfSessionOf (passed_account self.now) key.now }
     {
         match self.sessions.of(key.client) {
             Some(session) => key.epoch == self.account.epoch()
@@ -214,7 +214,7 @@ impl<'a> Front<'a> {
     // Whether the key's number isn't its session's last plus one.
     pub(crate) fn is_not_next(&self, key: &Key) -> bool
         requires { IsFront self.now }
-        ensures { IsTrue result ↔ IsNotNext (passed self.now).entries key.now }
+        ensures { IsTrue result ↔ IsNotNext (passed_account self.now).entries key.now }
     {
         match self.sessions.of(key.client) {
             Some(session) => key.number <= session.last || key.number - session.last != 1,
@@ -224,8 +224,8 @@ impl<'a> Front<'a> {
 
     // The side of the arrival at a place, if one was passed there.
     pub(crate) fn side(&self, place: Place) -> Option<Side>
-        ensures some { IfSome result (λ side. SideAt (passed self.now).entries side place) }
-        ensures none { IfNone result ((side : Side) → ¬ SideAt (passed self.now).entries side place) }
+        ensures some { IfSome result (λ side. SideAt (passed_account self.now).entries side place) }
+        ensures none { IfNone result ((side : Side) → ¬ SideAt (passed_account self.now).entries side place) }
     {
         if place >= self.met.len() {
             return None;
@@ -236,7 +236,7 @@ impl<'a> Front<'a> {
     // Whether an open arrival of the side that is none of these stands before the place.
     pub(crate) fn has_older(&self, side: Side, places: &[Place], place: Place) -> bool
         requires { IsFront self.now }
-        ensures { IsTrue result ↔ HasOlder (passed self.now).entries side places.now place }
+        ensures { IsTrue result ↔ HasOlder (passed_account self.now).entries side places.now place }
     {
         match self.oldest_beside(side, places) {
             Some(first) => first < place,
@@ -247,7 +247,7 @@ impl<'a> Front<'a> {
     // Whether an arrival of the side that is none of these is open anywhere.
     pub(crate) fn has_one(&self, side: Side, places: &[Place]) -> bool
         requires { IsFront self.now }
-        ensures { IsTrue result ↔ HasOne (passed self.now).entries side places.now }
+        ensures { IsTrue result ↔ HasOne (passed_account self.now).entries side places.now }
     {
         self.oldest_beside(side, places).is_some()
     }
@@ -261,7 +261,7 @@ impl<'a> Front<'a> {
 
     // Takes the arrival at a place out of the lines and the limits.
     fn close(&mut self, place: Place)
-        requires { IsArrived (passed self.old).entries place }
+        requires { IsArrived (passed_account self.old).entries place }
         ensures { TakesOutPlace self.old self.new place }
     {
         let side = self.side(place);
@@ -300,9 +300,9 @@ impl<'a> Front<'a> {
     // Takes out the arrival at a place, if one is handed in.
     fn close_if(&mut self, place: Option<Place>)
         requires front { IsFront self.old }
-        requires arrived { IfSome place (IsArrived (passed self.old).entries) }
+        requires arrived { IfSome place (IsArrived (passed_account self.old).entries) }
         ensures rest { SameRest self.old self.new }
-        ensures tables { AreTables (passed self.old) (gone_at place) self.new }
+        ensures tables { AreTables (passed_account self.old) (gone_at place) self.new }
     {
         match place {
             Some(place) => self.close(place),
@@ -313,7 +313,7 @@ impl<'a> Front<'a> {
     // Takes out the arrivals at these places.
     fn close_each(&mut self, places: &[Place])
         requires front { IsFront self.old }
-        requires arrived { (p : ℕ) → Among places.now p → IsArrived (passed self.old).entries p }
+        requires arrived { (p : ℕ) → Among places.now p → IsArrived (passed_account self.old).entries p }
         ensures { TakesEach (Among places.now) self.old self.new }
     {
         for place in places {
@@ -324,8 +324,8 @@ impl<'a> Front<'a> {
     // Where the request waits that has this key, if one does.
     fn cancelled(&self, key: &Key) -> Option<Place>
         requires { IsFront self.now }
-        ensures some { IfSome result (WaitsWith (passed self.now).entries key.now) }
-        ensures none { IfNone result (¬ WaitsUnder (passed self.now).entries key.now) }
+        ensures some { IfSome result (WaitsWith (passed_account self.now).entries key.now) }
+        ensures none { IfNone result (¬ WaitsUnder (passed_account self.now).entries key.now) }
     {
         match self.waiting(key.client) {
             Some(place) => self.has_key(place, key).then_some(place),
@@ -336,7 +336,7 @@ impl<'a> Front<'a> {
     // Takes out all that an entry names or stops.
     fn close_touched(&mut self, entry: &Entry)
         requires front { IsFront self.old }
-        requires follows { MayFollow (passed self.old) entry.now }
+        requires follows { MayFollow (passed_account self.old) entry.now }
         ensures { TakesTouched self.old self.new entry.now }
     {
         match &entry.act {

@@ -1,4 +1,4 @@
-//! Whether an entry breaks a rule, behind the entries that an audit has passed.
+//! Whether an entry breaks a rule, behind the entries that an audit has passed_account.
 ghost use Rattle.std.specs.Prelude.{◌≡◌, ◌↔◌, IfNone, IfSome, IsTrue, option_map};
 ghost use Rattle.std.specs.List.Sorted.{IsStrictlyIncreasing};
 ghost use Rattle.rv_text.specs.declared.message.Key.{Key};
@@ -12,7 +12,7 @@ ghost use Rattle.rv_audit.specs.Breaking.{FallsBack, IsNoFreePlace, IsOfNoSessio
 ghost use Rattle.rv_audit.specs.Breaking.{BreaksCount, MeetsWrongly, MissesPartner, NamesTaken, NamesTooMany};
 ghost use Rattle.rv_audit.specs.Breaking.{NamesWrongly, PassesOver, StartsNoNewer, TicksForNothing};
 ghost use Rattle.rv_audit.specs.Passed.{FindsOne, HasAmong, IsFront, IsOf, IsPassedBy, LeavesPartner, Misses};
-ghost use Rattle.rv_audit.specs.Passed.{passed};
+ghost use Rattle.rv_audit.specs.Passed.{passed_account};
 
 use crate::front::Front;
 use crate::rule::Rule;
@@ -24,14 +24,14 @@ use rv_text::{Call, Key, Side};
 
 fn falls_back(front: &Front<'_>, entry: &Entry) -> bool
     requires { IsFront front.now }
-    ensures { IsTrue result ↔ FallsBack (passed front.now) entry.now }
+    ensures { IsTrue result ↔ FallsBack (passed_account front.now) entry.now }
 {
     entry.moment < front.moment()
 }
 
 fn passes_limit(front: &Front<'_>, entry: &Entry) -> bool
     requires { IsFront front.now }
-    ensures { IsTrue result ↔ PassesLimit (passed front.now).entries entry.now }
+    ensures { IsTrue result ↔ PassesLimit (passed_account front.now).entries entry.now }
 {
     match &entry.act {
         Act::Tick => false,
@@ -41,7 +41,7 @@ fn passes_limit(front: &Front<'_>, entry: &Entry) -> bool
 
 fn ticks_for_nothing(front: &Front<'_>, entry: &Entry) -> bool
     requires { IsFront front.now }
-    ensures { IsTrue result ↔ TicksForNothing (passed front.now).entries entry.now }
+    ensures { IsTrue result ↔ TicksForNothing (passed_account front.now).entries entry.now }
 {
     match &entry.act {
         Act::Tick => !front.has_due(entry.moment),
@@ -53,7 +53,7 @@ fn ticks_for_nothing(front: &Front<'_>, entry: &Entry) -> bool
 
 fn starts_no_newer(front: &Front<'_>, act: &Act) -> bool
     requires { IsFront front.now }
-    ensures { IsTrue result ↔ StartsNoNewer (passed front.now).entries act.now }
+    ensures { IsTrue result ↔ StartsNoNewer (passed_account front.now).entries act.now }
 {
     match act {
         Act::Hello {
@@ -67,7 +67,7 @@ fn starts_no_newer(front: &Front<'_>, act: &Act) -> bool
 
 fn is_of_no_session(front: &Front<'_>, act: &Act) -> bool
     requires { IsFront front.now }
-    ensures { IsTrue result ↔ IsOfNoSession (passed front.now) act.now }
+    ensures { IsTrue result ↔ IsOfNoSession (passed_account front.now) act.now }
 {
     match act {
         Act::Arrive { key, .. } => !front.has_session(key),
@@ -79,14 +79,14 @@ fn is_of_no_session(front: &Front<'_>, act: &Act) -> bool
 // Whether the key's number isn't its session's next, or a request of the session waits.
 fn is_out_of_turn(front: &Front<'_>, key: &Key) -> bool
     requires { IsFront front.now }
-    ensures { IsTrue result ↔ IsOutOfOrder (passed front.now).entries key.now }
+    ensures { IsTrue result ↔ IsOutOfOrder (passed_account front.now).entries key.now }
 {
     front.is_not_next(key) || front.waiting(key.client).is_some()
 }
 
 fn breaks_count(front: &Front<'_>, act: &Act) -> bool
     requires { IsFront front.now }
-    ensures { IsTrue result ↔ BreaksCount (passed front.now).entries act.now }
+    ensures { IsTrue result ↔ BreaksCount (passed_account front.now).entries act.now }
 {
     match act {
         Act::Arrive { key, .. } => is_out_of_turn(front, key),
@@ -159,7 +159,7 @@ fn meets(entry: &Entry) -> bool
 // Whether the place isn't that of an earlier entry which was not named and names nobody.
 fn is_taken(front: &Front<'_>, place: Place) -> bool
     requires { IsFront front.now }
-    ensures { IsTrue result ↔ IsNoFreePlace (passed front.now).entries place }
+    ensures { IsTrue result ↔ IsNoFreePlace (passed_account front.now).entries place }
 {
     !front.is_free(place)
 }
@@ -167,7 +167,7 @@ fn is_taken(front: &Front<'_>, place: Place) -> bool
 // Whether one of these places is taken.
 fn any_taken(front: &Front<'_>, places: &[Place]) -> bool
     requires { IsFront front.now }
-    ensures { IsTrue result ↔ HasAmong (IsNoFreePlace (passed front.now).entries) places.now }
+    ensures { IsTrue result ↔ HasAmong (IsNoFreePlace (passed_account front.now).entries) places.now }
 {
     for place in places {
         if is_taken(front, *place) {
@@ -180,7 +180,7 @@ fn any_taken(front: &Front<'_>, places: &[Place]) -> bool
 // Whether the entry names a partner that it may not name.
 fn names_taken(front: &Front<'_>, entry: &Entry) -> bool
     requires { IsFront front.now }
-    ensures { IsTrue result ↔ NamesTaken (passed front.now).entries entry.now }
+    ensures { IsTrue result ↔ NamesTaken (passed_account front.now).entries entry.now }
 {
     let partners = entry.partners.as_slice();
     if meets(entry) {
@@ -214,7 +214,7 @@ fn rise(places: &[Place]) -> bool
 
 fn names_wrongly(front: &Front<'_>, entry: &Entry) -> bool
     requires { IsFront front.now }
-    ensures { IsTrue result ↔ NamesWrongly (passed front.now).entries entry.now }
+    ensures { IsTrue result ↔ NamesWrongly (passed_account front.now).entries entry.now }
 {
     names_taken(front, entry) || names_too_many(entry) || !rise(entry.partners.as_slice())
 }
@@ -243,7 +243,7 @@ fn arrival(kind: MeetingKind, entry: &Entry) -> Option<&Call>
 // Whether one that the call may meet is open at the place.
 fn may_meet(front: &Front<'_>, call: &Call, place: Place) -> bool
     requires { IsFront front.now }
-    ensures { IsTrue result ↔ IsOpenOpposite (passed front.now).entries call.now place }
+    ensures { IsTrue result ↔ IsOpenOpposite (passed_account front.now).entries call.now place }
 {
     match opposite(call.side()) {
         Some(side) => front.is_open(side, place),
@@ -254,7 +254,7 @@ fn may_meet(front: &Front<'_>, call: &Call, place: Place) -> bool
 // Whether one that the call may meet is open anywhere beside these places.
 fn finds_one(front: &Front<'_>, call: &Call, places: &[Place]) -> bool
     requires { IsFront front.now }
-    ensures { IsTrue result ↔ FindsOne (passed front.now).entries call.now places.now }
+    ensures { IsTrue result ↔ FindsOne (passed_account front.now).entries call.now places.now }
 {
     match opposite(call.side()) {
         Some(side) => front.has_one(side, places),
@@ -265,7 +265,7 @@ fn finds_one(front: &Front<'_>, call: &Call, places: &[Place]) -> bool
 // Whether the call names a partner that it may not meet there.
 fn misses(front: &Front<'_>, call: &Call, partners: &[Place]) -> bool
     requires { IsFront front.now }
-    ensures { IsTrue result ↔ Misses (passed front.now).entries call.now partners.now }
+    ensures { IsTrue result ↔ Misses (passed_account front.now).entries call.now partners.now }
 {
     for place in partners {
         if !may_meet(front, call, *place) {
@@ -278,7 +278,7 @@ fn misses(front: &Front<'_>, call: &Call, partners: &[Place]) -> bool
 // Whether the call names fewer partners than it may, where one more is there.
 fn leaves(front: &Front<'_>, call: &Call, partners: &[Place]) -> bool
     requires { IsFront front.now }
-    ensures { IsTrue result ↔ LeavesPartner (passed front.now).entries call.now partners.now }
+    ensures { IsTrue result ↔ LeavesPartner (passed_account front.now).entries call.now partners.now }
 {
     partners.len() < may_name(call) && finds_one(front, call, partners)
 }
@@ -287,7 +287,7 @@ fn leaves(front: &Front<'_>, call: &Call, partners: &[Place]) -> bool
 // these partners.
 fn is_passed_by(front: &Front<'_>, partners: &[Place], place: Place) -> bool
     requires { IsFront front.now }
-    ensures { IsTrue result ↔ IsPassedBy (passed front.now).entries partners.now place }
+    ensures { IsTrue result ↔ IsPassedBy (passed_account front.now).entries partners.now place }
 {
     match front.side(place) {
         Some(side) => is_paired(side) && front.has_older(side, partners, place),
@@ -298,7 +298,8 @@ fn is_passed_by(front: &Front<'_>, partners: &[Place], place: Place) -> bool
 // Whether one of these partners is passed by.
 fn any_passed(front: &Front<'_>, partners: &[Place]) -> bool
     requires { IsFront front.now }
-    ensures { IsTrue result ↔ HasAmong (IsPassedBy (passed front.now).entries partners.now) partners.now }
+    ensures { IsTrue result
+        ↔ HasAmong (IsPassedBy (passed_account front.now).entries partners.now) partners.now }
 {
     for place in partners {
         if is_passed_by(front, partners, *place) {
@@ -310,7 +311,7 @@ fn any_passed(front: &Front<'_>, partners: &[Place]) -> bool
 
 fn meets_wrongly(front: &Front<'_>, kind: MeetingKind, entry: &Entry) -> bool
     requires { IsFront front.now }
-    ensures { IsTrue result ↔ MeetsWrongly (IsOf kind) (passed front.now).entries entry.now }
+    ensures { IsTrue result ↔ MeetsWrongly (IsOf kind) (passed_account front.now).entries entry.now }
 {
     match arrival(kind, entry) {
         Some(call) => misses(front, call, entry.partners.as_slice()),
@@ -320,7 +321,7 @@ fn meets_wrongly(front: &Front<'_>, kind: MeetingKind, entry: &Entry) -> bool
 
 fn passes_over(front: &Front<'_>, entry: &Entry) -> bool
     requires { IsFront front.now }
-    ensures { IsTrue result ↔ PassesOver (passed front.now).entries entry.now }
+    ensures { IsTrue result ↔ PassesOver (passed_account front.now).entries entry.now }
 {
     match arrival(MeetingKind::Pair, entry) {
         Some(_) => any_passed(front, entry.partners.as_slice()),
@@ -330,7 +331,7 @@ fn passes_over(front: &Front<'_>, entry: &Entry) -> bool
 
 fn misses_partner(front: &Front<'_>, kind: MeetingKind, entry: &Entry) -> bool
     requires { IsFront front.now }
-    ensures { IsTrue result ↔ MissesPartner (IsOf kind) (passed front.now).entries entry.now }
+    ensures { IsTrue result ↔ MissesPartner (IsOf kind) (passed_account front.now).entries entry.now }
 {
     match arrival(kind, entry) {
         Some(call) => leaves(front, call, entry.partners.as_slice()),
@@ -343,7 +344,7 @@ fn misses_partner(front: &Front<'_>, kind: MeetingKind, entry: &Entry) -> bool
 // Whether the entry breaks the rule.
 pub(crate) fn breaks(front: &Front<'_>, rule: Rule, entry: &Entry) -> bool
     requires { IsFront front.now }
-    ensures { IsTrue result ↔ BreaksBehind rule (passed front.now) entry.now }
+    ensures { IsTrue result ↔ BreaksBehind rule (passed_account front.now) entry.now }
 {
     match rule {
         Rule::M1 => falls_back(front, entry),

@@ -23,7 +23,7 @@ use Rattle.rv_book.proofs.Lasting.{lasting_deadline}
 use Rattle.rv_book.proofs.Naming.{just_none, names_it, names_only}
 use Rattle.rv_book.proofs.Owing.{goes_not_on, goes_on, unowed_waits_not, waiting_inside}
 use Rattle.rv_book.proofs.Places.{get-append_end}
-use Rattle.rv_book.proofs.Sides.{IsNewRequest, Waiting-back, Waiting-last, Waiting-on, arrival_stops_nobody, waiting_is_open}
+use Rattle.rv_book.proofs.Sides.{ComesToWait, Waiting-back, Waiting-last, Waiting-on, arrival_stops_nobody, waiting_is_open}
 use Rattle.rv_book.proofs.WaitersBySide.{met_last}
 use Rattle.rv_book.proofs.Withdrawn.{owed_place}
 
@@ -75,7 +75,7 @@ module _ (a : Account) (e : Entry) (key : Key) (call : Call) (legal : Legal a) (
   but_other (Some p) (Some d) r names is either apart = (either, λ here. apart (names_it e r (names ∙ ap (λ q. just (Some q)) (sym (here ∙ owed_place a.entries p d (sym is))))))
 
   -- a request that waits at its place met nobody
-  goes : (partner : Option ℕ) (new : IsNewRequest e) → e.partners ≡ just partner → Waiting after place → GoesOnWaiting call partner
+  goes : (partner : Option ℕ) (new : ComesToWait e) → e.partners ≡ just partner → Waiting after place → GoesOnWaiting call partner
   goes None new names waits =
       let same : new.call ≡ call = same_Some _ _ (sym new.arrives ∙ ap call_in arrives) in
       record { unmet = refl; stays = subst Stays same new.stays; no_put = subst (λ c. IsPut c → ⊥) same new.no_put }

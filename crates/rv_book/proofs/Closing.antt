@@ -18,7 +18,7 @@ use Rattle.rv_book.proofs.Sides.{SideAt-on, arrival_stops_nobody, names_last}
 use Rattle.rv_book.proofs.WaitersBySide.{Stops}
 
 -- of the arrivals that were open these alone are so no more, and the entry is none
-pub record Closes (es : List Entry) (e : Entry) (P : ℕ → Type 0) : Type 0 where
+pub record ClosesThose (es : List Entry) (e : Entry) (P : ℕ → Type 0) : Type 0 where
   pub on : (r : ℕ) → Open es r → (P r → ⊥) → Open (es ++ e ∷ []) r
   pub back : (r : ℕ) → Open (es ++ e ∷ []) r → Open es r × (P r → ⊥)
 
@@ -29,7 +29,7 @@ waits_by es r call opened arrived no_put = record {
   no_put = subst (λ c. IsPut c → ⊥) (same_Some _ _ (sym arrived ∙ opened.arrived)) no_put;
 }
 
-module _ (es : List Entry) (e : Entry) (P : ℕ → Type 0) (closes : Closes es e P) where
+module _ (es : List Entry) (e : Entry) (P : ℕ → Type 0) (closes : ClosesThose es e P) where
   read_on : (r : ℕ) (call : Call) → call_at es r ≡ Some call → call_at (es ++ e ∷ []) r ≡ Some call
   read_on r call arrived = reads_on call_read refl es (e ∷ []) r call arrived
 
@@ -57,14 +57,14 @@ module _ (es : List Entry) (e : Entry) (P : ℕ → Type 0) (closes : Closes es 
 -- ---- which entries close which arrivals
 
 -- where the same of the open arrivals have two properties
-pub closes_same : (es : List Entry) (e : Entry) (P Q : ℕ → Type 0) → Closes es e P → ((r : ℕ) → Open es r → P r → Q r) → ((r : ℕ) → Open es r → Q r → P r) → Closes es e Q
+pub closes_same : (es : List Entry) (e : Entry) (P Q : ℕ → Type 0) → ClosesThose es e P → ((r : ℕ) → Open es r → P r → Q r) → ((r : ℕ) → Open es r → Q r → P r) → ClosesThose es e Q
 closes_same es e P Q closes to back = record {
   on = λ r opened other. closes.on r opened (λ own. other (to r opened own));
   back = λ r opened. let was = closes.back r opened in (was.0, λ own. was.1 (back r was.0 own));
 }
 
 -- an entry that is no arrival closes those that it stops
-pub stops_closes : (es : List Entry) (e : Entry) (P : ℕ → Type 0) → Stops es e P → Closes es e P
+pub stops_closes : (es : List Entry) (e : Entry) (P : ℕ → Type 0) → Stops es e P → ClosesThose es e P
 stops_closes es e P is = record {
   on = λ r opened other. Open-on es e r opened (just_none e r is.none) (λ stopped. other (is.stopped r stopped));
   back = λ r opened. elim (reads_back call_read refl es e r opened.call opened.arrived) [
@@ -74,7 +74,7 @@ stops_closes es e P is = record {
 }
 
 -- an arrival that doesn't stay closes those that it names
-pub names_closes : (es : List Entry) (e : Entry) (key : Key) (call : Call) → e.act ≡ Arrive key call → (Stays call → ⊥) → NamesFreePartners es e → Closes es e (Names e)
+pub names_closes : (es : List Entry) (e : Entry) (key : Key) (call : Call) → e.act ≡ Arrive key call → (Stays call → ⊥) → NamesFreePartners es e → ClosesThose es e (Names e)
 names_closes es e key call says goes free = record {
   on = λ r opened other. Open-on es e r opened other (arrival_stops_nobody es e key call r says);
   back = λ r opened. elim (reads_back call_read refl es e r opened.call opened.arrived) [

@@ -400,10 +400,10 @@ pub find_waiting : (es : List Entry) → (n : ℕ) × NumberOf (Waiting es) n
 find_waiting es = find_number (Waiting es) (waits_or_not es) (length es) (λ r w. reads_within call_read refl es r w.is_open.call w.is_open.arrived)
 
 -- a request of the client waits at r
-abbrev pub WaitsAt : List Entry → ℕ → ℕ → Type 0
-WaitsAt es client r = (key : Key) × Waiting es r × NamesKey es client r key
+abbrev pub WaitsForAt : List Entry → ℕ → ℕ → Type 0
+WaitsForAt es client r = (key : Key) × Waiting es r × NamesKey es client r key
 
-waits_at : (es : List Entry) (client r : ℕ) → WaitsAt es client r ⊎ (WaitsAt es client r → ⊥)
+waits_at : (es : List Entry) (client r : ℕ) → WaitsForAt es client r ⊎ (WaitsForAt es client r → ⊥)
 waits_at es client r = elim (waits_or_not es r) [
   | inr not_here ↦ inr (λ h. not_here h.1)
   | inl waits ↦ elim (key_of client (key_at es r)) [
@@ -413,7 +413,7 @@ waits_at es client r = elim (waits_or_not es r) [
 ]
 
 pub has_waiting_or_not : (es : List Entry) (client : ℕ) → HasWaiting es client ⊎ (HasWaiting es client → ⊥)
-has_waiting_or_not es client = elim (first_below (WaitsAt es client) (waits_at es client) (length es)) [
+has_waiting_or_not es client = elim (first_below (WaitsForAt es client) (waits_at es client) (length es)) [
   | inl found ↦ inl (record { place = found.0; key = found.2.0; waits = found.2.1; names = found.2.2 })
   | inr none ↦ inr (λ h. none h.place (reads_within call_read refl es h.place h.waits.is_open.call h.waits.is_open.arrived) (h.key, h.waits, h.names))
 ]

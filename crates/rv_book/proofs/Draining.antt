@@ -38,7 +38,7 @@ use Rattle.rv_book.specs.Tables.{IsSession, IsSound, account_of}
 use Rattle.rv_book.specs.Sessions.{HasOpened}
 use Rattle.rv_book.specs.TakingOut.{IsLeft, Left}
 use Rattle.rv_book.specs.Waiting.{NamesPartner, Waiting}
-use Rattle.rv_book.proofs.Closing.{Closes, names_closes, waits_on}
+use Rattle.rv_book.proofs.Closing.{ClosesThose, names_closes, waits_on}
 use Rattle.rv_book.proofs.Counting.{number_at_most}
 use Rattle.rv_book.proofs.FewClients.{few_still}
 use Rattle.rv_book.proofs.Growing.{NamesAt-last, act_read, call_read, reads_on}
@@ -115,7 +115,7 @@ module _ (old : BookState) (moment : ℕ) (key : Key) (call : Call) (queue max :
   pub legal_after : Legal after
   legal_after = Legal-with_entry before own_entry sound.legal follows
 
-  pub closes : Closes before.entries own_entry (Names own_entry)
+  pub closes : ClosesThose before.entries own_entry (Names own_entry)
   closes = names_closes before.entries own_entry key call refl (λ stays. subst Lasts may.at_once stays.1) follows.pairs.names_free_partners
 
   pub tells : Tells before own_entry (Names own_entry) (kept.ReceivedBy place)
@@ -158,7 +158,7 @@ module _ {old : BookState} {moment : ℕ} {key : Key} {call : Call} {queue max :
       ∙ ap (λ (s : Stored). with_entry s.account (entry moment (Arrive key call) (take (may_name call) (items_in old queue)))) same
 
 -- then its entry was recorded, and it was settled with this
-pub record Drains (old mid new : BookState) (begun : Table) (moment : ℕ) (key : Key) (call : Call) (queue : ℕ) (k : Kept) : Type 0 where
+pub record DrainsOnce (old mid new : BookState) (begun : Table) (moment : ℕ) (key : Key) (call : Call) (queue : ℕ) (k : Kept) : Type 0 where
   pub settles : SettlesAs begun new.sessions key.client (length (account_of old).entries) k
   pub pushed : account_of new ≡ with_entry (account_of old) (entry moment (Arrive key call) (take (may_name call) (items_in old queue)))
   pub room_left : old.account.room ≡ new.account.room + 1
@@ -182,7 +182,7 @@ module _ {old mid : BookState} {begun : Table} {moment : ℕ} {key : Key} {call 
   own_next : IsNext was key
   own_next = next old moment key call queue max room k is.may
 
-  own_closes : Closes was.entries new_entry (Names new_entry)
+  own_closes : ClosesThose was.entries new_entry (Names new_entry)
   own_closes = closes old moment key call queue max room k is.may
 
   own_tells : Tells was new_entry (Names new_entry) (kept.ReceivedBy at)
@@ -243,7 +243,7 @@ module _ {old mid : BookState} {begun : Table} {moment : ℕ} {key : Key} {call 
   fewer : mid.waiting ≤ old.waiting
   fewer = number_at_most (Left (Names new_entry) (Waiting was.entries)) (Waiting was.entries) mid.waiting old.waiting (λ r both. both.0) left.waiting_is own_sound.waiting_is
 
-  module _ (new : BookState) (drains : Drains old mid new begun moment key call queue k) where
+  module _ (new : BookState) (drains : DrainsOnce old mid new begun moment key call queue k) where
     changes : Changes mid.sessions new.sessions key.client (session_for key v (Settled (Some at) (told_in v k)))
     changes =
         let settles = drains.settles.settles in

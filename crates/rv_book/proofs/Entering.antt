@@ -120,11 +120,11 @@ last_named a key legal epoch has is positive = elim is.reached [
 ]
 
 -- the request with this key arrives at r
-ArrivesAt : List Entry → Key → ℕ → Type 0
-ArrivesAt es key r = (call : Call) × (act_at es r ≡ Some (Arrive key call))
+AsksAt : List Entry → Key → ℕ → Type 0
+AsksAt es key r = (call : Call) × (act_at es r ≡ Some (Arrive key call))
 
-arrives_at : (es : List Entry) (key : Key) (r : ℕ) (o : Option Act) → act_at es r ≡ o → ArrivesAt es key r ⊎ (ArrivesAt es key r → ⊥)
-unfolding ArrivesAt
+arrives_at : (es : List Entry) (key : Key) (r : ℕ) (o : Option Act) → act_at es r ≡ o → AsksAt es key r ⊎ (AsksAt es key r → ⊥)
+unfolding AsksAt
 arrives_at es key r None there = inr (λ h. none-some _ (sym there ∙ h.1))
 arrives_at es key r (Some (Hello client incarnation v)) there = inr (λ h. no_hello key h.0 client incarnation v (sym h.1 ∙ there))
 arrives_at es key r (Some (Cancel other)) there = inr (λ h. arrives_no_cancel key h.0 other (sym h.1 ∙ there))
@@ -137,10 +137,10 @@ arrives_at es key r (Some (Arrive other call)) there = elim (key_or_other other 
 -- so its request arrived, or was cancelled before it came
 last_came : (a : Account) (key : Key) → Legal a → key.epoch ≡ a.epoch → HasIncarnation a.entries key.client key.incarnation → LastNumber a.entries key.client key.number → 1 ≤ key.number
     → Arrival a key ⊎ CancelledFirst a.entries key
-unfolding ArrivesAt
+unfolding AsksAt
 last_came a key legal epoch has is positive =
     let named = last_named a key legal epoch has is positive in
-    elim (first_below (ArrivesAt a.entries key) (λ r. arrives_at a.entries key r (act_at a.entries r) refl) (length a.entries)) [
+    elim (first_below (AsksAt a.entries key) (λ r. arrives_at a.entries key r (act_at a.entries r) refl) (length a.entries)) [
       | inl found ↦ inl (record { place = found.0; call = found.2.0; arrived = found.2.1 })
       | inr none ↦ elim (act_named (act_at a.entries named.0) key named.1) [
         | inl arrives ↦ inl (record { place = named.0; call = arrives.0; arrived = arrives.1 })

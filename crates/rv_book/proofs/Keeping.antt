@@ -48,7 +48,7 @@ sound_same old new sound same =
 -- ---- with one entry more
 
 -- the tables answer for the account with one entry more, and there is room
-pub record Answers (a : Account) (e : Entry) (new : BookState) : Type 0 where
+pub record AnswersArrival (a : Account) (e : Entry) (new : BookState) : Type 0 where
   pub legal : Legal (with_entry a e)
   pub entry_fits : FitsEntry e
   pub account : account_of new ≡ with_entry a e
@@ -63,7 +63,7 @@ pub record Answers (a : Account) (e : Entry) (new : BookState) : Type 0 where
 pub fit_with : (es : List Entry) (e : Entry) → FitEntries es → FitsEntry e → FitEntries (es ++ e ∷ [])
 fit_with es e fit own = λ r x there. elim (get-append_cases es e x r there) [ inl inside ↦ fit r x inside.1 | inr last ↦ subst FitsEntry last.1 own ]
 
-pub sound_with : (a : Account) (e : Entry) (new : BookState) → FitsAccount a → Answers a e new → IsSound new
+pub sound_with : (a : Account) (e : Entry) (new : BookState) → FitsAccount a → AnswersArrival a e new → IsSound new
 sound_with a e new fits is =
     let fitting : FitsAccount (with_entry a e) = record {
       epoch = fits.epoch;

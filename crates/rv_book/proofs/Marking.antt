@@ -16,7 +16,7 @@ use Rattle.rv_book.specs.Steps.{max_moment}
 use Rattle.rv_book.specs.Operations.{EndsAt, HasSpace}
 use Rattle.rv_book.specs.Tables.{AreSessions, IsSound, account_of}
 use Rattle.rv_book.specs.Waiting.{Open, SideAt, Waiting, limit_at}
-use Rattle.rv_book.proofs.Closing.{Closes, closes_same, stops_closes}
+use Rattle.rv_book.proofs.Closing.{ClosesThose, closes_same, stops_closes}
 use Rattle.rv_book.proofs.FewClients.{FewClients}
 use Rattle.rv_book.proofs.Keeping.{sound_with}
 use Rattle.rv_book.proofs.Legality.{Legal-with_entry}
@@ -45,7 +45,7 @@ module _ (old : BookState) (moment : ℕ) (does : Act) (P : ℕ → Type 0) (is 
   legal_after = Legal-with_entry before own_entry is.sound.legal is.follows
 
   -- where of the open arrivals that it stops these alone are, and they were taken out, the tables are what the account says with it
-  closes_those : (Q : ℕ → Type 0) → ((r : ℕ) → Waiting before.entries r → P r → Q r) → ((r : ℕ) → Q r → P r) → Closes before.entries own_entry Q
+  closes_those : (Q : ℕ → Type 0) → ((r : ℕ) → Waiting before.entries r → P r → Q r) → ((r : ℕ) → Q r → P r) → ClosesThose before.entries own_entry Q
   closes_those Q to back =
       closes_same before.entries own_entry P Q (stops_closes before.entries own_entry P is.stops) (λ r opened own. to r (is.requests r own opened) own) (λ r opened those. back r those)
 

@@ -11,7 +11,7 @@ use Rattle.rv_book.specs.Legal.{IsDueAt}
 use Rattle.rv_book.specs.Waiting.{Waiting, limit_at}
 use Rattle.rv_account.specs.declared.entry.Act.TheVariants.{Tick}
 use Rattle.rv_account.specs.declared.entry.Entry.{Entry}
-use Rattle.rv_book.proofs.Closing.{Closes, closes_same, stops_closes}
+use Rattle.rv_book.proofs.Closing.{ClosesThose, closes_same, stops_closes}
 use Rattle.rv_book.proofs.DeadlineTable.{left_in, stays_in, taken_out}
 use Rattle.rv_book.proofs.Sides.{IsRequestUntil, due_until, stopped_by_tick, tick_stops, until_due}
 use Rattle.rv_book.proofs.TakenTables.{OneMore}
@@ -57,7 +57,7 @@ one_overdue es moment due limit place waits has elapsed =
     }
 
 -- a tick stops what is due, and where no deadline is this was taken out
-pub tick_closes : (es : List Entry) (e : Entry) (due : Deadlines) → e.act ≡ Tick → e.partners ≡ [] → AllAbove due e.moment → Closes es e (TakenOut es e.moment due)
+pub tick_closes : (es : List Entry) (e : Entry) (due : Deadlines) → e.act ≡ Tick → e.partners ≡ [] → AllAbove due e.moment → ClosesThose es e (TakenOut es e.moment due)
 tick_closes es e due says none above =
     let stops : Stops es e (IsRequestUntil es e.moment) = record {
       no_call = ap call_in says;

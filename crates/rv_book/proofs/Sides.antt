@@ -27,7 +27,7 @@ one_side es s t r first second =
     sym first.is ∙ ap side_of call ∙ second.is
 
 -- the entry arrives on this side, and stays
-pub record IsNewOn (e : Entry) (side : Side) : Type 0 where
+pub record ComesOn (e : Entry) (side : Side) : Type 0 where
   pub call : Call
   pub arrives : call_in e.act ≡ Some call
   pub is : side_of call ≡ side
@@ -214,7 +214,7 @@ pub record WasOpen (es : List Entry) (e : Entry) (side : Side) (r : ℕ) : Type 
   pub unstopped : StoppedAt (es ++ e ∷ []) r (length es) → ⊥
 
 -- who is open on a side with one entry more was so before, or is that entry
-pub OpenAt-back : (es : List Entry) (e : Entry) (side : Side) (r : ℕ) → NamesFreePartners es e → OpenAt (es ++ e ∷ []) side r → WasOpen es e side r ⊎ ((r ≡ length es) × IsNewOn e side)
+pub OpenAt-back : (es : List Entry) (e : Entry) (side : Side) (r : ℕ) → NamesFreePartners es e → OpenAt (es ++ e ∷ []) side r → WasOpen es e side r ⊎ ((r ≡ length es) × ComesOn e side)
 OpenAt-back es e side r free h =
     let opened = h.is_open in
     let at = h.of_side in
@@ -257,7 +257,7 @@ last_unstopped es e stopped =
     elim (get-append_cases es e stopped.1.stopper stopped.0 stopped.1.there) [ inl inside ↦ omega arith | inr last ↦ omega arith ]
 
 -- an entry that arrives, stays and names nobody is open
-pub OpenAt-last : (a : Account) (e : Entry) (side : Side) → Legal a → e.partners ≡ just None → IsNewOn e side → OpenAt (a.entries ++ e ∷ []) side (length a.entries)
+pub OpenAt-last : (a : Account) (e : Entry) (side : Side) → Legal a → e.partners ≡ just None → ComesOn e side → OpenAt (a.entries ++ e ∷ []) side (length a.entries)
 OpenAt-last a e side legal none new =
     let es : List Entry = a.entries in
     let arrived : call_at (es ++ e ∷ []) (length es) ≡ Some new.call = ap call_read (get-append_end es e) ∙ new.arrives in
@@ -269,7 +269,7 @@ OpenAt-last a e side legal none new =
 -- ---- who waits
 
 -- the entry arrives, stays, and is no put
-pub record IsNewRequest (e : Entry) : Type 0 where
+pub record ComesToWait (e : Entry) : Type 0 where
   pub call : Call
   pub arrives : call_in e.act ≡ Some call
   pub stays : Stays call
@@ -287,7 +287,7 @@ pub record WasWaiting (es : List Entry) (e : Entry) (r : ℕ) : Type 0 where
   pub unstopped : StoppedAt (es ++ e ∷ []) r (length es) → ⊥
 
 -- who waits with one entry more waited before, or is that entry
-pub Waiting-back : (es : List Entry) (e : Entry) (r : ℕ) → NamesFreePartners es e → Waiting (es ++ e ∷ []) r → WasWaiting es e r ⊎ ((r ≡ length es) × IsNewRequest e)
+pub Waiting-back : (es : List Entry) (e : Entry) (r : ℕ) → NamesFreePartners es e → Waiting (es ++ e ∷ []) r → WasWaiting es e r ⊎ ((r ≡ length es) × ComesToWait e)
 unfolding Open-back
 Waiting-back es e r free h =
     let opened = h.is_open in
@@ -301,7 +301,7 @@ Waiting-back es e r free h =
     ]
 
 -- a request that arrives, stays and names nobody waits
-pub Waiting-last : (a : Account) (e : Entry) → Legal a → e.partners ≡ just None → IsNewRequest e → Waiting (a.entries ++ e ∷ []) (length a.entries)
+pub Waiting-last : (a : Account) (e : Entry) → Legal a → e.partners ≡ just None → ComesToWait e → Waiting (a.entries ++ e ∷ []) (length a.entries)
 Waiting-last a e legal none new =
     let es : List Entry = a.entries in
     let arrived : call_at (es ++ e ∷ []) (length es) ≡ Some new.call = ap call_read (get-append_end es e) ∙ new.arrives in

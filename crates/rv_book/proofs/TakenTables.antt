@@ -12,7 +12,7 @@ use Rattle.rv_book.specs.Parked.{AreParked, AreWaiters, IsLineOf}
 use Rattle.rv_book.specs.TakingOut.{AreWaitersLeft, Left}
 use Rattle.rv_book.specs.Views.{Waiters, waiting_on}
 use Rattle.rv_book.specs.Waiting.{OpenAt, SideAt, Waiting, limit_at}
-use Rattle.rv_book.proofs.Closing.{Closes, opened_back, opened_on, waits_back, waits_on}
+use Rattle.rv_book.proofs.Closing.{ClosesThose, opened_back, opened_on, waits_back, waits_on}
 use Rattle.rv_book.proofs.Counting.{number_drop, same_number}
 use Rattle.rv_book.proofs.Deciding.{same_side}
 use Rattle.rv_book.proofs.DeadlineTable.{But, due_on, due_same, due_without, limit_waits}
@@ -112,7 +112,7 @@ module _ (es : List Entry) (taken more : ℕ → Type 0) (place : ℕ) (one : On
 
 -- ---- with the entry that closes those that were taken out
 
-module _ (es : List Entry) (e : Entry) (taken : ℕ → Type 0) (closes : Closes es e taken) where
+module _ (es : List Entry) (e : Entry) (taken : ℕ → Type 0) (closes : ClosesThose es e taken) where
   pub waiters_at_last : (waiters : Waiters) → AreWaitersLeft es taken waiters → AreWaiters (es ++ e ∷ []) waiters
   waiters_at_last waiters are = record {
     lines = λ side. line_to (Left taken (OpenAt es side)) (OpenAt (es ++ e ∷ []) side) (waiting_on waiters side) (are.lines side) (opened_on es e taken closes side) (opened_back es e taken closes side);

@@ -21,7 +21,7 @@ use Rattle.rv_book.specs.Operations.{EndsAt, IsTime, MayEnd, with_due}
 use Rattle.rv_book.specs.Tables.{AreSessions, IsSound, account_of}
 use Rattle.rv_book.specs.TakingOut.{IsLeft, Left}
 use Rattle.rv_book.specs.Waiting.{Waiting, limit_at}
-use Rattle.rv_book.proofs.Closing.{Closes, waits_on}
+use Rattle.rv_book.proofs.Closing.{ClosesThose, waits_on}
 use Rattle.rv_book.proofs.DeadlineTable.{taken_out}
 use Rattle.rv_book.proofs.FewClients.{few_still}
 use Rattle.rv_book.proofs.Following.{tick_follows}
@@ -139,7 +139,7 @@ module _ {old mid : BookState} {moment : ℕ} (out : AllTakenOut old mid moment)
   follows : MayFollow before own_entry
   follows = subst (λ (s : Stored). MayFollow s.account own_entry) (sym out.same) (tick_follows (account_of old) moment out.is.time out.something)
 
-  closes : Closes before.entries own_entry overdue
+  closes : ClosesThose before.entries own_entry overdue
   closes = tick_closes before.entries own_entry mid.due refl refl out.above
 
   legal_after : Legal (with_entry before own_entry)

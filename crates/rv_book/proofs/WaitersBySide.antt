@@ -27,7 +27,7 @@ use Rattle.rv_book.proofs.Deciding.{same_side}
 use Rattle.rv_book.proofs.Growing.{NamesAt-last, act_read, call_read, reads_within}
 use Rattle.rv_book.proofs.Naming.{just_none, names_it, names_only}
 use Rattle.rv_book.proofs.Places.{get-append_cases, get-append, get-append_end, get-append_within}
-use Rattle.rv_book.proofs.Sides.{IsNewOn, OpenAt-back, OpenAt-last, OpenAt-on, arrival_stops_nobody, one_side}
+use Rattle.rv_book.proofs.Sides.{ComesOn, OpenAt-back, OpenAt-last, OpenAt-on, arrival_stops_nobody, one_side}
 use Rattle.rv_book.proofs.Tabled.{same_parked, same_waiting}
 use Rattle.rv_book.proofs.Withdrawn.{differs, filter_get, get_filter}
 
@@ -50,7 +50,7 @@ line_same es e side places line free untouched other = record {
 }
 
 pub line_push : (a : Account) (e : Entry) (side : Side) (places : List ℕ) → IsLine a.entries side places → Legal a → NamesFreePartners a.entries e → Untouched a.entries e side → e.partners ≡ just None
-    → IsNewOn e side → IsLine (a.entries ++ e ∷ []) side (places ++ length a.entries ∷ [])
+    → ComesOn e side → IsLine (a.entries ++ e ∷ []) side (places ++ length a.entries ∷ [])
 line_push a e side places line legal free untouched none new =
     let es : List Entry = a.entries in
     record {
@@ -229,7 +229,7 @@ module _ (a : Account) (e : Entry) (old new : Waiters) (key : Key) (call : Call)
   unstopped r stopped = arrival_stops_nobody a.entries e key call r arrives stopped
 
   -- an arrival that is open on a side is of that side, and stays
-  own_side : (side : Side) → OpenAt (a.entries ++ e ∷ []) side (length a.entries) → IsNewOn e side
+  own_side : (side : Side) → OpenAt (a.entries ++ e ∷ []) side (length a.entries) → ComesOn e side
   own_side side opened =
       let there : call_at (a.entries ++ e ∷ []) (length a.entries) ≡ Some call = ap call_read (get-append_end a.entries e) ∙ ap call_in arrives in
       let called : opened.of_side.call ≡ call = same_Some _ _ (sym opened.of_side.arrived ∙ there) in

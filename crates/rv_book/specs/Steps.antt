@@ -32,12 +32,12 @@ use Rattle.rv_book.specs.Replies.{HasReply}
 -- ---- the step's moment
 
 -- a greater moment counts as that
-abbrev pub capped : ℕ → ℕ
-capped now = min now max_moment
+abbrev pub capped_moment : ℕ → ℕ
+capped_moment now = min now max_moment
 
 -- a lower moment counts as the book's own
 abbrev pub step_moment : Account → ℕ → ℕ
-step_moment a now = max (own_moment a) (capped now)
+step_moment a now = max (own_moment a) (capped_moment now)
 
 -- ---- when each refusal is due
 

@@ -47,15 +47,15 @@ last_is_none field lacks none (place ∷ next ∷ more) says = not_lacking 44 sa
 -- ---- how far a field is read
 
 -- these places are said before the rest
-pub record Listed (field rest places : List ℕ) : Type 0 where
+pub record ListsPlaces (field rest places : List ℕ) : Type 0 where
   pub joined : (more : List ℕ) → SaysSomePlaces rest more → SaysSomePlaces field (places ++ more)
   pub none : ((more : List ℕ) → ¬ SaysSomePlaces rest more) → (all : List ℕ) → ¬ SaysSomePlaces field all
 
-pub listed_nothing : (field : List ℕ) → Listed field field []
+pub listed_nothing : (field : List ℕ) → ListsPlaces field field []
 listed_nothing field = record { joined = λ more says. says; none = λ nothing. nothing }
 
-module _ {field rest places : List ℕ} (so_far : Listed field rest places) where
-  pub listed_more : (piece after : List ℕ) (place : ℕ) → rest ≡ piece ++ 44 ∷ after → Lacks 44 piece → WritesUpTo max_partner piece place → Listed field after (places ++ place ∷ [])
+module _ {field rest places : List ℕ} (so_far : ListsPlaces field rest places) where
+  pub listed_more : (piece after : List ℕ) (place : ℕ) → rest ≡ piece ++ 44 ∷ after → Lacks 44 piece → WritesUpTo max_partner piece place → ListsPlaces field after (places ++ place ∷ [])
   listed_more piece after place parts lacks says = record {
     joined = λ more later. subst (SaysSomePlaces field) (sym (append_assoc places (place ∷ []) more)) (so_far.joined (place ∷ more) (more_behind rest piece after parts lacks place more says later));
     none = λ nothing. so_far.none (none_behind rest piece after parts lacks nothing);

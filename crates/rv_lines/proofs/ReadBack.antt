@@ -12,7 +12,7 @@ use Rattle.rv_account.specs.declared.entry.Entry.{Entry}
 use Rattle.rv_book.specs.Limits.{FitsEntry}
 use Rattle.rv_book.specs.Steps.{max_moment}
 use Rattle.rv_lines.specs.Laws.{WrittenAccount}
-use Rattle.rv_lines.specs.Lines.{lines, printed}
+use Rattle.rv_lines.specs.Lines.{lines, printed_lines}
 use Rattle.rv_lines.specs.Number.{WritesUpTo}
 use Rattle.rv_lines.specs.Reading.{ReadsEntry, SaysMessage, SaysPartners, SaysPlaces}
 use Rattle.rv_lines.specs.Written.{FitPartners, account_lines, entry_text, head_text, max_partner, message_in, partners_text, places_text, said_text}
@@ -82,9 +82,9 @@ entries_in_lines (e ∷ entries) each =
     (entry_in_one_line e here.fits here.small, entries_in_lines entries (λ r x there. each (suc r) x there))
 
 -- lines without LF are cut where they were joined
-cut_again : (texts : List (List ℕ)) → AllLines texts → lines (printed texts) ≡ texts
+cut_again : (texts : List (List ℕ)) → AllLines texts → lines (printed_lines texts) ≡ texts
 cut_again [] all = refl
-cut_again (text ∷ texts) all = lines_cut text (printed texts) all.0 ∙ ap (λ later. text ∷ later) (cut_again texts all.1)
+cut_again (text ∷ texts) all = lines_cut text (printed_lines texts) all.0 ∙ ap (λ later. text ∷ later) (cut_again texts all.1)
 
 pub account_again : WrittenAccount
 account_again a fits texts =

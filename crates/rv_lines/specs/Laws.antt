@@ -5,7 +5,7 @@ use Rattle.rv_account.specs.declared.entry.Entry.{Entry}
 use Rattle.rv_account.specs.Account.{Account}
 use Rattle.rv_book.specs.Legal.{Legal}
 use Rattle.rv_book.specs.Limits.{FitsAccount}
-use Rattle.rv_lines.specs.Lines.{lines, printed}
+use Rattle.rv_lines.specs.Lines.{lines, printed_lines}
 use Rattle.rv_lines.specs.Reading.{FirstBadLine, ReadsAccount}
 use Rattle.rv_lines.specs.Written.{FitsLines, account_lines, message_in}
 
@@ -17,7 +17,7 @@ HasTexts entries = (r : ℕ) (e : Entry) → slice_get entries r ≡ Some e → 
 -- what is written for an account is read as that account
 abbrev pub WrittenAccount : Type 0
 WrittenAccount = (a : Account) → FitsLines a → HasTexts a.entries
-    → ReadsAccount (lines (printed (account_lines a))) a
+    → ReadsAccount (lines (printed_lines (account_lines a))) a
 
 -- a book's account, which is legal and within its limits, can be written
 abbrev pub BookFitsLines : Type 0

@@ -13,9 +13,9 @@ pub record BeginsWithLine (bytes line rest : List ℕ) : Type 0 where
   pub parts : (bytes ≡ line ++ 10 ∷ rest) ⊎ ((bytes ≡ line) × (rest ≡ []))
 
 -- each text, and LF (10) after it
-abbrev pub printed : List (List ℕ) → List ℕ
-printed [] = []
-printed (text ∷ texts) = text ++ 10 ∷ printed texts
+abbrev pub printed_lines : List (List ℕ) → List ℕ
+printed_lines [] = []
+printed_lines (text ∷ texts) = text ++ 10 ∷ printed_lines texts
 
 -- the text is short: a body and the words before it, as they stand in a printed line, fit it
 abbrev pub IsShort : List ℕ → Type 0

@@ -3,7 +3,7 @@ use Rattle.std.proofs.Common.{◌≡◌, ◌++◌, ◌∷◌, [], ℕ, zero, suc
 use Rattle.std.specs.Prelude.{slice_get}
 use Rattle.std.proofs.lemmas.Option.{none-some, slice_get_within}
 use Rattle.rv_book.proofs.Places.{get-append_within}
-use Rattle.rv_lines.specs.Lines.{printed}
+use Rattle.rv_lines.specs.Lines.{printed_lines}
 use Rattle.rv_lines.proofs.Cutting.{lines_cut}
 use Rattle.rv_world.specs.declared.event.Event.{Event}
 use Rattle.rv_world.specs.declared.seen.Seen.{Seen}
@@ -14,10 +14,10 @@ use Rattle.rv_world.specs.Laws.{RunsOnlyGrow}
 use Rattle.rv_world.specs.Runs.{Runs}
 use Rattle.rv_world.proofs.Listing.{still_contains}
 use Rattle.rv_world.specs.World.{World}
-use Rattle.rv_play.specs.Laws.{OneLineEach, PlayIsRun, events_of, taken}
+use Rattle.rv_play.specs.Laws.{OneLineEach, PlayIsRun, events_of, taken_events}
 use Rattle.rv_play.specs.Turns.{Given, LeadsTo, LineOutcome, LineTurn, NoEvent, Plays, TellsLineOutcome, TellsSeen, turn_texts}
 
-turn_runs : (line : List ℕ) (came : LineOutcome) (w v u : World) (events : List Event) → LeadsTo line w v came → Runs v events u → Runs w (taken came ++ events) u
+turn_runs : (line : List ℕ) (came : LineOutcome) (w v u : World) (events : List Event) → LeadsTo line w v came → Runs v events u → Runs w (taken_events came ++ events) u
 turn_runs line NoEvent w v u events leads runs = subst (λ (x : World). Runs x events u) leads.1 runs
 turn_runs line (Given e (Ok seen)) w v u events leads runs = (v, seen, leads.1, runs)
 turn_runs line (Given e (Err refusal)) w v u events leads runs = subst (λ (x : World). Runs x events u) leads.1.1 runs
@@ -28,7 +28,7 @@ play_runs w v (turn ∷ turns) plays = turn_runs turn.line turn.came w plays.0 v
 
 pub cut_each : OneLineEach
 cut_each w v [] plays = refl
-cut_each w v (turn ∷ turns) plays = lines_cut turn.text (printed (turn_texts turns)) plays.1.one_line ∙ ap (λ later. turn.text ∷ later) (cut_each plays.0 v turns plays.2)
+cut_each w v (turn ∷ turns) plays = lines_cut turn.text (printed_lines (turn_texts turns)) plays.1.one_line ∙ ap (λ later. turn.text ∷ later) (cut_each plays.0 v turns plays.2)
 
 -- ---- what is told stays true
 

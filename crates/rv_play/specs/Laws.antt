@@ -1,7 +1,7 @@
 -- What holds of plays as such.
 use Rattle.std.specs.Prelude.{ℕ, List, Ok, Err, [], ◌∷◌, ◌++◌, ◌≡◌}
 use Rattle.std.specs.List.{Contains}
-use Rattle.rv_lines.specs.Lines.{lines, printed}
+use Rattle.rv_lines.specs.Lines.{lines, printed_lines}
 use Rattle.rv_world.specs.declared.event.Event.{Event}
 use Rattle.rv_world.specs.Headline.{Headline}
 use Rattle.rv_world.specs.Runs.{Runs}
@@ -14,15 +14,15 @@ abbrev pub OneEvent : Type 0
 OneEvent = (line : List ℕ) (d e : Event) → SaysEvent line d → SaysEvent line e → d ≡ e
 
 -- the event that the world took, if it was given one and did not refuse it
-abbrev pub taken : LineOutcome → List Event
-taken NoEvent = []
-taken (Given e (Ok seen)) = e ∷ []
-taken (Given e (Err refusal)) = []
+abbrev pub taken_events : LineOutcome → List Event
+taken_events NoEvent = []
+taken_events (Given e (Ok seen)) = e ∷ []
+taken_events (Given e (Err refusal)) = []
 
 -- the events that the world took in these turns
 abbrev pub events_of : List LineTurn → List Event
 events_of [] = []
-events_of (turn ∷ turns) = taken turn.came ++ events_of turns
+events_of (turn ∷ turns) = taken_events turn.came ++ events_of turns
 
 -- the events that the world took in a play are a run of the world
 abbrev pub PlayIsRun : Type 0
@@ -36,7 +36,7 @@ HeadlineOfPlays = (epoch : ℕ) (turns : List LineTurn) (w : World) → Plays (f
 -- what a play prints has one line for each turn, which is the turn's text
 abbrev pub OneLineEach : Type 0
 OneLineEach = (w v : World) (turns : List LineTurn) → Plays w turns v
-    → lines (printed (turn_texts turns)) ≡ turn_texts turns
+    → lines (printed_lines (turn_texts turns)) ≡ turn_texts turns
 
 -- what was printed of a turn is true of the last world as well: its answer was sent, and its reply is held
 abbrev pub TextsStay : Type 0

@@ -5,7 +5,7 @@ use Rattle.rv_frame.specs.declared.sink.Sink.{Sink}
 use Rattle.rv_frame.specs.declared.source.Source.{Source}
 use Rattle.rv_frame.specs.Sink.{SinkTakes, sink_failed}
 use Rattle.rv_frame.specs.Source.{source_failed, source_remaining}
-use Rattle.rv_lines.specs.Lines.{lines, printed}
+use Rattle.rv_lines.specs.Lines.{lines, printed_lines}
 use Rattle.rv_run.specs.Input.{ReadsAll}
 use Rattle.rv_run.specs.declared.fault.RunFault.{RunFault}
 use Rattle.rv_run.specs.declared.fault.RunFault.TheVariants.{NoMemory, ReadFault, TooLong, WriteFault}
@@ -25,7 +25,7 @@ module _ {W : Type 0} (contents : W → Option (List ℕ)) where
   pub record PrintsAll (input : List ℕ) (old new : Sink W) : Type 0 where
     pub turns : List LineTurn
     pub plays : PlaysFirst input turns []
-    pub went_out : SinkTakes contents old new (printed (turn_texts turns))
+    pub went_out : SinkTakes contents old new (printed_lines (turn_texts turns))
     pub sink_stays : sink_failed new ≡ sink_failed old
 
   -- of the texts of the turns of some first lines exactly so many bytes, and not all
@@ -33,8 +33,8 @@ module _ {W : Type 0} (contents : W → Option (List ℕ)) where
     pub turns : List LineTurn
     pub left : List (List ℕ)
     pub plays : PlaysFirst input turns left
-    pub not_all : sent < length (printed (turn_texts turns))
-    pub went_out : SinkTakes contents old new (take sent (printed (turn_texts turns)))
+    pub not_all : sent < length (printed_lines (turn_texts turns))
+    pub went_out : SinkTakes contents old new (take sent (printed_lines (turn_texts turns)))
     pub sink_fails : sink_failed new ≡ true
 
   -- the texts of the turns of some first lines, whole, and not of all
@@ -43,7 +43,7 @@ module _ {W : Type 0} (contents : W → Option (List ℕ)) where
     pub line : List ℕ
     pub left : List (List ℕ)
     pub plays : PlaysFirst input turns (line ∷ left)
-    pub went_out : SinkTakes contents old new (printed (turn_texts turns))
+    pub went_out : SinkTakes contents old new (printed_lines (turn_texts turns))
     pub sink_stays : sink_failed new ≡ sink_failed old
 
   -- not every line has its result, for this fault

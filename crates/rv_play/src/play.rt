@@ -1,7 +1,7 @@
 //! Acts out the events of a whole input, and prints one result for each line.
 ghost use Rattle.std.specs.Prelude.{◌≡◌, ◌≤◌, [], length, Err, IfErr, OnOk};
 ghost use Rattle.rv_run.specs.Input.{FailedReading, FoundTooLong, max_input};
-ghost use Rattle.rv_run.specs.Output.{gathered, taken_in};
+ghost use Rattle.rv_run.specs.Output.{gathered_bytes, taken_in};
 ghost use Rattle.rv_world.specs.World.{first_world};
 ghost use Rattle.rv_play.specs.Plays.{Played, PrintsAll, StoppedForMemory, StoppedPrinting, StopsPlaying};
 
@@ -59,7 +59,7 @@ fn play_lines<W: Write>(
 ) -> Result<(), RunFault>
     requires begins { world.old ≡ first_world 1 }
     requires within { length input.now ≤ max_input }
-    requires nothing_gathered { gathered output.old ≡ [] }
+    requires nothing_gathered { gathered_bytes output.old ≡ [] }
     requires nothing_sent { taken_in output.old ≡ 0 }
     ensures all { OnOk result (PrintsAll W.contents input.now sink.old sink.new) }
     ensures part { IfErr result (StopsPlaying W.contents input.now sink.old sink.new) }

@@ -2,7 +2,7 @@
 use Rattle.std.proofs.Common.{◌≡◌, ◌<◌, ◌≤◌, ◌+◌, ◌-◌, ℕ, List, [], ◌∷◌, ◌++◌, Option, Some, None, IfSome, refl, sym, ap, subst, ◌∙◌, length, take, arith, append_assoc, length-append}
 use Rattle.std.proofs.Math.Seq.{take-append-add}
 use Rattle.std.specs.Io.KnownBytes.{Appends, append_known}
-use Rattle.rv_lines.specs.Lines.{printed}
+use Rattle.rv_lines.specs.Lines.{printed_lines}
 
 -- what holds of the bytes that were read holds of those that the source had
 pub read_bytes : (o : Option (List ℕ)) (items : List ℕ) (P : List ℕ → Type 0) → IfSome o (λ bytes. items ≡ bytes) → P items → IfSome o P
@@ -11,9 +11,9 @@ read_bytes (Some bytes) items P same has = subst P same has
 
 -- ---- texts
 
-pub printed_append : (bodies others : List (List ℕ)) → printed (bodies ++ others) ≡ printed bodies ++ printed others
+pub printed_append : (bodies others : List (List ℕ)) → printed_lines (bodies ++ others) ≡ printed_lines bodies ++ printed_lines others
 printed_append [] others = refl
-printed_append (body ∷ bodies) others = ap (λ rest. body ++ 10 ∷ rest) (printed_append bodies others) ∙ sym (append_assoc body (10 ∷ printed bodies) (printed others))
+printed_append (body ∷ bodies) others = ap (λ rest. body ++ 10 ∷ rest) (printed_append bodies others) ∙ sym (append_assoc body (10 ∷ printed_lines bodies) (printed_lines others))
 
 -- ---- what went out
 

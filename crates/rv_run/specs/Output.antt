@@ -9,8 +9,8 @@ pub use Rattle.rv_lines.specs.Lines.{IsShort}
 use Rattle.rv_run.specs.declared.output.Output.{Output}
 
 -- the bytes that wait to be sent
-abbrev pub gathered : Output → List ℕ
-gathered output = output.gathered.items
+abbrev pub gathered_bytes : Output → List ℕ
+gathered_bytes output = output.gathered.items
 
 -- how many bytes went out before
 abbrev pub sent_before : Output → ℕ
@@ -18,14 +18,14 @@ sent_before output = output.sent
 
 -- how many bytes were taken in: those that went out, and those that wait
 abbrev pub taken_in : Output → ℕ
-taken_in output = sent_before output + length (gathered output)
+taken_in output = sent_before output + length (gathered_bytes output)
 
 abbrev pub IsShortText : String Global → Type 0
 IsShortText text = IsShort (string_bytes text)
 
 -- what the device will hold once the gathered bytes went out
-abbrev pub promised : Option (List ℕ) → Output → Option (List ℕ)
-promised contents output = append_known contents (gathered output)
+abbrev pub promised_contents : Option (List ℕ) → Output → Option (List ℕ)
+promised_contents contents output = append_known contents (gathered_bytes output)
 
 -- of these bytes, behind so many that went out before, the sink took the front: a write failed after so many
 -- in all, and not all
@@ -39,7 +39,7 @@ pub record StopsAfter {W : Type 0} (contents : W → Option (List ℕ)) (bytes :
 pub record SentGathered (old new : Output) (sent : ℕ) : Type 0 where
   pub went_out : taken_in old ≤ sent
   pub count_stays : taken_in new ≡ taken_in old
-  pub none_waits : gathered new ≡ []
+  pub none_waits : gathered_bytes new ≡ []
 
 -- a write failed after so many bytes in all: what was gathered waits as it did, or all of it went out
 abbrev pub KeepsOrSends : Output → Output → ℕ → Type 0

@@ -31,12 +31,12 @@ pub struct Output {
 }
 
 impl Output {
-    ghost use Rattle.rv_run.specs.Output.{KeepsOrSends, StopsAfter, gathered, promised};
+    ghost use Rattle.rv_run.specs.Output.{KeepsOrSends, StopsAfter, gathered_bytes, promised_contents};
     ghost use Rattle.rv_run.specs.Output.{sent_before, taken_in};
 
     /// An output that has taken nothing in.
     pub fn new(alloc: Global) -> Result<Output, AllocError>
-        ensures gathered { IfOk result (λ output. gathered output ≡ []) }
+        ensures gathered { IfOk result (λ output. gathered_bytes output ≡ []) }
         ensures sent { IfOk result (λ output. taken_in output ≡ 0) }
     {
         Ok(Output {
@@ -51,17 +51,18 @@ impl Output {
     /// gathered before it waits as it did, or all of it went out.
     pub fn line<W: Write>(&mut self, sink: &mut Sink<W>, text: &[u8]) -> Result<(), OutputFault>
         requires { taken_in self.old + length text.now + 1 < 2 ^ 128 }
-        ensures ok { OnOk result (Appends (promised (sink_contents W.contents sink.old) self.old)
-            (promised (sink_contents W.contents sink.new) self.new) (text.now ++ 10 ∷ [])) }
+        ensures ok { OnOk result (Appends (promised_contents (sink_contents W.contents sink.old) self.old)
+            (promised_contents (sink_contents W.contents sink.new) self.new) (text.now ++ 10 ∷ [])) }
         ensures count { OnOk result (taken_in self.new ≡ taken_in self.old + length text.now + 1) }
         ensures fault { IfErr result (λ fault. StopsAfter W.contents
-            (gathered self.old ++ (text.now ++ 10 ∷ [])) (sent_before self.old)
+            (gathered_bytes self.old ++ (text.now ++ 10 ∷ [])) (sent_before self.old)
             sink.old sink.new fault.sent) }
         ensures cut_before { length text.now < 131072 → IfErr result (λ fault. StopsAfter W.contents
-            (gathered self.old) (sent_before self.old) sink.old sink.new fault.sent) }
+            (gathered_bytes self.old) (sent_before self.old) sink.old sink.new fault.sent) }
         ensures kept { IfErr result (λ fault. KeepsOrSends self.old self.new fault.sent) }
         ensures told { FailsWithSink result sink.old sink.new }
-        ensures gathers { length (gathered self.old) + length text.now + 1 ≤ 131072 → sink.new ≡ sink.old }
+        ensures gathers { length (gathered_bytes self.old) + length text.now + 1 ≤ 131072
+            → sink.new ≡ sink.old }
     {
         if text.len() >= ROOM {
             self.flush(sink)?;
@@ -80,14 +81,14 @@ impl Output {
     /// was, and says how much went out.
     pub fn flush<W: Write>(&mut self, sink: &mut Sink<W>) -> Result<(), OutputFault>
         requires { taken_in self.old < 2 ^ 128 }
-        ensures empty { OnOk result (gathered self.new ≡ []) }
-        ensures ok { OnOk result (SinkTakes W.contents sink.old sink.new (gathered self.old)) }
+        ensures empty { OnOk result (gathered_bytes self.new ≡ []) }
+        ensures ok { OnOk result (SinkTakes W.contents sink.old sink.new (gathered_bytes self.old)) }
         ensures count { OnOk result (taken_in self.new ≡ taken_in self.old) }
-        ensures fault { IfErr result (λ fault. StopsAfter W.contents (gathered self.old)
+        ensures fault { IfErr result (λ fault. StopsAfter W.contents (gathered_bytes self.old)
             (sent_before self.old) sink.old sink.new fault.sent) }
         ensures kept { OnErr result (self.new ≡ self.old) }
         ensures told { FailsWithSink result sink.old sink.new }
-        ensures idle { gathered self.old ≡ [] → sink.new ≡ sink.old }
+        ensures idle { gathered_bytes self.old ≡ [] → sink.new ≡ sink.old }
     {
         if self.gathered.is_empty() {
             return Ok(());
@@ -117,8 +118,8 @@ impl Output {
 
     // Takes bytes in that there is room for.
     fn gather(&mut self, bytes: &[u8])
-        requires { length (gathered self.old) + length bytes.now ≤ 131072 }
-        ensures bytes { gathered self.new ≡ gathered self.old ++ bytes.now }
+        requires { length (gathered_bytes self.old) + length bytes.now ≤ 131072 }
+        ensures bytes { gathered_bytes self.new ≡ gathered_bytes self.old ++ bytes.now }
         ensures sent { self.new.sent ≡ self.old.sent }
     {
         self.gathered.extend_from_slice(bytes).unwrap();

@@ -12,7 +12,7 @@ use Rattle.rv_frame.proofs.Cuts.{row_append}
 use Rattle.rv_server.specs.Asking.{Cover, GetsStamps}
 use Rattle.rv_server.specs.Progress.{AnswersFrame, Out, Progress, StopsAtFrame, out}
 use Rattle.rv_server.specs.Reading.{ReadsOn, ReadsOut, TakesFrame}
-use Rattle.rv_server.specs.Stamps.{Numbered, added}
+use Rattle.rv_server.specs.Stamps.{Numbered, added_entries}
 use Rattle.rv_server.specs.AnsweredFrames.{AnsweredFrame, AreAnsweredFrames, AreFor, IsAnsweredFrame, IsFor, stamps_of}
 use Rattle.rv_server.specs.Works.{AreForNext, Connection, Listed, Worked, Works, connection, max_frames, nothing}
 use Rattle.rv_server.specs.declared.fault.WorkFault.{WorkFault}
@@ -24,8 +24,8 @@ use Rattle.rv_server.proofs.Getting.{added_append, cover_append, covers_all}
 abbrev body_of : AnsweredFrame → List ℕ
 body_of frame = frame.body
 
-abbrev answer_of : AnsweredFrame → List ℕ
-answer_of frame = frame.answer
+abbrev answer_bytes : AnsweredFrame → List ℕ
+answer_bytes frame = frame.answer
 
 answered_more : (number : ℕ) (answered : List AnsweredFrame) (frame : AnsweredFrame) → AreAnsweredFrames number answered → IsAnsweredFrame (number + length answered) frame → AreAnsweredFrames number (answered ++ frame ∷ [])
 answered_more number [] frame are is = (subst (λ (n : ℕ). IsAnsweredFrame n frame) (add-zero number) is, tt)
@@ -37,21 +37,21 @@ stamps_more : (answered : List AnsweredFrame) (frame : AnsweredFrame) → stamps
 stamps_more [] frame = append-nil frame.stamps
 stamps_more (first ∷ answered) frame = ap (λ (l : List Numbered). first.stamps ++ l) (stamps_more answered frame) ∙ sym (append_assoc first.stamps (stamps_of answered) frame.stamps)
 
-row_more : (answered : List AnsweredFrame) (frame : AnsweredFrame) → row_bytes (map answer_of answered) ++ frame_bytes frame.answer ≡ row_bytes (map answer_of (answered ++ frame ∷ []))
+row_more : (answered : List AnsweredFrame) (frame : AnsweredFrame) → row_bytes (map answer_bytes answered) ++ frame_bytes frame.answer ≡ row_bytes (map answer_bytes (answered ++ frame ∷ []))
 row_more answered frame =
-    ap (λ (l : List ℕ). row_bytes (map answer_of answered) ++ l) (sym (append-nil (frame_bytes frame.answer)))
-    ∙ sym (row_append (map answer_of answered) (frame.answer ∷ [])) ∙ ap row_bytes (sym (map-append answer_of answered (frame ∷ [])))
+    ap (λ (l : List ℕ). row_bytes (map answer_bytes answered) ++ l) (sym (append-nil (frame_bytes frame.answer)))
+    ∙ sym (row_append (map answer_bytes answered) (frame.answer ∷ [])) ∙ ap row_bytes (sym (map-append answer_bytes answered (frame ∷ [])))
 
 -- ---- the share, with the stamps of one frame more
 
-share_on : (own share share' number : ℕ) (body : List ℕ) (old new got : List Numbered) → share ≡ own + added old → GetsStamps number body share old share' new got
-    → share' ≡ own + added new
+share_on : (own share share' number : ℕ) (body : List ℕ) (old new got : List Numbered) → share ≡ own + added_entries old → GetsStamps number body share old share' new got
+    → share' ≡ own + added_entries new
 share_on own share share' number body old new got before gets =
     let sum = added_append old got in
-    gets.adds ∙ ap (λ (n : ℕ). n + added got) before ∙ add_assoc own (added old) (added got) ∙ ap (λ (n : ℕ). own + n) (sym sum)
-    ∙ ap (λ (l : List Numbered). own + added l) (sym gets.behind)
+    gets.adds ∙ ap (λ (n : ℕ). n + added_entries got) before ∙ add_assoc own (added_entries old) (added_entries got) ∙ ap (λ (n : ℕ). own + n) (sym sum)
+    ∙ ap (λ (l : List Numbered). own + added_entries l) (sym gets.behind)
 
-cover_on : (own share share' number : ℕ) (body : List ℕ) (old new got : List Numbered) → share ≡ own + added old → Cover own old
+cover_on : (own share share' number : ℕ) (body : List ℕ) (old new got : List Numbered) → share ≡ own + added_entries old → Cover own old
     → GetsStamps number body share old share' new got → Cover own new
 cover_on own share share' number body old new got before covers gets =
     subst (λ (l : List Numbered). Cover own l) (sym gets.behind) (cover_append own old got covers (subst (λ (n : ℕ). Cover n got) before gets.cover))
@@ -124,7 +124,7 @@ module _ {R W : Type 0} (remaining : R → Option (List ℕ)) (contents : W → 
     items = so_far.items;
     stamps = so_far.stamps ∙ sym (append-nil (stamps_of so_far.answered));
     pending_are = no_stamps (length so_far.answered) more;
-    written = subst (λ (l : List ℕ). SinkTakes contents before.sink mid.sink l) (sym (append-nil (row_bytes (map answer_of so_far.answered)))) so_far.written;
+    written = subst (λ (l : List ℕ). SinkTakes contents before.sink mid.sink l) (sym (append-nil (row_bytes (map answer_bytes so_far.answered)))) so_far.written;
     share = so_far.share;
     cover = covers_all before.share listed.stamps so_far.cover;
     few = subst (λ (n : ℕ). n ≤ max_frames) (sym so_far.count) few;

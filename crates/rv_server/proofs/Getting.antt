@@ -5,19 +5,19 @@ use Rattle.std.proofs.lemmas.List.Elements.{All-append, All-cons, All-head, All-
 use Rattle.std.proofs.lemmas.List.Sums.{sum_by-append, sum_by-cons}
 use Rattle.rv_text.specs.declared.answer.Answer.{Answer}
 use Rattle.rv_server.specs.Asking.{Cover, GetsSome, GetsStamps, GetsTold, OnlyWaited, TellsFrame, Waits}
-use Rattle.rv_server.specs.Stamps.{Covers, Numbered, Stamped, added, added_by}
+use Rattle.rv_server.specs.Stamps.{Covers, Numbered, Stamped, added_entries, added_by}
 use Rattle.rv_server.specs.AnsweredFrames.{IsFor, IsWaiting, LastSays, WaitsBetween}
 use Rattle.rv_server.specs.declared.asking.FrameAnswer.{FrameAnswer}
 use Rattle.rv_server.specs.declared.asking.FrameAnswer.TheVariants.{BadText, NoMemory, Said}
 
-pub added_append : (front stamps : List Numbered) → added (front ++ stamps) ≡ added front + added stamps
+pub added_append : (front stamps : List Numbered) → added_entries (front ++ stamps) ≡ added_entries front + added_entries stamps
 added_append front stamps = sum_by-append (λ (stamp : Numbered). added_by stamp.1) front stamps
 
-pub cover_append : (own : ℕ) (front stamps : List Numbered) → Cover own front → Cover (own + added front) stamps → Cover own (front ++ stamps)
+pub cover_append : (own : ℕ) (front stamps : List Numbered) → Cover own front → Cover (own + added_entries front) stamps → Cover own (front ++ stamps)
 cover_append own [] stamps covers more = subst (λ (n : ℕ). Cover n stamps) (add-zero own) more
 cover_append own (stamp ∷ front) stamps covers more =
     let sum = sum_by-cons (λ (stamp : Numbered). added_by stamp.1) stamp front in
-    let same : own + added (stamp ∷ front) ≡ own + added_by stamp.1 + added front = omega (arith, sum) in (
+    let same : own + added_entries (stamp ∷ front) ≡ own + added_by stamp.1 + added_entries front = omega (arith, sum) in (
       covers.0,
       cover_append (own + added_by stamp.1) front stamps covers.1 (subst (λ (n : ℕ). Cover n stamps) same more),
     )
@@ -33,12 +33,12 @@ between_append (stamp ∷ []) (next ∷ stamps) waited between = (All-head Answe
 between_append (stamp ∷ next ∷ front) stamps waited between =
     (All-head AnswerWaits stamp (next ∷ front) waited, between_append (next ∷ front) stamps (All-tail AnswerWaits stamp (next ∷ front) waited) between)
 
-covers_at : (own : ℕ) (front back : List Numbered) (stamp : Numbered) → Cover own (front ++ stamp ∷ back) → own + added front + added_by stamp.1 ≤ stamp.1.length
+covers_at : (own : ℕ) (front back : List Numbered) (stamp : Numbered) → Cover own (front ++ stamp ∷ back) → own + added_entries front + added_by stamp.1 ≤ stamp.1.length
 covers_at own [] back stamp covers = subst (λ (n : ℕ). n + added_by stamp.1 ≤ stamp.1.length) (sym (add-zero own)) covers.0
 covers_at own (first ∷ front) back stamp covers =
     let sum = sum_by-cons (λ (s : Numbered). added_by s.1) first front in
     let so_far = covers_at (own + added_by first.1) front back stamp covers.1 in
-    let same : own + added (first ∷ front) ≡ own + added_by first.1 + added front = omega (arith, sum) in
+    let same : own + added_entries (first ∷ front) ≡ own + added_by first.1 + added_entries front = omega (arith, sum) in
     subst (λ (n : ℕ). n + added_by stamp.1 ≤ stamp.1.length) (sym same) so_far
 
 pub covers_all : (own : ℕ) (stamps : List Numbered) → Cover own stamps → Covers own stamps
@@ -78,7 +78,7 @@ join_got number body share share' share'' old mid new got more waited first seco
     each = All-append (IsFor number body) got more first.own.each second.own.each;
     waited = between_append got more waited second.own.waited;
   };
-  adds = second.adds ∙ ap (λ (n : ℕ). n + added more) first.adds ∙ (let s = added_append got more in omega (arith, s));
+  adds = second.adds ∙ ap (λ (n : ℕ). n + added_entries more) first.adds ∙ (let s = added_append got more in omega (arith, s));
   cover = cover_append share got more first.cover (subst (λ (n : ℕ). Cover n more) first.adds second.cover);
 }
 

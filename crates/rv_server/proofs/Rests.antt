@@ -33,8 +33,8 @@ two_parts high low n rest is small =
     (cc)
 
 -- what two bytes and those behind them begin with
-abbrev Begins : (high low : ℕ) → List ℕ → Type 0
-Begins high low rest =
+abbrev BeginsSome : (high low : ℕ) → List ℕ → Type 0
+BeginsSome high low rest =
     IsUnfinished (high ∷ low ∷ rest) ⊎ (BeginsBad (high ∷ low ∷ rest) (256 * high + low) ⊎ BeginsFrame (high ∷ low ∷ rest) (256 * high + low + 2))
 
 too_few : (bytes : List ℕ) → length bytes < 2 → IsUnfinished bytes
@@ -66,7 +66,7 @@ fits_or_not n = elim (cases_lt 0 n) [
   | inl some ↦ elim (cases_lt 65535 n) [ inl more ↦ inr (λ fits. omega (arith, fits.1)) | inr most ↦ inl (omega arith, most) ]
 ]
 
-begins : (high low : ℕ) (rest : List ℕ) → Begins high low rest
+begins : (high low : ℕ) (rest : List ℕ) → BeginsSome high low rest
 begins high low rest = elim (cases_lt low 256) [
   | inr large ↦ inl (no_length high low rest large)
   | inl small ↦ elim (fits_or_not (256 * high + low)) [

@@ -4,7 +4,7 @@ use Rattle.std.specs.List.{All}
 use Rattle.rv_text.specs.Limits.{FitsAnswer}
 use Rattle.rv_text.specs.declared.answer.Answer.{Answer}
 use Rattle.rv_text.specs.declared.message.Message.{Message}
-use Rattle.rv_server.specs.Stamps.{Numbered, Stamped, added, added_by}
+use Rattle.rv_server.specs.Stamps.{Numbered, Stamped, added_entries, added_by}
 use Rattle.rv_server.specs.AnsweredFrames.{AreFor, IsNoMessage, IsWaiting, LastSays}
 use Rattle.rv_server.specs.declared.asking.FrameAnswer.{FrameAnswer}
 use Rattle.rv_server.specs.declared.asking.FrameAnswer.TheVariants.{BadText, NoMemory, Said}
@@ -31,7 +31,7 @@ pub record GetsStamps (number : ℕ) (body : List ℕ) (share : ℕ) (old : List
     (new got : List Numbered) : Type 0 where
   pub behind : new ≡ old ++ got
   pub own : AreFor number body got
-  pub adds : share' ≡ share + added got
+  pub adds : share' ≡ share + added_entries got
   pub cover : Cover share got
 
 -- what is told of the frame, by its body and the stamps that were got for it

@@ -7,7 +7,7 @@ use Rattle.rv_frame.specs.declared.sink.Sink.{Sink}
 use Rattle.rv_frame.specs.Source.{SourceGives}
 use Rattle.rv_server.specs.declared.fault.WorkFault.{WorkFault}
 use Rattle.rv_server.specs.declared.fault.WorkFault.TheVariants.{NoMemory, WriteFault}
-use Rattle.rv_server.specs.Stamps.{Numbered, added}
+use Rattle.rv_server.specs.Stamps.{Numbered, added_entries}
 use Rattle.rv_server.specs.AnsweredFrames.{AnsweredFrame, AreAnsweredFrames, IsAnsweredFrame, stamps_of}
 use Rattle.rv_server.specs.Asking.{Cover, GetsStamps}
 use Rattle.rv_server.specs.Works.{Connection, Listed}
@@ -70,5 +70,5 @@ module _ {R W : Type 0} (remaining : R → Option (List ℕ)) (contents : W → 
     pub stamps : listed.stamps ≡ stamps_of answered
     pub written : SinkTakes contents before.sink after.sink
         (row_bytes (map (λ (frame : AnsweredFrame). frame.answer) answered))
-    pub share : after.share ≡ before.share + added listed.stamps
+    pub share : after.share ≡ before.share + added_entries listed.stamps
     pub cover : Cover before.share listed.stamps

@@ -21,15 +21,15 @@ abbrev pub Numbered : Type 0
 Numbered = ℕ × Stamped
 
 -- how many entries the messages added in all
-abbrev pub added : List Numbered → ℕ
-added = sum_by (λ (stamp : Numbered). added_by stamp.1)
+abbrev pub added_entries : List Numbered → ℕ
+added_entries = sum_by (λ (stamp : Numbered). added_by stamp.1)
 
 -- at each stamp the desk had at least the entries that the seat's own messages had added by then: so many
 -- before the first stamp, and those of the stamps up to this one
 abbrev pub Covers : ℕ → List Numbered → Type 0
 Covers own stamps = (front back : List Numbered) (stamp : Numbered) → stamps ≡ front ++ stamp ∷ back
-    → own + added front + added_by stamp.1 ≤ stamp.1.length
+    → own + added_entries front + added_by stamp.1 ≤ stamp.1.length
 
 -- what the stamps show
-abbrev pub shown : {S : Type 0} → (S → Stamped) → List (ℕ × S) → List Numbered
-shown stamped stamps = map (λ stamp. (stamp.0, stamped stamp.1)) stamps
+abbrev pub shown_stamps : {S : Type 0} → (S → Stamped) → List (ℕ × S) → List Numbered
+shown_stamps stamped stamps = map (λ stamp. (stamp.0, stamped stamp.1)) stamps

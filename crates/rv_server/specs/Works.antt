@@ -11,7 +11,7 @@ use Rattle.rv_server.specs.declared.fault.WorkFault.TheVariants.{BadLength, CutF
 use Rattle.rv_server.specs.declared.fault.WorkFault.TheVariants.{TooLong, WriteFault}
 use Rattle.rv_server.specs.declared.served.Item.{Item}
 use Rattle.rv_server.specs.declared.served.Served.{Served}
-use Rattle.rv_server.specs.Stamps.{Covers, Numbered, Stamped, added, shown}
+use Rattle.rv_server.specs.Stamps.{Covers, Numbered, Stamped, added_entries, shown_stamps}
 use Rattle.rv_server.specs.AnsweredFrames.{AnsweredFrame, AreAnsweredFrames, AreFor, IsAnsweredFrame}
 use Rattle.rv_server.specs.AnsweredFrames.{stamps_of}
 
@@ -39,8 +39,9 @@ pub record Listed : Type 0 where
   pub items : List Item
   pub stamps : List Numbered
 
-abbrev pub listed : {D : Type 0} → {S : Type 0} → (S → Stamped) → Served D S → Listed
-listed stamped served = record { items = served.items.items; stamps = shown stamped served.stamps.items }
+abbrev pub listing_of : {D : Type 0} → {S : Type 0} → (S → Stamped) → Served D S → Listed
+listing_of stamped served =
+    record { items = served.items.items; stamps = shown_stamps stamped served.stamps.items }
 
 abbrev pub nothing : Listed
 nothing = record { items = []; stamps = [] }
@@ -65,7 +66,7 @@ module _ {R W : Type 0} (remaining : R → Option (List ℕ)) (contents : W → 
     pub pending_are : AreForNext (length answered) more pending
     pub written : SinkTakes contents before.sink after.sink
         (row_bytes (map (λ (frame : AnsweredFrame). frame.answer) answered) ++ broken)
-    pub share : after.share ≡ before.share + added list.stamps
+    pub share : after.share ≡ before.share + added_entries list.stamps
     pub cover : Covers before.share list.stamps
     pub few : length answered ≤ max_frames
 

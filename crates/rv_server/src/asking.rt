@@ -1,7 +1,7 @@
 //! Asks the desk for one frame, until its answer is one that doesn't wait.
 ghost use Rattle.std.specs.Prelude.{◌≡◌, IfOk, IsTrue, OnErr};
 ghost use Rattle.rv_server.specs.Asking.{GetsSome, GetsTold, Waits};
-ghost use Rattle.rv_server.specs.Stamps.{shown};
+ghost use Rattle.rv_server.specs.Stamps.{shown_stamps};
 
 use crate::desk::{Clock, Desk, Gate};
 use crate::shared::{Seat, Shared};
@@ -52,8 +52,8 @@ impl<'a, T: Wait, D: Desk, L: Ledger, C: Clock, G: Gate> Post<'a, T, D, L, C, G>
         number: u32,
         body: &[u8],
     ) -> Result<FrameAnswer, NoMemory>
-        ensures told { IfOk result (GetsTold number body.now seat.old (shown D.stamped stamps.old.items)
-            seat.new (shown D.stamped stamps.new.items)) }
+        ensures told { IfOk result (GetsTold number body.now seat.old
+            (shown_stamps D.stamped stamps.old.items) seat.new (shown_stamps D.stamped stamps.new.items)) }
         ensures refused { OnErr result ((seat.new ≡ seat.old) × (stamps.new.items ≡ stamps.old.items)) }
     {
         stamps.reserve(1)?;
@@ -81,10 +81,10 @@ impl<'a, T: Wait, D: Desk, L: Ledger, C: Clock, G: Gate> Post<'a, T, D, L, C, G>
         number: u32,
         body: &[u8],
     ) -> Result<FrameAnswer, NoMemory>
-        ensures told { IfOk result (GetsTold number body.now seat.old (shown D.stamped stamps.old.items)
-            seat.new (shown D.stamped stamps.new.items)) }
-        ensures refused { OnErr result (GetsSome number body.now seat.old (shown D.stamped stamps.old.items)
-            seat.new (shown D.stamped stamps.new.items)) }
+        ensures told { IfOk result (GetsTold number body.now seat.old
+            (shown_stamps D.stamped stamps.old.items) seat.new (shown_stamps D.stamped stamps.new.items)) }
+        ensures refused { OnErr result (GetsSome number body.now seat.old
+            (shown_stamps D.stamped stamps.old.items) seat.new (shown_stamps D.stamped stamps.new.items)) }
     {
         for _paused in 0..MAX_PAUSES {
             let told = self.ask_once(seat, stamps, number, body)?;

@@ -3,7 +3,7 @@ ghost use Rattle.std.specs.Prelude.{◌≡◌, ◌<◌, None, Some, IfErr, IfOk,
 ghost use Rattle.rv_text.specs.Bodies.{HasBodyLength};
 ghost use Rattle.rv_frame.specs.Cut.{frame_bytes};
 ghost use Rattle.rv_frame.specs.Sink.{SinkTakes, sink_failed};
-ghost use Rattle.rv_server.specs.Works.{Works, connection, listed, nothing};
+ghost use Rattle.rv_server.specs.Works.{Works, connection, listing_of, nothing};
 ghost use Rattle.rv_server.specs.Writing.{FitsTold, WritesAnswer, WritesPart};
 ghost use Rattle.rv_server.specs.Progress.{AnswersFrame, StopsAtFrame, out};
 
@@ -68,9 +68,9 @@ impl<'a, T: Wait, D: Desk, L: Ledger, C: Clock, G: Gate> Post<'a, T, D, L, C, G>
         body: &[u8],
     ) -> Result<(), WorkFault>
         ensures ok { OnOk result (AnswersFrame W.contents number body.now (out sink.old seat.old)
-            (out sink.new seat.new) (listed D.stamped served.old) (listed D.stamped served.new)) }
+            (out sink.new seat.new) (listing_of D.stamped served.old) (listing_of D.stamped served.new)) }
         ensures fault { IfErr result (StopsAtFrame W.contents number body.now (out sink.old seat.old)
-            (out sink.new seat.new) (listed D.stamped served.old) (listed D.stamped served.new)) }
+            (out sink.new seat.new) (listing_of D.stamped served.old) (listing_of D.stamped served.new)) }
     {
         served.items.reserve(1)?;
         let told = self.ask(seat, &mut served.stamps, number, body)?;
@@ -87,12 +87,12 @@ impl<'a, T: Wait, D: Desk, L: Ledger, C: Clock, G: Gate> Post<'a, T, D, L, C, G>
         sink: &mut Sink<W>,
         served: &mut Served<D>,
     ) -> Result<(), WorkFault>
-        requires { listed D.stamped served.old ≡ nothing }
+        requires { listing_of D.stamped served.old ≡ nothing }
         ensures ok { OnOk result (Works R.remaining W.contents (connection source.old sink.old seat.old)
-            (connection source.new sink.new seat.new) (listed D.stamped served.new) None) }
+            (connection source.new sink.new seat.new) (listing_of D.stamped served.new) None) }
         ensures fault { IfErr result (λ fault. Works R.remaining W.contents
             (connection source.old sink.old seat.old) (connection source.new sink.new seat.new)
-            (listed D.stamped served.new) (Some fault)) }
+            (listing_of D.stamped served.new) (Some fault)) }
     {
         let mut inlet = Inlet::new(self.alloc);
         for number in 0..MAX_FRAMES {
@@ -133,10 +133,10 @@ pub fn work<T: Wait, D: Desk, L: Ledger, C: Clock, G: Gate, R: Read, W: Write>(
 ) -> Result<Served<D>, (Served<D>, WorkFault)>
     ensures ended { IfOk result (λ served. Works R.remaining W.contents
         (connection source.old sink.old seat.old) (connection source.new sink.new seat.new)
-        (listed D.stamped served) None) }
+        (listing_of D.stamped served) None) }
     ensures stopped { IfErr result (λ stopped. Works R.remaining W.contents
         (connection source.old sink.old seat.old) (connection source.new sink.new seat.new)
-        (listed D.stamped stopped.0) (Some stopped.1)) }
+        (listing_of D.stamped stopped.0) (Some stopped.1)) }
 {
     let post = Post {
         rt,

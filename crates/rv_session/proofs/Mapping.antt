@@ -30,10 +30,10 @@ get_kept es q = get-from_entries nat_cmp_total es q ∙ find_lookup es q
 -- ---- what an insertion leaves
 
 -- the new entries have this session of the client, and of all others what the old ones have
-abbrev pub Puts : (old new : List (ℕ × Session)) (client : ℕ) (session : Session) → Type 0
-Puts old new client session = (q : ℕ) → lookup (nat_eq q) new ≡ cond (nat_eq client q) (Some session) (lookup (nat_eq q) old)
+abbrev pub PutsSession : (old new : List (ℕ × Session)) (client : ℕ) (session : Session) → Type 0
+PutsSession old new client session = (q : ℕ) → lookup (nat_eq q) new ≡ cond (nat_eq client q) (Some session) (lookup (nat_eq q) old)
 
-pub map_put : (old new : List (ℕ × Session)) (k : ℕ) (v : Session) → Puts old new k v → map_of new ≡ insert (map_of old) k v
+pub map_put : (old new : List (ℕ × Session)) (k : ℕ) (v : Session) → PutsSession old new k v → map_of new ≡ insert (map_of old) k v
 map_put old new k v puts = same_map nat_cmp_total nat_cmp-IsAntisymmetric _ _ (λ q.
     get_kept new q
     ∙ puts q
@@ -64,7 +64,7 @@ still_room : (before : Option Session) (n count : ℕ) → n ≤ 1024 → (befor
 still_room None n count within room is = let below : n < 1024 = room refl in omega (arith, below, is)
 still_room (Some v) n count within room is = omega (arith, within, is)
 
-pub put_table : (old new : List (ℕ × Session)) (k : ℕ) (v : Session) (before : Option Session) → IsTable old → Puts old new k v → before ≡ lookup (nat_eq k) old
+pub put_table : (old new : List (ℕ × Session)) (k : ℕ) (v : Session) (before : Option Session) → IsTable old → PutsSession old new k v → before ≡ lookup (nat_eq k) old
     → length new ≡ length old + (if is_some before then 0 else 1) → (get (map_of old) k ≡ None → len (map_of old) < 1024) → IsTable new
 put_table old new k v before is puts was longer room =
     let there : get (map_of old) k ≡ before = get_kept old k ∙ sym was in

@@ -16,8 +16,8 @@ use Rattle.rv_text.specs.Limits.{FitsAnswer, IsOfEpoch}
 use Rattle.rv_text.specs.Members.{whole, code_numbers, members_of}
 use Rattle.rv_text.specs.Rows.{reply_row, code_of, detail_row, answer_row}
 use Rattle.rv_text.specs.Reading.{◌>>=◌, whole_among, item_among, texts_among}
-use Rattle.rv_text.specs.Reading.{key_among, version_among, received_by, current_version_among, telling_version}
-use Rattle.rv_text.specs.Reading.{counted_among, reply_lines, reply_among, telling, refusal_lines, refusal_among, welcome_among, replied_among, waiting_among, refused_among, answer_lines, answer_among, answers}
+use Rattle.rv_text.specs.Reading.{key_among, version_among, received_by, current_version_among, refusal_telling_version}
+use Rattle.rv_text.specs.Reading.{counted_among, reply_lines, reply_among, refusal_telling, refusal_lines, refusal_among, welcome_among, replied_among, waiting_among, refused_among, answer_lines, answer_among, answers}
 use Rattle.rv_text.proofs.Sound.{answer_sound}
 use Rattle.rv_text.proofs.Steps.{step_found, last_found, Has, HasRow, whole_found, text_found, find_texts, texts_found, among_found, numbered_found, Lacks, IsReader}
 use Rattle.rv_text.proofs.Readers.{key_found, find_key, without_version, version_found, find_version}
@@ -112,7 +112,7 @@ module _ (ms : Members) where
   abbrev HasRefusal : Refusal → Type 0
   HasRefusal refusal = HasRow ms (whole (codes "code") code_numbers (code_of refusal) ∷ detail_row refusal)
 
-  told : (name : List ℕ) (refuses : ℕ → Refusal) → ((n : ℕ) → Has ms (name, number (unsigned n)) → HasRefusal (refuses n)) → (refusal : Refusal) → telling name refuses ms ≡ Some refusal → HasRefusal refusal
+  told : (name : List ℕ) (refuses : ℕ → Refusal) → ((n : ℕ) → Has ms (name, number (unsigned n)) → HasRefusal (refuses n)) → (refusal : Refusal) → refusal_telling name refuses ms ≡ Some refusal → HasRefusal refusal
   told name refuses each = step_found HasRefusal (whole_among name ms) _ (λ n is. last_found HasRefusal (refuses n) (each n (whole_found ms name n is)))
 
   other_found : (n : ℕ) (is_one is_two : Bool) → (is_one ≡ true → n ≡ 1) → (is_two ≡ true → n ≡ 2) → Has ms (codes "current", number (unsigned n))
@@ -128,7 +128,7 @@ module _ (ms : Members) where
   current_found code = step_found (λ version. HasRefusal (refusal.OtherVersion version)) (whole_among (codes "current") ms) _ (λ n is.
       other_found n (n == 1) (n == 2) (Decides-eqb n 1).0 (Decides-eqb n 2).0 (whole_found ms (codes "current") n is) code)
 
-  version_refusal_found : Has ms (codes "code", number (unsigned 12)) → (refusal : Refusal) → telling_version ms ≡ Some refusal → HasRefusal refusal
+  version_refusal_found : Has ms (codes "code", number (unsigned 12)) → (refusal : Refusal) → refusal_telling_version ms ≡ Some refusal → HasRefusal refusal
   version_refusal_found code = step_found HasRefusal (current_version_among ms) _ (λ version is.
       last_found HasRefusal (refusal.OtherVersion version) (current_found code version is))
 

@@ -9,7 +9,7 @@ use Rattle.serde_json.specs.Data.{string}
 use Rattle.serde_json.specs.View.{items_of}
 use Rattle.serde_json.specs.Written.{has_float, items_have_float}
 use Rattle.rv_text.specs.declared.call.Wait.TheVariants as wait
-use Rattle.rv_text.specs.Members.{Limit, up_to, from_one_to, Keeps, FitsItem, Member, word, whole, item_text, item_texts, wait_time, field_of, IsWithin, limited, WithinFrom, WithinEach, AllWithin}
+use Rattle.rv_text.specs.Members.{Limit, up_to, from_one_to, Keeps, FitsItem, Member, word, whole, item_text, item_texts, wait_time, field_of, IsWithin, limited_members, WithinFrom, WithinEach, AllWithin}
 use Rattle.rv_text.proofs.Objects.{AllFields}
 use Rattle.rv_text.proofs.Sizes.{items_size, field_size, fields_size, IsFlat, IsFlatMember}
 use Rattle.rv_text.proofs.Texts.{IsTextMember}
@@ -35,10 +35,10 @@ within_parts m (n ∷ row) h = h
 pub each_within : (row : List Member) → AllWithin row → Each IsWithin row
 each_within [] h = tt
 each_within (word name bytes ∷ row) h = (tt, each_within row h)
-each_within (whole name limit n ∷ row) h = let p = within_parts (whole name limit n) (limited row) h in (p.0, each_within row p.1)
-each_within (item_text name bytes ∷ row) h = let p = within_parts (item_text name bytes) (limited row) h in (p.0, each_within row p.1)
-each_within (item_texts name texts ∷ row) h = let p = within_parts (item_texts name texts) (limited row) h in (p.0, each_within row p.1)
-each_within (wait_time name waits ∷ row) h = let p = within_parts (wait_time name waits) (limited row) h in (p.0, each_within row p.1)
+each_within (whole name limit n ∷ row) h = let p = within_parts (whole name limit n) (limited_members row) h in (p.0, each_within row p.1)
+each_within (item_text name bytes ∷ row) h = let p = within_parts (item_text name bytes) (limited_members row) h in (p.0, each_within row p.1)
+each_within (item_texts name texts ∷ row) h = let p = within_parts (item_texts name texts) (limited_members row) h in (p.0, each_within row p.1)
+each_within (wait_time name waits ∷ row) h = let p = within_parts (wait_time name waits) (limited_members row) h in (p.0, each_within row p.1)
 
 -- ---- no float
 

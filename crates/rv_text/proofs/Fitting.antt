@@ -9,15 +9,15 @@ use Rattle.rv_text.specs.Rows.{message_row, answer_row}
 use Rattle.rv_text.specs.Limits.{FitsMessage, FitsAnswer}
 use Rattle.rv_text.proofs.ByKind.{Each, row_is_flat, row_size}
 use Rattle.rv_text.proofs.Sizes.{length-object}
-use Rattle.rv_text.proofs.Sound.{IsSound, message_sound, message_within, answer_sound, answer_within}
+use Rattle.rv_text.proofs.Sound.{IsSoundRow, message_sound, message_within, answer_sound, answer_within}
 
-pub body_length : (row : List Member) → IsSound row → Each IsWithin row → HasBodyLength (compact_text (object_of row))
+pub body_length : (row : List Member) → IsSoundRow row → Each IsWithin row → HasBodyLength (compact_text (object_of row))
 body_length row sound h =
     let flat = row_is_flat row sound.plain h in
     (omega arith, omega (arith, length-object (map field_of row) flat, row_size row sound.plain h, sound.room))
 
 -- and shorter than the longest
-pub shorter_length : (row : List Member) → IsSound row → Each IsWithin row → length (compact_text (object_of row)) < 65535
+pub shorter_length : (row : List Member) → IsSoundRow row → Each IsWithin row → length (compact_text (object_of row)) < 65535
 shorter_length row sound h =
     omega (arith, length-object (map field_of row) (row_is_flat row sound.plain h), row_size row sound.plain h, sound.room)
 

@@ -19,9 +19,9 @@ use Rattle.serde_json.proofs.Views.{get_member-put, get_member-put_other}
 use Rattle.rv_text.specs.Members.{Field, with_fields}
 
 -- each of these members is found
-abbrev pub HasFields : List Field → Members → Type 0
-HasFields [] ms = Unit {0}
-HasFields (f ∷ fs) ms = (get_member f.0 ms ≡ Some f.1) × HasFields fs ms
+abbrev pub HoldsFields : List Field → Members → Type 0
+HoldsFields [] ms = Unit {0}
+HoldsFields (f ∷ fs) ms = (get_member f.0 ms ≡ Some f.1) × HoldsFields fs ms
 
 -- ---- members in order
 
@@ -154,7 +154,7 @@ AreFresh-none : (fs : List Field) → AreFresh fs no_members
 AreFresh-none [] = tt
 AreFresh-none (f ∷ fs) = (refl, AreFresh-none fs)
 
-filled : (fs : List Field) (ms part : Members) → IsSorted ms → are_distinct fs ≡ true → HasFields fs ms → AreFresh fs part → IsPart part ms → members_len ms ≡ length fs + members_len part → with_fields fs part ≡ ms
+filled : (fs : List Field) (ms part : Members) → IsSorted ms → are_distinct fs ≡ true → HoldsFields fs ms → AreFresh fs part → IsPart part ms → members_len ms ≡ length fs + members_len part → with_fields fs part ≡ ms
 filled [] ms part sorted apart has fresh p size = whole_part part ms p (omega arith)
 filled (f ∷ fs) ms part sorted apart has fresh p size =
     let each = and_parts _ _ apart in
@@ -166,7 +166,7 @@ IsPart-none no_members = refl
 IsPart-none (member l e ms) = inl (IsPart-none ms)
 
 -- the object in which each field is found, and which has as many members as there are fields
-pub with_fields-found : (fs : List Field) (ms : Members) → IsSorted ms → are_distinct fs ≡ true → HasFields fs ms → members_len ms ≡ length fs → ms ≡ with_fields fs no_members
+pub with_fields-found : (fs : List Field) (ms : Members) → IsSorted ms → are_distinct fs ≡ true → HoldsFields fs ms → members_len ms ≡ length fs → ms ≡ with_fields fs no_members
 with_fields-found fs ms sorted apart has size = sym (filled fs ms no_members sorted apart has (AreFresh-none fs) (IsPart-none ms) (omega arith))
 
 kept : (k : List ℕ) (fs : List Field) (ms : Members) → is_other k fs ≡ true → get_member k (with_fields fs ms) ≡ get_member k ms
@@ -175,11 +175,11 @@ kept k (f ∷ fs) ms apart =
     let each = and_parts _ _ apart in
     kept k fs (put f.0 f.1 ms) each.1 ∙ get_member-put_other k f.0 f.1 ms (λ same. other_name k f.0 each.0 (sym same))
 
-HasFields-with_fields : (fs : List Field) (ms : Members) → are_distinct fs ≡ true → HasFields fs (with_fields fs ms)
-HasFields-with_fields [] ms apart = tt
-HasFields-with_fields (f ∷ fs) ms apart =
+HoldsFields-with_fields : (fs : List Field) (ms : Members) → are_distinct fs ≡ true → HoldsFields fs (with_fields fs ms)
+HoldsFields-with_fields [] ms apart = tt
+HoldsFields-with_fields (f ∷ fs) ms apart =
     let each = and_parts _ _ apart in
-    (kept f.0 fs (put f.0 f.1 ms) each.0 ∙ get_member-put f.0 f.1 ms, HasFields-with_fields fs (put f.0 f.1 ms) each.1)
+    (kept f.0 fs (put f.0 f.1 ms) each.0 ∙ get_member-put f.0 f.1 ms, HoldsFields-with_fields fs (put f.0 f.1 ms) each.1)
 
 members_len-with_fields_from : (fs : List Field) (ms : Members) → are_distinct fs ≡ true → AreFresh fs ms → members_len (with_fields fs ms) ≡ length fs + members_len ms
 members_len-with_fields_from [] ms apart fresh = omega arith
@@ -188,8 +188,8 @@ members_len-with_fields_from (f ∷ fs) ms apart fresh =
     members_len-with_fields_from fs (put f.0 f.1 ms) each.1 (AreFresh-put f.0 f.1 ms fs each.0 fresh.1) ∙ omega (arith, members_len-put f.0 f.1 ms fresh.0)
 
 -- the object with these fields has each of them
-pub found-with_fields : (fs : List Field) → are_distinct fs ≡ true → HasFields fs (with_fields fs no_members)
-found-with_fields fs apart = HasFields-with_fields fs no_members apart
+pub found-with_fields : (fs : List Field) → are_distinct fs ≡ true → HoldsFields fs (with_fields fs no_members)
+found-with_fields fs apart = HoldsFields-with_fields fs no_members apart
 
 -- and no more
 pub members_len-with_fields : (fs : List Field) → are_distinct fs ≡ true → members_len (with_fields fs no_members) ≡ length fs

@@ -26,7 +26,7 @@ use Rattle.rv_text.proofs.ByKind.{Each, Each-append, each_within, IsText, is_pla
 use Rattle.rv_text.proofs.Texts.{put_all}
 use Rattle.serde_json.specs.Data.{no_members}
 
-pub record IsSound (row : List Member) : Type 0 where
+pub record IsSoundRow (row : List Member) : Type 0 where
   -- no name stands twice
   pub distinct : are_distinct (map field_of row) ≡ true
   -- names and words are short and plain, and limits are below 2 ^ 64
@@ -46,7 +46,7 @@ abbrev request_row : Key → Nature → List Member
 request_row key nature = word (codes "kind") (codes "request") ∷ (key_row key ++ nature_row nature)
 
 request_sound : (key : Key) (name : List ℕ) (at : Side) (waits : Option Wait) (drains : Option ℕ) (gives : Option (List ℕ)) → is_plain_word name ≡ true
-    → IsSound (request_row key (record { word = name; side = at; wait = waits; drains = drains; item = gives }))
+    → IsSoundRow (request_row key (record { word = name; side = at; wait = waits; drains = drains; item = gives }))
 request_sound key name (side.Exchanges exchanger) None None None plain = record { distinct = refl; plain = rw plain refl; room = omega arith; in_order = refl }
 request_sound key name _ None None None plain = record { distinct = refl; plain = rw plain refl; room = omega arith; in_order = refl }
 request_sound key name (side.Exchanges exchanger) None None (Some item) plain = record { distinct = refl; plain = rw plain refl; room = omega arith; in_order = refl }
@@ -61,7 +61,7 @@ request_sound key name (side.Exchanges exchanger) waits (Some max) (Some item) p
 request_sound key name _ waits (Some max) (Some item) plain = record { distinct = refl; plain = rw plain refl; room = omega arith; in_order = refl }
 
 call_parts_sound : (name : List ℕ) (at : Side) (waits : Option Wait) (drains : Option ℕ) (gives : Option (List ℕ)) → is_plain_word name ≡ true
-    → IsSound (nature_row (record { word = name; side = at; wait = waits; drains = drains; item = gives }))
+    → IsSoundRow (nature_row (record { word = name; side = at; wait = waits; drains = drains; item = gives }))
 call_parts_sound name (side.Exchanges exchanger) None None None plain = record { distinct = refl; plain = rw plain refl; room = omega arith; in_order = refl }
 call_parts_sound name _ None None None plain = record { distinct = refl; plain = rw plain refl; room = omega arith; in_order = refl }
 call_parts_sound name (side.Exchanges exchanger) None None (Some item) plain = record { distinct = refl; plain = rw plain refl; room = omega arith; in_order = refl }
@@ -75,12 +75,12 @@ call_parts_sound name _ waits (Some max) None plain = record { distinct = refl; 
 call_parts_sound name (side.Exchanges exchanger) waits (Some max) (Some item) plain = record { distinct = refl; plain = rw plain refl; room = omega arith; in_order = refl }
 call_parts_sound name _ waits (Some max) (Some item) plain = record { distinct = refl; plain = rw plain refl; room = omega arith; in_order = refl }
 
-pub call_sound : (call : Call) → IsSound (call_row call)
+pub call_sound : (call : Call) → IsSoundRow (call_row call)
 call_sound call =
     let nature = nature_of call in
     call_parts_sound nature.word nature.side nature.wait nature.drains nature.item (call_word call)
 
-pub message_sound : (message : Message) → IsSound (message_row message)
+pub message_sound : (message : Message) → IsSoundRow (message_row message)
 message_sound (message.Hello client incarnation One) = record { distinct = refl; plain = refl; room = omega arith; in_order = refl }
 message_sound (message.Hello client incarnation Two) = record { distinct = refl; plain = refl; room = omega arith; in_order = refl }
 message_sound (message.Request key call) =
@@ -134,15 +134,15 @@ message_has_text (message.Cancel key) utf8 = (tt, (tt, (tt, (tt, (tt, tt)))))
 
 -- ---- answers
 
-reply_sound : (key : Key) (reply : Reply) → IsSound (answer_row (answer.Replied key reply))
+reply_sound : (key : Key) (reply : Reply) → IsSoundRow (answer_row (answer.Replied key reply))
 reply_sound key reply.Done = record { distinct = refl; plain = refl; room = omega arith; in_order = refl }
 reply_sound key _ = record { distinct = refl; plain = refl; room = omega arith; in_order = refl }
 
-refusal_sound : (refusal : Refusal) → IsSound (answer_row (answer.Refused refusal))
+refusal_sound : (refusal : Refusal) → IsSoundRow (answer_row (answer.Refused refusal))
 refusal_sound refusal.BadText = record { distinct = refl; plain = refl; room = omega arith; in_order = refl }
 refusal_sound _ = record { distinct = refl; plain = refl; room = omega arith; in_order = refl }
 
-pub answer_sound : (answer : Answer) → IsSound (answer_row answer)
+pub answer_sound : (answer : Answer) → IsSoundRow (answer_row answer)
 answer_sound (answer.Welcome epoch client incarnation One) = record { distinct = refl; plain = refl; room = omega arith; in_order = refl }
 answer_sound (answer.Welcome epoch client incarnation Two) = record { distinct = refl; plain = refl; room = omega arith; in_order = refl }
 answer_sound (answer.Replied key reply) = reply_sound key reply

@@ -14,8 +14,8 @@ use Rattle.serde_json.specs.Find.{get_member, as_number, as_u64, as_str, as_arra
 use Rattle.rv_text.specs.Members.{Member, Field, field_of, members_of, texts_value}
 use Rattle.rv_text.specs.Reading.{◌>>=◌, ReaderLine, under, among, numbered_among, whole_among, text_among, texts_of, texts_among}
 use Rattle.rv_text.specs.Reading.{Shape}
-use Rattle.rv_text.proofs.Objects.{HasFields}
-use Rattle.rv_text.proofs.Sound.{IsSound}
+use Rattle.rv_text.proofs.Objects.{HoldsFields}
+use Rattle.rv_text.proofs.Sound.{IsSoundRow}
 
 -- ---- the steps of a reader
 
@@ -108,7 +108,7 @@ module _ (ms : Members) where
 
   -- the members of the row are found
   abbrev pub HasRow : List Member → Type 0
-  HasRow row = HasFields (map field_of row) ms
+  HasRow row = HoldsFields (map field_of row) ms
 
   pub whole_found : (name : List ℕ) (n : ℕ) → whole_among name ms ≡ Some n → Has (name, number (unsigned n))
   whole_found name n e = number_found (get_member name ms) n e
@@ -151,11 +151,11 @@ Lacks (name ∷ names) ms = (get_member name ms ≡ None) × Lacks names ms
 
 -- what is found is what the row says; what is told by a member that isn't there is found where it lacks
 pub record IsReader (A : Type 0) (shape : Shape A) : Type 0 where
-  pub sound : (x : A) → IsSound (shape.row x)
-  pub has : (ms : Members) (x : A) → shape.found ms ≡ Some x → HasFields (map field_of (shape.row x)) ms
+  pub sound : (x : A) → IsSoundRow (shape.row x)
+  pub has : (ms : Members) (x : A) → shape.found ms ≡ Some x → HoldsFields (map field_of (shape.row x)) ms
   pub without : A → List (List ℕ)
   pub lacks : (x : A) → Lacks (without x) (members_of (shape.row x))
-  pub finds : (ms : Members) (x : A) → shape.Fits x → HasFields (map field_of (shape.row x)) ms
+  pub finds : (ms : Members) (x : A) → shape.Fits x → HoldsFields (map field_of (shape.row x)) ms
       → Lacks (without x) ms → shape.found ms ≡ Some x
 
 -- as many members as the map has entries

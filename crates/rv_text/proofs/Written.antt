@@ -9,14 +9,14 @@ use Rattle.rv_text.proofs.Fitting.{body_length}
 use Rattle.rv_text.proofs.ByKind.{Each, each_within, IsText, row_is_flat, row_is_text}
 use Rattle.rv_text.proofs.Objects.{AllMembers-with_fields}
 use Rattle.rv_text.proofs.Sizes.{IsFlatMember}
-use Rattle.rv_text.proofs.Sound.{IsSound, message_sound, message_within, message_has_text, answer_sound, answer_within, answer_has_text, call_sound, call_text}
+use Rattle.rv_text.proofs.Sound.{IsSoundRow, message_sound, message_within, message_has_text, answer_sound, answer_within, answer_has_text, call_sound, call_text}
 use Rattle.rv_text.proofs.Texts.{read-compact_text, IsTextMember, IsUtf8-compact_text}
 
 abbrev row_text : List Member → List ℕ
 row_text row = compact_text (object_of row)
 
 -- the text of a row is read back as its object
-written_row : (row : List Member) → IsSound row → Each IsWithin row → Each IsText row → HasBodyLength (row_text row) × Reads (row_text row) (object_of row)
+written_row : (row : List Member) → IsSoundRow row → Each IsWithin row → Each IsText row → HasBodyLength (row_text row) × Reads (row_text row) (object_of row)
 written_row row sound within text =
     let fields = map field_of row in
     let are_text = AllMembers-with_fields IsTextMember fields (row_is_text row sound.plain within text) in

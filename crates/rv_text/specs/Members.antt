@@ -106,13 +106,13 @@ IsWithin (wait_time name waits) = FitsWait waits
 -- ---- rows of members
 
 -- a row's members that have a limit: all but words
-abbrev pub limited : List Member → List Member
-limited [] = []
-limited (word name bytes ∷ row) = limited row
-limited (whole name limit n ∷ row) = whole name limit n ∷ limited row
-limited (item_text name bytes ∷ row) = item_text name bytes ∷ limited row
-limited (item_texts name texts ∷ row) = item_texts name texts ∷ limited row
-limited (wait_time name waits ∷ row) = wait_time name waits ∷ limited row
+abbrev pub limited_members : List Member → List Member
+limited_members [] = []
+limited_members (word name bytes ∷ row) = limited_members row
+limited_members (whole name limit n ∷ row) = whole name limit n ∷ limited_members row
+limited_members (item_text name bytes ∷ row) = item_text name bytes ∷ limited_members row
+limited_members (item_texts name texts ∷ row) = item_texts name texts ∷ limited_members row
+limited_members (wait_time name waits ∷ row) = wait_time name waits ∷ limited_members row
 
 abbrev pub WithinFrom : Member → List Member → Type 0
 WithinFrom member [] = IsWithin member
@@ -124,7 +124,7 @@ WithinEach (member ∷ row) = WithinFrom member row
 
 -- each member that has a limit is within it: a product with one factor for each of them
 abbrev pub AllWithin : List Member → Type 0
-AllWithin row = WithinEach (limited row)
+AllWithin row = WithinEach (limited_members row)
 
 -- the object with these members beside its own, each name once and in byte order, as `serde_json` keeps them
 abbrev pub with_fields : List Field → Members → Members

@@ -253,8 +253,8 @@ abbrev pub reply_among : ℕ → Members → Option Reply
 reply_among epoch members = among (codes "reply") (reply_lines epoch) members
 
 -- a refusal that tells the number of this name
-abbrev pub telling : List ℕ → (ℕ → Refusal) → Members → Option Refusal
-telling name refuses members = do
+abbrev pub refusal_telling : List ℕ → (ℕ → Refusal) → Members → Option Refusal
+refusal_telling name refuses members = do
   number ← whole_among name members
   Some (refuses number)
 
@@ -263,25 +263,25 @@ current_version_among members = do
   number ← whole_among (codes "current") members
   version_of number
 
-abbrev pub telling_version : Members → Option Refusal
-telling_version members = do
+abbrev pub refusal_telling_version : Members → Option Refusal
+refusal_telling_version members = do
   current ← current_version_among members
   Some (refusal.OtherVersion current)
 
 abbrev pub refusal_lines : List (ReaderLine ℕ Refusal)
 refusal_lines =
     (1, λ ms. Some refusal.BadText) ∷
-    (2, telling (codes "current") (λ current. refusal.OtherEpoch current)) ∷
+    (2, refusal_telling (codes "current") (λ current. refusal.OtherEpoch current)) ∷
     (3, λ ms. Some refusal.NoSession) ∷
-    (4, telling (codes "current") (λ current. refusal.OldIncarnation current)) ∷
-    (5, telling (codes "last") (λ last. refusal.OldNumber last)) ∷
+    (4, refusal_telling (codes "current") (λ current. refusal.OldIncarnation current)) ∷
+    (5, refusal_telling (codes "last") (λ last. refusal.OldNumber last)) ∷
     (6, λ ms. Some refusal.OtherCall) ∷
-    (7, telling (codes "open") (λ waiting. refusal.Busy waiting)) ∷
-    (8, telling (codes "last") (λ last. refusal.Gap last)) ∷
+    (7, refusal_telling (codes "open") (λ waiting. refusal.Busy waiting)) ∷
+    (8, refusal_telling (codes "last") (λ last. refusal.Gap last)) ∷
     (9, λ ms. Some refusal.ClientsFull) ∷
     (10, λ ms. Some refusal.EpochFull) ∷
     (11, λ ms. Some refusal.NoMemory) ∷
-    (12, telling_version) ∷
+    (12, refusal_telling_version) ∷
     []
 
 abbrev pub refusal_among : Members → Option Refusal

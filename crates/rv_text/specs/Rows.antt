@@ -25,11 +25,11 @@ use Rattle.rv_text.specs.Members as members
 abbrev identifier : List ℕ → ℕ → Member
 identifier name n = whole name members.identifiers n
 
-abbrev last : ℕ → Member
-last n = whole (codes "last") members.last_numbers n
+abbrev last_number : ℕ → Member
+last_number n = whole (codes "last") members.last_numbers n
 
-abbrev counted : List ℕ → ℕ → Member
-counted name n = whole name members.counted_numbers n
+abbrev counted_number : List ℕ → ℕ → Member
+counted_number name n = whole name members.counted_numbers n
 
 abbrev item : List ℕ → Member
 item bytes = item_text (codes "item") bytes
@@ -115,8 +115,8 @@ reply_row reply.TimedOut = word (codes "reply") (codes "timedout") ∷ []
 reply_row reply.Cancelled = word (codes "reply") (codes "cancelled") ∷ []
 reply_row (reply.Counted items consumers) =
     word (codes "reply") (codes "counted") ∷
-    counted (codes "items") items ∷
-    counted (codes "consumers") consumers ∷
+    counted_number (codes "items") items ∷
+    counted_number (codes "consumers") consumers ∷
     []
 reply_row (reply.Peeked bytes) = word (codes "reply") (codes "peeked") ∷ item bytes ∷ []
 reply_row (reply.Drained items) = word (codes "reply") (codes "drained") ∷ texts_row items
@@ -142,10 +142,10 @@ detail_row refusal.BadText = []
 detail_row (refusal.OtherEpoch current) = identifier (codes "current") current ∷ []
 detail_row refusal.NoSession = []
 detail_row (refusal.OldIncarnation current) = identifier (codes "current") current ∷ []
-detail_row (refusal.OldNumber number) = last number ∷ []
+detail_row (refusal.OldNumber number) = last_number number ∷ []
 detail_row refusal.OtherCall = []
 detail_row (refusal.Busy waiting) = identifier (codes "open") waiting ∷ []
-detail_row (refusal.Gap number) = last number ∷ []
+detail_row (refusal.Gap number) = last_number number ∷ []
 detail_row refusal.ClientsFull = []
 detail_row refusal.EpochFull = []
 detail_row refusal.NoMemory = []

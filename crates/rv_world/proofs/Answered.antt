@@ -59,7 +59,7 @@ abbrev pub AsksFor : Message → Key → Type 0
 AsksFor m key = ((call : Call) × (m ≡ Request key call)) ⊎ (m ≡ Cancel key)
 
 -- the message asks for the key, which is of this account and has the reply there
-pub record IsTold (m : Message) (b : Account) (key : Key) (told : Reply) : Type 0 where
+pub record IsToldReply (m : Message) (b : Account) (key : Key) (told : Reply) : Type 0 where
   pub asks : AsksFor m key
   pub epoch : key.epoch ≡ b.epoch
   pub has : HasReply b.entries key told
@@ -69,25 +69,25 @@ abbrev pub HasRoom : Account → ℕ → Type 0
 HasRoom a need = (refusal : Refusal) → ¬ EpochFullDue a need refusal
 
 -- for all that the message may come to need, and for the client of a hello; the cancel of a request that waits needs nothing further
-abbrev pub HasRoomFor : Account → Message → Type 0
-HasRoomFor a (Hello client incarnation version) = HasRoom a 1 × ((refusal : Refusal) → ¬ ClientsFullDue a client refusal)
-HasRoomFor a (Request key call) = HasRoom a (need_of call)
-HasRoomFor a (Cancel key) = WaitsUnder a.entries key ⊎ HasRoom a 1
+abbrev pub HasRoomToHandle : Account → Message → Type 0
+HasRoomToHandle a (Hello client incarnation version) = HasRoom a 1 × ((refusal : Refusal) → ¬ ClientsFullDue a client refusal)
+HasRoomToHandle a (Request key call) = HasRoom a (need_of call)
+HasRoomToHandle a (Cancel key) = WaitsUnder a.entries key ⊎ HasRoom a 1
 
 -- the message has its own entry, for which there was room
 pub record IsEntered (a : Account) (moment : ℕ) (m : Message) (b : Account) : Type 0 where
   pub adds : Adds a moment (act_of m) b
-  pub room : HasRoomFor a m
+  pub room : HasRoomToHandle a m
 
 -- what a step leaves: the account as it was or with the message's own entry, and what it tells
 pub record Became (a : Account) (moment : ℕ) (m : Message) (b : Account) (x : Answer) : Type 0 where
   pub account : (b ≡ a) ⊎ IsEntered a moment m b
-  pub told : (key : Key) (told : Reply) → x ≡ Replied key told → IsTold m b key told
+  pub told : (key : Key) (told : Reply) → x ≡ Replied key told → IsToldReply m b key told
 
 one_reply : (own key : Key) (is told : Reply) → Replied own is ≡ Replied key told → (own ≡ key) × (is ≡ told)
 one_reply own key is told same = (cc, cc)
 
-replies_tell : (m : Message) (b : Account) (own key : Key) (x : Answer) (told : Reply) → AsksFor m own → own.epoch ≡ b.epoch → Replies b own x → x ≡ Replied key told → IsTold m b key told
+replies_tell : (m : Message) (b : Account) (own key : Key) (x : Answer) (told : Reply) → AsksFor m own → own.epoch ≡ b.epoch → Replies b own x → x ≡ Replied key told → IsToldReply m b key told
 replies_tell m b own key x told asks epoch replies is =
     let same = one_reply own key replies.reply told (sym replies.is ∙ is) in
     record {
@@ -105,10 +105,10 @@ refused_no_reply refusal key told is = cc
 welcome_no_reply : (epoch client incarnation : ℕ) (version : Version) (key : Key) (told : Reply) → ◌≡◌ {A = Answer} (Welcome epoch client incarnation version) (Replied key told) → ⊥
 welcome_no_reply epoch client incarnation version key told is = cc
 
-welcome_tells : (m : Message) (b : Account) (epoch client incarnation : ℕ) (version : Version) (x : Answer) → x ≡ Welcome epoch client incarnation version → (key : Key) (told : Reply) → x ≡ Replied key told → IsTold m b key told
+welcome_tells : (m : Message) (b : Account) (epoch client incarnation : ℕ) (version : Version) (x : Answer) → x ≡ Welcome epoch client incarnation version → (key : Key) (told : Reply) → x ≡ Replied key told → IsToldReply m b key told
 welcome_tells m b epoch client incarnation version x is key told says = absurd (welcome_no_reply epoch client incarnation version key told (sym is ∙ says))
 
-answers_tell : (m : Message) (b : Account) (own key : Key) (x : Answer) (told : Reply) → AsksFor m own → own.epoch ≡ b.epoch → Answers b own x → x ≡ Replied key told → IsTold m b key told
+answers_tell : (m : Message) (b : Account) (own key : Key) (x : Answer) (told : Reply) → AsksFor m own → own.epoch ≡ b.epoch → Answers b own x → x ≡ Replied key told → IsToldReply m b key told
 answers_tell m b own key x told asks epoch (inl replies) is = replies_tell m b own key x told asks epoch replies is
 answers_tell m b own key x told asks epoch (inr waits) is = absurd (waiting_no_reply own key told (sym waits.1 ∙ is))
 
@@ -135,19 +135,19 @@ module _ (a b : Account) (moment : ℕ) (m : Message) (x : Answer) where
     told = λ key told is. absurd (refused_no_reply refusal key told (sym refuses.1 ∙ is));
   }
 
-  stays_became : b ≡ a → ((key : Key) (told : Reply) → x ≡ Replied key told → IsTold m a key told) → Became a moment m b x
+  stays_became : b ≡ a → ((key : Key) (told : Reply) → x ≡ Replied key told → IsToldReply m a key told) → Became a moment m b x
   stays_became same told = record {
     account = inl same;
-    told = λ key reply is. subst (λ (c : Account). IsTold m c key reply) (sym same) (told key reply is);
+    told = λ key reply is. subst (λ (c : Account). IsToldReply m c key reply) (sym same) (told key reply is);
   }
 
-  entered_became : (T : Type 0) → HasRoomFor a m → (Adds a moment (act_of m) b → T → (key : Key) (told : Reply) → x ≡ Replied key told → IsTold m b key told)
+  entered_became : (T : Type 0) → HasRoomToHandle a m → (Adds a moment (act_of m) b → T → (key : Key) (told : Reply) → x ≡ Replied key told → IsToldReply m b key told)
       → EntersOrNoMemory a moment (act_of m) b x T → Became a moment m b x
   entered_became T room told (inl refuses) = refused_became _ refuses
   entered_became T room told (inr entered) = record { account = inr (record { adds = entered.0; room = room }); told = told entered.0 entered.1 }
 
   -- where there is room for what the message needs
-  room_became : (T : Type 0) (need : ℕ) → (HasRoom a need → HasRoomFor a m) → (Adds a moment (act_of m) b → T → (key : Key) (told : Reply) → x ≡ Replied key told → IsTold m b key told)
+  room_became : (T : Type 0) (need : ℕ) → (HasRoom a need → HasRoomToHandle a m) → (Adds a moment (act_of m) b → T → (key : Key) (told : Reply) → x ≡ Replied key told → IsToldReply m b key told)
       → RefuseOr (EpochFullDue a need) (Refuses a b x) (EntersOrNoMemory a moment (act_of m) b x T) → Became a moment m b x
   room_became T need room told (inl refused) = refused_became refused.refusal refused.refuses_it
   room_became T need room told (inr enters) = entered_became T (room enters.0) told enters.1
@@ -239,7 +239,7 @@ next_legal a b now m x legal next =
       | inr entered ↦ entered.adds.legal
     ]
 
-pub next_told : (a b : Account) (now : ℕ) (m : Message) (key : Key) (told : Reply) → Next a now m b (Replied key told) → IsTold m b key told
+pub next_told : (a b : Account) (now : ℕ) (m : Message) (key : Key) (told : Reply) → Next a now m b (Replied key told) → IsToldReply m b key told
 next_told a b now m key told next = (became_at next.ticked b (step_moment a now) m (Replied key told) next.steps).told key told refl
 
 -- an arrival that is new is the message's own

@@ -28,7 +28,7 @@ use Rattle.rv_world.specs.declared.seen.Seen.{Seen}
 use Rattle.rv_world.specs.declared.seen.Seen.TheVariants as sees
 use Rattle.rv_world.specs.declared.seen.WorldRefusal.{WorldRefusal}
 use Rattle.rv_world.specs.World.{World, accounts, empty_account, process_of}
-use Rattle.rv_world.specs.Events.{WorldBecomes, Begins, ComesTo, EventComesTo, Crashes, RefusalDue, IsAsking, IsReady, IsEventRefused, OnlyChangesProcess, OpensEpoch, ReachesClient, ReachesServer, RunsBut, RunsNone, ProcessSays, Starts, Steps, Takes, ChangesProcess, sender, sends, starting}
+use Rattle.rv_world.specs.Events.{WorldBecomes, Begins, ComesTo, EventComesTo, Crashes, RefusalDue, IsAsking, IsReady, IsEventRefused, OnlyChangesProcess, OpensEpoch, ReachesClient, ReachesServer, RunsBut, RunsNone, ProcessSays, Starts, Steps, Takes, ChangesProcess, sender, with_message, start_of}
 use Rattle.rv_world.specs.Runs.{Runs}
 use Rattle.rv_world.specs.Laws.{AreSame, HadMemory, NeverLacked, OneRun, OneStep, SentNoMemory}
 use Rattle.rv_world.proofs.Growth.{runs_grow}
@@ -88,7 +88,7 @@ kept_same w clients base u v kept agree one other =
 module _ (w : World) (clients : Clients) (agree : Agree w (listed w clients)) (u v : World) (s t : Seen) where
   both_start : (client incarnation : ℕ) (version : Version) → Starts w client incarnation version u s → Starts (listed w clients) client incarnation version v t → Same u v s t
   both_start client incarnation version one other =
-      let base : World = sends (record w { started = w.started ++ (client, incarnation) ∷ [] }) (hello_of (starting client incarnation version)) in
+      let base : World = with_message (record w { started = w.started ++ (client, incarnation) ∷ [] }) (hello_of (start_of client incarnation version)) in
       (turned_same w clients base u v client _ agree one.changes other.changes one.rest other.rest, one.shown ∙ sym other.shown)
 
   same_key : (key same : Key) (client : ℕ) → process_of w client ≡ Some (Idle (Some key)) → process_of (listed w clients) client ≡ Some (Idle (Some same)) → key ≡ same
@@ -104,7 +104,7 @@ module _ (w : World) (clients : Clients) (agree : Agree w (listed w clients)) (u
       is_asking e = cc
 
   begun : (key : Key) (call : Call) → World
-  begun key call = sends (record w { asked = w.asked ++ (key, call) ∷ [] }) (request_of (record { key = key; call = call }))
+  begun key call = with_message (record w { asked = w.asked ++ (key, call) ∷ [] }) (request_of (record { key = key; call = call }))
 
   both_begin : (client : ℕ) (call : Call) → Begins w client call u s → Begins (listed w clients) client call v t → Same u v s t
   unfolding begun
@@ -117,8 +117,8 @@ module _ (w : World) (clients : Clients) (agree : Agree w (listed w clients)) (u
   both_say : (client : ℕ) (says : Asking → Message) → ProcessSays w client says u s → ProcessSays (listed w clients) client says v t → Same u v s t
   both_say client says one other =
       let asking = same_asking one.asking other.asking client one.outstanding other.outstanding in
-      let after = subst (λ (a : Asking). v ≡ sends (listed w clients) (says a)) (sym asking) other.after in
-      (kept_same w clients (sends w (says one.asking)) u v refl agree one.after after, one.shown ∙ sym other.shown)
+      let after = subst (λ (a : Asking). v ≡ with_message (listed w clients) (says a)) (sym asking) other.after in
+      (kept_same w clients (with_message w (says one.asking)) u v refl agree one.after after, one.shown ∙ sym other.shown)
 
   both_crash : (client : ℕ) → Crashes w client u s → Crashes (listed w clients) client v t → Same u v s t
   both_crash client one other = (turned_same w clients w u v client None agree one.ends.changes other.ends.changes one.ends.rest other.ends.rest, one.shown ∙ sym other.shown)

@@ -40,7 +40,7 @@ use Rattle.rv_world.specs.declared.seen.Seen.TheVariants as sees
 use Rattle.rv_world.specs.declared.seen.WorldRefusal.{WorldRefusal}
 use Rattle.rv_world.specs.declared.seen.WorldRefusal.TheVariants as refuses
 use Rattle.rv_world.specs.World.{World, accounts, empty_account, process_of}
-use Rattle.rv_world.specs.Events.{ChangesProcess, ComesTo, IsAsking, OnlyChangesProcess, ProcessSays, RefusalDue, RunsBut, RunsNone, Steps, WorldBecomes, next_answer, next_message, sender, sends, starting}
+use Rattle.rv_world.specs.Events.{ChangesProcess, ComesTo, IsAsking, OnlyChangesProcess, ProcessSays, RefusalDue, RunsBut, RunsNone, Steps, WorldBecomes, next_answer, next_message, sender, with_message, start_of}
 use Rattle.rv_world.specs.Laws.{CanStep, SentNoMemory, StepsExist}
 use Rattle.rv_world.proofs.TableWrites.{apart_from}
 
@@ -388,15 +388,15 @@ can_come (Some process) w packet =
 
 -- ---- events
 
-abbrev NothingDue : World → Event → Type 0
-NothingDue w e = (refusal : WorldRefusal) → ¬ RefusalDue w e refusal
+abbrev NoRefusalDue : World → Event → Type 0
+NoRefusalDue w e = (refusal : WorldRefusal) → ¬ RefusalDue w e refusal
 
-can_start : (w : World) (client incarnation : ℕ) (version : Version) → NothingDue w (event.Start client incarnation version) → CanStep w (event.Start client incarnation version)
+can_start : (w : World) (client incarnation : ℕ) (version : Version) → NoRefusalDue w (event.Start client incarnation version) → CanStep w (event.Start client incarnation version)
 can_start w client incarnation version nothing =
-    let v : World = sends (record w {
-      clients = (client, Some (New (starting client incarnation version))) ∷ w.clients;
+    let v : World = with_message (record w {
+      clients = (client, Some (New (start_of client incarnation version))) ∷ w.clients;
       started = w.started ++ (client, incarnation) ∷ [];
-    }) (hello_of (starting client incarnation version)) in
+    }) (hello_of (start_of client incarnation version)) in
     record {
       after = v;
       shows = next_message w;
@@ -412,10 +412,10 @@ can_start w client incarnation version nothing =
       not_sent = quiet w v refl;
     }
 
-can_begin : (w : World) (client : ℕ) (call : Call) → NothingDue w (event.Begin client call) → (process : Option Process) → process_of w client ≡ process → CanStep w (event.Begin client call)
+can_begin : (w : World) (client : ℕ) (call : Call) → NoRefusalDue w (event.Begin client call) → (process : Option Process) → process_of w client ≡ process → CanStep w (event.Begin client call)
 can_begin w client call nothing None is = absurd (nothing refuses.NoSuchClient (inl (is, refl)))
 can_begin w client call nothing (Some (Idle (Some key))) is =
-    let v : World = sends (record w {
+    let v : World = with_message (record w {
       clients = (client, Some (Outstanding (record { key = key; call = call }))) ∷ w.clients;
       asked = w.asked ++ (key, call) ∷ [];
     }) (request_of (record { key = key; call = call })) in
@@ -433,21 +433,21 @@ can_begin w client call nothing (Some (Outstanding asking)) is =
     absurd (nothing refuses.NotIdle (inr (record { process = Outstanding asking; runs = is; is_not = λ ready. let e = ready.1 in cc }, refl)))
 
 -- what a process says that is outstanding
-can_ask : (w : World) (client : ℕ) (e : Event) → NothingDue w e → ((p : WorldRefusal) → RunsNone w client p → RefusalDue w e p) → (RunsBut w client IsAsking → RefusalDue w e refuses.NotOutstanding)
+can_ask : (w : World) (client : ℕ) (e : Event) → NoRefusalDue w e → ((p : WorldRefusal) → RunsNone w client p → RefusalDue w e p) → (RunsBut w client IsAsking → RefusalDue w e refuses.NotOutstanding)
     → (says : Asking → Message) → ((v : World) (s : Seen) → ProcessSays w client says v s → Steps w e v s) → (process : Option Process) → process_of w client ≡ process → CanStep w e
 can_ask w client e nothing none but says steps None is = absurd (nothing refuses.NoSuchClient (none refuses.NoSuchClient (is, refl)))
 can_ask w client e nothing none but says steps (Some (Outstanding asking)) is = record {
-  after = sends w (says asking);
+  after = with_message w (says asking);
   shows = next_message w;
   steps = steps _ _ (record { asking = asking; outstanding = is; after = refl; shown = refl });
-  not_sent = quiet w (sends w (says asking)) refl;
+  not_sent = quiet w (with_message w (says asking)) refl;
 }
 can_ask w client e nothing none but says steps (Some (New starting)) is =
     absurd (nothing refuses.NotOutstanding (but (record { process = New starting; runs = is; is_not = λ such. let e = such.1 in cc })))
 can_ask w client e nothing none but says steps (Some (Idle next)) is =
     absurd (nothing refuses.NotOutstanding (but (record { process = Idle next; runs = is; is_not = λ such. let e = such.1 in cc })))
 
-can_crash : (w : World) (client : ℕ) → NothingDue w (event.Crash client) → (process : Option Process) → process_of w client ≡ process → CanStep w (event.Crash client)
+can_crash : (w : World) (client : ℕ) → NoRefusalDue w (event.Crash client) → (process : Option Process) → process_of w client ≡ process → CanStep w (event.Crash client)
 can_crash w client nothing None is = absurd (nothing refuses.NoSuchClient (is, refl))
 can_crash w client nothing (Some process) is = record {
   after = turned w client None;
@@ -456,7 +456,7 @@ can_crash w client nothing (Some process) is = record {
   not_sent = quiet w (turned w client None) refl;
 }
 
-can_reach_server : (w : World) (packet moment : ℕ) → Legal w.present → NothingDue w (event.ToServer packet moment) → (m : Option Message) → slice_get w.to_server packet ≡ m
+can_reach_server : (w : World) (packet moment : ℕ) → Legal w.present → NoRefusalDue w (event.ToServer packet moment) → (m : Option Message) → slice_get w.to_server packet ≡ m
     → CanStep w (event.ToServer packet moment)
 can_reach_server w packet moment legal nothing None is = absurd (nothing refuses.NoSuchPacket (is, refl))
 can_reach_server w packet moment legal nothing (Some m) is =
@@ -469,7 +469,7 @@ can_reach_server w packet moment legal nothing (Some m) is =
       not_sent = told w v (sender m) next.said refl next.ample;
     }
 
-can_reach_client : (w : World) (packet : ℕ) → NothingDue w (event.ToClient packet) → (sent : Option Packet) → slice_get w.to_client packet ≡ sent → CanStep w (event.ToClient packet)
+can_reach_client : (w : World) (packet : ℕ) → NoRefusalDue w (event.ToClient packet) → (sent : Option Packet) → slice_get w.to_client packet ≡ sent → CanStep w (event.ToClient packet)
 can_reach_client w packet nothing None is = absurd (nothing refuses.NoSuchPacket (is, refl))
 can_reach_client w packet nothing (Some sent) is =
     let can = can_come (process_of w sent.client) w sent in
@@ -480,7 +480,7 @@ can_reach_client w packet nothing (Some sent) is =
       not_sent = quiet w can.after can.is_quiet;
     }
 
-can_open : (w : World) (epoch : ℕ) → NothingDue w (event.NewEpoch epoch) → CanStep w (event.NewEpoch epoch)
+can_open : (w : World) (epoch : ℕ) → NoRefusalDue w (event.NewEpoch epoch) → CanStep w (event.NewEpoch epoch)
 can_open w epoch nothing =
     let v : World = record w { earlier = accounts w; present = empty_account epoch } in
     record {

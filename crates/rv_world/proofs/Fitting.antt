@@ -24,7 +24,7 @@ use Rattle.rv_world.specs.declared.event.Event.TheVariants as event
 use Rattle.rv_world.specs.declared.packet.Packet.{Packet}
 use Rattle.rv_world.specs.declared.seen.Seen.{Seen}
 use Rattle.rv_world.specs.World.{World, accounts, empty_account, first_world, process_of}
-use Rattle.rv_world.specs.Events.{ChangesProcess, ComesTo, IsTold, OnlyChangesProcess, ReachesServer, Steps, WorldBecomes, sender, sends, starting}
+use Rattle.rv_world.specs.Events.{ChangesProcess, ComesTo, IsTold, OnlyChangesProcess, ReachesServer, Steps, WorldBecomes, sender, with_message, start_of}
 use Rattle.rv_world.specs.Limits.{FitsEvent}
 use Rattle.rv_world.specs.Sound.{AllFits, FitsProcess}
 use Rattle.rv_world.proofs.Listing.{stands_at}
@@ -146,17 +146,17 @@ says_fit w v said fits said_fits sent same answered processes = record {
 pub step_fits : (w : World) (e : Event) (v : World) (shows : Seen) → Legal w.present → AllFits w → FitsEvent e → Steps w e v shows → AllFits v
 step_fits w (event.Start client incarnation version) v shows legal fits event_fits is =
     let processes = turned_fit w v client _ fits.processes is.changes (λ p same. subst FitsProcess (same_Some _ _ same) event_fits) in
-    subst (λ (u : World). ProcessesFit u → AllFits u) (sym is.rest) (says_fit w _ (hello_of (starting client incarnation version)) fits event_fits refl refl refl) processes
+    subst (λ (u : World). ProcessesFit u → AllFits u) (sym is.rest) (says_fit w _ (hello_of (start_of client incarnation version)) fits event_fits refl refl refl) processes
 step_fits w (event.Begin client call) v shows legal fits event_fits is =
     let asking : FitsMessage (request_of (record { key = is.key; call = call })) = (fits.processes client (Idle (Some is.key)) is.idle, event_fits.1) in
     let processes = turned_fit w v client _ fits.processes is.changes (λ p same. subst FitsProcess (same_Some _ _ same) asking) in
     subst (λ (u : World). ProcessesFit u → AllFits u) (sym is.rest) (says_fit w _ (request_of (record { key = is.key; call = call })) fits asking refl refl refl) processes
 step_fits w (event.Resend client) v shows legal fits event_fits is =
     let asking = fits.processes client (Outstanding is.asking) is.outstanding in
-    subst AllFits (sym is.after) (says_fit w (sends w (request_of is.asking)) (request_of is.asking) fits asking refl refl refl fits.processes)
+    subst AllFits (sym is.after) (says_fit w (with_message w (request_of is.asking)) (request_of is.asking) fits asking refl refl refl fits.processes)
 step_fits w (event.CancelSent client) v shows legal fits event_fits is =
     let asking = fits.processes client (Outstanding is.asking) is.outstanding in
-    subst AllFits (sym is.after) (says_fit w (sends w (cancel_of is.asking)) (cancel_of is.asking) fits asking.0 refl refl refl fits.processes)
+    subst AllFits (sym is.after) (says_fit w (with_message w (cancel_of is.asking)) (cancel_of is.asking) fits asking.0 refl refl refl fits.processes)
 step_fits w (event.Crash client) v shows legal fits event_fits is = turns_fit w client None v fits is.ends (λ p none. absurd (none-some p none))
 step_fits w (event.ToServer packet moment) v shows legal fits event_fits is = reached_fits w packet moment v shows legal fits is
 step_fits w (event.ToClient packet) v shows legal fits event_fits is =

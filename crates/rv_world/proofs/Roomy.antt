@@ -33,7 +33,7 @@ use Rattle.rv_book.proofs.Legality.{follows_itself}
 use Rattle.rv_book.proofs.Places.{get-append_cases}
 use Rattle.rv_book.proofs.Sides.{IsRequestUntil, Waiting-back, cancel_stops, due_until, tick_stops}
 use Rattle.rv_book.proofs.ToldCancelled.{is_under}
-use Rattle.rv_world.proofs.Answered.{HasRoom, HasRoomFor, act_of, became_at, next_legal}
+use Rattle.rv_world.proofs.Answered.{HasRoom, HasRoomToHandle, act_of, became_at, next_legal}
 
 -- ---- how many wait behind one entry more
 
@@ -139,14 +139,14 @@ arrival_room a e call legal says room m after =
 
 -- ---- a step
 
-message_room : (a : Account) (e : Entry) (m : Message) → FitsAccount a → Legal (with_entry a e) → e.act ≡ act_of m → HasRoomFor a m
+message_room : (a : Account) (e : Entry) (m : Message) → FitsAccount a → Legal (with_entry a e) → e.act ≡ act_of m → HasRoomToHandle a m
     → (n : ℕ) → NumberOf (Waiting (a.entries ++ e ∷ [])) n → length a.entries + 1 + n ≤ 100000
 message_room a e (Hello client incarnation version) fits legal says room = calm_room a e legal (ap call_in says) room.0
 message_room a e (Request key call) fits legal says room = arrival_room a e call legal (ap call_in says) room
 message_room a e (Cancel key) fits legal says (inl waits) = stop_room a e fits legal (ap call_in says) waits.place waits.waits (cancel_stops a.entries e key waits.place says (is_under a.entries key waits))
 message_room a e (Cancel key) fits legal says (inr room) = calm_room a e legal (ap call_in says) room
 
-message_few : (a : Account) (e : Entry) (m : Message) → FitsAccount a → e.act ≡ act_of m → HasRoomFor a m → FewClients (a.entries ++ e ∷ [])
+message_few : (a : Account) (e : Entry) (m : Message) → FitsAccount a → e.act ≡ act_of m → HasRoomToHandle a m → FewClients (a.entries ++ e ∷ [])
 message_few a e (Hello client incarnation version) fits says room = few_with a e client incarnation version (ap Some says) room.1 fits.clients
 message_few a e (Request key call) fits says room = few_still a.entries e (λ c i v own. absurd (no_hello key call c i v (ap Some (sym says) ∙ own))) fits.clients
 message_few a e (Cancel key) fits says room = few_still a.entries e (λ c i v own. absurd (cancel_no_hello key c i v (ap Some (sym says) ∙ own))) fits.clients

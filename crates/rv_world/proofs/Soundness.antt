@@ -25,11 +25,11 @@ use Rattle.rv_world.specs.declared.event.Event.TheVariants as event
 use Rattle.rv_world.specs.declared.packet.Packet.{Packet}
 use Rattle.rv_world.specs.declared.seen.Seen.{Seen}
 use Rattle.rv_world.specs.World.{World, accounts, empty_account, first_world, process_of, IsHeld, WasAsked}
-use Rattle.rv_world.specs.Events.{ChangesProcess, ComesTo, IsNewest, IsTold, OnlyChangesProcess, Steps, WorldBecomes, sender, sends, starting}
+use Rattle.rv_world.specs.Events.{ChangesProcess, ComesTo, IsNewest, IsTold, OnlyChangesProcess, Steps, WorldBecomes, sender, with_message, start_of}
 use Rattle.rv_world.specs.Headline.{HasEachKeyOnce, IsAnswered, OnlyGrows}
 use Rattle.rv_world.specs.Runs.{Runs}
 use Rattle.rv_world.specs.Sound.{IsAskedFor, IsOwed, IsProcessOf, IsSoundWorld, IsUnasked}
-use Rattle.rv_world.proofs.Answered.{IsTold as ToldTo, next_arrives, next_legal, next_told}
+use Rattle.rv_world.proofs.Answered.{IsToldReply, next_arrives, next_legal, next_told}
 use Rattle.rv_world.proofs.Epochs.{IsLegalIn, below_last, empty_legal, legal_accounts, rises_front, rises_none, rises_push, still_legal}
 use Rattle.rv_world.proofs.Growth.{step_grows}
 use Rattle.rv_world.proofs.Listing.{once_none, once_push, stands_at}
@@ -85,23 +85,23 @@ stays_sound : (w v : World) → IsSoundWorld w → v ≡ w → IsSoundWorld v
 stays_sound w v sound same = subst IsSoundWorld (sym same) sound
 
 -- a message more, of what was asked
-says_sound : (w v : World) (said : Message) → IsSoundWorld w → v ≡ sends w said → OnlyGrows w v → IsAskedFor w said → IsSoundWorld v
+says_sound : (w v : World) (said : Message) → IsSoundWorld w → v ≡ with_message w said → OnlyGrows w v → IsAskedFor w said → IsSoundWorld v
 says_sound w v said sound after grows asked =
     subst (λ (u : World). OnlyGrows w u → IsSoundWorld u) (sym after) said_sound grows
   where
-    said_sound : OnlyGrows w (sends w said) → IsSoundWorld (sends w said)
+    said_sound : OnlyGrows w (with_message w said) → IsSoundWorld (with_message w said)
     said_sound grows =
-        let u : World = sends w said in
+        let u : World = with_message w said in
         quiet_sound w u sound grows refl refl sound.no_two_replies.asked_once sound.no_two_replies.held_once (λ key told held. inl held)
         (all_own w u sound.processes refl refl refl refl) (all_asked_for w u said sound grows (still_asked_for w u said grows asked)) sound.accounted.starts
 
 -- ---- a start
 
 started_sound : (w : World) (client incarnation : ℕ) (version : Version) (clients : List (ℕ × Option Process)) → IsSoundWorld w → IsNewest w client incarnation
-    → let u : World = sends (record w { clients = clients; started = w.started ++ (client, incarnation) ∷ [] }) (hello_of (starting client incarnation version)) in
-    OnlyChangesProcess w u client (Some (New (starting client incarnation version))) → OnlyGrows w u → IsSoundWorld u
+    → let u : World = with_message (record w { clients = clients; started = w.started ++ (client, incarnation) ∷ [] }) (hello_of (start_of client incarnation version)) in
+    OnlyChangesProcess w u client (Some (New (start_of client incarnation version))) → OnlyGrows w u → IsSoundWorld u
 started_sound w client incarnation version clients sound newest only grows =
-    let u : World = sends (record w { clients = clients; started = w.started ++ (client, incarnation) ∷ [] }) (hello_of (starting client incarnation version)) in
+    let u : World = with_message (record w { clients = clients; started = w.started ++ (client, incarnation) ∷ [] }) (hello_of (start_of client incarnation version)) in
     let others : (other : ℕ) → other ≢ client → SameFor w u other = λ other differ. record {
       started_on = λ n there. Contains-append_left w.started ((client, incarnation) ∷ []) (other, n) there;
       started_back = λ n there. elim (Contains-push_cases w.started (client, incarnation) (other, n) there) [ inl before ↦ before | inr new ↦ absurd (differ (sym (ap (λ p. p.0) new))) ];
@@ -109,7 +109,7 @@ started_sound w client incarnation version clients sound newest only grows =
       asked_back = λ key call own there. there;
       held_back = λ key told own there. there;
     } in
-    let own : IsProcessOf u client (New (starting client incarnation version)) = record {
+    let own : IsProcessOf u client (New (start_of client incarnation version)) = record {
       client_is = refl;
       last_start = record {
         there = Contains-push w.started (client, incarnation);
@@ -125,16 +125,16 @@ started_sound w client incarnation version clients sound newest only grows =
     } in
     quiet_sound w u sound grows refl refl sound.no_two_replies.asked_once sound.no_two_replies.held_once (λ key told held. inl held)
     (turned_own w u client _ sound.processes only others (λ p is. subst (IsProcessOf u client) (same_Some _ _ is) own))
-    (all_asked_for w u (hello_of (starting client incarnation version)) sound grows tt)
+    (all_asked_for w u (hello_of (start_of client incarnation version)) sound grows tt)
     (λ key call asked. Contains-append_left w.started ((client, incarnation) ∷ []) (key.client, key.incarnation) (sound.accounted.starts key call asked))
 
 -- ---- a call
 
 begun_sound : (w : World) (client : ℕ) (key : Key) (call : Call) (clients : List (ℕ × Option Process)) → IsSoundWorld w → process_of w client ≡ Some (Idle (Some key))
-    → let u : World = sends (record w { clients = clients; asked = w.asked ++ (key, call) ∷ [] }) (request_of (record { key = key; call = call })) in
+    → let u : World = with_message (record w { clients = clients; asked = w.asked ++ (key, call) ∷ [] }) (request_of (record { key = key; call = call })) in
     OnlyChangesProcess w u client (Some (Outstanding (record { key = key; call = call }))) → OnlyGrows w u → IsSoundWorld u
 begun_sound w client key call clients sound idle only grows =
-    let u : World = sends (record w { clients = clients; asked = w.asked ++ (key, call) ∷ [] }) (request_of (record { key = key; call = call })) in
+    let u : World = with_message (record w { clients = clients; asked = w.asked ++ (key, call) ∷ [] }) (request_of (record { key = key; call = call })) in
     let unasked : IsUnasked w client key = sound.processes client (Idle (Some key)) idle in
     let fresh : (other : Call) → WasAsked w key other → ⊥ = λ other asked. let less : key.number < key.number = (unasked.below key other asked (refl, refl)).1 in omega arith in
     let one = sound.no_two_replies in
@@ -263,7 +263,7 @@ comes_sound w sent (Some process) v shows sound grows there runs comes =
 refused_no_reply : (key : Key) (told : Reply) → ◌≡◌ {A = Answer} (answers.Refused refusals.NoMemory) (answers.Replied key told) → ⊥
 refused_no_reply key told is = cc
 
-asked_by : (w : World) (m : Message) (b : Account) (key : Key) (told : Reply) → IsAskedFor w m → ToldTo m b key told → (call : Call) × WasAsked w key call
+asked_by : (w : World) (m : Message) (b : Account) (key : Key) (told : Reply) → IsAskedFor w m → IsToldReply m b key told → (call : Call) × WasAsked w key call
 asked_by w m b key told asked is = elim is.asks [
   | inl request ↦ (request.0, subst (IsAskedFor w) request.1 asked)
   | inr cancel ↦ subst (IsAskedFor w) cancel asked
@@ -364,7 +364,7 @@ first_sound epoch =
 
 pub step_sound : (w : World) (e : Event) (v : World) (shows : Seen) → IsSoundWorld w → Steps w e v shows → IsSoundWorld v
 step_sound w (event.Start client incarnation version) v shows sound is =
-    subst (λ (u : World). OnlyChangesProcess w u client (Some (New (starting client incarnation version))) → OnlyGrows w u → IsSoundWorld u) (sym is.rest)
+    subst (λ (u : World). OnlyChangesProcess w u client (Some (New (start_of client incarnation version))) → OnlyGrows w u → IsSoundWorld u) (sym is.rest)
     (started_sound w client incarnation version v.clients sound is.newest) is.changes (step_grows w (event.Start client incarnation version) v shows is)
 step_sound w (event.Begin client call) v shows sound is =
     subst (λ (u : World). OnlyChangesProcess w u client (Some (Outstanding (record { key = is.key; call = call }))) → OnlyGrows w u → IsSoundWorld u) (sym is.rest)

@@ -9,7 +9,7 @@ use Rattle.std.proofs.lemmas.Map.Steps.{set_value_same}
 use Rattle.rv_text.specs.declared.message.Key.{Key}
 use Rattle.rv_text.specs.declared.call.Call.{Call}
 use Rattle.rv_client.specs.Process.{Process, Asking}
-use Rattle.rv_world.specs.Processes.{asking}
+use Rattle.rv_world.specs.Processes.{request_under}
 use Rattle.rv_world.specs.World.{World}
 use Rattle.rv_world.specs.Events.{OnlyChangesProcess}
 use Rattle.rv_world.specs.Table.{ClientTable, running_of, with_process, StandsInTable}
@@ -123,8 +123,8 @@ only_turns w v old new client process before after is stands =
 
 -- ---- requests
 
-pub same_asking : (one : Asking) (key : Key) (call : Call) → one.key ≡ key → one.call ≡ call → one ≡ asking key call
-same_asking one key call keys calls = ap (λ (k : Key). asking k one.call) keys ∙ ap (λ (c : Call). asking key c) calls
+pub same_asking : (one : Asking) (key : Key) (call : Call) → one.key ≡ key → one.call ≡ call → one ≡ request_under key call
+same_asking one key call keys calls = ap (λ (k : Key). request_under k one.call) keys ∙ ap (λ (c : Call). request_under key c) calls
 
 -- ---- made of parts
 

@@ -38,8 +38,8 @@ pub record ChangesProcess (w : World) (client : ℕ) (process : Option Process) 
   pub rest : v ≡ record w { clients = v.clients }
 
 -- the world in which one message more was sent
-abbrev pub sends : World → Message → World
-sends w said = record w { to_server = w.to_server ++ said ∷ [] }
+abbrev pub with_message : World → Message → World
+with_message w said = record w { to_server = w.to_server ++ said ∷ [] }
 
 -- the number of the message that is sent next, and of the answer
 abbrev pub next_message : World → Seen
@@ -51,8 +51,8 @@ next_answer w = sees.Answered (length w.to_client)
 -- ---- the clients' events
 
 -- a start in this incarnation, with this version
-abbrev pub starting : ℕ → ℕ → Version → Starting
-starting client incarnation version =
+abbrev pub start_of : ℕ → ℕ → Version → Starting
+start_of client incarnation version =
     record { client = client; incarnation = incarnation; version = version }
 
 -- the incarnation is greater than every one that the client was started in
@@ -63,11 +63,11 @@ IsNewest w client incarnation = (earlier : ℕ) → Contains w.started (client, 
 pub record Starts (w : World) (client incarnation : ℕ) (version : Version) (v : World) (shows : Seen)
     : Type 0 where
   pub newest : IsNewest w client incarnation
-  pub changes : OnlyChangesProcess w v client (Some (New (starting client incarnation version)))
-  pub rest : v ≡ sends (record w {
+  pub changes : OnlyChangesProcess w v client (Some (New (start_of client incarnation version)))
+  pub rest : v ≡ with_message (record w {
     clients = v.clients;
     started = w.started ++ (client, incarnation) ∷ [];
-  }) (hello_of (starting client incarnation version))
+  }) (hello_of (start_of client incarnation version))
   pub shown : shows ≡ next_message w
 
 -- an idle process begins the call with its next key, and its request is sent
@@ -75,7 +75,7 @@ pub record Begins (w : World) (client : ℕ) (call : Call) (v : World) (shows : 
   pub key : Key
   pub idle : process_of w client ≡ Some (Idle (Some key))
   pub changes : OnlyChangesProcess w v client (Some (Outstanding (record { key = key; call = call })))
-  pub rest : v ≡ sends (record w {
+  pub rest : v ≡ with_message (record w {
     clients = v.clients;
     asked = w.asked ++ (key, call) ∷ [];
   }) (request_of (record { key = key; call = call }))
@@ -86,7 +86,7 @@ pub record ProcessSays (w : World) (client : ℕ) (says : Asking → Message) (v
     : Type 0 where
   pub asking : Asking
   pub outstanding : process_of w client ≡ Some (Outstanding asking)
-  pub after : v ≡ sends w (says asking)
+  pub after : v ≡ with_message w (says asking)
   pub shown : shows ≡ next_message w
 
 -- a process ends

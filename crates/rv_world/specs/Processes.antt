@@ -20,8 +20,8 @@ process_in (running.Idle next) = process.Idle next
 process_in (running.Outstanding asking) = process.Outstanding asking
 
 -- the request of a call under a key
-abbrev pub asking : Key → Call → process.Asking
-asking key call = record { key = key; call = call }
+abbrev pub request_under : Key → Call → process.Asking
+request_under key call = record { key = key; call = call }
 
 abbrev pub IsIdle : Process → Type 0
 IsIdle process = (next : Option Key) × (process ≡ Idle next)

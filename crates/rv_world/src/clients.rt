@@ -40,7 +40,7 @@ impl Clients {
     ghost use Rattle.rv_world.specs.Table.{EntersClient, StandsInTable, newest_of, running_of, with_process};
     ghost use Rattle.rv_world.specs.Table.{IsAskingIn, IsReadyIn, SaysIn};
     ghost use Rattle.rv_client.specs.Process.{cancel_of, request_of};
-    ghost use Rattle.rv_world.specs.Processes.{asking};
+    ghost use Rattle.rv_world.specs.Processes.{request_under};
 
     // The table with no client. It takes no memory yet.
     pub(crate) fn empty(alloc: Global) -> Clients
@@ -84,7 +84,11 @@ impl Clients {
     }
 
     // Replaces the process of a client that stands in the table, and gives back what ran.
-    pub(crate) fn turn(&mut self, client: u64, process: Option<Running>) -> Option<Running>
+    pub(crate) fn replace_process(
+        &mut self,
+        client: u64,
+        process: Option<Running>,
+    ) -> Option<Running>
         requires { StandsInTable self.old client }
         ensures before { option_map process_in result ≡ running_of self.old client }
         ensures after { self.new ≡ with_process self.old client (option_map process_in process) }
@@ -101,7 +105,7 @@ impl Clients {
         ensures request { running_of self.old client ≡ Some (process.Outstanding result) }
         ensures after { self.new ≡ with_process self.old client None }
     {
-        match self.turn(client, None) {
+        match self.replace_process(client, None) {
             Some(running) => running.outstanding(),
             None => unreachable!(),
         }
@@ -112,7 +116,7 @@ impl Clients {
         requires { StandsInTable self.old client }
         ensures { self.new ≡ with_process self.old client (Some (process.Outstanding outstanding)) }
     {
-        self.turn(client, Some(Running::Outstanding(outstanding.park())));
+        self.replace_process(client, Some(Running::Outstanding(outstanding.park())));
     }
 
     // The message of the request that a client has begun. It fails only where memory was refused.
@@ -143,9 +147,9 @@ impl Clients {
     pub(crate) fn begin(&mut self, client: u64, call: Call)
         requires { IsReadyIn self.old client }
         ensures { (key : Key) → running_of self.old client ≡ Some (process.Idle (Some key))
-            → self.new ≡ with_process self.old client (Some (process.Outstanding (asking key call))) }
+            → self.new ≡ with_process self.old client (Some (process.Outstanding (request_under key call))) }
     {
-        let outstanding = match self.turn(client, None) {
+        let outstanding = match self.replace_process(client, None) {
             Some(running) => running.idle().begin(call),
             None => unreachable!(),
         };

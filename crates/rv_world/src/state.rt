@@ -229,7 +229,7 @@ impl WorldState {
         ensures newest { KnowsNewest self.new }
     {
         self.process(client)?;
-        self.clients.turn(client, None);
+        self.clients.replace_process(client, None);
         Ok(Seen::Crashed)
     }
 
@@ -287,7 +287,7 @@ impl WorldState {
         ensures newest { self.new.clients.newest ≡ self.old.clients.newest }
         ensures sent { self.new.to_server ≡ self.old.to_server }
     {
-        let told = match self.clients.turn(client, None) {
+        let told = match self.clients.replace_process(client, None) {
             Some(running) => running.hear(answer),
             None => unreachable!(),
         };
@@ -296,7 +296,7 @@ impl WorldState {
             held,
             seen,
         } = told;
-        self.clients.turn(client, process);
+        self.clients.replace_process(client, process);
         if let Some(taken) = held {
             self.held.push_reserved(taken);
         }

@@ -4,7 +4,7 @@ use Rattle.std.proofs.lemmas.Bool.{cases_lt, false≢true}
 use Rattle.std.proofs.lemmas.Option.{get_or_from_slice_get}
 use Rattle.rv_book.proofs.Places.{within}
 use Rattle.rv_audit.specs.Breaking.{BreaksBehind}
-use Rattle.rv_audit.specs.Passed.{passed}
+use Rattle.rv_audit.specs.Passed.{passed_account}
 use Rattle.rv_audit.specs.declared.rule.Rule.TheVariants.{M1}
 use Rattle.rv_audit.proofs.auditing.first_of.Goals as goal
 
@@ -15,7 +15,7 @@ loop-rule-preserved c = λ r other less there. elim (cases_lt r c.loop-rule.rule
       let at : r ≡ c.loop-rule.rule-index = omega arith in
       let own = get_or_from_slice_get c.args.rules.now r other M1 there in
       let same = sym (ap (λ n. get_or c.args.rules.now n M1) at) ∙ own in
-      false≢true (sym c.if-breaks.false ∙ c.breaks.ensures.1 (subst (λ rule. BreaksBehind rule (passed c.args.front.now) c.args.entry.now) (sym same) broken))
+      false≢true (sym c.if-breaks.false ∙ c.breaks.ensures.1 (subst (λ rule. BreaksBehind rule (passed_account c.args.front.now) c.args.entry.now) (sym same) broken))
 ]
 
 pub returns-clause-none : goal.returns-clause-none

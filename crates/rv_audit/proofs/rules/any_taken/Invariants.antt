@@ -1,6 +1,6 @@
 use Rattle.rv_audit.specs.Breaking.{IsNoFreePlace}
-use Rattle.rv_audit.specs.Passed.{NoneBefore, passed}
+use Rattle.rv_audit.specs.Passed.{NoneBefore, passed_account}
 use Rattle.rv_audit.proofs.rules.any_taken.Given as goal
 
 abbrev pub invariant-loop-place : goal.invariant-loop-place
-invariant-loop-place l = NoneBefore (IsNoFreePlace (passed l.front).entries) l.places l.place-index
+invariant-loop-place l = NoneBefore (IsNoFreePlace (passed_account l.front).entries) l.places l.place-index

@@ -3,12 +3,12 @@ use Rattle.std.specs.Bool.{IsTrue}
 use Rattle.std.proofs.lemmas.Bool.{false≢true}
 use Rattle.rv_audit.proofs.Telling.{Iff, who_meets_not}
 use Rattle.rv_audit.specs.Breaking.{NamesTaken}
-use Rattle.rv_audit.specs.Passed.{passed}
+use Rattle.rv_audit.specs.Passed.{passed_account}
 use Rattle.rv_audit.proofs.rules.names_taken.Goals as goal
 
 pub returns-else-meets : goal.returns-else-meets
 returns-else-meets c =
-    let es = (passed c.args.front.now).entries in
+    let es = (passed_account c.args.front.now).entries in
     let any = ap not (c.is_empty.ensures ∙ ap (λ (places : List ℕ). nat_eq (length places) 0) c.as_slice-partners.ensures) in
     subst (λ b. Iff (IsTrue b) (NamesTaken es c.args.entry.now)) (sym any)
     (who_meets_not es c.args.entry.now (λ meets. false≢true (sym c.if-meets.false ∙ c.meets.ensures.1 meets)))

@@ -12,8 +12,8 @@ returns-clause-comes c =
       process = _;
       runs = runs;
       ends = record {
-        changes = only_turns (world_of old) (world_of (record old { clients = c.turn.new.self })) old.clients c.turn.new.self c.args.client None refl refl
-            c.turn.ensures.after (runs_stands old.clients c.args.client _ runs);
+        changes = only_turns (world_of old) (world_of (record old { clients = c.replace_process.new.self })) old.clients c.replace_process.new.self c.args.client None refl refl
+            c.replace_process.ensures.after (runs_stands old.clients c.args.client _ runs);
         rest = refl;
       };
       shown = refl;

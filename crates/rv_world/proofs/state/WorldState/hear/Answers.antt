@@ -11,22 +11,22 @@ use Rattle.rv_world.proofs.Hearing.{held_after, heard}
 use Rattle.rv_world.proofs.TableWrites.{taken_stands, turned_twice}
 use Rattle.rv_world.proofs.state.WorldState.hear.Goals as goal
 
-pub turn-requires-2 : goal.turn-requires-2
-turn-requires-2 c = taken_stands c.args.self.now.clients c.args.client (sym c.in-Some.ensures.before) c.turn.ensures.after
+pub replace_process-requires-2 : goal.replace_process-requires-2
+replace_process-requires-2 c = taken_stands c.args.self.now.clients c.args.client (sym c.in-Some.ensures.before) c.replace_process.ensures.after
 
 pub returns-in-Some-held-clause-heard : goal.returns-in-Some-held-clause-heard
 returns-in-Some-held-clause-heard c = λ running runs.
     let old = c.args.self.now in
     let told = c.hear-told.result in
     let now : process_in c.in-Some.running ≡ running = same_Some _ _ (c.in-Some.ensures.before ∙ runs) in
-    let turned : c.turn-2.new.self ≡ with_process old.clients c.args.client (option_map process_in told.process) =
-    c.turn-2.ensures.after ∙ ap (λ (t : ClientTable). with_process t c.args.client (option_map process_in told.process)) c.turn.ensures.after
+    let turned : c.replace_process-2.new.self ≡ with_process old.clients c.args.client (option_map process_in told.process) =
+    c.replace_process-2.ensures.after ∙ ap (λ (t : ClientTable). with_process t c.args.client (option_map process_in told.process)) c.replace_process.ensures.after
     ∙ turned_twice old.clients c.args.client None _ in
     let held : c.push_reserved.new.self.items ≡ held_after old.held.items told.held =
     c.push_reserved.ensures.items ∙ ap (λ (h : Option (Key × Reply)). held_after old.held.items h) (sym c.in-Some-held.is) in
-    let v = world_of (record old { clients = c.turn-2.new.self; held = c.push_reserved.new.self }) in
-    heard (world_of old) v old.clients c.turn-2.new.self c.args.client c.args.answer told refl refl turned
-    (ap (λ (l : List (Key × Reply)). record (world_of old) { clients = c.turn-2.new.self.processes; held = l }) held)
+    let v = world_of (record old { clients = c.replace_process-2.new.self; held = c.push_reserved.new.self }) in
+    heard (world_of old) v old.clients c.replace_process-2.new.self c.args.client c.args.answer told refl refl turned
+    (ap (λ (l : List (Key × Reply)). record (world_of old) { clients = c.replace_process-2.new.self.processes; held = l }) held)
     running runs (subst (λ (p : Process). HearsAs p c.args.answer told) now c.hear-told.ensures)
 
 pub returns-in_default-clause-heard : goal.returns-in_default-clause-heard
@@ -34,10 +34,10 @@ returns-in_default-clause-heard c = λ running runs.
     let old = c.args.self.now in
     let told = c.hear-told.result in
     let now : process_in c.in-Some.running ≡ running = same_Some _ _ (c.in-Some.ensures.before ∙ runs) in
-    let turned : c.turn-2.new.self ≡ with_process old.clients c.args.client (option_map process_in told.process) =
-    c.turn-2.ensures.after ∙ ap (λ (t : ClientTable). with_process t c.args.client (option_map process_in told.process)) c.turn.ensures.after
+    let turned : c.replace_process-2.new.self ≡ with_process old.clients c.args.client (option_map process_in told.process) =
+    c.replace_process-2.ensures.after ∙ ap (λ (t : ClientTable). with_process t c.args.client (option_map process_in told.process)) c.replace_process.ensures.after
     ∙ turned_twice old.clients c.args.client None _ in
-    let v = world_of (record old { clients = c.turn-2.new.self }) in
-    heard (world_of old) v old.clients c.turn-2.new.self c.args.client c.args.answer told refl refl turned
-    (ap (λ (h : Option (Key × Reply)). record (world_of old) { clients = c.turn-2.new.self.processes; held = held_after old.held.items h }) (sym c.in_default.is))
+    let v = world_of (record old { clients = c.replace_process-2.new.self }) in
+    heard (world_of old) v old.clients c.replace_process-2.new.self c.args.client c.args.answer told refl refl turned
+    (ap (λ (h : Option (Key × Reply)). record (world_of old) { clients = c.replace_process-2.new.self.processes; held = held_after old.held.items h }) (sym c.in_default.is))
     running runs (subst (λ (p : Process). HearsAs p c.args.answer told) now c.hear-told.ensures)

@@ -4,7 +4,7 @@ use Rattle.rv_text.specs.declared.message.Message.{Message}
 use Rattle.rv_world.specs.declared.event.Event.TheVariants as event
 use Rattle.rv_world.specs.declared.seen.Seen.TheVariants as sees
 use Rattle.rv_client.specs.Process.{New, hello_of}
-use Rattle.rv_world.specs.Events.{starting}
+use Rattle.rv_world.specs.Events.{start_of}
 use Rattle.rv_world.specs.Table.{ClientTable, AreNewest}
 use Rattle.rv_world.specs.Parts.{started_by, world_of}
 use Rattle.rv_world.proofs.Refused.{lacks_memory, start_due}
@@ -31,7 +31,7 @@ pub returns-clause-comes : goal.returns-clause-comes
 returns-clause-comes c =
     let items = c.in_ok-reserve.ensures.items in
     let enters = c.in_ok-enter.ensures.ok in
-    let says = starting c.args.client c.args.incarnation c.args.version in
+    let says = start_of c.args.client c.args.incarnation c.args.version in
     let sent = sent_after Message _ _ _ _ (hello_of says) c.send.ensures.sent items (c.message-hello.ensures ∙ ap (λ s. hello_of s) c.start-new.ensures) in
     record {
       newest = c.in_ok-must_be_newest.ensures.ok;
@@ -44,7 +44,7 @@ returns-clause-comes c =
 
 pub returns-clause-newest : goal.returns-clause-newest
 returns-clause-newest c =
-    let says = starting c.args.client c.args.incarnation c.args.version in
+    let says = start_of c.args.client c.args.incarnation c.args.version in
     let sent = sent_after Message _ _ _ _ (hello_of says) c.send.ensures.sent c.in_ok-reserve.ensures.items (c.message-hello.ensures ∙ ap (λ s. hello_of s) c.start-new.ensures) in
     subst (λ (l : List (ℕ × ℕ)). AreNewest c.enter.new.self.newest l)
     (sym (ap (λ (l : List Message). started_by l) sent ∙ sent_hello c.args.self.now.to_server.items (hello_of says) (c.args.client, c.args.incarnation) refl))

@@ -6,7 +6,7 @@ use Rattle.rv_world.specs.Table.{ClientTable, running_of, with_process, StandsIn
 use Rattle.rv_world.specs.declared.clients.Client.{Client}
 use Rattle.rv_world.specs.declared.process.Running.{Running}
 use Rattle.rv_world.proofs.Tables.{table_of, kept_process, running_found, stands_found, table_set}
-use Rattle.rv_world.proofs.clients.Clients.turn.Goals as goal
+use Rattle.rv_world.proofs.clients.Clients.replace_process.Goals as goal
 
 pub unreachable-requires : goal.unreachable-requires
 unreachable-requires c =
