@@ -1,4 +1,4 @@
-"""Builds the package of rendezvous.py as pip asks for it (PEP 517), with the standard library alone: no network
+"""Builds the package `rendezvous` as pip asks for it (PEP 517), with the standard library alone: no network
 and no other tool is needed.
 """
 import base64
@@ -8,11 +8,11 @@ import pathlib
 import tarfile
 import zipfile
 
-NAME, VERSION = "rv_rendezvous", "2.0.0"
+NAME, VERSION = "rv_rendezvous", "3.0.0"
 SUMMARY = "A client of the rendezvous server rv: hand-overs that are told, and swaps, between processes"
 FOLDER = pathlib.Path(__file__).resolve().parent
-MODULE = "rendezvous.py"
-SOURCES = [MODULE, "backend.py", "pyproject.toml", "README.md"]
+PACKAGE = FOLDER / "src/rendezvous"
+BESIDE = ["backend.py", "pyproject.toml", "README.md"]
 # The least moment that a zip file can tell: so the same sources make the same bytes.
 MOMENT = (1980, 1, 1, 0, 0, 0)
 WHEEL = "Wheel-Version: 1.0\nGenerator: rendezvous\nRoot-Is-Purelib: true\nTag: py3-none-any\n"
@@ -26,6 +26,11 @@ def metadata():
     return f"{lines}\n{(FOLDER / 'README.md').read_text(encoding='utf-8')}"
 
 
+def modules():
+    """The files of the package, whose names begin by its own."""
+    return {f"rendezvous/{path.name}": path.read_bytes() for path in sorted([*PACKAGE.glob("*.py"), PACKAGE / "py.typed"])}
+
+
 def recorded(name, data):
     """A file's line in the record of what is installed."""
     digest = base64.urlsafe_b64encode(hashlib.sha256(data).digest()).rstrip(b"=").decode()
@@ -35,8 +40,7 @@ def recorded(name, data):
 def build_wheel(wheel_directory, config_settings=None, metadata_directory=None):
     """Writes the wheel; its file's name."""
     about = f"{NAME}-{VERSION}.dist-info"
-    files = {MODULE: (FOLDER / MODULE).read_bytes(), f"{about}/METADATA": metadata().encode(),
-             f"{about}/WHEEL": WHEEL.encode()}
+    files = {**modules(), f"{about}/METADATA": metadata().encode(), f"{about}/WHEEL": WHEEL.encode()}
     record = "".join(recorded(*file) for file in files.items()) + f"{about}/RECORD,,\n"
     name = f"{NAME}-{VERSION}-py3-none-any.whl"
     with zipfile.ZipFile(pathlib.Path(wheel_directory) / name, "w", zipfile.ZIP_DEFLATED) as wheel:
@@ -48,7 +52,8 @@ def build_wheel(wheel_directory, config_settings=None, metadata_directory=None):
 def build_sdist(sdist_directory, config_settings=None):
     """Writes the sources, packed; the file's name."""
     name = f"{NAME}-{VERSION}"
-    files = {source: (FOLDER / source).read_bytes() for source in SOURCES}
+    files = {**{f"src/{path}": data for path, data in modules().items()},
+             **{name: (FOLDER / name).read_bytes() for name in BESIDE}}
     with tarfile.open(pathlib.Path(sdist_directory) / f"{name}.tar.gz", "w:gz") as packed:
         for path, data in {**files, "PKG-INFO": metadata().encode()}.items():
             told = tarfile.TarInfo(f"{name}/{path}")

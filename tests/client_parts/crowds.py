@@ -10,6 +10,7 @@ from collections import OrderedDict
 
 import rendezvous as rv
 from client_parts import java
+from client_parts.outcomes import answer_members
 from client_parts.proxy import Proxy
 from model_parts.account import Cancel, Hello, Key, Tick, reply, stays
 from serve_parts.accounts import account_fault
@@ -56,14 +57,23 @@ class Client:
                 threading.Thread(target=self.give_up, args=(over, self.chance.random() * 0.08),
                                  daemon=True).start()
             try:
-                ask()
-            except (rv.Cancelled, rv.TimedOut):
-                pass
+                outcome = self.outcome(ask)
             finally:
                 over.set()
-            self.told.add(call, self.session.reply)
+            if outcome is not None:
+                self.told.add(call, answer_members(outcome))
             time.sleep(self.chance.random() * 0.01)
         self.session.close()
+
+    def outcome(self, ask):
+        """What a call came to; None where nothing was asked, for its time was over or it was given up before."""
+        try:
+            ask()
+        except (rv.Cancelled, rv.TimedOut, rv.NotAsked) as ended:
+            return self.session.last if ended.key else None
+        except rv.Unsettled:
+            return self.session.again()
+        return self.session.last
 
     def give_up(self, over, pause):
         """Cancels the running call a little later, unless it is over."""

@@ -37,7 +37,8 @@ def the_longest_answer(program):
                 demand(one.drain(3, 16) + one.drain(3, 16) == [LONGEST] * 20, "Python drained others")
             else:
                 in_java(server.port)
-            demand(one.count(3) == rv.Counts(0, 0), "something is left")
+            left = one.count(3)
+            demand((left.items, left.consumers) == (0, 0), "something is left")
         judged(server)
 
 

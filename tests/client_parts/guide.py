@@ -43,7 +43,7 @@ def the_guide(program):
         (folder / "bin").mkdir()
         (folder / "bin/rv").symlink_to(program)
         path = f"{folder / 'bin'}:{os.environ['PATH']}"
-        environment = {**os.environ, "PATH": path, "PYTHONPATH": f"{folder}/clients/python"}
+        environment = {**os.environ, "PATH": path, "PYTHONPATH": f"{folder}/clients/python/src"}
         environment["PYTHONDONTWRITEBYTECODE"] = "1"
         typed = [(text.replace(PORT, port), shown) for info, text, shown in blocks()
                  if "hand" not in info and not ("java" in info and lacking)]

@@ -8,7 +8,7 @@ import subprocess
 import sys
 import tempfile
 
-from client_parts.scripted import Scripted, reply, welcome
+from scripted import Scripted, reply, welcome
 from serve_parts.wire import demand
 
 ROOT = pathlib.Path(__file__).resolve().parent.parent.parent
@@ -46,7 +46,7 @@ def pip_installs_it():
         python = folder / "env/bin/python"
         pip = [python, "-m", "pip", "--disable-pip-version-check"]
         ran(*pip, "install", "--no-index", folder / "sources")
-        demand("Version: 2.0.0\n" in ran(*pip, "show", "rv-rendezvous"), "pip shows no version")
+        demand("Version: 3.0.0\n" in ran(*pip, "show", "rv-rendezvous"), "pip shows no version")
         demand(ran(*pip, "check") == "No broken requirements found.\n", "pip finds something broken")
         with Scripted(welcome, reply("drained", texts=["a", "b"])) as server:
             path, drained = json.loads(ran(python, "-c", ONCE, server.port))

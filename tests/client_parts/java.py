@@ -1,23 +1,27 @@
-"""The Java client: how it is built for tests, its process on the table of cases, and its calls over a
+"""The Java client: how it is built for tests, its machine on the table of cases, and its calls over a
 scripted server."""
 import contextlib
 import functools
 import itertools
 import json
+import os
 import pathlib
 import shutil
+import socket
 import subprocess
 import tempfile
 import time
 
-from client_parts.scripted import (
+from scripted import (
     BY, HANG_UP, SILENCE, Scripted, old_server, received_by, refused, reply, waiting, welcome)
 from serve_parts.wire import demand, frame, until
 
 ROOT = pathlib.Path(__file__).resolve().parent.parent.parent
-FOLDER = ROOT / "clients/java"
+FOLDER = ROOT / "clients/java/src"
 GSON = pathlib.Path("/usr/share/java/gson.jar")
 PATIENCE = 300
+# The patience of sessions in milliseconds: long, but where clients are tried that never end.
+LONG = 1_000 * int(os.environ.get("RV_PATIENCE", "60"))
 
 
 def missing():
@@ -32,9 +36,9 @@ def missing():
 def built():
     """The folder of the built classes, which is gone when this program ends."""
     folder = tempfile.TemporaryDirectory(prefix="rv-java-")
-    sources = [str(path) for part in ("src", "test") for path in sorted((FOLDER / part).rglob("*.java"))]
+    sources = [str(path) for part in ("main", "test") for path in sorted((FOLDER / part).rglob("*.java"))]
     sources += [str(path) for path in sorted((ROOT / "examples").rglob("*.java"))]
-    words = ["javac", "-Xlint:all,-serial", "-Werror", "--release", "17", "-cp", str(GSON), "-d", folder.name,
+    words = ["javac", "-Xlint:all", "-Werror", "--release", "17", "-cp", str(GSON), "-d", folder.name,
              *sources]
     ran = subprocess.run(words, capture_output=True, text=True, timeout=10 * PATIENCE)
     demand(ran.returncode == 0, f"javac says {ran.stdout} {ran.stderr}")
@@ -48,11 +52,11 @@ def command(name, *words):
 
 
 def the_java_process():
-    """Each case of the table, by the Java process."""
+    """Each case of the table, by the machine in Java."""
     table = ROOT / "clients/cases.jsonl"
     ran = subprocess.run(command("rendezvous.CaseTable", table), capture_output=True, text=True,
                          timeout=PATIENCE)
-    cases = sum('"process"' in line for line in table.read_text().splitlines())
+    cases = sum('"machine"' in line for line in table.read_text().splitlines())
     demand((ran.stdout, ran.stderr) == (f"{cases} cases\n", ""), f"{ran.stdout[:1000]} {ran.stderr[:1000]}")
 
 
@@ -88,7 +92,7 @@ def driver():
 
 
 @contextlib.contextmanager
-def opened(java, *deeds, patience=60_000, version="", hello=welcome):
+def opened(java, *deeds, patience=LONG, version="", hello=welcome):
     """A scripted server that meets the hello so, with the driver's client 1."""
     with Scripted(hello, *deeds) as server:
         java.expect(f"open {server.port} 1 {patience} {version}".rstrip(), "result open")
@@ -102,16 +106,13 @@ def asked(server):
 
 def each_call(java):
     """Each call's members and result."""
+    received = {1: reply("received"), 2: received_by(*BY)}
     calls = [("put a", reply("done"), {"call": "put", "item": "a"}, "done"),
-             ("transfer a", reply("received"), {"call": "transfer", "item": "a", "wait": "forever"},
-              "received"),
+             ("transfer a", received, {"call": "transfer", "item": "a", "wait": "forever"}, "received"),
              ("try a", reply("nobody"), {"call": "transfer", "item": "a", "wait": "now"}, "false"),
-             ("try a", reply("received"), {"call": "transfer", "item": "a", "wait": "now"}, "true"),
+             ("try a", received, {"call": "transfer", "item": "a", "wait": "now"}, "true"),
              ("try a 0", reply("timedout"), {"call": "transfer", "item": "a", "wait": 0}, "false"),
-             ("try a 1001", reply("received"), {"call": "transfer", "item": "a", "wait": 2}, "true"),
-             ("transfer a", received_by(*BY), {"call": "transfer", "item": "a", "wait": "forever"},
-              "received"),
-             ("try a", received_by(*BY), {"call": "transfer", "item": "a", "wait": "now"}, "true"),
+             ("try a 1001", received, {"call": "transfer", "item": "a", "wait": 2}, "true"),
              ("take", reply("item", item="\u2028<ü"), {"call": "take", "wait": "forever"}, "\u2028<ü"),
              ("poll", reply("empty"), {"call": "take", "wait": "now"}, "null"),
              ("poll -5", reply("timedout"), {"call": "take", "wait": 0}, "null"),
@@ -121,7 +122,8 @@ def each_call(java):
              ("size", reply("counted", items=2, consumers=0), {"call": "count"}, "2"),
              ("consumers", reply("counted", items=0, consumers=3), {"call": "count"}, "3")]
     for version, (number, (line, answer, members, result)) in itertools.product((1, 2), enumerate(calls)):
-        with opened(java, answer, version=version) as server:
+        deed = answer[version] if isinstance(answer, dict) else answer
+        with opened(java, deed, version=version) as server:
             java.expect(line, f"result {result}")
             key = {"epoch": 1, "client": 1, "incarnation": 1, "number": 1}
             wanted = {"kind": "request", "queue": 3, **key, **members}
@@ -137,37 +139,49 @@ def receipts(java):
     calls = [("transfer-receipt a", "forever", "result {}"), ("try-receipt a", "now", "result Optional[{}]"),
              ("try-receipt a 1001", 2, "result Optional[{}]")]
     for line, wait, wanted in calls:
-        with opened(java, received_by(2, 3, 4), reply("received"), hello=ninth) as server:
-            java.expect("receipt", "result Optional.empty")
+        with opened(java, received_by(2, 3, 4), hello=ninth) as server:
+            java.expect("last", "result Optional.empty")
             java.expect(line, wanted.format("9/1/1/1 by 9/2/3/4"))
-            java.expect("receipt", "result Optional[9/1/1/1 by 9/2/3/4]")
-            java.expect(line, wanted.format("9/1/1/2 by nobody named"))
-            demand([members["wait"] for members in server.heard[1:]] == [wait] * 2, f"{server.heard}")
+            java.expect("last", "result Optional[Receipt[key=9/1/1/1, by=Optional[9/2/3/4]]]")
+            demand(server.heard[1]["wait"] == wait, f"{server.heard}")
+        with opened(java, reply("received"), hello=ninth, version=1):
+            java.expect(line, wanted.format("9/1/1/1 by nobody named"))
     with opened(java, reply("nobody"), reply("timedout"), reply("cancelled"), reply("done")):
         java.expect("try-receipt a", "result Optional.empty")
         java.expect("try-receipt a 0", "result Optional.empty")
         java.expect("transfer-receipt a", "threw CancellationException")
+        java.expect("last", "result Optional[Cancelled[key=1/1/1/3]]")
         java.expect("put a", "result done")
-        java.expect("receipt", "result Optional.empty")
+        java.expect("last", "result Optional[Done[key=1/1/1/4]]")
     with opened(java, HANG_UP, patience=300) as server:
-        server.deeds += [HANG_UP] * 200
+        server.otherwise = HANG_UP
         java.expect("transfer a", "threw Unsettled 1/1/1/1")
-        with server.lock:
-            server.deeds[:] = [received_by(2, 3, 4)]
-        java.expect("again", "result received")
-        java.expect("receipt", "result Optional[1/1/1/1 by 1/2/3/4]")
+        java.expect("last", "result Optional.empty")
+        server.otherwise = received_by(2, 3, 4)
+        java.expect("again", "result Receipt[key=1/1/1/1, by=Optional[1/2/3/4]]")
+        java.expect("last", "result Optional[Receipt[key=1/1/1/1, by=Optional[1/2/3/4]]]")
 
 
 def what_is_no_receipt(java):
-    """A reply that names a part of a consumer, or names one where no receipt is told, settles nothing."""
+    """A reply that names a part of a consumer, names one where no receipt is told or the session is of the first
+    version, or names none in one of the second, settles nothing."""
     whole = dict(zip(("by_client", "by_incarnation", "by_number"), (2, 3, 4)))
     bad = [reply("received", **{n: value for n, value in whole.items() if n != name}) for name in whole]
     odd = [("by_client", 0), ("by_incarnation", 2**53), ("by_number", 1.0), ("by_number", "1")]
     bad += [reply("received", **{**whole, name: value}) for name, value in odd]
-    bad += [reply("received", **whole, by_epoch=1), reply("done", **whole)]
-    with opened(java, *bad, received_by(2, 3, 4), patience=60_000) as server:
+    bad += [reply("received", **whole, by_epoch=1), reply("done", **whole), reply("received")]
+    with opened(java, *behind(waiting, bad), received_by(2, 3, 4)) as server:
         java.expect("transfer-receipt a", "result 1/1/1/1 by 1/2/3/4")
-        demand(len(server.heard) == 2 + len(bad), f"{len(server.heard)} frames came")
+        demand(len(server.heard) == 2 + 2 * len(bad), f"{len(server.heard)} frames came")
+        demand(server.connections == 1 + len(bad), f"{server.connections} connections came")
+    with opened(java, received_by(2, 3, 4), reply("received"), version=1) as server:
+        java.expect("transfer-receipt a", "result 1/1/1/1 by nobody named")
+        demand(server.connections == 2, f"{server.connections} connections came")
+
+
+def behind(deed, others):
+    """The others, each behind that deed."""
+    return [one for other in others for one in (deed, other)]
 
 
 def versions(java):
@@ -177,15 +191,15 @@ def versions(java):
         other = {} if said else {"version": 2}
         others = [lambda asked, odd=odd: {"kind": "welcome", "epoch": 1, "client": 1, "incarnation": 1, **odd}
                   for odd in (other, {"version": 1}, {"version": 3}, {"version": "2"}, {"version": 2.0})]
-        deeds = [*others[1:], welcome, refused(3), welcome, reply("done")]
-        with opened(java, *deeds, patience=60_000, version=version, hello=others[0]) as server:
+        deeds = [*others[1:], welcome, reply("done")]
+        with opened(java, *deeds, version=version, hello=others[0]) as server:
             java.expect("put a", "result done")
             hellos = [members for members in server.heard if members["kind"] == "hello"]
-            demand(hellos == [{**hello, **said}] * (len(others) + 2), f"{hellos}")
-    with opened(java, *[lambda asked: {**welcome(asked), "client": 2}] * 900, patience=300,
-                hello=lambda asked: {**welcome(asked), "client": 2}) as server:
-        java.expect("put a", "threw Unsettled null")
-        demand(len(server.heard) < 30, f"{len(server.heard)} hellos were said")
+            demand(hellos == [{**hello, **said}] * (len(others) + 1), f"{hellos}")
+    with opened(java, patience=300, hello=lambda asked: {**welcome(asked), "client": 2}) as server:
+        server.otherwise = lambda asked: {**welcome(asked), "client": 2}
+        java.expect("put a", "threw NotAsked null")
+        demand(len(server.heard) < 60, f"{len(server.heard)} hellos were said")
 
 
 def other_versions(java):
@@ -196,16 +210,15 @@ def other_versions(java):
             java.expect("put a", f"threw Refused null 12 other version {current}")
             told = java.tell("words")
             demand(told.endswith(f"in this incarnation speaks {current}"), f"it says {told}")
-    with opened(java, refused(3), refused(12, current=1)):
-        java.expect("put a", "threw Refused 1/1/1/1 12 other version 1")
-    odd = [refused(12, current=odd) for odd in (0, 3, "1")]
-    with opened(java, *odd, welcome, reply("done"), hello=refused(12)) as server:
+    odd = [refused(12, current=odd) for odd in (0, 2, 3, "1")]
+    with opened(java, *odd, welcome, refused(12, current=1), reply("done"), hello=refused(12)) as server:
         java.expect("put a", "result done")
-        demand(len(server.heard) == 6, f"{len(server.heard)} frames came")
-    with opened(java, hello=old_server):
+        demand(len(server.heard) == 8, f"{len(server.heard)} frames came")
+    with opened(java, welcome, reply("done"), hello=old_server):
         java.expect("put a", "threw Refused null 1 bad text")
         told = java.tell("words")
         demand("version 1 alone" in told, f"it says {told}")
+        java.expect("put a", "result done")
     with opened(java, reply("received"), version=1, hello=old_server):
         java.expect("transfer-receipt a", "result 1/1/1/1 by nobody named")
     for version in (0, 3):
@@ -240,32 +253,32 @@ def a_drain_is_asked_under_one_key(java):
     bad = [reply("drained", texts=one) for one in bad] + [reply("drained"), reply("item", item="a", texts=[])]
     full = ["\u0001" * 512] * 16
     long = lambda one: frame(json.dumps(reply("drained", texts=full)(one)).encode().ljust(65_535))
-    with opened(java, long, HANG_UP, *bad, refused(11), texts(2), patience=60_000) as server:
-        java.expect("drain 18", "result 18")
-        numbers = [number for _, number, _ in asked(server)]
-        demand(numbers == [None, 1] + [2] * (len(bad) + 3), f"{numbers}")
-        demand(all(one == server.heard[2] for one in server.heard[2:]), "another request was sent")
-        java.expect("drained", f"result [{', '.join([*full, '0', '1'])}]")
+    for part in (bad[:4], bad[4:], [texts(3)]):
+        with opened(java, long, HANG_UP, *part, refused(11), texts(2)) as server:
+            java.expect("drain 18", "result 18")
+            numbers = [number for _, number, _ in asked(server)]
+            demand(numbers == [None, 1] + [2] * (len(part) + 3), f"{numbers}")
+            demand(all(one == server.heard[2] for one in server.heard[2:]), "another request was sent")
+            java.expect("drained", f"result [{', '.join([*full, '0', '1'])}]")
+            demand(server.connections == 2 + len(part), f"{server.connections} connections came")
 
 
 def a_step_that_fails(java):
     """What finished steps took is in the collection; an unsettled step is asked again for its items."""
-    with opened(java, texts(16), refused(10)):
-        java.expect("drain", "threw Refused 1/1/1/2 10 epoch full")
+    with opened(java, texts(16), patience=300) as server:
+        server.otherwise = refused(10)
+        java.expect("drain", "threw Full 1/1/1/2")
         java.expect("drained", f"result [{', '.join(map(str, range(16)))}]")
     with opened(java, texts(16), reply("cancelled"), texts(1)):
         java.expect("drain", "threw CancellationException")
-        java.expect("items", "result []")
+        java.expect("last", "result Optional[Cancelled[key=1/1/1/2]]")
         java.expect("drain", "result 1")
         java.expect("drained", f"result [{', '.join(map(str, [*range(16), 0]))}]")
-    with opened(java, texts(16), HANG_UP, patience=300) as server:
-        java.expect("items", "result []")
-        server.deeds += [HANG_UP] * 200
+    with opened(java, texts(16), patience=300) as server:
+        server.otherwise = HANG_UP
         java.expect("drain", "threw Unsettled 1/1/1/2")
-        with server.lock:
-            server.deeds[:] = [texts(2, 16)]
-        java.expect("again", "result drained")
-        java.expect("items", "result [16, 17]")
+        server.otherwise = texts(2, 16)
+        java.expect("again", "result Drained[key=1/1/1/2, items=[16, 17]]")
         java.expect("drained", f"result [{', '.join(map(str, range(16)))}]")
 
 
@@ -273,18 +286,18 @@ def what_is_not_taken_in(java):
     """A collection that is full throws; the step's items are still the session's."""
     with opened(java, texts(3), reply("item", item="a")):
         java.expect("drain-into 2", "threw IllegalStateException")
-        java.expect("items", "result [0, 1, 2]")
+        java.expect("last", "result Optional[Drained[key=1/1/1/1, items=[0, 1, 2]]]")
         java.expect("take", "result a")
-        java.expect("items", "result [a]")
+        java.expect("last", "result Optional[Item[key=1/1/1/2, item=a]]")
 
 
 def repeats_until_it_is_told(java):
     """Waiting, an answer to something else, a lost one, what is no frame and no answer."""
-    bad = [b"\x00\x00", frame(b"[" * 65_535), frame(b"{}"), frame(b"\xff"),
+    bad = [welcome, b"\x00\x00", frame(b"[" * 65_535), frame(b"{}"), frame(b"\xff"),
            frame(b'{"kind":"refused","code":1.0}'), frame(b'{"code":12,"kind":"refused"}'),
-           frame(b'{"code":13,"kind":"refused"}')]
-    deeds = [waiting, HANG_UP, welcome, *bad, waiting, reply("received")]
-    with opened(java, *deeds, patience=60_000) as server:
+           frame(b'{"code":13,"kind":"refused"}'), frame(b'{"code":1,"code":1,"kind":"refused"}')]
+    deeds = [waiting, HANG_UP, *behind(waiting, bad), waiting, received_by(*BY)]
+    with opened(java, *deeds) as server:
         java.expect("transfer a", "result received")
         demand(all(members == server.heard[1] for members in server.heard[1:]), "another request was sent")
         demand(len(server.heard) == 1 + len(deeds), f"{len(server.heard)} frames came")
@@ -292,22 +305,66 @@ def repeats_until_it_is_told(java):
 
 def an_unsettled_request(java):
     """The call ends by its key; the request is asked again, or given up."""
-    with opened(java, HANG_UP, patience=300) as server:
-        server.deeds += [HANG_UP] * 200
-        java.expect("transfer a", "threw Unsettled 1/1/1/1")
+    with opened(java, waiting, patience=300) as server:
+        server.otherwise = HANG_UP
+        java.expect("transfer a", "threw Unsettled 1/1/1/1 accepted")
+        told = java.tell("words")
+        demand("accepted, and never answered: " in told, f"it says {told}")
         java.expect("put a", "threw IllegalStateException")
-        with server.lock:
-            server.deeds[:] = [reply("received"), reply("done")]
-        java.expect("again", "result received")
+        server.deeds, server.otherwise = [received_by(2, 3, 4), reply("done")], SILENCE
+        java.expect("again", "result Receipt[key=1/1/1/1, by=Optional[1/2/3/4]]")
         java.expect("put a", "result done")
         java.expect("again", "threw IllegalStateException")
-    with opened(java, HANG_UP, patience=300) as server:
-        server.deeds += [HANG_UP] * 200
+    with opened(java, patience=300) as server:
+        server.otherwise = HANG_UP
         java.expect("take", "threw Unsettled 1/1/1/1")
-        with server.lock:
-            server.deeds[:] = [reply("cancelled")]
-        java.expect("giveup", "result cancelled")
+        server.otherwise = reply("cancelled")
+        java.expect("giveup", "result Cancelled[key=1/1/1/1]")
         demand(asked(server)[-1] == ("cancel", 1, None), "no cancel came")
+        java.expect("last", "result Optional[Cancelled[key=1/1/1/1]]")
+
+
+def no_room(java):
+    """A request that is refused for want of room is tried as long as patience lasts, and then certainly is not there;
+    but for one of which a copy is still under way."""
+    with opened(java, patience=300) as server:
+        server.otherwise = refused(10)
+        java.expect("put a", "threw Full 1/1/1/1")
+        demand(len(server.heard) > 2 and server.connections == 1, f"{asked(server)}, {server.connections}")
+        server.otherwise = reply("done")
+        java.expect("put b", "result done")
+        demand(server.heard[-1]["number"] == 1, f"{asked(server)}")
+    with opened(java, HANG_UP, patience=300) as server:
+        server.otherwise = refused(10)
+        java.expect("put a", "threw Unsettled 1/1/1/1")
+        server.otherwise = reply("done")
+        java.expect("again", "result Done[key=1/1/1/1]")
+    with opened(java, patience=300, hello=refused(10)) as server:
+        server.otherwise = refused(10)
+        java.expect("put a", "threw Full null")
+        server.otherwise = refused(11)
+        java.expect("put a", "threw NotAsked null")
+        demand(server.connections == 1, f"{server.connections} connections came")
+
+
+def a_closed_connection_is_made_anew(java):
+    """One that the peer closed while nothing was asked, or on which it said something: no copy of a request is lost."""
+    with opened(java, reply("done"), reply("done"), reply("done")) as server:
+        java.expect("put a", "result done")
+        server.open[0].shutdown(socket.SHUT_RDWR)
+        java.expect("put b", "result done")
+        server.open[1].sendall(frame(b"{}"))
+        java.expect("put c", "result done")
+        demand([number for _, number, _ in asked(server)] == [None, 1, 2, 3], f"{asked(server)}")
+        demand(server.connections == 3, f"{server.connections} connections came")
+
+
+def nobody_listens(java):
+    """What was not sent is told so, with the address and the system's reason."""
+    java.expect("open 1 1 200", "result open")
+    java.expect("put a", "threw NotAsked null")
+    java.expect("words", "result nothing was sent: 127.0.0.1:1: connection refused")
+    java.expect("poll 1000", "threw NotAsked null")
 
 
 def interrupting(path, deed):
@@ -346,32 +403,63 @@ def interrupts(java):
 
 
 def a_timeout_is_kept(java):
-    """Where a request still waits behind the call's own time, it is cancelled."""
-    slow = lambda one: (time.sleep(0.1), waiting(one))[1]
-    with opened(java, slow, reply("cancelled"), slow, reply("item", item="a")) as server:
+    """Where a request is not answered behind the call's own time, it is cancelled."""
+    with opened(java, SILENCE, reply("cancelled"), SILENCE, reply("item", item="a")) as server:
         java.expect("poll 50000", "result null")
+        java.expect("last", "result Optional[Cancelled[key=1/1/1/1]]")
         java.expect("poll 50000", "result a")
-        demand(asked(server)[2][0] == "cancel", f"{asked(server)}")
+        demand([kind for kind, _, _ in asked(server)] == ["hello"] + ["request", "cancel"] * 2, f"{asked(server)}")
+    with opened(java, SILENCE, reply("cancelled")):
+        java.expect("exchange x 50000", "threw TimeoutException")
+
+
+def a_wait_is_no_silence(java):
+    """Patience begins anew with each answer that the request waits."""
+    slow = lambda one: (time.sleep(0.3), waiting(one))[1]
+    with opened(java, *[slow] * 4, reply("item", item="a"), patience=900):
+        java.expect("take", "result a")
 
 
 def refusals(java):
-    """What ends a call, and what a repeat may change."""
-    names = {1: "bad text", 6: "other call", 7: "busy", 8: "gap", 10: "epoch full", 5: "old number"}
-    details = {7: {"open": 1}, 8: {"last": 3}, 5: {"last": 2}}
-    for code, name in names.items():
-        with opened(java, refused(code, **details.get(code, {}))):
-            java.expect("put a", f"threw Refused 1/1/1/1 {code} {name}")
-    for deed in [refused(11), refused(5, last=1), refused(2, current=1), refused(4, current=1)]:
-        with opened(java, deed, reply("done")):
+    """What ends a call, what ends the session too, and what a repeat may change."""
+    with opened(java, refused(1), reply("done")) as server:
+        java.expect("put a", "threw Refused 1/1/1/1 1 bad text")
+        java.expect("put b", "result done")
+        demand([number for _, number, _ in asked(server)] == [None, 1, 1], f"{asked(server)}")
+    ends = [(refused(5, last=3), "Refused 1/1/1/2 5 old number"), (refused(6), "Refused 1/1/1/2 6 other call"),
+            (refused(7, open=1), "Refused 1/1/1/2 7 busy"), (refused(8, last=0), "EpochEnded 1/1/1/2 1"),
+            (refused(3), "EpochEnded 1/1/1/2 1"), (refused(2, current=5), "EpochEnded 1/1/1/2 5"),
+            (refused(4, current=2), "Replaced 1/1/1/2 2")]
+    for deed, wanted in ends:
+        with opened(java, reply("done"), deed) as server:
             java.expect("put a", "result done")
-    with opened(java, refused(3), welcome, reply("done")):
+            java.expect("put b", f"threw {wanted}")
+            words = java.tell("words")
+            demand(wanted != "EpochEnded 1/1/1/2 1" or "anew in the same epoch 1" in words, f"it says {words}")
+            java.expect("put c", "threw IllegalStateException")
+            demand(len(server.heard) == 3, f"{asked(server)}")
+    faults = [refused(2, current=1), refused(4, current=1), refused(5, last=1), refused(7, open=1),
+              refused(8, last=3), refused(9), refused(11)]
+    for part in (faults[:4], faults[4:]):
+        with opened(java, *part, reply("done")) as server:
+            java.expect("put a", "result done")
+            demand(len(server.heard) == 2 + len(part), f"{asked(server)}")
+            demand(all(one == server.heard[1] for one in server.heard[1:]), f"{server.heard}")
+
+
+def refused_hellos(java):
+    """What ends a call at its hello, what ends the session too, and what a repeat may change."""
+    with opened(java, refused(11), refused(10), refused(2, current=3), refused(4, current=1), refused(3), welcome,
+                reply("done"), hello=refused(9)) as server:
+        java.expect("put a", "threw Refused null 9 clients full")
         java.expect("put a", "result done")
-    with opened(java, refused(3), welcome, refused(3)):
-        java.expect("put a", "threw Refused 1/1/1/1 3 no session")
-    with opened(java, refused(2, current=5)):
-        java.expect("put a", "threw EpochEnded 1/1/1/1 5")
-    with opened(java, refused(4, current=2)):
-        java.expect("put a", "threw Replaced 1/1/1/1 2")
+        kinds = [kind for kind, _, _ in asked(server)]
+        demand(kinds == ["hello"] * 7 + ["request"], f"{kinds}")
+    with opened(java, hello=refused(4, current=2)):
+        java.expect("put a", "threw Replaced null 2")
+        java.expect("put a", "threw IllegalStateException")
+    with opened(java, version=1, hello=refused(1)):
+        java.expect("put a", "threw Refused null 1 bad text")
 
 
 def what_is_left_out(java):
@@ -379,9 +467,18 @@ def what_is_left_out(java):
     with opened(java) as server:
         java.expect("left-out", "result 14")
         java.expect("bad", "result 10")
+        java.expect("put " + "x" * 600, "threw IllegalArgumentException")
+        java.expect("words", "result item above 512 bytes: 600")
         demand(not server.heard, "something was sent")
+
+
+def whatever_is_let_in(_java):
+    """An interrupt, a close, a lost link and an error, at each call of the link."""
+    ran = subprocess.run(command("rendezvous.LetIn"), capture_output=True, text=True, timeout=PATIENCE)
+    demand(ran.returncode == 0 and ran.stdout.endswith(" calls of a link\n"), f"{ran.stdout} {ran.stderr[-3000:]}")
 
 
 CASES = [each_call, receipts, what_is_no_receipt, versions, other_versions, drains_by_steps,
          a_drain_is_asked_under_one_key, a_step_that_fails, what_is_not_taken_in, repeats_until_it_is_told,
-         an_unsettled_request, interrupts, a_timeout_is_kept, refusals, what_is_left_out]
+         an_unsettled_request, no_room, a_closed_connection_is_made_anew, nobody_listens, interrupts,
+         a_timeout_is_kept, a_wait_is_no_silence, refusals, refused_hellos, what_is_left_out, whatever_is_let_in]

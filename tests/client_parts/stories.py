@@ -1,15 +1,12 @@
-"""The table of cases of a client's process, made by the process of tests/model.
+"""The table of cases: a client's process in stories, by that of tests/model, and its machine's cases.
 
 A story is a list of play lines, each with the result that `rv play` must print for it. A line that starts,
 begins, repeats, cancels or ends something, or brings an answer, is a case: what the process is, what comes,
-what it becomes, and what it says. Behind the stories stand cases that no play of a right server comes to.
+what it becomes, and what it says. Behind the stories stand the cases of the machine that each client is.
 """
-import json
-
-from model_parts.account import Key
-from model_parts.steps import refused, replied
-from model_parts.texts import MAX_IDENTIFIER, TAKER, members_of, members_of_call, read_json
-from model_parts.world import Idle, New, Outstanding, World, call_text
+from client_parts.machine_cases import machine_cases, text_of
+from model_parts.texts import members_of, members_of_call, read_json
+from model_parts.world import Idle, New, Outstanding, World
 
 TAKE = '{"call":"take","queue":3,"wait":"forever"}'
 POLL = '{"call":"take","queue":3,"wait":"now"}'
@@ -122,38 +119,6 @@ STORIES = {
 }
 
 
-def received_by(*taker):
-    """A transfer's reply that names this consumer: its client, incarnation and number."""
-    return {"reply": "received", **dict(zip(TAKER, taker))}
-
-
-GREATEST = Outstanding(Key(1, 1, 1, MAX_IDENTIFIER), call_text(COUNT.encode()))
-ASKING = Outstanding(Key(5, 7, 3, 4), call_text(TRANSFER.encode()))
-# What comes to such processes beside what a right server's play brings.
-BEYOND = [(process, answer) for process in (New(7, 3), New(7, 3, 2), Idle(Key(5, 7, 3, 4)), ASKING)
-          for answer in [
-    *(refused(code, **detail) for code, detail in [
-        (1, {}), (2, {"current": 4}), (2, {"current": 5}), (2, {"current": 6}), (3, {}), (4, {"current": 2}),
-        (4, {"current": 3}), (4, {"current": 4}), (5, {"last": 4}), (5, {"last": 9}), (6, {}),
-        (7, {"open": 3}),
-        (8, {"last": 0}), (9, {}), (10, {}), (11, {}), (12, {"current": 1}), (12, {"current": 2})]),
-    *({"kind": "welcome", "epoch": 5, "client": client, "incarnation": incarnation, **version}
-      for client, incarnation in [(7, 3), (7, 2), (7, 4), (8, 3)] for version in ({}, {"version": 2})),
-    replied(Key(5, 7, 3, 4), received_by(8, 1, 2)), replied(Key(5, 7, 3, 5), received_by(8, 1, 2)),
-    *(replied(Key(*key), {"reply": "received"})
-      for key in [(5, 7, 3, 4), (4, 7, 3, 4), (6, 7, 3, 4), (5, 8, 3, 4), (5, 7, 2, 4), (5, 7, 4, 4),
-                  (5, 7, 3, 3),
-                  (5, 7, 3, 5)]),
-    {"kind": "waiting", **vars(Key(5, 7, 3, 4))}, {"kind": "waiting", **vars(Key(5, 7, 3, 5))},
-    replied(Key(5, 7, 3, 4), {"reply": "item", "item": "\u0001\"\\é"}),
-    replied(Key(5, 7, 3, 4), {"reply": "counted", "items": 3, "consumers": 0}),
-    replied(Key(5, 7, 3, 4), {"reply": "drained", "texts": []}),
-    replied(Key(5, 7, 3, 4), {"reply": "drained", "texts": ["", "\u0001\"\\é", *["a"] * 14]}),
-]] + [(GREATEST, replied(GREATEST.key, {"reply": "counted", "items": 0, "consumers": 0})),
-      (Idle(None), replied(GREATEST.key, {"reply": "counted", "items": 0, "consumers": 0})),
-      (None, replied(GREATEST.key, {"reply": "counted", "items": 0, "consumers": 0}))]
-
-
 def process_members(process):
     """What a process is, in the members of the table."""
     if isinstance(process, New):
@@ -202,23 +167,10 @@ def started(world, client):
     return {"process": new, "does": "start", "says": members_of(world.to_server[-1]), "becomes": new}
 
 
-def beyond(process, answer):
-    """A case that no play of a right server comes to."""
-    client = getattr(process, "client", 1 if process in (None, Idle(None), GREATEST) else 7)
-    world = World()
-    if process is not None:
-        world.processes[client] = process
-    world.to_client.append((client, answer))
-    seen = world.do_client(0)
-    return {"seen": seen, "process": process_members(process), "comes": answer,
-            "becomes": process_members(world.processes.get(client))}
-
-
 def table():
     """All cases, each a line of JSON."""
     made = []
     for name, lines in STORIES.items():
         world = World()
         made += [{"story": name, **case(line, world)} for line in lines]
-    made += [{"story": "beyond a play", **beyond(*given)} for given in BEYOND]
-    return "".join(json.dumps(one, ensure_ascii=False, sort_keys=True) + "\n" for one in made)
+    return "".join([*map(text_of, made), *machine_cases()])

@@ -1,0 +1,134 @@
+package rendezvous;
+
+import java.util.concurrent.ThreadLocalRandom;
+import java.util.concurrent.TimeUnit;
+
+/** One call while it runs, for the thread that runs it: its times, its interrupts, and who orders that it is given up. */
+final class Running {
+    /** Who orders that a request is given up. */
+    enum Order { NOBODY, TIME, INTERRUPT, USER }
+
+    private static final long HALF = TimeUnit.MILLISECONDS.toNanos(500);
+    private static final long LEAST_PAUSE = TimeUnit.MILLISECONDS.toNanos(10);
+    private static final long GREATEST_PAUSE = TimeUnit.SECONDS.toNanos(5);
+
+    private final long began = System.nanoTime();
+    private final boolean interruptible;
+    private final long patience;
+    private final long givesUp;
+    private long expires;
+    private long heard;
+    private long pause = LEAST_PAUSE;
+    private boolean interrupted;
+    private boolean due;
+    private Order order = Order.NOBODY;
+    private String fault = "nothing was heard";
+
+    /** A call that begins now, with its own time and a patience, each {@link Calls#FOR_EVER} where it has none. */
+    Running(boolean interruptible, long own, long patience) {
+        this.interruptible = interruptible;
+        this.patience = patience;
+        givesUp = sum(own, HALF);
+        expires = sum(givesUp, HALF);
+    }
+
+    private static long sum(long one, long other) {
+        return one > Calls.FOR_EVER - other ? Calls.FOR_EVER : one + other;
+    }
+
+    private long now() {
+        return System.nanoTime() - began;
+    }
+
+    /** The user orders that the request is given up. */
+    void giveUp() {
+        order = Order.USER;
+        due = true;
+    }
+
+    /** Takes the thread's interrupt in; the call that obeys it ends within a second. */
+    void noteInterrupt() {
+        if (!Thread.interrupted() || interrupted) {
+            return;
+        }
+        interrupted = true;
+        if (interruptible) {
+            ordered(Order.INTERRUPT);
+            expires = Math.min(expires, sum(now(), 2 * HALF));
+            due = true;
+        }
+    }
+
+    private void ordered(Order who) {
+        if (order == Order.NOBODY) {
+            order = who;
+        }
+    }
+
+    /** Whether the call has something else to do than to wait: an interrupt is to be obeyed. */
+    boolean isDue() {
+        noteInterrupt();
+        return due;
+    }
+
+    /** Whether the request is to be given up now: this tells it once for each reason. */
+    boolean takesGiveUp() {
+        boolean late = order == Order.NOBODY && now() >= givesUp;
+        if (late) {
+            ordered(Order.TIME);
+        }
+        boolean taken = isDue() || late;
+        due = false;
+        return taken;
+    }
+
+    /** Whether the call ends by what is known. */
+    boolean isExpired() {
+        return now() >= Math.min(expires, sum(heard, patience));
+    }
+
+    /** The nanoseconds that one wait may last: so many at most, and never past the call's next time. */
+    long left(long most) {
+        long next = Math.min(expires, sum(heard, patience));
+        if (order == Order.NOBODY) {
+            next = Math.min(next, givesUp);
+        }
+        return Math.min(most, next == Calls.FOR_EVER ? next : Math.max(0, next - now()));
+    }
+
+    /** Something was heard that leads on. */
+    void heard() {
+        heard = now();
+        pause = LEAST_PAUSE;
+    }
+
+    /** Something failed; the nanoseconds to pause, which grow from fault to fault. */
+    long failed(String words) {
+        fault = words == null ? "the connection was lost" : words;
+        long most = pause;
+        pause = Math.min(GREATEST_PAUSE, 2 * pause);
+        return left(ThreadLocalRandom.current().nextLong(most + 1));
+    }
+
+    /** What went wrong last. */
+    String fault() {
+        return fault;
+    }
+
+    /** Who ordered first that the request is given up. */
+    Order order() {
+        return order;
+    }
+
+    /** The interrupt is told by an exception. */
+    void tellsInterrupt() {
+        interrupted = false;
+    }
+
+    /** Sets the interrupt again that nothing told. */
+    void restoreInterrupt() {
+        if (interrupted) {
+            Thread.currentThread().interrupt();
+        }
+    }
+}

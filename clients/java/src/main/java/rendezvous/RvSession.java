@@ -1,0 +1,412 @@
+package rendezvous;
+
+import com.google.gson.JsonObject;
+import java.io.IOException;
+import java.time.Duration;
+import java.util.Objects;
+import java.util.Optional;
+import java.util.concurrent.CancellationException;
+import java.util.concurrent.atomic.AtomicReference;
+import java.util.concurrent.locks.LockSupport;
+import rendezvous.Event.Plain;
+import rendezvous.Running.Order;
+
+/**
+ * One client in one incarnation: it asks one request at a time, for one thread at a time. A request is repeated, under
+ * one key and over new connections, until it has its one reply. Whatever ends a call, the session knows what became of its
+ * request: the next call is asked under the right key, or is told that a request is unsettled, or that the session ended.
+ *
+ * <p>A session that another thread's call runs in throws {@link IllegalStateException}, and so does one that was closed.
+ */
+public final class RvSession implements AutoCloseable {
+    /** What a session speaks where no version is chosen: receipts name the consumer. */
+    static final int VERSION = Bodies.GREATEST_VERSION;
+    /** For how long a call goes on while nothing at all is heard, where nothing else is chosen. */
+    static final Duration PATIENCE = Duration.ofSeconds(60);
+    /** For how long one answer is awaited, where nothing else is chosen. */
+    static final Duration ANSWER = Duration.ofSeconds(30);
+
+    private final Link.Maker links;
+    private final long patience;
+    private final long answerTime;
+    private final int version;
+    private final AtomicReference<Thread> caller = new AtomicReference<>();
+    private volatile Machine machine;
+    private volatile Outcome last;
+    private volatile Link link;
+    private volatile boolean closed;
+    private Running running;
+
+    /** A session of version 2 that says hello with its first call, and has a patience of a minute. */
+    public RvSession(String host, int port, long client, long incarnation) {
+        this(host, port, client, incarnation, PATIENCE, ANSWER, VERSION);
+    }
+
+    /**
+     * A session that says hello with its first call.
+     *
+     * @param host where the server listens; a name is looked up anew for each connection
+     * @param port the port there
+     * @param client a number that no other process has
+     * @param incarnation one above each that this client was started with
+     * @param patience for how long a call goes on while nothing at all is heard; null for ever
+     * @param answerTime for how long one answer is awaited, before the connection is thrown away
+     * @param version what the session speaks: in version 2 a receipt names the consumer; in version 1, which each
+     *     server knows, it does not
+     */
+    public RvSession(String host, int port, long client, long incarnation, Duration patience, Duration answerTime,
+            int version) {
+        this(linksTo(host, port), client, incarnation, patience, answerTime, version);
+    }
+
+    /** The same, over links of one's own, for tests. */
+    RvSession(Link.Maker links, long client, long incarnation, Duration patience, Duration answerTime, int version) {
+        if (client < 1 || client > Key.GREATEST || incarnation < 1 || incarnation > Key.GREATEST) {
+            throw new IllegalArgumentException("clients and incarnations are 1 to " + Key.GREATEST);
+        }
+        if (version < 1 || version > Bodies.GREATEST_VERSION) {
+            throw new IllegalArgumentException("a version is 1 to " + Bodies.GREATEST_VERSION);
+        }
+        this.links = links;
+        this.patience = nanos(patience);
+        this.answerTime = Math.min(nanos(answerTime), Duration.ofDays(1).toNanos());
+        this.version = version;
+        machine = Machine.started(client, incarnation, version);
+    }
+
+    private static Link.Maker linksTo(String host, int port) {
+        Objects.requireNonNull(host, "a host is a text");
+        if (port < 1 || port > 65_535) {
+            throw new IllegalArgumentException("a port is 1 to 65535");
+        }
+        return isWoken -> new SocketLink(host, port, isWoken);
+    }
+
+    private static long nanos(Duration time) {
+        if (time == null || time.compareTo(Duration.ofNanos(Calls.FOR_EVER)) > 0) {
+            return Calls.FOR_EVER;
+        }
+        if (time.isNegative()) {
+            throw new IllegalArgumentException("times are not below zero");
+        }
+        return time.toNanos();
+    }
+
+    /** The key of the next request, or of the one that is unsettled; null before the welcome and behind the end. */
+    public Key key() {
+        return machine.key();
+    }
+
+    /** Whether a call ended by an exception that left its request unsettled. */
+    public boolean isUnsettled() {
+        return caller.get() == null && machine.call() != null;
+    }
+
+    /** Whether it can ask nothing any more: it has ended or was closed, or all its numbers are used up. */
+    public boolean isOver() {
+        Machine now = machine;
+        return closed || now.state() == Machine.State.ENDED || now.state() == Machine.State.IDLE && now.key() == null;
+    }
+
+    /** Whether nothing is asked and nothing is unsettled. */
+    boolean isIdle() {
+        return caller.get() == null && machine.call() == null && !isOver();
+    }
+
+    /** The outcome of the session's last settled request; none before it, and from the next request's begin on. */
+    public Optional<Outcome> last() {
+        return Optional.ofNullable(last);
+    }
+
+    /**
+     * Goes on with the request that an exception left unsettled, and gives its outcome. Any thread may say this. An
+     * interrupt cancels the request; where it was met before, its outcome is given, and the thread stays interrupted.
+     *
+     * @throws InterruptedException if the thread is interrupted, and then the request stays unsettled; or if an interrupt
+     *     cancelled it
+     */
+    public Outcome again() throws InterruptedException {
+        return goOn(false);
+    }
+
+    /**
+     * Gives up the request that an exception left unsettled, and gives its outcome: {@link Outcome.Cancelled}, or what
+     * settled it before the cancel came. Any thread may say this.
+     *
+     * @throws InterruptedException if the thread is interrupted, and then the request stays unsettled
+     */
+    public Outcome giveUp() throws InterruptedException {
+        return goOn(true);
+    }
+
+    private Outcome goOn(boolean givesUp) throws InterruptedException {
+        enter(true, Calls.FOR_EVER);
+        try {
+            if (machine.call() == null) {
+                throw new IllegalStateException("no request is unsettled");
+            }
+            if (givesUp) {
+                running.giveUp();
+            }
+            Outcome outcome = outcome();
+            if (outcome instanceof Outcome.Cancelled) {
+                obeyed("the request was cancelled");
+            }
+            return outcome;
+        } finally {
+            leave();
+        }
+    }
+
+    /** The outcome of a call, through interrupts, which are set again at its end. */
+    Outcome ask(JsonObject call) {
+        try {
+            return ask(new Calls.Job(call), false);
+        } catch (InterruptedException never) {
+            throw new IllegalStateException(never);
+        }
+    }
+
+    /**
+     * The outcome of a call. An interrupt cancels it: where its outcome is that it was cancelled this throws, else the
+     * outcome is given, and the thread stays interrupted.
+     */
+    Outcome askInterruptibly(Calls.Job job) throws InterruptedException {
+        return ask(job, true);
+    }
+
+    private Outcome ask(Calls.Job job, boolean interruptible) throws InterruptedException {
+        enter(interruptible, job.own());
+        try {
+            take(new Event.Ask(job.call()));
+            last = null;
+            Outcome outcome = outcome();
+            return outcome instanceof Outcome.Cancelled ? cancelled(outcome.key()) : outcome;
+        } finally {
+            leave();
+        }
+    }
+
+    /** What a call's cancel is to the user: it depends on who ordered it. */
+    private Outcome cancelled(Key key) throws InterruptedException {
+        obeyed("the request was cancelled");
+        if (running.order() == Order.TIME) {
+            return new Outcome.TimedOut(key);
+        }
+        throw new CancellationException("the request was cancelled, and not by this call (request " + key + ")");
+    }
+
+    /** Throws where an interrupt ordered the end of the call. */
+    private void obeyed(String words) throws InterruptedException {
+        if (running.order() == Order.INTERRUPT) {
+            running.tellsInterrupt();
+            throw new InterruptedException(words);
+        }
+    }
+
+    private void enter(boolean interruptible, long own) throws InterruptedException {
+        if (!caller.compareAndSet(null, Thread.currentThread())) {
+            throw new IllegalStateException("a session asks one request at a time: another thread's call runs");
+        }
+        boolean enters = false;
+        try {
+            if (closed) {
+                throw new IllegalStateException("the session was closed");
+            }
+            if (interruptible && Thread.interrupted()) {
+                throw new InterruptedException();
+            }
+            running = new Running(interruptible, own, patience);
+            enters = true;
+        } finally {
+            if (!enters) {
+                caller.set(null);
+            }
+        }
+    }
+
+    private void leave() {
+        running.restoreInterrupt();
+        caller.set(null);
+        if (closed) {
+            rest();
+        }
+    }
+
+    /** What settled the outstanding request; whatever else ends the call is thrown. */
+    private Outcome outcome() throws InterruptedException {
+        Told told;
+        try {
+            told = told();
+        } catch (RuntimeException | Error broken) {
+            lose();
+            ended(take(Plain.EXPIRE).tell()).ifPresent(broken::addSuppressed);
+            throw broken;
+        }
+        if (machine.flying() != Machine.Flying.NOTHING) {
+            lose();
+        }
+        if (told instanceof Told.Settled settled) {
+            return last = settled.outcome();
+        }
+        if (told instanceof Told.NotAsked) {
+            obeyed("nothing was sent");
+        }
+        throw ended(told).orElseThrow();
+    }
+
+    /** The exception of what ends a call without an outcome. */
+    private Optional<RvException> ended(Told told) {
+        String words = closed ? "the session was closed" : running.fault();
+        if (told instanceof Told.Unsettled left) {
+            return Optional.of(new RvException.Unsettled(left.key(), left.accepted(), words));
+        }
+        if (told instanceof Told.NotAsked) {
+            return Optional.of(new RvException.NotAsked(words));
+        }
+        if (told instanceof Told.Full full) {
+            return Optional.of(new RvException.Full(full.key()));
+        }
+        if (told instanceof Told.Refused refused) {
+            return Optional.of(new RvException.Refused(refused.key(), refused.code(), refused.current(), version));
+        }
+        if (told instanceof Told.EpochEnded ended) {
+            return Optional.of(new RvException.EpochEnded(ended.key(), ended.current()));
+        }
+        return told instanceof Told.Replaced replaced
+            ? Optional.of(new RvException.Replaced(replaced.key(), replaced.current())) : Optional.empty();
+    }
+
+    /** Talks to the server until there is something to tell. */
+    private Told told() {
+        JsonObject next = null;
+        while (true) {
+            Told told = due();
+            if (told != null) {
+                return told;
+            }
+            try {
+                Step step = exchange(machine.flying() == Machine.Flying.NOTHING ? null : next);
+                if (step.tell() != null) {
+                    return step.tell();
+                }
+                next = step.send();
+            } catch (Link.Woken woken) {
+                lose();
+            } catch (IOException fault) {
+                lose();
+                pause(fault.getMessage());
+            }
+        }
+    }
+
+    /** Takes in what is due: that the request is given up, that the times are over, that the session was closed. */
+    private Told due() {
+        Told told = null;
+        if (running.takesGiveUp()) {
+            if (machine.flying() != Machine.Flying.NOTHING) {
+                lose();
+            }
+            told = take(Plain.GIVE_UP).tell();
+        }
+        return told == null && (closed || running.isExpired()) ? take(Plain.EXPIRE).tell() : told;
+    }
+
+    /** Says one message, this one or what is to be said now, and takes its answer in. */
+    private Step exchange(JsonObject next) throws IOException {
+        if (next == null) {
+            connect();
+        }
+        JsonObject message = next == null ? take(Plain.SPEAK).send() : next;
+        link.send(Bodies.written(message), running.left(answerTime));
+        JsonObject answer = Bodies.readAnswer(link.hear(running.left(answerTime)));
+        Step step = take(new Event.Hear(answer));
+        if (step.send() != null) {
+            running.heard();
+        } else if (step.tell() == null) {
+            pause(step.drop() ? "an answer came that this request has not" : refusal(answer));
+        }
+        return step;
+    }
+
+    private static String refusal(JsonObject answer) {
+        return RvException.Refused.words((int) Bodies.number(answer, "code"));
+    }
+
+    /** Has a connection, a new one where there was none or the peer closed it. */
+    private void connect() throws IOException {
+        if (link != null && link.isOver()) {
+            hangUp();
+        }
+        if (link == null) {
+            link = links.make(this::isWoken);
+            link.connect(running.left(answerTime));
+        }
+    }
+
+    /** Makes what an event makes of the machine its machine, at once. */
+    private Step take(Event event) {
+        Step step = machine.step(event);
+        machine = step.machine();
+        if (step.drop()) {
+            hangUp();
+        }
+        return step;
+    }
+
+    /** Whether the call has something else to do than to wait. */
+    private boolean isWoken() {
+        return running.isDue() || closed;
+    }
+
+    /** Pauses behind a fault, a random time, which may be longer each time. */
+    private void pause(String words) {
+        long ends = System.nanoTime() + running.failed(words);
+        for (long left = ends - System.nanoTime(); left > 0 && !isWoken(); left = ends - System.nanoTime()) {
+            LockSupport.parkNanos(this, left);
+        }
+    }
+
+    private void lose() {
+        hangUp();
+        take(Plain.LOSE);
+    }
+
+    private void hangUp() {
+        Link old = link;
+        link = null;
+        if (old != null) {
+            old.close();
+        }
+    }
+
+    /** Closes the connection, unless a call runs. */
+    void rest() {
+        if (caller.compareAndSet(null, Thread.currentThread())) {
+            try {
+                hangUp();
+            } finally {
+                caller.set(null);
+            }
+        }
+    }
+
+    /**
+     * Closes the session for good. Another thread's call that runs ends by what is known: {@link RvException.NotAsked},
+     * {@link RvException.Full} or {@link RvException.Unsettled}. An unsettled request goes on standing at the server, until
+     * a greater incarnation of the client says hello.
+     */
+    @Override
+    public void close() {
+        closed = true;
+        Thread calling = caller.get();
+        if (calling != null) {
+            LockSupport.unpark(calling);
+        }
+        Link waiting = link;
+        if (waiting != null) {
+            waiting.wake();
+        }
+        rest();
+    }
+}

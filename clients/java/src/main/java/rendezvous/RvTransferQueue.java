@@ -1,0 +1,314 @@
+package rendezvous;
+
+import com.google.gson.JsonObject;
+import java.util.AbstractQueue;
+import java.util.Collection;
+import java.util.Iterator;
+import java.util.List;
+import java.util.Objects;
+import java.util.Optional;
+import java.util.concurrent.CancellationException;
+import java.util.concurrent.TimeUnit;
+import java.util.concurrent.TransferQueue;
+
+/**
+ * A queue of the rendezvous server, between processes.
+ *
+ * <p>It differs from {@link java.util.concurrent.LinkedTransferQueue} in this:
+ * <ul>
+ * <li>Items are texts of at most 512 bytes of UTF-8; another one is an {@link IllegalArgumentException}.
+ * <li>The order is that of arrival at the server, over the producers of all processes.
+ * <li>{@link #size}, {@link #getWaitingConsumerCount}, {@link #hasWaitingConsumer} and {@link #peek} are exact in the
+ *     server's step that answers them, and the items of waiting transfers are counted too.
+ * <li>Waits are whole milliseconds, rounded up. One above a day is asked as a wait for ever, which the call ends at its
+ *     time; a call with a time ends within a second behind it, also where the server is silent or away.
+ * <li>Each call has a definite outcome also after a lost connection: it repeats its request until it has its one reply.
+ *     What is not known is an {@link RvException}, which names the request's key; {@link RvClients#unsettled} has the
+ *     session whose request is unsettled, which asks it {@link RvSession#again} or {@link RvSession#giveUp gives it up}.
+ *     The server's epoch that ended, a newer incarnation and refusals are such exceptions, and so are that nothing was
+ *     sent, and that the server has no room.
+ * <li>{@link #transferReceipt} and {@link #tryTransferReceipt(String)} are {@link #transfer} and {@link #tryTransfer}
+ *     with a {@link Receipt}, which names the request that was assigned the item.
+ * <li>An interrupt cancels {@link #transfer}, {@link #take} and the timed calls. Where the request was met before the
+ *     cancel came, the call gives its result, and the thread stays interrupted. Where nothing is heard of the cancel,
+ *     the call ends within a second, {@link RvException.Unsettled}, and the thread stays interrupted. The other calls go
+ *     on through an interrupt, and set it again.
+ * <li>A cancel that the call did not order is a {@link CancellationException}.
+ * <li>These throw {@link UnsupportedOperationException}: {@link #offer(String)} and its timed form, {@link #add},
+ *     {@link #addAll}, {@link #remainingCapacity}, {@link #contains}, {@link #containsAll}, {@link #remove(Object)},
+ *     {@link #removeAll}, {@link #retainAll}, {@link #clear}, and {@link #iterator} and with it streams and arrays.
+ * <li>{@link #drainTo(Collection)} and {@link #drainTo(Collection, int)} take up to 16 items in one step of the
+ *     server, and more in several steps, between which others may take and put: up to 16 are one atomic whole, more
+ *     are not.
+ * </ul>
+ */
+public final class RvTransferQueue extends AbstractQueue<String> implements TransferQueue<String> {
+    private final RvClients clients;
+    private final int queue;
+
+    /** Queue 0 to 63 of a server, for the threads of these clients. */
+    public RvTransferQueue(RvClients clients, int queue) {
+        this.clients = Objects.requireNonNull(clients);
+        this.queue = Calls.place(queue);
+    }
+
+    private JsonObject call(String word) {
+        return Calls.at(word, "queue", queue);
+    }
+
+    private JsonObject transferOf(String item) {
+        return Calls.giving(call("transfer"), item);
+    }
+
+    /** The outcome of a call whose wait is "now" or "forever", or that has none: a time ends no such call. */
+    private Outcome ask(Calls.Job job) {
+        return clients.session().ask(job.call());
+    }
+
+    /** The outcome of a call that an interrupt cancels. */
+    private Outcome askInterruptibly(Calls.Job job) throws InterruptedException {
+        return clients.session().askInterruptibly(job);
+    }
+
+    /** The item that was taken; null where none was. */
+    private static String itemOf(Outcome outcome) {
+        return outcome instanceof Outcome.Item taken ? taken.item() : null;
+    }
+
+    /** The receipt of a transfer that was received; none where it was not. */
+    private static Optional<Receipt> receiptOf(Outcome outcome) {
+        return outcome instanceof Receipt receipt ? Optional.of(receipt) : Optional.empty();
+    }
+
+    /** The item goes to the tail; nobody is waited for. */
+    @Override
+    public void put(String item) {
+        clients.session().ask(Calls.giving(call("put"), item));
+    }
+
+    /** Waits until a consumer was assigned the item. */
+    @Override
+    public void transfer(String item) throws InterruptedException {
+        transferReceipt(item);
+    }
+
+    /** As {@link #transfer}, and gives the receipt, which names the consumer where the session is of version 2. */
+    public Receipt transferReceipt(String item) throws InterruptedException {
+        return receiptOf(askInterruptibly(Calls.waiting(transferOf(item), "forever"))).orElseThrow();
+    }
+
+    /** Hands the item over if a consumer waits; else nobody gets it. */
+    @Override
+    public boolean tryTransfer(String item) {
+        return tryTransferReceipt(item).isPresent();
+    }
+
+    /** As {@link #tryTransfer(String)}, and gives the receipt; none where nobody gets the item. */
+    public Optional<Receipt> tryTransferReceipt(String item) {
+        return receiptOf(ask(Calls.waiting(transferOf(item), "now")));
+    }
+
+    /** Hands the item over if a consumer comes in time; else nobody gets it. */
+    @Override
+    public boolean tryTransfer(String item, long timeout, TimeUnit unit) throws InterruptedException {
+        return tryTransferReceipt(item, timeout, unit).isPresent();
+    }
+
+    /** As {@link #tryTransfer(String, long, TimeUnit)}, and gives the receipt; none where nobody gets the item. */
+    public Optional<Receipt> tryTransferReceipt(String item, long timeout, TimeUnit unit) throws InterruptedException {
+        return receiptOf(askInterruptibly(Calls.waiting(transferOf(item), timeout, unit)));
+    }
+
+    /** The oldest item, waiting for one if need be. */
+    @Override
+    public String take() throws InterruptedException {
+        return itemOf(askInterruptibly(Calls.waiting(call("take"), "forever")));
+    }
+
+    /** The oldest item, or null. */
+    @Override
+    public String poll() {
+        return itemOf(ask(Calls.waiting(call("take"), "now")));
+    }
+
+    /** The oldest item, or null where none came in time. */
+    @Override
+    public String poll(long timeout, TimeUnit unit) throws InterruptedException {
+        return itemOf(askInterruptibly(Calls.waiting(call("take"), timeout, unit)));
+    }
+
+    /** The oldest item, which stays; or null. */
+    @Override
+    public String peek() {
+        return clients.session().ask(call("peek")) instanceof Outcome.Peeked peeked ? peeked.item() : null;
+    }
+
+    /**
+     * Takes all items that are there, oldest first, and waits for none: in steps of at most 16 items, until one finds
+     * fewer. The transfers among them are received.
+     *
+     * <p>Each step is one step of the server's book: nothing comes between two of its items. All steps together are
+     * not: where there are 16 items or more, others may take and put between two steps, and where they put without end
+     * this goes on.
+     *
+     * <p>Where a step ends by an exception, what finished steps took is in the collection, and the exception says what
+     * is known of its own step. Where that is unsettled, it may be {@link RvSession#again asked again}, which gives its
+     * items. Where the collection itself refuses the items of a finished step, {@link RvSession#last} of the thread's
+     * session has them. An interrupt ends no step; the thread stays interrupted.
+     *
+     * @return how many items were added to the collection
+     * @throws IllegalArgumentException if the collection is this queue, before anything is asked
+     */
+    @Override
+    public int drainTo(Collection<? super String> into) {
+        return drainTo(into, Integer.MAX_VALUE);
+    }
+
+    /**
+     * Takes so many items at most, oldest first, and waits for none. Up to 16 items are one step of the server's book.
+     * More go by steps of at most 16, which together are no atomic whole: all that {@link #drainTo(Collection)} says of
+     * them holds. Where {@code most} is below 1 nothing is asked.
+     *
+     * @return how many items were added to the collection
+     * @throws IllegalArgumentException if the collection is this queue, before anything is asked
+     */
+    @Override
+    public int drainTo(Collection<? super String> into, int most) {
+        if (Objects.requireNonNull(into) == this) {
+            throw new IllegalArgumentException("a queue is not drained into itself");
+        }
+        int drained = 0;
+        boolean more = true;
+        while (more && drained < most) {
+            int step = Math.min(Bodies.GREATEST_DRAIN, most - drained);
+            List<String> items = drainedStep(step);
+            into.addAll(items);
+            drained += items.size();
+            more = items.size() == step;
+        }
+        return drained;
+    }
+
+    /** The items of one step, at most so many. */
+    private List<String> drainedStep(int most) {
+        JsonObject call = call("drain");
+        call.addProperty("max", most);
+        return ((Outcome.Drained) clients.session().ask(call)).items();
+    }
+
+    private Outcome.Counted counted() {
+        return (Outcome.Counted) clients.session().ask(call("count"));
+    }
+
+    /** How many items there are: of puts, and of transfers that wait. */
+    @Override
+    public int size() {
+        return counted().items();
+    }
+
+    /** How many consumers wait. */
+    @Override
+    public int getWaitingConsumerCount() {
+        return counted().consumers();
+    }
+
+    /** Whether a consumer waits. */
+    @Override
+    public boolean hasWaitingConsumer() {
+        return getWaitingConsumerCount() > 0;
+    }
+
+    private static UnsupportedOperationException leftOut(String name) {
+        return new UnsupportedOperationException(name + " is left out by the server's profile");
+    }
+
+    /** Left out. */
+    @Override
+    public boolean offer(String item) {
+        throw leftOut("offer");
+    }
+
+    /** Left out. */
+    @Override
+    public boolean offer(String item, long timeout, TimeUnit unit) {
+        throw leftOut("offer");
+    }
+
+    /** Left out. */
+    @Override
+    public boolean add(String item) {
+        throw leftOut("add");
+    }
+
+    /** Left out. */
+    @Override
+    public boolean addAll(Collection<? extends String> items) {
+        throw leftOut("addAll");
+    }
+
+    /** Left out. */
+    @Override
+    public int remainingCapacity() {
+        throw leftOut("remainingCapacity");
+    }
+
+    /** Left out. */
+    @Override
+    public boolean contains(Object item) {
+        throw leftOut("contains");
+    }
+
+    /** Left out. */
+    @Override
+    public boolean containsAll(Collection<?> items) {
+        throw leftOut("containsAll");
+    }
+
+    /** Left out. */
+    @Override
+    public boolean remove(Object item) {
+        throw leftOut("remove of an item");
+    }
+
+    /** Left out. */
+    @Override
+    public boolean removeAll(Collection<?> items) {
+        throw leftOut("removeAll");
+    }
+
+    /** Left out. */
+    @Override
+    public boolean retainAll(Collection<?> items) {
+        throw leftOut("retainAll");
+    }
+
+    /** Left out. */
+    @Override
+    public void clear() {
+        throw leftOut("clear");
+    }
+
+    /** Left out. */
+    @Override
+    public Iterator<String> iterator() {
+        throw leftOut("iterator");
+    }
+
+    /** Left out. */
+    @Override
+    public Object[] toArray() {
+        throw leftOut("toArray");
+    }
+
+    /** Left out. */
+    @Override
+    public <T> T[] toArray(T[] array) {
+        throw leftOut("toArray");
+    }
+
+    /** Its name, which asks the server nothing. */
+    @Override
+    public String toString() {
+        return "RvTransferQueue " + queue;
+    }
+}

@@ -1,0 +1,187 @@
+package rendezvous;
+
+import java.io.IOException;
+import java.net.InetAddress;
+import java.net.InetSocketAddress;
+import java.net.SocketTimeoutException;
+import java.net.StandardSocketOptions;
+import java.net.UnknownHostException;
+import java.nio.ByteBuffer;
+import java.nio.channels.SelectionKey;
+import java.nio.channels.Selector;
+import java.nio.channels.SocketChannel;
+import java.util.concurrent.ExecutionException;
+import java.util.concurrent.FutureTask;
+import java.util.concurrent.TimeUnit;
+import java.util.function.BooleanSupplier;
+
+/** A link over TCP. Its host is looked up anew with each. */
+final class SocketLink implements Link {
+    private final String host;
+    private final int port;
+    private final BooleanSupplier isWoken;
+    private final Selector selector;
+    private final SocketChannel channel;
+    private final SelectionKey key;
+
+    SocketLink(String host, int port, BooleanSupplier isWoken) throws IOException {
+        this.host = host;
+        this.port = port;
+        this.isWoken = isWoken;
+        Selector made = Selector.open();
+        SocketChannel opened = null;
+        SelectionKey registered = null;
+        try {
+            opened = SocketChannel.open();
+            opened.configureBlocking(false);
+            opened.setOption(StandardSocketOptions.TCP_NODELAY, true);
+            registered = opened.register(made, 0);
+        } finally {
+            if (registered == null) {
+                closed(made, opened);
+            }
+        }
+        selector = made;
+        channel = opened;
+        key = registered;
+    }
+
+    @Override
+    public void connect(long nanos) throws IOException {
+        long ends = System.nanoTime() + nanos;
+        try {
+            boolean connected = channel.connect(new InetSocketAddress(found(ends), port));
+            while (!connected) {
+                await(SelectionKey.OP_CONNECT, ends);
+                connected = channel.finishConnect();
+            }
+        } catch (UnknownHostException unknown) {
+            throw new IOException(host + ":" + port + ": the host is not known", unknown);
+        } catch (Woken woken) {
+            throw woken;
+        } catch (SocketTimeoutException late) {
+            throw new IOException(host + ":" + port + ": no connection in time", late);
+        } catch (IOException fault) {
+            throw new IOException(host + ":" + port + ": " + reason(fault), fault);
+        }
+    }
+
+    /** The system's reason, as part of a sentence. */
+    private static String reason(IOException fault) {
+        String words = String.valueOf(fault.getMessage());
+        return words.isEmpty() ? words : Character.toLowerCase(words.charAt(0)) + words.substring(1);
+    }
+
+    /** The host's address. A name is looked up by another thread, so that this one can be woken. */
+    private InetAddress found(long ends) throws IOException {
+        if (host.indexOf(':') >= 0 || host.matches("[0-9.]+")) {
+            return InetAddress.getByName(host);
+        }
+        FutureTask<InetAddress> search = new FutureTask<>(() -> InetAddress.getByName(host)) {
+            @Override
+            protected void done() {
+                wake();
+            }
+        };
+        Thread searching = new Thread(search, "rendezvous looks up " + host);
+        searching.setDaemon(true);
+        searching.start();
+        while (!search.isDone()) {
+            select(ends);
+        }
+        try {
+            return search.get();
+        } catch (ExecutionException | InterruptedException unknown) {
+            throw new UnknownHostException(host);
+        }
+    }
+
+    @Override
+    public boolean isOver() {
+        try {
+            return channel.read(ByteBuffer.allocate(1)) != 0;
+        } catch (IOException over) {
+            return true;
+        }
+    }
+
+    @Override
+    public void send(byte[] body, long nanos) throws IOException {
+        long ends = System.nanoTime() + nanos;
+        ByteBuffer frame = ByteBuffer.allocate(2 + body.length);
+        frame.putShort((short) body.length).put(body).flip();
+        while (frame.hasRemaining()) {
+            if (channel.write(frame) == 0) {
+                await(SelectionKey.OP_WRITE, ends);
+            }
+        }
+    }
+
+    @Override
+    public byte[] hear(long nanos) throws IOException {
+        long ends = System.nanoTime() + nanos;
+        int length = Short.toUnsignedInt(read(2, ends).getShort());
+        if (length == 0) {
+            throw new Bodies.NoAnswer("a frame of 0 bytes came");
+        }
+        return read(length, ends).array();
+    }
+
+    private ByteBuffer read(int count, long ends) throws IOException {
+        ByteBuffer got = ByteBuffer.allocate(count);
+        while (got.hasRemaining()) {
+            int read = channel.read(got);
+            if (read < 0) {
+                throw new IOException("the connection ended");
+            }
+            if (read == 0) {
+                await(SelectionKey.OP_READ, ends);
+            }
+        }
+        return got.flip();
+    }
+
+    /** Waits until the channel is ready. */
+    private void await(int operation, long ends) throws IOException {
+        key.interestOps(operation);
+        while (!select(ends)) {
+            // something else than the channel ended the wait
+        }
+    }
+
+    /** Waits until the channel is ready, or until something else ends the wait; whether the channel is ready. */
+    private boolean select(long ends) throws IOException {
+        if (isWoken.getAsBoolean()) {
+            throw new Woken();
+        }
+        long left = ends - System.nanoTime();
+        if (left <= 0) {
+            throw new SocketTimeoutException("no answer came in time");
+        }
+        boolean ready = selector.select(TimeUnit.NANOSECONDS.toMillis(left) + 1) > 0;
+        selector.selectedKeys().clear();
+        if (isWoken.getAsBoolean()) {
+            throw new Woken();
+        }
+        return ready;
+    }
+
+    @Override
+    public void wake() {
+        selector.wakeup();
+    }
+
+    @Override
+    public void close() {
+        closed(selector, channel);
+    }
+
+    private static void closed(Selector selector, SocketChannel channel) {
+        try (selector; channel) {
+            return;
+        } catch (IOException ignored) {
+            // a connection that is thrown away may end as it likes
+            return;
+        }
+    }
+}

@@ -1,0 +1,188 @@
+package rendezvous;
+
+import com.google.gson.JsonObject;
+import java.time.Duration;
+import java.util.ArrayList;
+import java.util.List;
+import java.util.Random;
+import java.util.concurrent.TimeUnit;
+import java.util.concurrent.TimeoutException;
+import java.util.concurrent.locks.LockSupport;
+
+/**
+ * Threads that ask random calls for so many seconds, and print a line of JSON for each: its call and its reply. Their
+ * sessions are of version 1 and 2 in turn. Words: port, first client, how many, seconds, seed.
+ */
+final class Crowd {
+    private static final long[] MILLIS = {0, 1, 3, 10, 30, 100};
+    private final RvClients clients;
+    private final Random chance;
+    private final RvTransferQueue queue;
+    private final RvExchanger exchanger;
+    private int number;
+    private JsonObject call;
+
+    private Crowd(RvClients clients, long seed) {
+        this.clients = clients;
+        this.chance = new Random(seed);
+        this.queue = new RvTransferQueue(clients, 3);
+        this.exchanger = new RvExchanger(clients, 5);
+    }
+
+    public static void main(String[] words) throws InterruptedException {
+        int count = Integer.parseInt(words[2]);
+        long ends = System.nanoTime() + TimeUnit.MILLISECONDS.toNanos((long) (1000 * Double.parseDouble(words[3])));
+        List<Thread> threads = new ArrayList<>();
+        for (int each = 0; each < count; each++) {
+            RvClients clients = new RvClients("127.0.0.1", Integer.parseInt(words[0]),
+                Long.parseLong(words[1]) + each, 1, 1, Duration.ofSeconds(120), 1 + each % 2);
+            Crowd one = new Crowd(clients, Long.parseLong(words[4]) * 1000 + each);
+            threads.add(new Thread(() -> one.run(ends)));
+        }
+        threads.forEach(Thread::start);
+        for (Thread thread : threads) {
+            thread.join();
+        }
+    }
+
+    private void run(long ends) {
+        while (System.nanoTime() - ends < 0) {
+            Outcome before = last();
+            try {
+                ask();
+            } catch (InterruptedException | TimeoutException | RvException.NotAsked told) {
+                // its outcome is there, or it asked nothing
+            } catch (RvException.Unsettled unsettled) {
+                settle();
+            }
+            Thread.interrupted();
+            LockSupport.parkNanos(chance.nextInt(10_000_000));
+            // one that was interrupted before it began asked nothing
+            if (last() != before && last() != null) {
+                tell();
+            }
+        }
+    }
+
+    private Outcome last() {
+        return clients.session().last().orElse(null);
+    }
+
+    /** Settles the request that an interrupt left unsettled, as it does where nothing is heard for a second. */
+    private void settle() {
+        Thread.interrupted();
+        try {
+            clients.session().again();
+        } catch (InterruptedException cancelled) {
+            throw new IllegalStateException(cancelled);
+        }
+    }
+
+    private void tell() {
+        JsonObject line = new JsonObject();
+        line.add("call", call);
+        line.add("told", Answers.of(last()));
+        synchronized (System.out) {
+            System.out.println(line);
+        }
+    }
+
+    private String item() {
+        return "java " + Thread.currentThread().getName() + " " + ++number;
+    }
+
+    /** One call, some of which are interrupted, and all that wait for ever. */
+    private void ask() throws InterruptedException, TimeoutException {
+        long millis = MILLIS[chance.nextInt(MILLIS.length)];
+        switch (chance.nextInt(11)) {
+            case 0 -> queue.put(given("put", null));
+            case 1 -> forever(() -> queue.transfer(given("transfer", "forever")));
+            case 2 -> queue.tryTransfer(given("transfer", "now"));
+            case 3 -> queue.tryTransfer(given("transfer", millis), millis, TimeUnit.MILLISECONDS);
+            case 4 -> forever(() -> {
+                taken("forever");
+                queue.take();
+            });
+            case 5 -> {
+                taken("now");
+                queue.poll();
+            }
+            case 6 -> {
+                taken(millis);
+                queue.poll(millis, TimeUnit.MILLISECONDS);
+            }
+            case 7 -> exchanger.exchange(swapped(millis), millis, TimeUnit.MILLISECONDS);
+            case 8 -> forever(() -> exchanger.exchange(swapped("forever")));
+            case 9 -> {
+                int most = 1 + chance.nextInt(16);
+                call = Calls.at("drain", "queue", 3);
+                call.addProperty("max", most);
+                queue.drainTo(new ArrayList<>(), most);
+            }
+            default -> {
+                call = Calls.at("count", "queue", 3);
+                queue.size();
+            }
+        }
+    }
+
+    private interface Waits {
+        void run() throws InterruptedException;
+    }
+
+    /** A call that waits for ever: it is interrupted a little later. */
+    private void forever(Waits waits) throws InterruptedException {
+        Thread asking = Thread.currentThread();
+        long pause = chance.nextInt(80);
+        Thread later = new Thread(() -> {
+            try {
+                Thread.sleep(pause);
+                asking.interrupt();
+            } catch (InterruptedException over) {
+                // the call is over
+            }
+        });
+        later.start();
+        try {
+            waits.run();
+        } finally {
+            later.interrupt();
+            joined(later);
+        }
+    }
+
+    private static void joined(Thread later) {
+        while (later.isAlive()) {
+            try {
+                later.join();
+            } catch (InterruptedException again) {
+                // it ends soon
+            }
+        }
+    }
+
+    private String given(String word, Object wait) {
+        String item = item();
+        call = withWait(Calls.giving(Calls.at(word, "queue", 3), item), wait);
+        return item;
+    }
+
+    private String swapped(Object wait) {
+        String item = item();
+        call = withWait(Calls.giving(Calls.at("swap", "exchanger", 5), item), wait);
+        return item;
+    }
+
+    private void taken(Object wait) {
+        call = withWait(Calls.at("take", "queue", 3), wait);
+    }
+
+    private static JsonObject withWait(JsonObject call, Object wait) {
+        if (wait instanceof Number millis) {
+            call.addProperty("wait", millis);
+        } else if (wait != null) {
+            call.addProperty("wait", wait.toString());
+        }
+        return call;
+    }
+}

@@ -1,0 +1,150 @@
+"""One connection, which never waits by itself: frames of messages go out, frames of answers come in."""
+from __future__ import annotations
+
+import errno
+import os
+import socket
+import struct
+from typing import Any, List, Optional, Tuple, Union
+
+from .bodies import Members, NoAnswer, body_of, read_answer
+
+Address = Union[str, Tuple[str, int]]
+# What a connect that is under way answers.
+UNDER_WAY = (errno.EINPROGRESS, errno.EWOULDBLOCK, errno.EALREADY, errno.EINTR)
+AT_ONCE = 65_536
+
+
+def address_of(address: Address) -> Tuple[str, int]:
+    """The host and port of an address, which may be a text `host:port`."""
+    if isinstance(address, str):
+        host, colon, port = address.rpartition(":")
+        if not colon or not port.isdigit() or not 0 < int(port) < 65_536:
+            raise ValueError(f"an address is host:port: {address!r}")
+        return host.strip("[]"), int(port)
+    return address
+
+
+def named(address: Tuple[str, int]) -> str:
+    """An address as it is written."""
+    host, port = address
+    return f"[{host}]:{port}" if ":" in host else f"{host}:{port}"
+
+
+def ways_to(address: Tuple[str, int]) -> List[Any]:
+    """The ways that an address names, which are asked for anew each time."""
+    try:
+        return socket.getaddrinfo(*address, type=socket.SOCK_STREAM)
+    except OSError as fault:
+        raise OSError(fault.errno, f"{named(address)}: {str(fault.strerror).lower()}") from fault
+
+
+class Link:
+    """A connection to the server. It is being made until `connected`; then it takes a message, and gives its answer. `used`
+    tells whether something was said there.
+    Every fault of it is an OSError or NoAnswer, and then it is of no more use."""
+
+    def __init__(self, address: Tuple[str, int]) -> None:
+        self.address, self.connected, self.used = address, False, False
+        self._ways = ways_to(address)
+        self._out, self._in = b"", b""
+        self.socket = self._begin()
+
+    def _begin(self) -> socket.socket:
+        """Begins to connect by the next way that the address names."""
+        family, kind, protocol, _, where = self._ways.pop(0)
+        made = socket.socket(family, kind, protocol)
+        try:
+            made.setblocking(False)
+            made.setsockopt(socket.IPPROTO_TCP, socket.TCP_NODELAY, 1)
+            code = made.connect_ex(where)
+        except BaseException:
+            made.close()
+            raise
+        if code not in (0, *UNDER_WAY):
+            made.close()
+            if not self._ways:
+                raise OSError(code, f"{named(self.address)}: {os.strerror(code).lower()}")
+            return self._begin()
+        return made
+
+    def wants_to_write(self) -> bool:
+        """Whether it waits for room to write, and not for something to read."""
+        return not self.connected or bool(self._out)
+
+    def go_on(self) -> Optional[Members]:
+        """Does what can be done at once, and gives an answer that has come whole."""
+        if not self.connected:
+            self._finish()
+        elif self._out:
+            self._write()
+        else:
+            return self._read()
+        return None
+
+    def _finish(self) -> None:
+        """Ends a connect that was under way, or begins the next one."""
+        code = self.socket.getsockopt(socket.SOL_SOCKET, socket.SO_ERROR)
+        if code == 0:
+            self.connected = True
+        elif self._ways:
+            self.socket.close()
+            self.socket = self._begin()
+        else:
+            raise OSError(code, f"{named(self.address)}: {os.strerror(code).lower()}")
+
+    def say(self, members: Members) -> None:
+        """Begins to send a message."""
+        self.used = True
+        body = body_of(members)
+        self._out = struct.pack(">H", len(body)) + body
+        self._write()
+
+    def _write(self) -> None:
+        """Sends what the connection takes."""
+        try:
+            self._out = self._out[self.socket.send(self._out):]
+        except (BlockingIOError, InterruptedError):
+            pass
+
+    def _read(self) -> Optional[Members]:
+        """Reads what is there; an answer, if it is whole."""
+        try:
+            piece = self.socket.recv(AT_ONCE)
+        except (BlockingIOError, InterruptedError):
+            return None
+        if not piece:
+            raise NoAnswer("the connection ended")
+        self._in += piece
+        return self._taken()
+
+    def _taken(self) -> Optional[Members]:
+        """The first answer of what was read, if it is whole."""
+        if len(self._in) < 2:
+            return None
+        end = 2 + struct.unpack(">H", self._in[:2])[0]
+        if end == 2:
+            raise NoAnswer("a frame of 0 bytes")
+        if len(self._in) < end:
+            return None
+        body, self._in = self._in[2:end], self._in[end:]
+        return read_answer(body)
+
+    def is_stale(self) -> bool:
+        """Whether something is there though nothing is awaited: the peer's end, or an answer to nothing."""
+        if not self.connected:
+            return False
+        try:
+            return bool(self._in) or self.socket.recv(1, socket.MSG_PEEK) is not None
+        except (BlockingIOError, InterruptedError):
+            return False
+        except OSError:
+            return True
+
+    def close(self) -> None:
+        """Throws it away, also where a fork has it too."""
+        try:
+            self.socket.shutdown(socket.SHUT_RDWR)
+        except OSError:
+            pass
+        self.socket.close()

@@ -1,0 +1,313 @@
+"""Sessions: what a program calls, and what it is told."""
+from __future__ import annotations
+
+import os
+import threading
+import time
+import weakref
+from typing import Callable, List, NoReturn, Optional, Tuple, TypeVar, cast
+
+from . import errors, machine as m, replies
+from .bodies import GREATEST, GREATEST_VERSION, Members, is_whole
+from .calls import carrying, checked, draining, milliseconds, placed
+from .driver import Driver, Job
+from .link import Address, address_of
+from .replies import Counted, Key, Outcome, Receipt
+
+Result = TypeVar("Result")
+# How many seconds an interrupt leaves for the cancel of its call.
+FAREWELL = 1.0
+
+
+class Running:
+    """A call that runs: it can be cancelled, and no other is."""
+
+    def __init__(self, job: Job, driver: Driver) -> None:
+        self._job, self._driver = job, driver
+
+    def cancel(self) -> bool:
+        """Gives this very call up, from any thread and from a signal's handler; False where it has ended. The call ends by
+        `Cancelled`, or with its result where it was met before."""
+        if self._job.told is not None or self._job.misused:
+            return False
+        self._job.cancelled = self._job.given_up = True
+        self._driver.order(self._job)
+        return True
+
+
+class Session:
+    """One client in one incarnation: it asks one request at a time, and is used by one thread at a time.
+
+    `client` is a number that no other process has, `incarnation` one above each that this client was started
+    with. `version` is what the session speaks: in version 2 a receipt names the consumer, in version 1, which
+    each server knows, it does not. `patience` is for how many seconds a call goes on while nothing at all is
+    heard; None is for ever. `answer` is for how many seconds it waits for one answer before it throws the
+    connection away.
+
+    A call with a time of its own ends within that and a second, also where the server is silent or away.
+    """
+
+    def __init__(self, address: Address, client: int, incarnation: int, *, version: int = GREATEST_VERSION,
+                 patience: Optional[float] = 60.0, answer: float = 30.0) -> None:
+        for name, number in (("client", client), ("incarnation", incarnation)):
+            checked(is_whole(number, 1, GREATEST), f"the {name} is 1 to {GREATEST}: {number!r}")
+        checked(is_whole(version, 1, GREATEST_VERSION), f"the version is 1 to {GREATEST_VERSION}: {version!r}")
+        self.address, self.patience = address_of(address), patience
+        self._process = os.getpid()
+        self._driver = Driver(self.address, m.Machine(client, incarnation, version), answer)
+        # The job that runs, or that its caller left: setdefault and pop are single steps.
+        self._jobs: "dict[str, Job]" = {}
+        self._closes = weakref.finalize(self, self._driver.close)
+
+    def __enter__(self) -> "Session":
+        self.connect()
+        return self
+
+    def __exit__(self, *_: object) -> None:
+        self.close()
+
+    def connect(self) -> None:
+        """Says hello, again and again, until the welcome comes. Every call does so by itself where need be."""
+        self._told(self._job(None, None), nothing)
+
+    def close(self) -> None:
+        """Closes the connection, for good, and ends the call that runs. An unsettled request goes on standing, until a
+        greater incarnation says hello."""
+        self._driver.close()
+        if os.getpid() == self._process and self._driver.ended.acquire(timeout=1.0):
+            self._driver.ended.release()
+
+    @property
+    def epoch(self) -> Optional[int]:
+        """The server's epoch; None before the welcome, and where all numbers are used up."""
+        key = self._driver.machine.key
+        return key.epoch if key else None
+
+    @property
+    def last(self) -> Optional[Outcome]:
+        """What the last request that was settled came to, with its key: also where an exception of a signal's handler came
+        just behind its call."""
+        return self._driver.last
+
+    @property
+    def running(self) -> Optional[Running]:
+        """The call that runs now; None where none does."""
+        job = self._jobs.get("job")
+        return None if job is None or job.told is not None else Running(job, self._driver)
+
+    # ---- calls
+
+    def put(self, queue: int, item: str, timeout: Optional[float] = None) -> None:
+        """The item goes to the tail of the queue; nobody is waited for. A full server is asked again for `timeout` seconds,
+        or as long as the session's patience; then this is `Full`."""
+        self._call(carrying(placed("put", queue), item), nothing, timeout)
+
+    def transfer(self, queue: int, item: str) -> Receipt:
+        """Waits until a consumer was assigned the item. The receipt names that consumer's request."""
+        return self._call({**carrying(placed("transfer", queue), item), "wait": "forever"}, receipt_of)
+
+    def try_transfer(self, queue: int, item: str, timeout: Optional[float] = None) -> Optional[Receipt]:
+        """Hands the item over if a consumer waits, or comes within `timeout` seconds; else None, and nobody gets it."""
+        return self._timed(carrying(placed("transfer", queue), item), receipt_if_any, timeout)
+
+    def take(self, queue: int) -> str:
+        """The oldest item, waiting for one if need be."""
+        return self._call({**placed("take", queue), "wait": "forever"}, item_of)
+
+    def poll(self, queue: int, timeout: Optional[float] = None) -> Optional[str]:
+        """The oldest item, if one is there or comes within `timeout` seconds; else None."""
+        return self._timed(placed("take", queue), item_if_any, timeout)
+
+    def drain(self, queue: int, max: int) -> List[str]:
+        """Up to `max` of the oldest items, 1 to 16, oldest first; it never waits, so there may be none. They are taken in
+        one step of the server: nothing comes between two of them, and the transfers among them are received. Like each
+        call it repeats its one key, so no item is lost or taken twice where a link breaks."""
+        return self._call(draining(placed("drain", queue), max), items_of)
+
+    def exchange(self, exchanger: int, item: str, timeout: Optional[float] = None) -> str:
+        """The partner's object for this one. `TimedOut` where nobody came within `timeout` seconds."""
+        call = carrying(placed("swap", exchanger, "exchanger"), item)
+        if timeout is None:
+            return self._call({**call, "wait": "forever"}, item_of)
+        return self._timed(call, item_of, timeout)
+
+    def count(self, queue: int) -> Counted:
+        """The items and the waiting consumers of a queue, exact in the step that answers."""
+        return self._call(placed("count", queue), counts_of)
+
+    def peek(self, queue: int) -> Optional[str]:
+        """The oldest item, which stays; None where there is none."""
+        return self._call(placed("peek", queue), item_if_any)
+
+    def again(self, timeout: Optional[float] = None) -> Outcome:
+        """Goes on with the request that an exception left unsettled, and gives what it came to: a value that has its key.
+        Where an exception came while a call was told of an interrupt, this tells what that call came to."""
+        return self._resumed(timeout, False)
+
+    def give_up(self, timeout: Optional[float] = None) -> Outcome:
+        """Cancels the request that an exception left unsettled, and gives what it came to, which is not always that it was
+        cancelled."""
+        return self._resumed(timeout, True)
+
+    def cancel(self) -> bool:
+        """Gives the call up that runs now, from any thread and from a signal's handler; False where there is none. Whoever
+        means one certain call keeps `running`, and cancels that."""
+        running = self.running
+        return running is not None and running.cancel()
+
+    # ---- how a call is asked
+
+    def _job(self, call: Optional[Members], own: Optional[float], resumes: bool = False) -> Job:
+        """A call's job."""
+        return Job(call, own, self.patience, resumes)
+
+    def _timed(self, call: Members, result: Callable[[Outcome], Result], timeout: Optional[float]) -> Result:
+        """A call that doesn't wait, or waits for so many seconds."""
+        if timeout is None:
+            return self._call({**call, "wait": "now"}, result)
+        return self._call({**call, "wait": milliseconds(timeout)}, result, timeout)
+
+    def _call(self, call: Members, result: Callable[[Outcome], Result], own: Optional[float] = None) -> Result:
+        """Asks one call, and gives its result."""
+        return self._told(self._job(call, own), result)
+
+    def _resumed(self, timeout: Optional[float], gives_up: bool) -> Outcome:
+        """Goes on with what is unsettled: a job that its caller left, or the machine's request."""
+        left = self._jobs.get("job")
+        if left is not None and left.thread is not threading.current_thread() and left.thread.is_alive():
+            raise errors.Misused("another thread's call runs")
+        job = left or self._job(None, timeout, True)
+        job.limit(timeout)
+        if gives_up:
+            job.cancelled = job.given_up = True
+        return self._told(job, itself)
+
+    def _told(self, job: Job, result: Callable[[Outcome], Result]) -> Result:
+        """Has a job done, and gives its result; what is thrown meanwhile is thrown once the request was cancelled."""
+        if os.getpid() != self._process:
+            raise errors.Misused(f"this session is of process {self._process}: behind a fork make one anew")
+        if self._driver.closing:
+            raise errors.Misused("the session is closed")
+        owner, value, fault = None, None, None
+        try:
+            owner = self._jobs.setdefault("job", job)
+            if owner is job:
+                self._driver.order(job)
+                job.wait(self._driver)
+                value, fault = ending(job, result)
+        except BaseException as thrown:
+            self._interrupted(job, thrown)
+        if owner is not job:
+            raise errors.Misused("a call of this session runs, or was left by its caller: again() tells what it came to")
+        self._jobs.pop("job", None)
+        if fault is not None:
+            raise fault
+        return cast(Result, value)
+
+    def _interrupted(self, job: Job, thrown: BaseException) -> NoReturn:
+        """Cancels the request, waits for what it came to, and throws on; an interrupt of the keyboard says it."""
+        if self._jobs.get("job") is not job:
+            raise thrown
+        job.give_up(FAREWELL)
+        self._driver.order(job)
+        job.wait(self._driver)
+        outcome, fault = known_of(job)
+        self._jobs.pop("job", None)
+        if isinstance(thrown, KeyboardInterrupt):
+            key = outcome.key if outcome else fault.key if fault else None
+            raise errors.Interrupted(key, outcome, fault) from None
+        raise thrown
+
+
+# ---- what a job's end is to its caller
+
+def ending(job: Job, result: Callable[[Outcome], Result]) -> Tuple[Optional[Result], Optional[Exception]]:
+    """The result of a job that has ended, or its exception. Whoever asks for the outcome itself gets each of them."""
+    if job.misused:
+        return None, errors.Misused(job.misused)
+    outcome, fault = known_of(job)
+    if outcome is not None and result is not itself:
+        fault = ended_without(job, outcome)
+    return None if outcome is None or fault is not None else result(outcome), fault
+
+
+def ended_without(job: Job, outcome: Outcome) -> Optional[errors.RendezvousError]:
+    """The exception of an outcome that is no result: it was cancelled, or nobody came to the exchanger. A cancel that the
+    call's own time ordered is that nobody came in time."""
+    late = not job.cancelled and time.monotonic() >= job.cancel_at
+    if isinstance(outcome, replies.Cancelled) and not late:
+        return errors.Cancelled(outcome.key)
+    swaps = job.call is not None and job.call["call"] == "swap"
+    return errors.TimedOut(outcome.key) if swaps and not isinstance(outcome, replies.Swapped) else None
+
+
+def known_of(job: Job) -> Tuple[Optional[Outcome], Optional[errors.RendezvousError]]:
+    """The outcome of a job, or the exception that says what is known."""
+    told = job.told
+    if isinstance(told, m.Settled):
+        return told.outcome, None
+    if isinstance(told, m.Unsettled):
+        return None, errors.Unsettled(told.key, told.accepted, job.fault)
+    if isinstance(told, m.NotAsked):
+        return None, errors.Cancelled(None) if job.cancelled else errors.NotAsked(None, job.fault)
+    if isinstance(told, m.Full):
+        return None, errors.Full(told.key)
+    if isinstance(told, m.Refused):
+        return None, errors.Refused(told.key, told.code, told.current, meaning(told))
+    if isinstance(told, m.EpochEnded):
+        return None, errors.EpochEnded(told.key, told.current)
+    if isinstance(told, m.Replaced):
+        return None, errors.Replaced(told.key, told.current)
+    return None, None
+
+
+def meaning(refused: m.Refused) -> str:
+    """What a refusal means, where its name alone doesn't say it."""
+    if refused.code == 12:
+        return f": the client's session in this incarnation speaks {refused.current}"
+    if refused.code == 1 and refused.key is None:
+        return ": a server that knows version 1 alone refuses a hello of version 2"
+    if refused.code in (5, 6, 7):
+        return ": another process uses this client and incarnation"
+    return ""
+
+
+# ---- results
+
+def nothing(_: Outcome) -> None:
+    """What a call gives that only has to end."""
+
+
+def itself(outcome: Outcome) -> Outcome:
+    """What a request that was asked again came to."""
+    return outcome
+
+
+def receipt_if_any(outcome: Outcome) -> Optional[Receipt]:
+    """The receipt of a transfer, where it was received."""
+    return outcome if isinstance(outcome, Receipt) else None
+
+
+def receipt_of(outcome: Outcome) -> Receipt:
+    """The receipt of a transfer that was received."""
+    return cast(Receipt, outcome)
+
+
+def item_if_any(outcome: Outcome) -> Optional[str]:
+    """The item of an outcome that has one."""
+    return outcome.item if isinstance(outcome, (replies.Item, replies.Swapped, replies.Peeked)) else None
+
+
+def item_of(outcome: Outcome) -> str:
+    """The item of a take or of a swap."""
+    return cast(str, item_if_any(outcome))
+
+
+def items_of(outcome: Outcome) -> List[str]:
+    """The items of a drain."""
+    return list(cast(replies.Drained, outcome).items)
+
+
+def counts_of(outcome: Outcome) -> Counted:
+    """What a count told."""
+    return cast(Counted, outcome)

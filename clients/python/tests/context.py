@@ -1,0 +1,84 @@
+"""What all tests use: the package from this clone, sessions that wait long, and what a call raises."""
+import contextlib
+import faulthandler
+import os
+import pathlib
+import sys
+import time
+import types
+import unittest
+
+sys.path.insert(0, str(pathlib.Path(__file__).resolve().parent.parent / "src"))
+import rendezvous as rv  # noqa: E402
+
+# How long a test may take that never hangs, in seconds; the patience of sessions, and how long something is awaited that must
+# come: long, for a slow machine, but where clients are tried that never end.
+HANG = 300
+PATIENCE = GENEROUS = int(os.environ.get("RV_PATIENCE", "120"))
+
+
+class Case(unittest.TestCase):
+    """A test that is ended, with its stacks, where it hangs."""
+
+    def setUp(self):
+        faulthandler.dump_traceback_later(HANG, exit=True)
+
+    def tearDown(self):
+        faulthandler.cancel_dump_traceback_later()
+
+    @contextlib.contextmanager
+    def raises(self, kind, **fields):
+        """The block must raise this, with these fields; `raised` of what it is given has it."""
+        told = types.SimpleNamespace(raised=None)
+        try:
+            yield told
+        except kind as raised:
+            told.raised = raised
+        if told.raised is None:
+            self.fail(f"no {kind.__name__} was raised")
+        self.assertEqual({name: getattr(told.raised, name) for name in fields}, fields)
+
+    @contextlib.contextmanager
+    def within(self, seconds):
+        """The block must end in so many seconds."""
+        began = time.monotonic()
+        yield
+        self.assertLess(time.monotonic() - began, seconds)
+
+
+def session(server, **more):
+    """A session of client 1, incarnation 1. It waits long, so that a slow machine does not have it ask once more."""
+    return rv.Session(server.address, 1, 1, **{"patience": PATIENCE, "answer": PATIENCE / 2, **more})
+
+
+def key(number, epoch=1):
+    """A key of client 1, incarnation 1."""
+    return rv.Key(epoch, 1, 1, number)
+
+
+def asked(server):
+    """What came, each as its kind, number and call."""
+    return [(one["kind"], one.get("number"), one.get("call")) for one in server.heard]
+
+
+def until(what, holds):
+    """Waits until something holds."""
+    ends = time.monotonic() + GENEROUS
+    while not holds():
+        if time.monotonic() > ends:
+            raise AssertionError(f"within {GENEROUS} seconds: {what}")
+        time.sleep(0.002)
+
+
+def behind(server, count, deed):
+    """A deed that waits until so many frames came."""
+    return lambda *_: (until("a frame", lambda: len(server.heard) >= count), deed())[1]
+
+
+def raised_by(call):
+    """What a call raises; None where it ends."""
+    try:
+        call()
+    except BaseException as raised:
+        return raised
+    return None
