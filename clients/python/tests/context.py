@@ -35,7 +35,7 @@ class Case(unittest.TestCase):
         except kind as raised:
             told.raised = raised
         if told.raised is None:
-            self.fail(f"no {kind.__name__} was raised")
+            self.fail(f"no {kind} was raised")
         self.assertEqual({name: getattr(told.raised, name) for name in fields}, fields)
 
     @contextlib.contextmanager
