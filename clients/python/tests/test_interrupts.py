@@ -14,7 +14,7 @@ import unittest
 from book import PLACE, Book, counted, named, waits
 from context import GENEROUS, Case, raised_by, rv
 from let_in import line_of
-from rendezvous.driver import Job
+from rendezvous.driver import Job, let_go
 
 FOLDER = os.path.dirname(rv.__file__)
 KINDS = (KeyboardInterrupt, SystemExit, TimeoutError)
@@ -31,7 +31,8 @@ class Thrown:
         self.places, self.times = [], {}
 
     def __call__(self, frame, event, _):
-        if not frame.f_code.co_filename.startswith(FOLDER):
+        # what a finalizer throws goes nowhere, and its moment is the runtime's
+        if not frame.f_code.co_filename.startswith(FOLDER) or frame.f_code is let_go.__code__:
             return None
         if event == "line":
             self.came_by(frame)

@@ -10,8 +10,8 @@ from let_in import handled, interrupt, on_line
 from rendezvous.driver import Driver, Job
 from scripted import HANG_UP, SILENCE, Scripted, received_by, refused, reply, running_first, welcome
 
-# Where a call waits for what its request comes to, and where it was told.
-WAITING, TOLD = (Job.wait, "self._done.acquire"), (rv.Session._told, "value, fault = ending")
+# Where a call looks whether it has to wait for what its request comes to, and where it was told.
+WAITING, TOLD = (Job.wait, "while self.told is None"), (rv.Session._told, "value, fault = ending")
 # Where the hello, or a call, is handed to the session's thread.
 HANDED = (Driver.order, "self._wakes.send")
 SOON = 20
