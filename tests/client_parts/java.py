@@ -14,13 +14,17 @@ import time
 
 from scripted import (
     BY, HANG_UP, SILENCE, Scripted, old_server, received_by, refused, reply, waiting, welcome)
-from serve_parts.wire import demand, frame, until
+from serve_parts.wire import Wrong, demand, frame, until
 
 ROOT = pathlib.Path(__file__).resolve().parent.parent.parent
 FOLDER = ROOT / "clients/java/src"
 GSON = pathlib.Path("/usr/share/java/gson.jar")
 PATIENCE = 300
-# The patience of sessions in milliseconds: long, but where clients are tried that never end.
+# A patience that ends in a case, in milliseconds: long enough for a slow machine to ask.
+SHORT = 3_000
+# How often what has to be done in time is tried.
+TRIES = 5
+# The patience of other sessions in milliseconds: long, but where clients are tried that never end.
 LONG = 1_000 * int(os.environ.get("RV_PATIENCE", "60"))
 
 
@@ -58,6 +62,18 @@ def the_java_process():
                          timeout=PATIENCE)
     cases = sum('"machine"' in line for line in table.read_text().splitlines())
     demand((ran.stdout, ran.stderr) == (f"{cases} cases\n", ""), f"{ran.stdout[:1000]} {ran.stderr[:1000]}")
+
+
+def in_time(case):
+    """A case with a limit of a second or less, behind which the client says less: where a machine was too slow for that, it
+    is tried again."""
+    @functools.wraps(case)
+    def tried(*given):
+        for _ in range(TRIES - 1):
+            with contextlib.suppress(Wrong):
+                return case(*given)
+        return case(*given)
+    return tried
 
 
 class Driver:
@@ -153,7 +169,7 @@ def receipts(java):
         java.expect("last", "result Optional[Cancelled[key=1/1/1/3]]")
         java.expect("put a", "result done")
         java.expect("last", "result Optional[Done[key=1/1/1/4]]")
-    with opened(java, HANG_UP, patience=300) as server:
+    with opened(java, HANG_UP, patience=SHORT) as server:
         server.otherwise = HANG_UP
         java.expect("transfer a", "threw Unsettled 1/1/1/1")
         java.expect("last", "result Optional.empty")
@@ -196,7 +212,7 @@ def versions(java):
             java.expect("put a", "result done")
             hellos = [members for members in server.heard if members["kind"] == "hello"]
             demand(hellos == [{**hello, **said}] * (len(others) + 1), f"{hellos}")
-    with opened(java, patience=300, hello=lambda asked: {**welcome(asked), "client": 2}) as server:
+    with opened(java, patience=SHORT, hello=lambda asked: {**welcome(asked), "client": 2}) as server:
         server.otherwise = lambda asked: {**welcome(asked), "client": 2}
         java.expect("put a", "threw NotAsked null")
         demand(len(server.heard) < 60, f"{len(server.heard)} hellos were said")
@@ -265,7 +281,7 @@ def a_drain_is_asked_under_one_key(java):
 
 def a_step_that_fails(java):
     """What finished steps took is in the collection; an unsettled step is asked again for its items."""
-    with opened(java, texts(16), patience=300) as server:
+    with opened(java, texts(16), patience=SHORT) as server:
         server.otherwise = refused(10)
         java.expect("drain", "threw Full 1/1/1/2")
         java.expect("drained", f"result [{', '.join(map(str, range(16)))}]")
@@ -274,7 +290,7 @@ def a_step_that_fails(java):
         java.expect("last", "result Optional[Cancelled[key=1/1/1/2]]")
         java.expect("drain", "result 1")
         java.expect("drained", f"result [{', '.join(map(str, [*range(16), 0]))}]")
-    with opened(java, texts(16), patience=300) as server:
+    with opened(java, texts(16), patience=SHORT) as server:
         server.otherwise = HANG_UP
         java.expect("drain", "threw Unsettled 1/1/1/2")
         server.otherwise = texts(2, 16)
@@ -305,7 +321,7 @@ def repeats_until_it_is_told(java):
 
 def an_unsettled_request(java):
     """The call ends by its key; the request is asked again, or given up."""
-    with opened(java, waiting, patience=300) as server:
+    with opened(java, waiting, patience=SHORT) as server:
         server.otherwise = HANG_UP
         java.expect("transfer a", "threw Unsettled 1/1/1/1 accepted")
         told = java.tell("words")
@@ -315,7 +331,7 @@ def an_unsettled_request(java):
         java.expect("again", "result Receipt[key=1/1/1/1, by=Optional[1/2/3/4]]")
         java.expect("put a", "result done")
         java.expect("again", "threw IllegalStateException")
-    with opened(java, patience=300) as server:
+    with opened(java, patience=SHORT) as server:
         server.otherwise = HANG_UP
         java.expect("take", "threw Unsettled 1/1/1/1")
         server.otherwise = reply("cancelled")
@@ -327,19 +343,19 @@ def an_unsettled_request(java):
 def no_room(java):
     """A request that is refused for want of room is tried as long as patience lasts, and then certainly is not there;
     but for one of which a copy is still under way."""
-    with opened(java, patience=300) as server:
+    with opened(java, patience=SHORT) as server:
         server.otherwise = refused(10)
         java.expect("put a", "threw Full 1/1/1/1")
         demand(len(server.heard) > 2 and server.connections == 1, f"{asked(server)}, {server.connections}")
         server.otherwise = reply("done")
         java.expect("put b", "result done")
         demand(server.heard[-1]["number"] == 1, f"{asked(server)}")
-    with opened(java, HANG_UP, patience=300) as server:
+    with opened(java, HANG_UP, patience=SHORT) as server:
         server.otherwise = refused(10)
         java.expect("put a", "threw Unsettled 1/1/1/1")
         server.otherwise = reply("done")
         java.expect("again", "result Done[key=1/1/1/1]")
-    with opened(java, patience=300, hello=refused(10)) as server:
+    with opened(java, patience=SHORT, hello=refused(10)) as server:
         server.otherwise = refused(10)
         java.expect("put a", "threw Full null")
         server.otherwise = refused(11)
@@ -376,6 +392,7 @@ def interrupting(path, deed):
     return meets
 
 
+@in_time
 def interrupts(java):
     """An interrupt is a cancel; a result that came before it is given; calls that do not wait go on."""
     with tempfile.TemporaryDirectory(prefix="rv-interrupt-") as folder:
@@ -402,6 +419,7 @@ def interrupts(java):
             demand(len(server.heard) == 3, f"{asked(server)}")
 
 
+@in_time
 def a_timeout_is_kept(java):
     """Where a request is not answered behind the call's own time, it is cancelled."""
     with opened(java, SILENCE, reply("cancelled"), SILENCE, reply("item", item="a")) as server:
@@ -415,8 +433,8 @@ def a_timeout_is_kept(java):
 
 def a_wait_is_no_silence(java):
     """Patience begins anew with each answer that the request waits."""
-    slow = lambda one: (time.sleep(0.3), waiting(one))[1]
-    with opened(java, *[slow] * 4, reply("item", item="a"), patience=900):
+    slow = lambda one: (time.sleep(1), waiting(one))[1]
+    with opened(java, *[slow] * 4, reply("item", item="a"), patience=SHORT):
         java.expect("take", "result a")
 
 

@@ -270,6 +270,7 @@ def an_interrupt_while_the_server_is_away(_java):
             program.expect(STATE + "more threads than the 1 clients", "ends")
 
 
+@java.in_time
 def an_interrupt_in_again(_java):
     """Is obeyed before anything is asked, and cancels what is asked."""
     with scripted(welcome, otherwise=HANG_UP) as server, playing("interrupted-again", server.port) as program:
@@ -334,10 +335,11 @@ def no_descriptors(_java):
         demand(told[4] == "put with 4 gave done", f"{told}")
 
 
+@java.in_time
 def times(_java):
     """A call with a time ends within it and a second, with a silent server and with none."""
-    with scripted(welcome, otherwise=SILENCE) as server, playing("times", server.port) as program:
-        for told, least, most in [("threw Unsettled of 1/1/1/1", 1300, 6000), ("threw NotAsked of null", 800, 6000)]:
+    with scripted(welcome, reply("done"), otherwise=SILENCE) as server, playing("times", server.port) as program:
+        for told, least, most in [("threw Unsettled of 1/1/1/2", 1300, 6000), ("threw NotAsked of null", 800, 6000)]:
             program.expect(told)
             took = int(program.line())
             demand(least <= took < most, f"it took {took} milliseconds")

@@ -55,6 +55,9 @@ final class Scenes {
         Map.entry("used-up", Scenes::usedUp), Map.entry("no-descriptors", Scenes::noDescriptors),
         Map.entry("times", Scenes::times));
 
+    /** A patience that ends in a scene, in milliseconds: long enough for a slow machine to ask. */
+    private static final long SHORT = 3_000;
+
     private Scenes() {}
 
     public static void main(String[] words) throws Exception {
@@ -139,7 +142,7 @@ final class Scenes {
 
     /** Two threads die with unsettled requests; a third one wants a session; then all is settled. */
     private static void deadUnsettled(int port) throws Exception {
-        RvClients clients = clients(port, 1, 2, 300);
+        RvClients clients = clients(port, 1, 2, SHORT);
         threePuts(clients);
         System.out.println(keys(clients));
         LINES.readLine();
@@ -166,7 +169,7 @@ final class Scenes {
 
     /** What a session tells of its last request, behind requests that were not settled. */
     private static void stale(int port) {
-        RvClients clients = clients(port, 1, 1, 300);
+        RvClients clients = clients(port, 1, 1, SHORT);
         System.out.println("last " + told(clients.session()::last));
         System.out.println("take " + told(new RvTransferQueue(clients, 3)::take));
         System.out.println("last " + told(clients.session()::last));
@@ -316,7 +319,7 @@ final class Scenes {
 
     /** Tasks of one pooled thread, the first of which ends unsettled. */
     private static void pooled(int port) throws Exception {
-        RvClients clients = clients(port, 1, 2, 300);
+        RvClients clients = clients(port, 1, 2, SHORT);
         ExecutorService pool = Executors.newSingleThreadExecutor();
         for (String item : List.of("a", "b", "c")) {
             System.out.println(pool.submit(() -> told(put(clients, item))).get());
@@ -349,7 +352,7 @@ final class Scenes {
 
     /** A thread is interrupted while it asks an unsettled request again. */
     private static void interruptedAgain(int port) throws Exception {
-        RvClients clients = clients(port, 1, 1, 1000);
+        RvClients clients = clients(port, 1, 1, SHORT);
         System.out.println("take " + told(new RvTransferQueue(clients, 3)::take));
         RvSession session = clients.session();
         Thread.currentThread().interrupt();
@@ -386,7 +389,7 @@ final class Scenes {
     /** A host is not known at first, and is known later. */
     private static void unresolved(int port) throws Exception {
         Security.setProperty("networkaddress.cache.negative.ttl", "0");
-        RvClients clients = new RvClients("rendezvous.test", port, 1, 1, 1, Duration.ofMillis(300));
+        RvClients clients = new RvClients("rendezvous.test", port, 1, 1, 1, Duration.ofMillis(SHORT));
         System.out.println("put " + words(put(clients, "a")).replace(":" + port, ""));
         LINES.readLine();
         System.out.println("put " + words(put(clients, "a")));
@@ -426,7 +429,7 @@ final class Scenes {
     private static void noDescriptors(int port) throws Exception {
         // what loads classes that need descriptors
         System.out.println("put " + told(put(clients(1, 1, 1, 100), "a")));
-        RvClients clients = clients(port, 1, 1, 100);
+        RvClients clients = clients(port, 1, 1, SHORT);
         System.out.println("put " + told(put(clients, "a")));
         clients.session().rest();
         List<String> before = descriptors();
@@ -462,6 +465,10 @@ final class Scenes {
     private static void times(int port) throws Exception {
         for (int at : List.of(port, 1)) {
             RvTransferQueue queue = new RvTransferQueue(clients(at, 1, 9, 100_000), 3);
+            if (at == port) {
+                // so that the hello is said before
+                queue.put("a");
+            }
             long began = System.nanoTime();
             System.out.println(told(() -> queue.poll(300, TimeUnit.MILLISECONDS)));
             System.out.println(TimeUnit.NANOSECONDS.toMillis(System.nanoTime() - began));
