@@ -84,6 +84,8 @@ IN_PYTHON = [
     WrongClient("lets its patience outlast a call's own time", "test_times.OwnTimes.test_a_short_poll", [
         Edit(DRIVER, "return min(moment, job.tell_at, cancels,", "return min(moment, cancels,"),
         Edit(DRIVER, "now >= job.tell_at or", "False or")]),
+    WrongClient("tells a put that its own time cancelled as done", "test_times.OwnTimes.test_a_put_that_is_late", [
+        Edit(SESSION, "    late = waits and not job", "    late = not job")]),
     WrongClient("asks on in a forked process", "test_processes.Forks.test_a_child_asks_nothing", [
         Edit(SESSION, "        if os.getpid() != self._process:\n            raise",
              "        if False:\n            raise")]),

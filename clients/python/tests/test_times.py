@@ -44,6 +44,16 @@ class OwnTimes(Case):
                 with self.raises(TimeoutError):
                     one.exchange(3, "x", 0)
 
+    def test_a_put_that_is_late(self):
+        """A put that its own time cancelled is no put: it is told so, and the next one is asked under the next number."""
+        with Scripted(welcome) as server, session(server) as one:
+            server.otherwise = lambda came: reply("cancelled")(came) if came["kind"] == "cancel" else SILENCE
+            with self.within(SOON), self.raises(rv.Cancelled, key=key(1)):
+                one.put(3, "a", timeout=0.05)
+            server.otherwise = reply("done")
+            one.put(3, "b")
+            self.assertEqual(one.last, rv.replies.Done(key(2)))
+
     def test_a_short_poll(self):
         """At a silent server, a deaf one and none, a poll of a tenth of a second ends soon, though patience is long."""
         with Scripted(welcome) as server, session(server, patience=60.0) as one, self.within(SOON):

@@ -244,7 +244,6 @@ class Driver:
     def _connect(self, now: float) -> None:
         """Begins to make a connection."""
         self._link, self._answer_by = Link(self.address), now + self.answer
-        self._watched = None
         self._watch()
 
     def _speak(self, now: float) -> None:

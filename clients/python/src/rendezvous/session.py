@@ -233,8 +233,9 @@ def ending(job: Job, result: Callable[[Outcome], Result]) -> Tuple[Optional[Resu
 
 def ended_without(job: Job, outcome: Outcome) -> Optional[errors.RendezvousError]:
     """The exception of an outcome that is no result: it was cancelled, or nobody came to the exchanger. A cancel that the
-    call's own time ordered is that nobody came in time."""
-    late = not job.cancelled and time.monotonic() >= job.cancel_at
+    call's own time ordered is that nobody came in time, where the call waits for somebody: a put does not."""
+    waits = job.call is not None and "wait" in job.call
+    late = waits and not job.cancelled and time.monotonic() >= job.cancel_at
     if isinstance(outcome, replies.Cancelled) and not late:
         return errors.Cancelled(outcome.key)
     swaps = job.call is not None and job.call["call"] == "swap"
