@@ -32,7 +32,8 @@ impl Model for Item {
 impl Item {
     /// The item of this text, which it takes over without memory.
     pub fn from_text(text: String) -> Item
-        ensures { result ≡ string_bytes text }
+        ensures text { result ≡ string_bytes text }
+        ensures utf8 { IsUtf8 result }
     {
         Item { text }
     }
@@ -61,11 +62,12 @@ impl Item {
         Ok(Item { text })
     }
 
-    /// Whether the item has at most 512 bytes.
+    /// Whether the item has at most 512 bytes; that they are UTF-8 holds of every item.
+    #[tactic(auto, unfolding(crate::specs::Limits::FitsItem))]
     pub fn fits(&self) -> bool
         ensures { IsTrue result ↔ FitsItem self.now }
     {
-        self.text.len() <= MAX_ITEM_BYTES
+        self.as_str().len() <= MAX_ITEM_BYTES
     }
 }
 

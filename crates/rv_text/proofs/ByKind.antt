@@ -8,8 +8,9 @@ use Rattle.json.proofs.Printed.Utf8.{are_ascii, IsUtf8-are_ascii}
 use Rattle.serde_json.specs.Data.{string}
 use Rattle.serde_json.specs.View.{items_of}
 use Rattle.serde_json.specs.Written.{has_float, items_have_float}
+use Rattle.rv_item.specs.Limits.{FitsItem}
 use Rattle.rv_text.specs.declared.call.Wait.TheVariants as wait
-use Rattle.rv_text.specs.Members.{Limit, up_to, from_one_to, Keeps, FitsItem, Member, word, whole, item_text, item_texts, wait_time, field_of, IsWithin, limited_members, WithinFrom, WithinEach, AllWithin}
+use Rattle.rv_text.specs.Members.{Limit, up_to, from_one_to, Keeps, Member, word, whole, item_text, item_texts, wait_time, field_of, IsWithin, limited_members, WithinFrom, WithinEach, AllWithin}
 use Rattle.rv_text.proofs.Objects.{AllFields}
 use Rattle.rv_text.proofs.Sizes.{items_size, field_size, fields_size, IsFlat, IsFlatMember}
 use Rattle.rv_text.proofs.Texts.{IsTextMember}
@@ -98,6 +99,16 @@ pub row_is_flat : (row : List Member) → are_plain row ≡ true → Each IsWith
 row_is_flat [] plain h = tt
 row_is_flat (m ∷ row) plain h = let each = and_parts _ _ plain in (is_flat m each.0 h.0, row_is_flat row each.1 h.1)
 
+-- ---- items
+
+item_short : (item : List ℕ) → FitsItem item → length item ≤ 512
+unfolding FitsItem
+item_short item fits = fits.0
+
+item_utf8 : (item : List ℕ) → FitsItem item → IsUtf8 item
+unfolding FitsItem
+item_utf8 item fits = fits.1
+
 -- ---- how long the text of a member is at most
 
 abbrev pub room : Member → ℕ
@@ -114,13 +125,13 @@ rooms (m ∷ row) = room m + rooms row
 -- 512 bytes, escaped sixfold, with two quotes and a comma
 texts_size : (texts : List (List ℕ)) → AllByRecursion FitsItem texts → items_size (items_of (map string texts)) ≤ 3075 * length texts
 texts_size [] h = omega arith
-texts_size (s ∷ texts) h = omega (arith, h.0, texts_size texts h.1)
+texts_size (s ∷ texts) h = omega (arith, item_short s h.0, texts_size texts h.1)
 
 size_within : (m : Member) → is_plain m ≡ true → IsWithin m → field_size (field_of m) ≤ room m
 size_within (word name bytes) plain h =
     omega (arith, leb-true (length bytes) 16 (and_parts _ _ (and_parts (are_ascii name) _ plain).1).1)
 size_within (whole name limit n) plain h = omega arith
-size_within (item_text name bytes) plain h = omega arith
+size_within (item_text name bytes) plain h = omega (arith, item_short bytes h)
 size_within (item_texts name texts) plain h = omega (arith, h.0, texts_size texts (recursion_from_All FitsItem texts h.1))
 size_within (wait_time name wait.Now) plain h = omega arith
 size_within (wait_time name (wait.Millis millis)) plain h = omega arith
@@ -134,27 +145,20 @@ row_size (m ∷ row) plain h =
 
 -- ---- UTF-8
 
--- each item is text
-abbrev pub IsText : Member → Type 0
-IsText (word name bytes) = Unit {0}
-IsText (whole name limit n) = Unit {0}
-IsText (item_text name bytes) = IsUtf8 bytes
-IsText (item_texts name texts) = All IsUtf8 texts
-IsText (wait_time name waits) = Unit {0}
+texts_utf8 : (texts : List (List ℕ)) → All FitsItem texts → All IsUtf8 texts
+texts_utf8 texts fits = λ k d there. item_utf8 _ (fits k d there)
 
-is_text : (m : Member) → is_plain m ≡ true → IsWithin m → IsText m → IsTextMember (field_of m).0 (field_of m).1
-is_text (word name bytes) plain h utf8 =
+is_text : (m : Member) → is_plain m ≡ true → IsWithin m → IsTextMember (field_of m).0 (field_of m).1
+is_text (word name bytes) plain h =
     let parts = and_parts (are_ascii name) _ plain in
     (IsUtf8-are_ascii name parts.0, IsUtf8-are_ascii bytes (and_parts _ _ parts.1).0)
-is_text (whole name limit n) plain h utf8 = (IsUtf8-are_ascii name (and_parts _ _ plain).0, is_flat (whole name limit n) plain h)
-is_text (item_text name bytes) plain h utf8 = (IsUtf8-are_ascii name plain, utf8)
-is_text (item_texts name texts) plain h utf8 = (IsUtf8-are_ascii name plain, (texts, refl, utf8))
-is_text (wait_time name wait.Now) plain h utf8 = (IsUtf8-are_ascii name plain, IsUtf8-are_ascii _ refl)
-is_text (wait_time name (wait.Millis millis)) plain h utf8 = (IsUtf8-are_ascii name plain, omega (arith, h))
-is_text (wait_time name wait.Forever) plain h utf8 = (IsUtf8-are_ascii name plain, IsUtf8-are_ascii _ refl)
+is_text (whole name limit n) plain h = (IsUtf8-are_ascii name (and_parts _ _ plain).0, is_flat (whole name limit n) plain h)
+is_text (item_text name bytes) plain h = (IsUtf8-are_ascii name plain, item_utf8 bytes h)
+is_text (item_texts name texts) plain h = (IsUtf8-are_ascii name plain, (texts, refl, texts_utf8 texts h.1))
+is_text (wait_time name wait.Now) plain h = (IsUtf8-are_ascii name plain, IsUtf8-are_ascii _ refl)
+is_text (wait_time name (wait.Millis millis)) plain h = (IsUtf8-are_ascii name plain, omega (arith, h))
+is_text (wait_time name wait.Forever) plain h = (IsUtf8-are_ascii name plain, IsUtf8-are_ascii _ refl)
 
-pub row_is_text : (row : List Member) → are_plain row ≡ true → Each IsWithin row → Each IsText row → AllFields IsTextMember (map field_of row)
-row_is_text [] plain h utf8 = tt
-row_is_text (m ∷ row) plain h utf8 =
-    let each = and_parts _ _ plain in
-    (is_text m each.0 h.0 utf8.0, row_is_text row each.1 h.1 utf8.1)
+pub row_is_text : (row : List Member) → are_plain row ≡ true → Each IsWithin row → AllFields IsTextMember (map field_of row)
+row_is_text [] plain h = tt
+row_is_text (m ∷ row) plain h = let each = and_parts _ _ plain in (is_text m each.0 h.0, row_is_text row each.1 h.1)

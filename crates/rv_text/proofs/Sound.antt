@@ -1,5 +1,5 @@
 -- What holds of the row of each message, call and answer: no name stands twice, all is plain, and there is room for it.
-use Rattle.std.proofs.Common.{◌≡◌, ℕ, ◌≤◌, List, [], ◌∷◌, ◌++◌, map, codes, true, Option, Some, None, IfSome, IsUtf8, refl, arith}
+use Rattle.std.proofs.Common.{◌≡◌, ℕ, ◌≤◌, List, [], ◌∷◌, ◌++◌, map, codes, true, Option, Some, None, refl, arith}
 use Rattle.rv_text.specs.declared.version.Version.{Version}
 use Rattle.rv_text.specs.declared.version.Version.TheVariants.{One, Two}
 use Rattle.rv_text.specs.declared.message.Key.{Key}
@@ -16,13 +16,12 @@ use Rattle.rv_text.specs.declared.answer.Refusal.{Refusal}
 use Rattle.rv_text.specs.declared.answer.Refusal.TheVariants as refusal
 use Rattle.rv_text.specs.declared.answer.Answer.{Answer}
 use Rattle.rv_text.specs.declared.answer.Answer.TheVariants as answer
-use Rattle.rv_text.specs.Calls.{Nature, nature_of, item_of}
+use Rattle.rv_text.specs.Calls.{Nature, nature_of}
 use Rattle.rv_text.specs.Members.{Member, word, field_of, members_of, Keeps, code_numbers, IsWithin}
-use Rattle.rv_text.specs.Rows.{version_row, key_row, side_row, wait_row, max_or_wait_row, item_row, nature_row, call_row, message_row, reply_row, code_of, detail_row, answer_row}
+use Rattle.rv_text.specs.Rows.{version_row, key_row, nature_row, call_row, message_row, reply_row, code_of, detail_row, answer_row}
 use Rattle.rv_text.specs.Limits.{FitsKey, FitsMessage, FitsAnswer}
-use Rattle.rv_text.specs.Bodies.{HasUtf8, ReplyHasUtf8, AnswerHasUtf8}
 use Rattle.rv_text.proofs.Objects.{are_distinct}
-use Rattle.rv_text.proofs.ByKind.{Each, Each-append, each_within, IsText, is_plain_word, are_plain, rooms}
+use Rattle.rv_text.proofs.ByKind.{Each, each_within, is_plain_word, are_plain, rooms}
 use Rattle.rv_text.proofs.Texts.{put_all}
 use Rattle.serde_json.specs.Data.{no_members}
 
@@ -100,38 +99,6 @@ message_within (message.Hello client incarnation version) fits = (tt, (fits.0, (
 message_within (message.Request key call) fits = (tt, key_within key (call_row call) fits.0 (each_within (call_row call) fits.1.0))
 message_within (message.Cancel key) fits = (tt, key_within key [] fits tt)
 
-side_text : (at : Side) → Each IsText (side_row at)
-side_text (side.Exchanges exchanger) = (tt, tt)
-side_text _ = (tt, tt)
-
-wait_text : (waits : Option Wait) → Each IsText (wait_row waits)
-wait_text None = tt
-wait_text (Some waits) = (tt, tt)
-
-max_or_wait_text : (drains : Option ℕ) (waits : Option Wait) → Each IsText (max_or_wait_row drains waits)
-max_or_wait_text None waits = wait_text waits
-max_or_wait_text (Some max) waits = (tt, tt)
-
-item_is_text : (gives : Option (List ℕ)) → IfSome gives IsUtf8 → Each IsText (item_row gives)
-item_is_text None utf8 = tt
-item_is_text (Some bytes) utf8 = (utf8, tt)
-
-pub call_text : (call : Call) → IfSome (item_of call) IsUtf8 → Each IsText (call_row call)
-call_text call utf8 =
-    let n = nature_of call in
-    let max_or_wait = max_or_wait_row n.drains n.wait in
-    let rest = Each-append IsText max_or_wait (item_row n.item) (max_or_wait_text n.drains n.wait) (item_is_text n.item utf8) in
-    (tt, Each-append IsText (side_row n.side) (max_or_wait ++ item_row n.item) (side_text n.side) rest)
-
-version_text : (version : Version) → Each IsText (version_row version)
-version_text One = tt
-version_text Two = (tt, tt)
-
-pub message_has_text : (message : Message) → HasUtf8 message → Each IsText (message_row message)
-message_has_text (message.Hello client incarnation version) utf8 = (tt, (tt, (tt, version_text version)))
-message_has_text (message.Request key call) utf8 = (tt, (tt, (tt, (tt, (tt, call_text call utf8)))))
-message_has_text (message.Cancel key) utf8 = (tt, (tt, (tt, (tt, (tt, tt)))))
-
 -- ---- answers
 
 reply_sound : (key : Key) (reply : Reply) → IsSoundRow (answer_row (answer.Replied key reply))
@@ -158,27 +125,3 @@ answer_within (answer.Welcome epoch client incarnation version) fits = (tt, (fit
 answer_within (answer.Replied key reply) fits = (tt, key_within key (reply_row reply) fits.0 (each_within (reply_row reply) fits.1))
 answer_within (answer.Waiting key) fits = (tt, key_within key [] fits tt)
 answer_within (answer.Refused refusal) fits = (tt, (code_within refusal, each_within (detail_row refusal) fits))
-
-reply_text : (reply : Reply) → ReplyHasUtf8 reply → Each IsText (reply_row reply)
-reply_text (reply.Item item) utf8 = (tt, (utf8, tt))
-reply_text (reply.Swapped item) utf8 = (tt, (utf8, tt))
-reply_text (reply.Peeked item) utf8 = (tt, (utf8, tt))
-reply_text (reply.Drained items) utf8 = (tt, (utf8, tt))
-reply_text (reply.Counted items consumers) utf8 = (tt, (tt, (tt, tt)))
-reply_text (reply.ReceivedBy taker) utf8 = (tt, (tt, (tt, (tt, tt))))
-reply_text _ utf8 = (tt, tt)
-
-detail_text : (refusal : Refusal) → Each IsText (detail_row refusal)
-detail_text (refusal.OtherEpoch current) = (tt, tt)
-detail_text (refusal.OldIncarnation current) = (tt, tt)
-detail_text (refusal.OldNumber last) = (tt, tt)
-detail_text (refusal.Busy waiting) = (tt, tt)
-detail_text (refusal.Gap last) = (tt, tt)
-detail_text (refusal.OtherVersion current) = (tt, tt)
-detail_text _ = tt
-
-pub answer_has_text : (answer : Answer) → AnswerHasUtf8 answer → Each IsText (answer_row answer)
-answer_has_text (answer.Welcome epoch client incarnation version) utf8 = (tt, (tt, (tt, (tt, version_text version))))
-answer_has_text (answer.Replied key reply) utf8 = (tt, (tt, (tt, (tt, (tt, reply_text reply utf8)))))
-answer_has_text (answer.Waiting key) utf8 = (tt, (tt, (tt, (tt, (tt, tt)))))
-answer_has_text (answer.Refused refusal) utf8 = (tt, (tt, detail_text refusal))

@@ -1,21 +1,16 @@
 -- Which bytes are the body of which value, and the one text that is written for a value: RFC 8259, as
 -- `serde_json` reads and writes its `Value`.
-use Rattle.std.specs.Prelude.{◌≡◌, ◌⊎◌, ℕ, ◌≤◌, List, length, Some, IfSome, IfOk, IsUtf8, Result, Ok, Err}
-use Rattle.std.specs.List.{All}
+use Rattle.std.specs.Prelude.{◌≡◌, ◌⊎◌, ℕ, ◌≤◌, List, length, Some, IfOk, IsUtf8, Result, Ok, Err}
 use Rattle.serde_json.specs.Data.{Data}
 use Rattle.serde_json.specs.Read.{read}
 use Rattle.serde_json.specs.Written.{compact_text}
 use Rattle.rv_text.specs.declared.fault.TextFault.{TextFault}
 use Rattle.rv_text.specs.declared.fault.TextFault.TheVariants as fault
 use Rattle.rv_text.specs.declared.message.Message.{Message}
-use Rattle.rv_text.specs.declared.message.Message.TheVariants as message
 use Rattle.rv_text.specs.declared.call.Call.{Call}
-use Rattle.rv_text.specs.declared.answer.Reply.{Reply}
-use Rattle.rv_text.specs.declared.answer.Reply.TheVariants as reply
 use Rattle.rv_text.specs.declared.answer.Answer.{Answer}
 use Rattle.rv_text.specs.declared.answer.Answer.TheVariants as answer
 use Rattle.rv_text.specs.declared.answer.Refusal.{Refusal}
-use Rattle.rv_text.specs.Calls.{item_of}
 use Rattle.rv_text.specs.Members.{Member, object_of}
 use Rattle.rv_text.specs.Rows.{message_row, answer_row, call_row}
 use Rattle.rv_text.specs.Limits.{FitsMessage, FitsAnswer, FitsCall}
@@ -59,30 +54,6 @@ pub record Decodes (A : Type 0) (IsBodyOf : List ℕ → A → Type 0)
       → (result ≡ Err fault.NotJson) ⊎ (result ≡ Err fault.NoMemory)
   pub not_message : result ≡ Err fault.NotMessage → (x : A) → ¬ IsBodyOf bytes x
   pub is_json : result ≡ Err fault.NotMessage → HasBodyLength bytes → ¬ IsNotJson bytes
-
--- the item is text; every `Item` is, and a variable of a law ranges over all lists of numbers
-abbrev pub CallHasUtf8 : Call → Type 0
-CallHasUtf8 call = IfSome (item_of call) IsUtf8
-
--- the same of a message
-abbrev pub HasUtf8 : Message → Type 0
-HasUtf8 (message.Hello client incarnation version) = Unit {0}
-HasUtf8 (message.Request key call) = CallHasUtf8 call
-HasUtf8 (message.Cancel key) = Unit {0}
-
--- the same of an answer, whose reply may have items
-abbrev pub ReplyHasUtf8 : Reply → Type 0
-ReplyHasUtf8 (reply.Item item) = IsUtf8 item
-ReplyHasUtf8 (reply.Swapped item) = IsUtf8 item
-ReplyHasUtf8 (reply.Peeked item) = IsUtf8 item
-ReplyHasUtf8 (reply.Drained items) = All IsUtf8 items
-ReplyHasUtf8 _ = Unit {0}
-
-abbrev pub AnswerHasUtf8 : Answer → Type 0
-AnswerHasUtf8 (answer.Welcome epoch client incarnation version) = Unit {0}
-AnswerHasUtf8 (answer.Replied key reply) = ReplyHasUtf8 reply
-AnswerHasUtf8 (answer.Waiting key) = Unit {0}
-AnswerHasUtf8 (answer.Refused refusal) = Unit {0}
 
 -- the body that is written for a message
 abbrev pub message_text : Message → List ℕ

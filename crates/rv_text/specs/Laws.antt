@@ -3,9 +3,9 @@ use Rattle.std.specs.Prelude.{◌≡◌, ℕ, List}
 use Rattle.rv_text.specs.declared.message.Message.{Message}
 use Rattle.rv_text.specs.declared.answer.Answer.{Answer}
 use Rattle.rv_text.specs.declared.call.Call.{Call}
-use Rattle.rv_text.specs.Bodies.{IsMessageBody, HasUtf8, message_text}
-use Rattle.rv_text.specs.Bodies.{IsAnswerBody, AnswerHasUtf8, answer_text}
-use Rattle.rv_text.specs.Bodies.{IsCallBody, CallHasUtf8, call_text}
+use Rattle.rv_text.specs.Bodies.{IsMessageBody, message_text}
+use Rattle.rv_text.specs.Bodies.{IsAnswerBody, answer_text}
+use Rattle.rv_text.specs.Bodies.{IsCallBody, call_text}
 use Rattle.rv_text.specs.Limits.{FitsMessage, FitsAnswer, FitsCall}
 
 -- bytes are the body of at most one
@@ -23,12 +23,12 @@ OneCall = AtMostOne IsCallBody
 
 -- what is written for a message that fits is a body of it
 abbrev pub WrittenBody : Type 0
-WrittenBody = (m : Message) → FitsMessage m → HasUtf8 m → IsMessageBody (message_text m) m
+WrittenBody = (m : Message) → FitsMessage m → IsMessageBody (message_text m) m
 
 -- what is written for an answer that fits is a body of it
 abbrev pub WrittenAnswer : Type 0
-WrittenAnswer = (a : Answer) → FitsAnswer a → AnswerHasUtf8 a → IsAnswerBody (answer_text a) a
+WrittenAnswer = (a : Answer) → FitsAnswer a → IsAnswerBody (answer_text a) a
 
 -- the compact text of a call that fits is a text of it
 abbrev pub WrittenCall : Type 0
-WrittenCall = (c : Call) → FitsCall c → CallHasUtf8 c → IsCallBody (call_text c) c
+WrittenCall = (c : Call) → FitsCall c → IsCallBody (call_text c) c
