@@ -1,4 +1,4 @@
--- A book's account is within the limits of lines.
+-- A book's account is within the limits of lines, and is read back from them.
 use Rattle.std.proofs.Common.{◌≡◌, ◌≤◌, ◌<◌, ℕ, List, [], ◌∷◌, Option, Some, None, refl, ap, subst, length, take, arith, length-take}
 use Rattle.std.specs.Prelude.{slice_get, unwrap_or}
 use Rattle.std.proofs.lemmas.Option.{none-some, same_Some}
@@ -16,8 +16,9 @@ use Rattle.rv_book.specs.Limits.{FitsAct}
 use Rattle.rv_book.specs.Steps.{max_entries}
 use Rattle.rv_book.proofs.Deciding.{find_waiting}
 use Rattle.rv_book.proofs.Places.{within}
-use Rattle.rv_lines.specs.Laws.{BookFitsLines}
+use Rattle.rv_lines.specs.Laws.{BookFitsLines, WrittenAccount}
 use Rattle.rv_lines.specs.Written.{FitPartners, max_partners}
+use Rattle.rv_lines.proofs.ReadBack.{lines_again}
 
 -- a call within its limits may name few partners
 few_by : (call : Call) (drains : Option ℕ) → FitsCall call → drains_of call ≡ drains → unwrap_or drains 1 ≤ max_partners
@@ -54,10 +55,15 @@ pub book_fits_lines : BookFitsLines
 book_fits_lines a legal fits =
     let waiting = find_waiting a.entries in
     let few : length a.entries ≤ max_entries = omega (arith, fits.room waiting.0 waiting.1) in
-    record {
+    let partners : (r : ℕ) (e : Entry) → slice_get a.entries r ≡ Some e → FitPartners e =
+        λ r e there. partners_fit a r e legal there (omega (arith, within a.entries r e there, few)) (fits.entries r e there).1 in
+    (record {
       epoch = fits.epoch;
       opened = fits.opened;
       entries = fits.entries;
-      partners = λ r e there. partners_fit a r e legal there (omega (arith, within a.entries r e there, few)) (fits.entries r e there).1;
+      places = λ r e there. (partners r e there).places;
       few = few;
-    }
+    }, partners)
+
+pub account_again : WrittenAccount
+account_again a legal fits = lines_again a (book_fits_lines a legal fits).0

@@ -27,7 +27,7 @@ use Rattle.rv_account.specs.declared.entry.Act.TheVariants as act
 use Rattle.rv_account.specs.declared.entry.Entry.{Entry}
 use Rattle.rv_book.specs.Limits.{FitsAct, FitsEntry}
 use Rattle.rv_account.specs.Account.{Among}
-use Rattle.rv_lines.specs.Written.{FitPartners, entry_text, head_text, max_partner, message_in, partners_text, places_text, said_text}
+use Rattle.rv_lines.specs.Written.{FitPlaces, entry_text, head_text, max_partner, message_in, partners_text, places_text, said_text}
 use Rattle.rv_lines.proofs.Cutting.{Lacks}
 use Rattle.rv_lines.proofs.Numbers.{all_in_range}
 
@@ -181,11 +181,11 @@ message_fits (act.Arrive key call) fits = fits
 message_fits (act.Cancel key) fits = fits
 message_fits act.Tick fits = tt
 
-pub entry_in_one_line : (e : Entry) → FitsEntry e → FitPartners e → Lacks 10 (entry_text e)
+pub entry_in_one_line : (e : Entry) → FitsEntry e → FitPlaces e → Lacks 10 (entry_text e)
 entry_in_one_line e fits small =
     line_append (decimal e.moment ++ 32 ∷ partners_text e.partners) (32 ∷ said_text (message_in e.act))
     (line_append (decimal e.moment) (32 ∷ partners_text e.partners) (decimal_in_line e.moment (omega (arith, fits.0)))
-    (line_cons 32 (partners_text e.partners) (λ same. omega arith) (partners_lack 10 (omega arith) e.partners small.places)))
+    (line_cons 32 (partners_text e.partners) (λ same. omega arith) (partners_lack 10 (omega arith) e.partners small)))
     (line_cons 32 (said_text (message_in e.act)) (λ same. omega arith) (said_in_line (message_in e.act) (message_fits e.act fits.1)))
 
 pub head_in_one_line : (epoch opened : ℕ) → epoch < 2 ^ 64 → opened < 2 ^ 64 → Lacks 10 (head_text epoch opened)

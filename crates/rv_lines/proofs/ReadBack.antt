@@ -5,17 +5,16 @@ use Rattle.std.specs.List.{AllZip}
 use Rattle.std.specs.Fmt.{decimal}
 use Rattle.std.proofs.lemmas.List.{length-map}
 use Rattle.rv_text.specs.declared.message.Message.{Message}
-use Rattle.rv_text.specs.Bodies.{HasUtf8}
 use Rattle.rv_text.specs.Limits.{FitsMessage}
 use Rattle.rv_text.proofs.Written.{written_body}
 use Rattle.rv_account.specs.declared.entry.Entry.{Entry}
 use Rattle.rv_book.specs.Limits.{FitsEntry}
 use Rattle.rv_book.specs.Steps.{max_moment}
-use Rattle.rv_lines.specs.Laws.{WrittenAccount}
+use Rattle.rv_lines.specs.Laws.{WrittenLines}
 use Rattle.rv_lines.specs.Lines.{lines, printed_lines}
 use Rattle.rv_lines.specs.Number.{WritesUpTo}
 use Rattle.rv_lines.specs.Reading.{ReadsEntry, SaysMessage, SaysPartners, SaysPlaces}
-use Rattle.rv_lines.specs.Written.{FitPartners, account_lines, entry_text, head_text, max_partner, message_in, partners_text, places_text, said_text}
+use Rattle.rv_lines.specs.Written.{FitPlaces, account_lines, entry_text, head_text, max_partner, message_in, partners_text, places_text, said_text}
 use Rattle.rv_lines.proofs.Cutting.{Lacks, lines_cut}
 use Rattle.rv_lines.proofs.OneLine.{AllUpTo, entry_in_one_line, head_in_one_line, message_fits, partners_lack, up_to_behind}
 use Rattle.rv_lines.proofs.Plain.{decimal_is_plain}
@@ -34,12 +33,12 @@ written_partners : (partners : List ℕ) → AllUpTo max_partner partners → Sa
 written_partners [] small = refl
 written_partners (place ∷ more) small = written_places place more small
 
-written_message : (said : Option Message) → IfSome said FitsMessage → IfSome said HasUtf8 → SaysMessage (said_text said) said
-written_message None fits text = refl
-written_message (Some m) fits text = written_body m fits text
+written_message : (said : Option Message) → IfSome said FitsMessage → SaysMessage (said_text said) said
+written_message None fits = refl
+written_message (Some m) fits = written_body m fits
 
-pub written_entry : (e : Entry) → FitsEntry e → FitPartners e → IfSome (message_in e.act) HasUtf8 → ReadsEntry (entry_text e) e
-written_entry e fits small text = record {
+pub written_entry : (e : Entry) → FitsEntry e → FitPlaces e → ReadsEntry (entry_text e) e
+written_entry e fits small = record {
   act_field = said_text (message_in e.act);
   fields = record {
     partners_field = partners_text e.partners;
@@ -47,11 +46,11 @@ written_entry e fits small text = record {
       moment_field = decimal e.moment;
       parts = refl;
       says_moment = written_up_to max_moment e.moment fits.0 (omega arith);
-      no_space = partners_lack 32 (omega arith) e.partners small.places;
+      no_space = partners_lack 32 (omega arith) e.partners small;
     };
-    says_partners = written_partners e.partners small.places;
+    says_partners = written_partners e.partners small;
   };
-  says_act = written_message (message_in e.act) (message_fits e.act fits.1) text;
+  says_act = written_message (message_in e.act) (message_fits e.act fits.1);
 }
 
 -- ---- all lines
@@ -59,8 +58,7 @@ written_entry e fits small text = record {
 -- what is needed of an entry
 record CanBeRead (e : Entry) : Type 0 where
   pub fits : FitsEntry e
-  pub small : FitPartners e
-  pub text : IfSome (message_in e.act) HasUtf8
+  pub small : FitPlaces e
 
 abbrev Each : List Entry → Type 0
 Each entries = (r : ℕ) (e : Entry) → slice_get entries r ≡ Some e → CanBeRead e
@@ -69,7 +67,7 @@ written_entries : (entries : List Entry) → Each entries → AllZip ReadsEntry 
 written_entries [] each = tt
 written_entries (e ∷ entries) each =
     let here = each 0 e refl in
-    (written_entry e here.fits here.small here.text, written_entries entries (λ r x there. each (suc r) x there))
+    (written_entry e here.fits here.small, written_entries entries (λ r x there. each (suc r) x there))
 
 abbrev AllLines : List (List ℕ) → Type 0
 AllLines [] = Unit {0}
@@ -86,9 +84,9 @@ cut_again : (texts : List (List ℕ)) → AllLines texts → lines (printed_line
 cut_again [] all = refl
 cut_again (text ∷ texts) all = lines_cut text (printed_lines texts) all.0 ∙ ap (λ later. text ∷ later) (cut_again texts all.1)
 
-pub account_again : WrittenAccount
-account_again a fits texts =
-    let each : Each a.entries = λ r e there. record { fits = fits.entries r e there; small = fits.partners r e there; text = texts r e there } in
+pub lines_again : WrittenLines
+lines_again a fits =
+    let each : Each a.entries = λ r e there. record { fits = fits.entries r e there; small = fits.places r e there } in
     let head = head_in_one_line a.epoch a.opened (omega (arith, fits.epoch.1)) (omega (arith, fits.opened)) in
     let cut = cut_again (account_lines a) (head, entries_in_lines a.entries each) in
     record {

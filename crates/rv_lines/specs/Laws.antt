@@ -1,27 +1,30 @@
 -- What holds of the lines of accounts as such.
-use Rattle.std.specs.Prelude.{◌≡◌, ℕ, List, IfSome, Some, slice_get}
-use Rattle.rv_text.specs.Bodies.{HasUtf8}
+use Rattle.std.specs.Prelude.{◌≡◌, ℕ, List, Some, slice_get}
 use Rattle.rv_account.specs.declared.entry.Entry.{Entry}
 use Rattle.rv_account.specs.Account.{Account}
 use Rattle.rv_book.specs.Legal.{Legal}
 use Rattle.rv_book.specs.Limits.{FitsAccount}
 use Rattle.rv_lines.specs.Lines.{lines, printed_lines}
 use Rattle.rv_lines.specs.Reading.{FirstBadLine, ReadsAccount}
-use Rattle.rv_lines.specs.Written.{FitsLines, account_lines, message_in}
+use Rattle.rv_lines.specs.Written.{FitPartners, FitsLines, account_lines}
 
--- the items are text; those of every account that a program holds are, and a variable of a law ranges over
--- all lists of numbers
-abbrev pub HasTexts : List Entry → Type 0
-HasTexts entries = (r : ℕ) (e : Entry) → slice_get entries r ≡ Some e → IfSome (message_in e.act) HasUtf8
+-- what is written for the account is read as that account
+abbrev pub IsReadBack : Account → Type 0
+IsReadBack a = ReadsAccount (lines (printed_lines (account_lines a))) a
 
--- what is written for an account is read as that account
+-- a legal account within its limits, as each book's is, is read back
 abbrev pub WrittenAccount : Type 0
-WrittenAccount = (a : Account) → FitsLines a → HasTexts a.entries
-    → ReadsAccount (lines (printed_lines (account_lines a))) a
+WrittenAccount = (a : Account) → Legal a → FitsAccount a → IsReadBack a
 
--- a book's account, which is legal and within its limits, can be written
+-- any account within the limits of lines is read back, legal or not
+abbrev pub WrittenLines : Type 0
+WrittenLines = (a : Account) → FitsLines a → IsReadBack a
+
+-- a legal account within its limits is within those of lines, and so are the partners of each entry, by which
+-- its line is short
 abbrev pub BookFitsLines : Type 0
-BookFitsLines = (a : Account) → Legal a → FitsAccount a → FitsLines a
+BookFitsLines = (a : Account) → Legal a → FitsAccount a
+    → FitsLines a × ((r : ℕ) (e : Entry) → slice_get a.entries r ≡ Some e → FitPartners e)
 
 -- lines are read as one account at most
 abbrev pub OneAccount : Type 0

@@ -58,16 +58,20 @@ max_partner = 99999
 abbrev pub max_partners : ℕ
 max_partners = 16
 
--- the entry's partners are within both
+-- the places of the entry's partners are within their limit
+abbrev pub FitPlaces : Entry → Type 0
+FitPlaces e = (p : ℕ) → Names e p → p ≤ max_partner
+
+-- the entry's partners are within both, and its line is short
 pub record FitPartners (e : Entry) : Type 0 where
-  pub places : (p : ℕ) → Names e p → p ≤ max_partner
+  pub places : FitPlaces e
   pub few : length e.partners ≤ max_partners
 
--- the account's numbers, moments, items and partners are within their limits, and its entries number at most
--- 100,000; it needn't be legal
+-- the account's numbers, moments, items and partners' places are within their limits, and its entries number
+-- at most 100,000; it needn't be legal
 pub record FitsLines (a : Account) : Type 0 where
   pub epoch : FitsIdentifier a.epoch
   pub opened : a.opened ≤ max_moment
   pub entries : FitEntries a.entries
-  pub partners : (r : ℕ) (e : Entry) → slice_get a.entries r ≡ Some e → FitPartners e
+  pub places : (r : ℕ) (e : Entry) → slice_get a.entries r ≡ Some e → FitPlaces e
   pub few : length a.entries ≤ max_entries

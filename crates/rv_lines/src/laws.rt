@@ -1,12 +1,19 @@
 //! What holds of the lines of accounts as such: each contract is a law, and no body does anything.
-ghost use Rattle.rv_lines.specs.Laws.{BookFitsLines, NoBadLine, OneAccount, OneBadLine, WrittenAccount};
+ghost use Rattle.rv_lines.specs.Laws.{BookFitsLines, NoBadLine, OneAccount, OneBadLine};
+ghost use Rattle.rv_lines.specs.Laws.{WrittenAccount, WrittenLines};
 
-/// What is written for an account within the limits of lines is read as that account.
+/// What is written for a legal account within its limits, as each book's is, is read as that account.
 pub fn written_account()
     ensures { WrittenAccount }
 {}
 
-/// A book's account, legal and within its limits, is within those of lines.
+/// The same of any account within the limits of lines, which needn't be legal.
+pub fn written_lines()
+    ensures { WrittenLines }
+{}
+
+/// A legal account within its limits, as each book's is, is within those of lines, and so are the partners of
+/// each entry, by which its line is short.
 pub fn book_fits_lines()
     ensures { BookFitsLines }
 {}

@@ -1,5 +1,5 @@
--- Each line is read back.
-use Rattle.rv_lines.proofs.ReadBack.{account_again}
+-- It is within the limits of lines.
+use Rattle.rv_lines.proofs.Booked.{account_again}
 use Rattle.rv_lines.proofs.laws.written_account.Goals as goal
 
 pub returns : goal.returns
