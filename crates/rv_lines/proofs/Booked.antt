@@ -56,14 +56,16 @@ book_fits_lines a legal fits =
     let waiting = find_waiting a.entries in
     let few : length a.entries ≤ max_entries = omega (arith, fits.room waiting.0 waiting.1) in
     let partners : (r : ℕ) (e : Entry) → slice_get a.entries r ≡ Some e → FitPartners e =
-        λ r e there. partners_fit a r e legal there (omega (arith, within a.entries r e there, few)) (fits.entries r e there).1 in
-    (record {
-      epoch = fits.epoch;
-      opened = fits.opened;
-      entries = fits.entries;
-      places = λ r e there. (partners r e there).places;
-      few = few;
-    }, partners)
+    λ r e there. partners_fit a r e legal there (omega (arith, within a.entries r e there, few)) (fits.entries r e there).1 in (
+      record {
+        epoch = fits.epoch;
+        opened = fits.opened;
+        entries = fits.entries;
+        places = λ r e there. (partners r e there).places;
+        few = few;
+      },
+      partners,
+    )
 
 pub account_again : WrittenAccount
 account_again a legal fits = lines_again a (book_fits_lines a legal fits).0
