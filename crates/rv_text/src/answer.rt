@@ -105,8 +105,8 @@ impl Reply {
         }
     }
 
-    /// Whether its items are at most 16 and have at most 512 bytes each, the numbers that it counts are at
-    /// most 100,000, and a consumer's client, incarnation and number are 1 to 2^53 - 1.
+    /// Whether its items are at most 16 of at most 512 bytes, its counts at most 100,000, and a consumer's
+    /// numbers 1 to 2^53 - 1. The consumer's epoch may be any here: the answer says that it is its own.
     pub fn fits(&self) -> bool
         ensures { IsTrue result ↔ FitsReply self.now }
     {

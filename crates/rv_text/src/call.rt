@@ -22,7 +22,7 @@ pub enum Wait {
     Now,
     /// At most so many milliseconds, 0 to 86,400,000, as Java's timed `poll`.
     Millis(u64),
-    /// Until it is met, cancelled, or its client says hello anew, as Java's `take`.
+    /// Until it is met, cancelled, or its client says hello by a greater incarnation, as Java's `take`.
     Forever,
 }
 
