@@ -1,5 +1,5 @@
 -- A queue from which the request at a place was withdrawn.
-use Rattle.std.proofs.Common.{◌≡◌, ◌⊎◌, inl, inr, ℕ, [], List, Option, Some, None, ap, ◌∙◌, min}
+use Rattle.std.proofs.Common.{◌≡◌, ◌⊎◌, inl, inr, ℕ, [], List, Option, Some, None, ap, ◌∙◌}
 use Rattle.std.specs.Prelude.{IfSome, IfNone, not}
 use Rattle.std.proofs.lemmas.Option.{slice_get-get_or}
 use Rattle.std.proofs.lemmas.List.Kept.{AllPairs-filter}
@@ -9,7 +9,7 @@ use Rattle.rv_dual.specs.declared.giver.Offer.TheVariants.{Waits}
 use Rattle.rv_dual.specs.Offers.{is_at, waits_at, IsEarlier, IsEarlierTaker}
 use Rattle.rv_dual.specs.Entries.{PassesNowhere}
 use Rattle.rv_dual.specs.Slots.{WaitingLine}
-use Rattle.rv_dual.specs.Queue.{Queue, IsDual, KeepsRoom}
+use Rattle.rv_dual.specs.Queue.{Queue, IsDual, KeepsRooms}
 use Rattle.rv_dual.specs.Withdrawing.{TakesAt, WaitsAt, Withdraws, without_giver, without_taker}
 use Rattle.rv_dual.proofs.Found.{other_place}
 
@@ -54,7 +54,7 @@ nobody_waits q place (Some duty) no_giver no_taker = tt
 
 pub withdraws_taker : (old new : Queue) (place : ℕ) (result : Option OwedDuty) → PassesNowhere (waits_at place) old.givers → IfSome result (TakesAt old.takers place)
     → IfNone result (PassesNowhere (is_at place) old.takers) → new.givers ≡ without_giver place old.givers → new.takers ≡ without_taker place old.takers
-    → KeepsRoom old new → IfNone result (new ≡ old) → Withdraws old new place result
+    → KeepsRooms old new → IfNone result (new ≡ old) → Withdraws old new place result
 withdraws_taker old new place result no_giver takes no_taker givers takers room same = record {
   some = taker_waits old place result takes;
   none = nobody_waits old place result no_giver no_taker;
@@ -65,7 +65,7 @@ withdraws_taker old new place result no_giver takes no_taker givers takers room 
 }
 
 abbrev pub lines_as_queue : WaitingLine Offer → WaitingLine OwedDuty → Queue
-lines_as_queue givers takers = record { givers = givers.waiting; takers = takers.waiting; room = min givers.room takers.room }
+lines_as_queue givers takers = record { givers = givers.waiting; takers = takers.waiting; giver_room = givers.room; taker_room = takers.room }
 
 -- where neither line changed the queue didn't
 pub same_lines : (result : Option OwedDuty) (givers givers' : WaitingLine Offer) (takers takers' : WaitingLine OwedDuty) → givers' ≡ givers → IfNone result (takers' ≡ takers)

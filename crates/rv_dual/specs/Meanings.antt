@@ -10,20 +10,23 @@ use Rattle.rv_dual.specs.declared.pair.TakeOutcome as taken
 use Rattle.rv_dual.specs.declared.pair.TryOutcome.{TryOutcome}
 use Rattle.rv_dual.specs.declared.pair.TryOutcome as tried
 use Rattle.rv_dual.specs.Offers.{Meeting, duty_of, place_of}
-use Rattle.rv_dual.specs.Queue.{Queue, KeepsRoom, UsesRoom}
+use Rattle.rv_dual.specs.Queue.{Queue}
+use Rattle.rv_dual.specs.Room.{KeepsRoom, UsesRoom}
 
 -- the offer met the first of the takers, which left
 pub record MeetsTaker (old new : Queue) (offer : Offer) (pair : Meeting) : Type 0 where
   pub giver : pair.giver ≡ offer
   pub oldest : old.takers ≡ pair.taker ∷ new.takers
   pub givers : new.givers ≡ old.givers
-  pub room : KeepsRoom old new
+  pub giver_room : new.giver_room ≡ old.giver_room
+  pub taker_room : KeepsRoom old.taker_room new.taker_room
 
 -- this item, the first, left
 pub record FrontLeaves (old new : Queue) (front : Offer) : Type 0 where
   pub oldest : old.givers ≡ front ∷ new.givers
   pub takers : new.takers ≡ old.takers
-  pub room : KeepsRoom old new
+  pub giver_room : KeepsRoom old.giver_room new.giver_room
+  pub taker_room : new.taker_room ≡ old.taker_room
 
 -- the taker met the first of the items, which left
 pub record MeetsGiver (old new : Queue) (duty : OwedDuty) (pair : Meeting) : Type 0 where
@@ -47,14 +50,16 @@ pub record ParksGiver (old new : Queue) (offer : Offer) : Type 0 where
   pub nobody : old.takers ≡ []
   pub givers : new.givers ≡ old.givers ++ offer ∷ []
   pub takers : new.takers ≡ old.takers
-  pub room : UsesRoom old new
+  pub giver_room : UsesRoom old.giver_room new.giver_room
+  pub taker_room : new.taker_room ≡ old.taker_room
 
 -- no item was there, and the duty is the last of the takers, in the room of one
 pub record ParksTaker (old new : Queue) (duty : OwedDuty) : Type 0 where
   pub nobody : old.givers ≡ []
   pub takers : new.takers ≡ old.takers ++ duty ∷ []
   pub givers : new.givers ≡ old.givers
-  pub room : UsesRoom old new
+  pub giver_room : new.giver_room ≡ old.giver_room
+  pub taker_room : UsesRoom old.taker_room new.taker_room
 
 -- no taker was there, the duty came back, and nothing changed
 pub record FindsNoTaker (old new : Queue) (duty returned : OwedDuty) : Type 0 where

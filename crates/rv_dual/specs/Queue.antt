@@ -1,15 +1,17 @@
 -- A dual queue: a list of items or a list of consumers, the oldest first.
-use Rattle.std.specs.Prelude.{◌≡◌, ◌<◌, ◌≤◌, ◌+◌, ◌⊎◌, ℕ, List, []}
+use Rattle.std.specs.Prelude.{◌≡◌, ◌<◌, ◌⊎◌, ℕ, List, []}
 use Rattle.std.specs.List.{All, AllPairs}
 use Rattle.rv_session.specs.OwedDuty.{OwedDuty}
 use Rattle.rv_dual.specs.declared.giver.Offer.{Offer}
 use Rattle.rv_dual.specs.Offers.{place_of, IsEarlier, IsEarlierTaker}
+use Rattle.rv_dual.specs.Room.{Room, KeepsRoom}
 
--- the items and the consumers that wait, and for how many more of either side there is room
+-- the items and the consumers that wait, and the room of each side
 pub record Queue : Type 0 where
   pub givers : List Offer
   pub takers : List OwedDuty
-  pub room : ℕ
+  pub giver_room : Room
+  pub taker_room : Room
 
 -- one side alone waits, and in the order of arrival
 pub record IsDual (givers : List Offer) (takers : List OwedDuty) : Type 0 where
@@ -30,10 +32,7 @@ pub record SameLists (old new : Queue) : Type 0 where
   pub givers : new.givers ≡ old.givers
   pub takers : new.takers ≡ old.takers
 
--- the room that was made stays
-abbrev pub KeepsRoom : Queue → Queue → Type 0
-KeepsRoom old new = old.room ≤ new.room
-
--- one more waits in the room that was made: what is left is no more than before, and less by one at most
-abbrev pub UsesRoom : Queue → Queue → Type 0
-UsesRoom old new = (new.room ≤ old.room) × (old.room ≤ new.room + 1)
+-- neither side took memory or gave it back
+pub record KeepsRooms (old new : Queue) : Type 0 where
+  pub givers : KeepsRoom old.giver_room new.giver_room
+  pub takers : KeepsRoom old.taker_room new.taker_room

@@ -1,13 +1,27 @@
--- The room that a list has left.
-use Rattle.std.specs.Prelude.{ℕ, ◌-◌, ◌≤◌}
+-- The room of a list: for how many more, and for how many in all.
+use Rattle.std.specs.Prelude.{◌≡◌, ℕ, ◌+◌, ◌-◌, ◌≤◌}
 use Rattle.std.specs.VecDeque.{deque_capacity, deque_len}
 use Rattle.std.specs.declared.collections.VecDeque.{VecDeque}
 
-module _ {X Z : Type 0} where
-  -- how many more it has room for
-  abbrev pub spare : VecDeque X Z → ℕ
-  spare list = deque_capacity list - deque_len list
+pub record Room : Type 0 where
+  pub spare : ℕ
+  pub capacity : ℕ
 
-  -- it has room for as many more as before
-  abbrev pub KeepsSpare : VecDeque X Z → VecDeque X Z → Type 0
-  KeepsSpare old new = spare old ≤ spare new
+-- the room of a deque
+abbrev pub room_in : {X Z : Type 0} → VecDeque X Z → Room
+room_in list = record { spare = deque_capacity list - deque_len list; capacity = deque_capacity list }
+
+-- no memory was taken or given back, and there is room for as many more as before, or for more
+pub record KeepsRoom (old new : Room) : Type 0 where
+  pub spare : old.spare ≤ new.spare
+  pub capacity : new.capacity ≡ old.capacity
+
+-- one more is there, in the room that was there
+pub record UsesRoom (old new : Room) : Type 0 where
+  pub spare : old.spare ≡ new.spare + 1
+  pub capacity : new.capacity ≡ old.capacity
+
+-- memory was taken, or none: there is as much more room as the whole grew
+pub record GrowsRoom (old new : Room) : Type 0 where
+  pub spare : old.spare ≤ new.spare
+  pub capacity : new.capacity + old.spare ≡ old.capacity + new.spare

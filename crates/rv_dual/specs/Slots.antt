@@ -2,13 +2,14 @@
 use Rattle.std.specs.Prelude.{◌≡◌, ◌≢◌, ◌-◌, ◌<◌, ℕ, Bool, true, false, List}
 use Rattle.std.specs.Prelude.{map, length, slice_get, Option, Some, None}
 use Rattle.std.specs.List.{All, AllPairs, filter_map}
+use Rattle.rv_dual.specs.Room.{Room}
 use Rattle.rv_dual.specs.declared.slot.Slot.{Slot}
 use Rattle.rv_dual.specs.declared.slot.Slot.TheVariants.{Holds, Withdrawn}
 
--- what callers see of a line: those who wait, the oldest first, and for how many more there is room
+-- what callers see of a line: those who wait, the oldest first, and its room
 pub record WaitingLine (X : Type 0) : Type 0 where
   pub waiting : List X
-  pub room : ℕ
+  pub room : Room
 
 module _ {X : Type 0} where
   -- who waits in the slot; nobody where it is marked

@@ -5,7 +5,7 @@ use Rattle.rv_session.specs.OwedDuty.{OwedDuty}
 use Rattle.rv_dual.specs.declared.giver.Offer.{Offer}
 use Rattle.rv_dual.specs.declared.giver.Offer.TheVariants.{Waits}
 use Rattle.rv_dual.specs.Offers.{is_at, waits_at}
-use Rattle.rv_dual.specs.Queue.{KeepsRoom, Queue}
+use Rattle.rv_dual.specs.Queue.{KeepsRooms, Queue}
 
 -- all but the request at the place, in their order; a put stays
 abbrev pub without_giver : ℕ → List Offer → List Offer
@@ -25,12 +25,12 @@ TakesAt takers place duty = Contains takers duty × (duty.place ≡ place)
 abbrev pub WaitsAt : Queue → ℕ → OwedDuty → Type 0
 WaitsAt q place duty = GivesAt q.givers place duty ⊎ TakesAt q.takers place duty
 
--- the result is the duty that waits at the place, if there is one; all others stay, in their order, and so
--- does the room; where there is none, nothing changed
+-- the result is the duty that waits at the place, if there is one; all others stay, in their order, and no
+-- memory was taken or given back; where there is none, nothing changed
 pub record Withdraws (old new : Queue) (place : ℕ) (result : Option OwedDuty) : Type 0 where
   pub some : IfSome result (WaitsAt old place)
   pub none : IfNone result ((duty : OwedDuty) → ¬ WaitsAt old place duty)
   pub same : IfNone result (new ≡ old)
   pub givers : new.givers ≡ without_giver place old.givers
   pub takers : new.takers ≡ without_taker place old.takers
-  pub room : KeepsRoom old new
+  pub room : KeepsRooms old new

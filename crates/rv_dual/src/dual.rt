@@ -1,8 +1,9 @@
 //! The queue of one side at a time.
-ghost use Rattle.std.specs.Prelude.{◌≡◌, ◌≤◌, ◌<◌, [], OnErr, OnOk, IfSome, IfNone, length, slice_get};
+ghost use Rattle.std.specs.Prelude.{◌≡◌, ◌<◌, [], OnErr, OnOk, IfSome, IfNone, length, slice_get};
 ghost use Rattle.rv_dual.specs.Offers.{place_of, waits_at, is_at};
 ghost use Rattle.rv_dual.specs.Withdrawing.{GivesAt, TakesAt, without_giver, without_taker};
 ghost use Rattle.rv_dual.specs.Entries.{PassesNowhere};
+ghost use Rattle.rv_dual.specs.Room.{KeepsRoom};
 
 use crate::giver::{Giver, Offer};
 use crate::line::SlotLine;
@@ -13,8 +14,9 @@ use std::alloc::Global;
 use std::marker::Model;
 
 /// A dual queue: the items that wait for consumers, or the consumers that wait for items, the oldest first.
-/// It never holds both. Contracts see both lists, of which one is empty, and for how many more of either
-/// side there is room.
+/// It never holds both. Contracts see both lists, of which one is empty, and the room of each: for how many
+/// more, and for how many in all. Only [`reserve_giver`](Dual::reserve_giver) and
+/// [`reserve_taker`](Dual::reserve_taker) take memory, and nothing gives it back.
 ///
 /// Places arrive in rising order, so a place stands at most once. [`withdraw`](Dual::withdraw) finds it in
 /// time logarithmic in the slots between the oldest that waits and the newest. All else takes constant time,
@@ -27,7 +29,6 @@ pub struct Dual {
 }
 
 impl Model for Dual {
-    ghost use Rattle.std.specs.Prelude.{min};
     ghost use Rattle.rv_dual.specs.Queue.{Queue, IsDual};
 
     ghost Value = { Queue };
@@ -35,7 +36,8 @@ impl Model for Dual {
     ghost view = { λ d. record {
       givers = d.givers.waiting;
       takers = d.takers.waiting;
-      room = min d.givers.room d.takers.room;
+      giver_room = d.givers.room;
+      taker_room = d.takers.room;
     } };
 
     ghost invariant = { λ d. IsDual d.givers.waiting d.takers.waiting };
@@ -47,7 +49,7 @@ fn withdraw_giver(givers: &mut SlotLine<Offer>, place: Place) -> Option<Duty>
     ensures none { IfNone result (PassesNowhere (waits_at place) givers.old.waiting) }
     ensures same { IfNone result (givers.new ≡ givers.old) }
     ensures rest { givers.new.waiting ≡ without_giver place givers.old.waiting }
-    ensures room { givers.old.room ≤ givers.new.room }
+    ensures room { KeepsRoom givers.old.room givers.new.room }
 {
     givers.withdraw(place)?.duty()
 }
@@ -58,14 +60,15 @@ fn withdraw_taker(takers: &mut SlotLine<Parked>, place: Place) -> Option<Duty>
     ensures none { IfNone result (PassesNowhere (is_at place) takers.old.waiting) }
     ensures same { IfNone result (takers.new ≡ takers.old) }
     ensures rest { takers.new.waiting ≡ without_taker place takers.old.waiting }
-    ensures room { takers.old.room ≤ takers.new.room }
+    ensures room { KeepsRoom takers.old.room takers.new.room }
 {
     Some(takers.withdraw(place)?.wake())
 }
 
 impl Dual {
     ghost use Rattle.rv_dual.specs.Offers.{offer_of, places_of};
-    ghost use Rattle.rv_dual.specs.Queue.{IsQueue, IsAbove, KeepsRoom, SameLists};
+    ghost use Rattle.rv_dual.specs.Queue.{IsQueue, IsAbove, SameLists};
+    ghost use Rattle.rv_dual.specs.Room.{GrowsRoom};
     ghost use Rattle.rv_dual.specs.Meanings.{GiveMeans, TakeMeans, TakenFront, TriedGive, TriedTake};
     ghost use Rattle.rv_dual.specs.Withdrawing.{Withdraws};
 
@@ -80,23 +83,35 @@ impl Dual {
         }
     }
 
-    /// Makes room for one more of either side, so that the next that waits takes no memory. It fails only
-    /// where no room was left and memory is refused. Either way all that wait stay, and so does the room.
-    pub fn reserve(&mut self) -> Result<(), NoMemory>
+    /// Makes room for one more item, so that the next giver that waits takes no memory. It fails only where
+    /// no room was left and memory is refused. Either way all that wait stay, and so does the room that was
+    /// there.
+    pub fn reserve_giver(&mut self) -> Result<(), NoMemory>
         ensures same { SameLists self.old self.new }
-        ensures kept { KeepsRoom self.old self.new }
-        ensures room { OnOk result (0 < self.new.room) }
-        ensures full { OnErr result (self.old.room ≡ 0) }
+        ensures takers { self.new.taker_room ≡ self.old.taker_room }
+        ensures kept { GrowsRoom self.old.giver_room self.new.giver_room }
+        ensures room { OnOk result (0 < self.new.giver_room.spare) }
+        ensures full { OnErr result (self.old.giver_room.spare ≡ 0) }
     {
-        self.givers.reserve()?;
+        self.givers.reserve()
+    }
+
+    /// Makes room for one more consumer, as [`reserve_giver`](Dual::reserve_giver) does for an item.
+    pub fn reserve_taker(&mut self) -> Result<(), NoMemory>
+        ensures same { SameLists self.old self.new }
+        ensures givers { self.new.giver_room ≡ self.old.giver_room }
+        ensures kept { GrowsRoom self.old.taker_room self.new.taker_room }
+        ensures room { OnOk result (0 < self.new.taker_room.spare) }
+        ensures full { OnErr result (self.old.taker_room.spare ≡ 0) }
+    {
         self.takers.reserve()
     }
 
     /// A giver arrives: it meets the consumer that waited longest, which leaves the queue, or waits behind
-    /// the items that are there. It is asked where there is room and the giver's place is above all that
-    /// wait.
+    /// the items that are there. It is asked where there is room for an item, if no consumer waits, and the
+    /// giver's place is above all that wait.
     pub fn give(&mut self, giver: Giver) -> GiveOutcome
-        requires room { 0 < self.old.room }
+        requires room { self.old.takers ≡ [] → 0 < self.old.giver_room.spare }
         requires above { IsAbove self.old (place_of (offer_of giver)) }
         ensures { GiveMeans self.old self.new (offer_of giver) result }
     {
@@ -110,9 +125,10 @@ impl Dual {
     }
 
     /// A taker arrives: it meets the oldest item, which leaves the queue, or waits behind the consumers
-    /// that are there. It is asked where there is room and the taker's place is above all that wait.
+    /// that are there. It is asked where there is room for a consumer, if no item waits, and the taker's
+    /// place is above all that wait.
     pub fn take(&mut self, duty: Duty) -> TakeOutcome
-        requires room { 0 < self.old.room }
+        requires room { self.old.givers ≡ [] → 0 < self.old.taker_room.spare }
         requires above { IsAbove self.old duty.place }
         ensures { TakeMeans self.old self.new duty result }
     {
@@ -148,7 +164,7 @@ impl Dual {
     }
 
     /// The oldest item leaves the queue, and comes out as its duty, which is None for a put's, and its place.
-    /// It is None where no item waits, and then nothing changes. Consumers stay, and so does the room.
+    /// It is None where no item waits, and then nothing changes. Consumers stay.
     #[tactic(auto, using(crate::proofs::Sides::dual_after_giver))]
     pub fn take_front(&mut self) -> Option<(Option<Duty>, Place)>
         ensures { TakenFront self.old self.new result }

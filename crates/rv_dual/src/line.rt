@@ -1,8 +1,8 @@
 //! A line of those who wait, the oldest first, in which a withdrawn place is marked.
-ghost use Rattle.std.specs.Prelude.{◌≡◌, ◌+◌, ◌<◌, ◌≤◌, [], ◌∷◌, ◌++◌, true, length, Some, IfNone, IfSome};
+ghost use Rattle.std.specs.Prelude.{◌≡◌, ◌<◌, [], ◌∷◌, ◌++◌, true, length, Some, IfNone, IfSome};
 ghost use Rattle.std.specs.Prelude.{option_and_then, option_to_list, slice_get, slice_set};
 ghost use Rattle.rv_dual.specs.Entries.{PassesAt, PassesNowhere};
-ghost use Rattle.rv_dual.specs.Room.{KeepsSpare, spare};
+ghost use Rattle.rv_dual.specs.Room.{KeepsRoom, UsesRoom, room_in};
 ghost use Rattle.rv_dual.specs.Slots.{FirstHolds, IsSlotLine, LastHolds, NoSlotAt, Rises, waiting_in};
 ghost use Rattle.rv_dual.specs.Slots.{first_slot, holder, is_marked, last_slot, passes_in, slot_places};
 ghost use Rattle.rv_dual.specs.declared.slot.Slot.TheVariants.{Holds, Withdrawn};
@@ -15,7 +15,7 @@ use std::collections::VecDeque;
 use std::marker::Model;
 use std::mem;
 
-/// Those who wait, the oldest first, which contracts see as their list and for how many more there is room.
+/// Those who wait, the oldest first, which contracts see as their list and its room.
 /// A withdrawn place is marked where it stands, and neither end is ever marked: so the places rise, marks
 /// included, whatever place above those that wait comes next, and a line in which nobody waits is empty.
 #[derive(Drop)]
@@ -26,12 +26,12 @@ pub(crate) struct SlotLine<T: StandsInLine> {
 }
 
 impl<T: StandsInLine> Model for SlotLine<T> {
-    ghost use Rattle.rv_dual.specs.Room.{spare};
+    ghost use Rattle.rv_dual.specs.Room.{room_in};
     ghost use Rattle.rv_dual.specs.Slots.{IsSlotLine, WaitingLine, waiting_in};
 
     ghost Value = { WaitingLine T };
 
-    ghost view = { λ l. record { waiting = waiting_in l.slots.items; room = spare l.slots } };
+    ghost view = { λ l. record { waiting = waiting_in l.slots.items; room = room_in l.slots } };
 
     ghost invariant = { λ l. IsSlotLine T.place_of l.slots.items l.count };
 }
@@ -52,9 +52,9 @@ fn back_is_marked<T>(slots: &VecDeque<Slot<T>>) -> bool
 
 // Lays who arrives behind the others, where there is room.
 fn append<T>(slots: &mut VecDeque<Slot<T>>, arrival: T)
-    requires { 0 < spare slots.old }
+    requires { 0 < (room_in slots.old).spare }
     ensures last { slots.new.items ≡ slots.old.items ++ Holds arrival ∷ [] }
-    ensures room { spare slots.old ≡ spare slots.new + 1 }
+    ensures room { UsesRoom (room_in slots.old) (room_in slots.new) }
 {
     slots.push_back(Slot::Holds(arrival)).unwrap();
 }
@@ -65,7 +65,7 @@ fn trim_front<T: StandsInLine>(slots: &mut VecDeque<Slot<T>>)
     ensures same { waiting_in slots.new.items ≡ waiting_in slots.old.items }
     ensures rises { Rises T.place_of slots.new.items }
     ensures first { FirstHolds slots.new.items }
-    ensures room { KeepsSpare slots.old slots.new }
+    ensures room { KeepsRoom (room_in slots.old) (room_in slots.new) }
 {
     while front_is_marked(slots) {
         slots.pop_front();
@@ -80,7 +80,7 @@ fn trim_back<T: StandsInLine>(slots: &mut VecDeque<Slot<T>>)
     ensures rises { Rises T.place_of slots.new.items }
     ensures first { FirstHolds slots.new.items }
     ensures last { LastHolds slots.new.items }
-    ensures room { KeepsSpare slots.old slots.new }
+    ensures room { KeepsRoom (room_in slots.old) (room_in slots.new) }
 {
     while back_is_marked(slots) {
         slots.pop_back();
@@ -92,7 +92,7 @@ fn trim<T: StandsInLine>(slots: &mut VecDeque<Slot<T>>)
     requires { Rises T.place_of slots.old.items }
     ensures same { waiting_in slots.new.items ≡ waiting_in slots.old.items }
     ensures line { IsSlotLine T.place_of slots.new.items (length (waiting_in slots.old.items)) }
-    ensures room { KeepsSpare slots.old slots.new }
+    ensures room { KeepsRoom (room_in slots.old) (room_in slots.new) }
 {
     trim_front(slots);
     trim_back(slots);
@@ -122,7 +122,7 @@ fn mark<T: StandsInLine>(slots: &mut VecDeque<Slot<T>>, index: usize, place: Pla
     requires { index < length slots.old.items }
     ensures out { result ≡ option_and_then holder (slice_get slots.old.items index) }
     ensures rest { slots.new.items ≡ slice_set slots.old.items index (Withdrawn place) }
-    ensures room { KeepsSpare slots.old slots.new }
+    ensures room { KeepsRoom (room_in slots.old) (room_in slots.new) }
 {
     mem::replace(&mut slots[index], Slot::Withdrawn(place)).into_holder()
 }
@@ -130,6 +130,7 @@ fn mark<T: StandsInLine>(slots: &mut VecDeque<Slot<T>>, index: usize, place: Pla
 impl<T: StandsInLine> SlotLine<T> {
     ghost use Rattle.std.specs.Prelude.{OnErr, OnOk, drop, map, not, Contains};
     ghost use Rattle.std.specs.List.{All, filter};
+    ghost use Rattle.rv_dual.specs.Room.{GrowsRoom};
 
     // A line in which nobody waits. It takes no memory yet.
     pub(crate) fn new(alloc: Global) -> SlotLine<T>
@@ -141,22 +142,22 @@ impl<T: StandsInLine> SlotLine<T> {
         }
     }
 
-    // Makes room for one more. All that wait stay, and so does the room.
+    // Makes room for one more. All that wait stay, and so does the room that was there.
     pub(crate) fn reserve(&mut self) -> Result<(), NoMemory>
         ensures same { self.new.waiting ≡ self.old.waiting }
-        ensures kept { self.old.room ≤ self.new.room }
-        ensures room { OnOk result (0 < self.new.room) }
-        ensures full { OnErr result (self.old.room ≡ 0) }
+        ensures kept { GrowsRoom self.old.room self.new.room }
+        ensures room { OnOk result (0 < self.new.room.spare) }
+        ensures full { OnErr result (self.old.room.spare ≡ 0) }
     {
         self.slots.reserve(1)
     }
 
     // One more waits, behind the others.
     pub(crate) fn push(&mut self, arrival: T)
-        requires room { 0 < self.old.room }
+        requires room { 0 < self.old.room.spare }
         requires above { All (λ x. T.place_of x < T.place_of arrival) self.old.waiting }
         ensures last { self.new.waiting ≡ self.old.waiting ++ arrival ∷ [] }
-        ensures room { self.old.room ≡ self.new.room + 1 }
+        ensures room { UsesRoom self.old.room self.new.room }
     {
         append(&mut self.slots, arrival);
         self.count += 1;
@@ -168,7 +169,7 @@ impl<T: StandsInLine> SlotLine<T> {
         ensures nobody { IfNone result (self.old.waiting ≡ []) }
         ensures same { IfNone result (self.new ≡ self.old) }
         ensures rest { self.new.waiting ≡ drop 1 self.old.waiting }
-        ensures room { self.old.room ≤ self.new.room }
+        ensures room { KeepsRoom self.old.room self.new.room }
     {
         let oldest = self.slots.pop_front()?.into_holder().unwrap();
         self.count -= 1;
@@ -182,7 +183,7 @@ impl<T: StandsInLine> SlotLine<T> {
         ensures none { IfNone result (PassesNowhere (T.waits_at place) self.old.waiting) }
         ensures same { IfNone result (self.new ≡ self.old) }
         ensures rest { self.new.waiting ≡ filter (λ x. not (T.waits_at place x)) self.old.waiting }
-        ensures room { self.old.room ≤ self.new.room }
+        ensures room { KeepsRoom self.old.room self.new.room }
     {
         let index = index_of(&self.slots, place)?;
         let out = mark(&mut self.slots, index, place).unwrap();

@@ -1,5 +1,5 @@
 -- Without the request at a place a queue is still one, of one side and rising.
-use Rattle.std.proofs.Common.{List, sym, subst, arith}
+use Rattle.std.proofs.Common.{List, sym, subst}
 use Rattle.rv_session.specs.OwedDuty.{OwedDuty}
 use Rattle.rv_dual.specs.declared.giver.Offer.{Offer}
 use Rattle.rv_dual.specs.Queue.{IsDual}
@@ -21,4 +21,4 @@ invariant_of-self-in-None c =
 
 pub returns-in-None : goal.returns-in-None
 returns-in-None c =
-    rw (← c.self.view_is) (withdraws_taker _ _ c.args.place _ c.in-None.ensures.none c.withdraw_taker.ensures.some c.withdraw_taker.ensures.none c.in-None.ensures.rest c.withdraw_taker.ensures.rest (omega (arith, c.in-None.ensures.room, c.withdraw_taker.ensures.room)) (same_lines _ _ _ _ _ c.in-None.ensures.same c.withdraw_taker.ensures.same))
+    rw (← c.self.view_is) (withdraws_taker _ _ c.args.place _ c.in-None.ensures.none c.withdraw_taker.ensures.some c.withdraw_taker.ensures.none c.in-None.ensures.rest c.withdraw_taker.ensures.rest (record { givers = c.in-None.ensures.room; takers = c.withdraw_taker.ensures.room }) (same_lines _ _ _ _ _ c.in-None.ensures.same c.withdraw_taker.ensures.same))
