@@ -4,7 +4,7 @@ use Rattle.std.specs.List.{All, AllPairs}
 use Rattle.rv_session.specs.OwedDuty.{OwedDuty}
 use Rattle.rv_dual.specs.declared.giver.Offer.{Offer}
 use Rattle.rv_dual.specs.Offers.{place_of, IsEarlier, IsEarlierTaker}
-use Rattle.rv_dual.specs.Room.{Room, KeepsRoom}
+use Rattle.rv_dual.specs.Room.{Room, GrowsRoom, KeepsRoom}
 
 -- the items and the consumers that wait, and the room of each side
 pub record Queue : Type 0 where
@@ -36,3 +36,13 @@ pub record SameLists (old new : Queue) : Type 0 where
 pub record KeepsRooms (old new : Queue) : Type 0 where
   pub givers : KeepsRoom old.giver_room new.giver_room
   pub takers : KeepsRoom old.taker_room new.taker_room
+
+-- either side may have taken memory for more, and gave none back
+pub record GrowRooms (old new : Queue) : Type 0 where
+  pub givers : GrowsRoom old.giver_room new.giver_room
+  pub takers : GrowsRoom old.taker_room new.taker_room
+
+-- one more of either side can wait
+pub record HasRooms (q : Queue) : Type 0 where
+  pub givers : 0 < q.giver_room.spare
+  pub takers : 0 < q.taker_room.spare

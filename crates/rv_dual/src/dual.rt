@@ -15,8 +15,8 @@ use std::marker::Model;
 
 /// A dual queue: the items that wait for consumers, or the consumers that wait for items, the oldest first.
 /// It never holds both. Contracts see both lists, of which one is empty, and the room of each: for how many
-/// more, and for how many in all. Only [`reserve_giver`](Dual::reserve_giver) and
-/// [`reserve_taker`](Dual::reserve_taker) take memory, and nothing gives it back.
+/// more, and for how many in all. Only [`reserve`](Dual::reserve) and its two halves take memory, and nothing
+/// gives it back.
 ///
 /// Places arrive in rising order, so a place stands at most once. [`withdraw`](Dual::withdraw) finds it in
 /// time logarithmic in the slots between the oldest that waits and the newest. All else takes constant time,
@@ -67,7 +67,7 @@ fn withdraw_taker(takers: &mut SlotLine<Parked>, place: Place) -> Option<Duty>
 
 impl Dual {
     ghost use Rattle.rv_dual.specs.Offers.{offer_of, places_of};
-    ghost use Rattle.rv_dual.specs.Queue.{IsQueue, IsAbove, SameLists};
+    ghost use Rattle.rv_dual.specs.Queue.{GrowRooms, HasRooms, IsQueue, IsAbove, SameLists};
     ghost use Rattle.rv_dual.specs.Room.{GrowsRoom};
     ghost use Rattle.rv_dual.specs.Meanings.{GiveMeans, TakeMeans, TakenFront, TriedGive, TriedTake};
     ghost use Rattle.rv_dual.specs.Withdrawing.{Withdraws};
@@ -105,6 +105,18 @@ impl Dual {
         ensures full { OnErr result (self.old.taker_room.spare ≡ 0) }
     {
         self.takers.reserve()
+    }
+
+    /// Makes room for one more of either side. It fails only where one of them had none left and memory is
+    /// refused. Either way all that wait stay, and so does the room that was there.
+    pub fn reserve(&mut self) -> Result<(), NoMemory>
+        ensures same { SameLists self.old self.new }
+        ensures kept { GrowRooms self.old self.new }
+        ensures room { OnOk result (HasRooms self.new) }
+        ensures full { OnErr result (¬ HasRooms self.old) }
+    {
+        self.reserve_giver()?;
+        self.reserve_taker()
     }
 
     /// A giver arrives: it meets the consumer that waited longest, which leaves the queue, or waits behind
