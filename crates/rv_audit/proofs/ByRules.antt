@@ -42,10 +42,6 @@ follows_below a (suc n) keeps j e less there =
           may_follow (before a j) e legal (λ rule breaks. keeps j less rule (record { entry = e; there = there; breaks = breaks }))
     ]
 
--- where no rule is broken before a place, the account up to there is legal
-pub legal_front : (a : Account) (n : ℕ) → ((r : ℕ) → r < n → KeepsRules a r) → Legal (before a n)
-legal_front a n keeps = front_by a n (follows_below a n keeps)
-
 pub legal_by_rules : LegalByRules
 legal_by_rules a = (keeps_rules a, λ keeps j e there. follows_below a (suc j) (λ r less. keeps r) j e (omega arith) there)
 

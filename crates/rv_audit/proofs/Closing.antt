@@ -151,9 +151,6 @@ took_out start old new moment place is out due =
       tables = subst (λ (a : Account). AreTables a (with_gone is.gone place) new) same (out.tables is.gone (subst (λ (a : Account). AreTables a is.gone old) (sym same) is.tables));
     }
 
-pub at_first : (start : Front) (moment : ℕ) → IsFront start → IsTakingOut start start moment
-at_first start moment front = record { gone = none_gone; due = λ r went. absurd (false≢true went); rest = refl; tables = front }
-
 -- ---- one place at most
 
 gone_none : (r : ℕ) → none_gone r ≡ gone_at None r

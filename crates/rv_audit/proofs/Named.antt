@@ -32,9 +32,6 @@ module _ (places : List ℕ) (n : ℕ) where
       λ has. let inside : has.1.0 < length places = within places has.1.0 has.0 has.1.1 in absurd (none has.1.0 has.0 (omega arith) has.1.1 has.2),
     )
 
-    pub told_one : n < length places → Is (get_or places n 0) → (IsTrue true → HasAmong Is places) × (HasAmong Is places → IsTrue true)
-    told_one inside is = (λ t. (get_or places n 0, one_at inside, is), λ has. refl)
-
   -- those of the first places, with one more
   pub first_on : (r : ℕ) → AmongFirst places n r → AmongFirst places (n + 1) r
   first_on r among = let less : among.0 < n = among.1 in (among.0, omega arith, among.2)
@@ -55,12 +52,6 @@ pub all_first : (places : List ℕ) (n r : ℕ) → length places ≤ n → Amon
 all_first places n r whole among = let less : among.0 < length places = within places among.0 r among.1 in (among.0, omega arith, among.1)
 
 -- ---- flags
-
-pub no_flags : (met : List Bool) (places : List ℕ) → SetsFlags (AmongFirst places 0) met met
-no_flags met places = record {
-  count = refl;
-  flags = λ r. (λ there. inl there, λ is. elim is [ inl there ↦ there | inr among ↦ absurd (none_first places r among) ]);
-}
 
 set_count : (l : List Bool) (n : ℕ) → length (slice_set l n true) ≡ length l
 set_count [] n = refl

@@ -1,6 +1,6 @@
 -- What an audit's tables are to the entries that it has passed.
 use Rattle.std.specs.Prelude.{◌≡◌, ◌⊎◌, ◌↔◌, ◌<◌, ◌+◌, ◌++◌, ◌∷◌, [], ◌^◌, ℕ, Bool, true, false, cond}
-use Rattle.std.specs.Prelude.{nat_eq, not, List, length, Option, Some, None, slice_get}
+use Rattle.std.specs.Prelude.{nat_eq, not, List, length, Option, Some, None, IfNone, IfSome, slice_get}
 use Rattle.rv_text.specs.declared.message.Key.{Key}
 use Rattle.rv_text.specs.declared.call.Side.{Side}
 use Rattle.rv_text.specs.declared.call.Call.{Call}
@@ -25,6 +25,7 @@ pub use Rattle.rv_audit.specs.Marks.{GainsIf, LosesIf}
 use Rattle.rv_audit.specs.Sessions.{session_in}
 pub use Rattle.rv_audit.specs.Sessions.{EntersIf}
 use Rattle.rv_audit.specs.declared.front.Front.{Front}
+use Rattle.rv_audit.specs.declared.front.Looked.{Looked}
 use Rattle.rv_audit.specs.declared.lines.OpenLines.{OpenLines}
 use Rattle.rv_audit.specs.declared.marks.Marks.{Marks}
 use Rattle.rv_audit.specs.declared.sessions.AuditSession.{AuditSession}
@@ -115,6 +116,11 @@ pub record IsOldestBeside (entries : List Entry) (side : Side) (places : List �
   pub there : OpenAt entries side place
   pub beside : ¬ Among places place
   pub oldest : (r : ℕ) → r < place → OpenAt entries side r → Among places r
+
+-- what was looked up is the oldest open arrival of its side that is none of these places, or that none is
+pub record IsLookedUp (entries : List Entry) (places : List ℕ) (looked : Looked) : Type 0 where
+  pub some : IfSome looked.oldest (IsOldestBeside entries looked.side places)
+  pub none : IfNone looked.oldest ((r : ℕ) → OpenAt entries looked.side r → Among places r)
 
 -- an open arrival of the side that is none of these stands before the place; one stands anywhere
 abbrev pub HasOlder : List Entry → Side → List ℕ → ℕ → Type 0

@@ -55,9 +55,8 @@ fn first_broken(front: &Front<'_>, entry: &Entry) -> Option<Rule>
 /// refused. The account stays as it is.
 ///
 /// An entry takes time logarithmic in the number of entries before it: for itself, for each of its partners,
-/// and for each request whose wait it ends. Beside that, whether one is passed over is asked of each partner,
-/// by a search beside all of them. That is cubic in their number, but comes behind P1, so that they are no
-/// more than the entry's call may name.
+/// and for each request whose wait it ends. Whether an open one is left beside its partners is a merge of two
+/// lists that rise, once for P3 and once for P4: behind P1 and P2 the partners rise and are of one side.
 pub fn audit(alloc: Global, account: &Account) -> Result<Audit, NoMemory>
     ensures told { IfOk result (IsToldOf account.now.account) }
     ensures legal { IfOk result (λ told. (told ≡ tells.Legal) ↔ Legal account.now.account) }

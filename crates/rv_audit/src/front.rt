@@ -13,8 +13,8 @@ ghost use Rattle.rv_audit.specs.Marks.{NoneUntil, count_of};
 ghost use Rattle.rv_audit.specs.Sessions.{session_in};
 ghost use Rattle.rv_audit.specs.Passed.{AreTables, AreWithin, ArrivesWith, Flags, HasOlder, HasOne};
 ghost use Rattle.rv_audit.specs.Passed.{HasPassed, IsArrivalOf, IsArrived, IsFitting, IsFront, IsOfSessionOf};
-ghost use Rattle.rv_audit.specs.Passed.{IsOldestBeside, IsReadyFor, IsTakingOut, IsUnderway, MayPass};
-ghost use Rattle.rv_audit.specs.Passed.{SameRest};
+ghost use Rattle.rv_audit.specs.Passed.{IsLookedUp, IsOldestBeside, IsReadyFor, IsTakingOut, IsUnderway};
+ghost use Rattle.rv_audit.specs.Passed.{MayPass, SameRest};
 ghost use Rattle.rv_audit.specs.Passed.{SetsFlags, TakesEach, TakesOutPlace, TakesTouched};
 ghost use Rattle.rv_audit.specs.Passed.{WaitsOf, WaitsWith, gone_at, passed_account};
 ghost use Rattle.rv_audit.specs.declared.front.Front.{Front as FrontOf};
@@ -39,6 +39,13 @@ pub(crate) struct Front<'a> {
     // The places of those that wait, each under its limit, as far as a limit is below 2^64.
     limits: Marks,
     sessions: AuditSessions,
+}
+
+// What was found on one side: its oldest open arrival that is none of some places.
+#[derive(Clone, Copy)]
+pub(crate) struct Looked {
+    side: Side,
+    oldest: Option<Place>,
 }
 
 // Whether the act is the arrival of a request with this key.
@@ -233,12 +240,45 @@ impl<'a> Front<'a> {
         self.account.call(place).map(Call::side)
     }
 
-    // Whether an open arrival of the side that is none of these stands before the place.
-    pub(crate) fn has_older(&self, side: Side, places: &[Place], place: Place) -> bool
+    // Looks once for the oldest open arrival of the side that is none of these.
+    pub(crate) fn look_beside(&self, side: Side, places: &[Place]) -> Looked
         requires { IsFront self.now }
+        ensures { IsLookedUp (passed_account self.now).entries places.now result }
+    {
+        Looked {
+            side,
+            oldest: self.oldest_beside(side, places),
+        }
+    }
+
+    // The oldest open arrival of the side that is none of these. It is known if that side was looked at.
+    fn oldest_by(&self, looked: Looked, side: Side, places: &[Place]) -> Option<Place>
+        requires front { IsFront self.now }
+        requires looked { IsLookedUp (passed_account self.now).entries places.now looked }
+        ensures some { IfSome result (IsOldestBeside (passed_account self.now).entries side places.now) }
+        ensures none { IfNone result ((place : ℕ)
+            → OpenAt (passed_account self.now).entries side place → Among places.now place) }
+    {
+        if looked.side == side {
+            looked.oldest
+        } else {
+            self.oldest_beside(side, places)
+        }
+    }
+
+    // Whether an open arrival of the side that is none of these stands before the place.
+    pub(crate) fn has_older(
+        &self,
+        looked: Looked,
+        side: Side,
+        places: &[Place],
+        place: Place,
+    ) -> bool
+        requires front { IsFront self.now }
+        requires looked { IsLookedUp (passed_account self.now).entries places.now looked }
         ensures { IsTrue result ↔ HasOlder (passed_account self.now).entries side places.now place }
     {
-        match self.oldest_beside(side, places) {
+        match self.oldest_by(looked, side, places) {
             Some(first) => first < place,
             None => false,
         }

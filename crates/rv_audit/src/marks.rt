@@ -1,6 +1,7 @@
 //! Sets of places, each under a number: that of a queue, of an exchanger, or a limit.
-ghost use Rattle.std.specs.Prelude.{◌≡◌, ◌<◌, ℕ, Some, false, true};
-ghost use Rattle.std.specs.Prelude.{IfNone, IfSome, OnErr, OnOk};
+ghost use Rattle.std.specs.Prelude.{◌≡◌, ◌↔◌, ◌<◌, ℕ, Some, false, true};
+ghost use Rattle.std.specs.Prelude.{IfNone, IfSome, IsTrue, OnErr, OnOk};
+ghost use Rattle.rv_account.specs.Account.{Among};
 ghost use Rattle.rv_audit.specs.Marks.{Gains, GainsIf, IsLeast, IsLowest, IsLowestBeside, IsNextMark};
 ghost use Rattle.rv_audit.specs.Marks.{Loses, LosesIf, NoneBehind, NoneBeside};
 ghost use Rattle.rv_audit.specs.Marks.{NoneUnder, NoneUntil, SameMarks, count_of, is_marked_under};
@@ -72,17 +73,20 @@ impl Marks {
         (least == number).then_some(place)
     }
 
-    // The lowest place marked under the number that is none of these.
+    // The lowest place marked under the number that is none of these. Where they rise and are all marked there
+    // it is a merge: the next that is marked is looked for where the next of them stands.
     pub(crate) fn lowest_beside(&self, number: u64, places: &[Place]) -> Option<Place>
         ensures some { IfSome result (IsLowestBeside self.now number places.now) }
         ensures none { IfNone result (NoneBeside self.now number places.now) }
     {
         let mut found = self.lowest(number);
+        let mut at: usize = 0;
         while let Some(place) = found {
-            if !places.contains(&place) {
+            if !is_named(places, at, place) {
                 return Some(place);
             }
             found = self.next(number, place);
+            at = at.saturating_add(1);
         }
         None
     }
@@ -95,6 +99,13 @@ impl Marks {
         let (number, place) = *self.marks.first()?;
         (number <= limit).then_some((number, place))
     }
+}
+
+// Whether the place is one of these. The others are looked through where it does not stand as the `at`th.
+fn is_named(places: &[Place], at: usize, place: Place) -> bool
+    ensures { IsTrue result ↔ Among places.now place }
+{
+    places.get(at) == Some(&place) || places.contains(&place)
 }
 
 // The place is no longer marked under the number, if one is handed in.

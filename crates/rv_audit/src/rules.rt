@@ -1,8 +1,9 @@
 //! Whether an entry breaks a rule, behind the entries that an audit has passed_account.
-ghost use Rattle.std.specs.Prelude.{◌≡◌, ◌↔◌, IfNone, IfSome, IsTrue, option_map};
+ghost use Rattle.std.specs.Prelude.{◌≡◌, ◌↔◌, IfNone, IfSome, IsTrue, Some, option_map};
 ghost use Rattle.std.specs.List.Sorted.{IsStrictlyIncreasing};
 ghost use Rattle.rv_text.specs.declared.message.Key.{Key};
 ghost use Rattle.rv_text.specs.declared.call.Call.{Call};
+ghost use Rattle.rv_text.specs.declared.call.Side.{Side};
 ghost use Rattle.rv_account.specs.Account.{call_in};
 ghost use Rattle.rv_account.specs.Calls.{may_name, opposite};
 ghost use Rattle.rv_book.specs.Legal.{IsOpenOpposite};
@@ -11,10 +12,11 @@ ghost use Rattle.rv_audit.specs.Breaking.{IsSwapped};
 ghost use Rattle.rv_audit.specs.Breaking.{FallsBack, IsNoFreePlace, IsOfNoSession, PassesLimit};
 ghost use Rattle.rv_audit.specs.Breaking.{BreaksCount, MeetsWrongly, MissesPartner, NamesTaken, NamesTooMany};
 ghost use Rattle.rv_audit.specs.Breaking.{NamesWrongly, PassesOver, StartsNoNewer, TicksForNothing};
-ghost use Rattle.rv_audit.specs.Passed.{FindsOne, HasAmong, IsFront, IsOf, IsPassedBy, LeavesPartner, Misses};
+ghost use Rattle.rv_audit.specs.Passed.{FindsOne, HasAmong, IsFront, IsLookedUp, IsOf, IsPassedBy};
+ghost use Rattle.rv_audit.specs.Passed.{LeavesPartner, Misses};
 ghost use Rattle.rv_audit.specs.Passed.{passed_account};
 
-use crate::front::Front;
+use crate::front::{Front, Looked};
 use crate::rule::Rule;
 use rv_account::may_name;
 use rv_book::{Act, Entry, Place};
@@ -144,6 +146,13 @@ fn opposite(side: Side) -> Option<Side>
         Side::Looks(_) => None,
         Side::Exchanges(exchanger) => Some(Side::Exchanges(exchanger)),
     }
+}
+
+// The same, and of who meets nobody its own.
+fn met_by(side: Side) -> Side
+    ensures { (met : Side) → opposite side ≡ Some met → result ≡ met }
+{
+    opposite(side).unwrap_or(side)
 }
 
 // Whether the entry gives, takes or exchanges.
@@ -285,24 +294,26 @@ fn leaves(front: &Front<'_>, call: &Call, partners: &[Place]) -> bool
 
 // Whether before the place of one that gives or takes an open arrival of its side stands that is none of
 // these partners.
-fn is_passed_by(front: &Front<'_>, partners: &[Place], place: Place) -> bool
-    requires { IsFront front.now }
+fn is_passed_by(front: &Front<'_>, looked: Looked, partners: &[Place], place: Place) -> bool
+    requires front { IsFront front.now }
+    requires looked { IsLookedUp (passed_account front.now).entries partners.now looked }
     ensures { IsTrue result ↔ IsPassedBy (passed_account front.now).entries partners.now place }
 {
     match front.side(place) {
-        Some(side) => is_paired(side) && front.has_older(side, partners, place),
+        Some(side) => is_paired(side) && front.has_older(looked, side, partners, place),
         None => false,
     }
 }
 
-// Whether one of these partners is passed by.
-fn any_passed(front: &Front<'_>, partners: &[Place]) -> bool
+// Whether one of these partners is passed by. The side that they should be of is looked through once for all.
+fn any_passed(front: &Front<'_>, side: Side, partners: &[Place]) -> bool
     requires { IsFront front.now }
     ensures { IsTrue result
         ↔ HasAmong (IsPassedBy (passed_account front.now).entries partners.now) partners.now }
 {
+    let looked = front.look_beside(side, partners);
     for place in partners {
-        if is_passed_by(front, partners, *place) {
+        if is_passed_by(front, looked, partners, *place) {
             return true;
         }
     }
@@ -324,7 +335,7 @@ fn passes_over(front: &Front<'_>, entry: &Entry) -> bool
     ensures { IsTrue result ↔ PassesOver (passed_account front.now).entries entry.now }
 {
     match arrival(MeetingKind::Pair, entry) {
-        Some(_) => any_passed(front, entry.partners.as_slice()),
+        Some(call) => any_passed(front, met_by(call.side()), entry.partners.as_slice()),
         None => false,
     }
 }
