@@ -73,8 +73,8 @@ impl Marks {
         (least == number).then_some(place)
     }
 
-    // The lowest place marked under the number that is none of these. Where they rise and are all marked there
-    // it is a merge: the next that is marked is looked for where the next of them stands.
+    // The lowest place marked under the number that is none of these. Where they rise and are all marked, it
+    // is a merge: the next that is marked is compared with the next of them.
     pub(crate) fn lowest_beside(&self, number: u64, places: &[Place]) -> Option<Place>
         ensures some { IfSome result (IsLowestBeside self.now number places.now) }
         ensures none { IfNone result (NoneBeside self.now number places.now) }
