@@ -1,6 +1,6 @@
 /* Loaded before a program, lets the system be hostile to it: growths are refused, what is read from and written to
-   sockets is cut short or fails, connections can't be accepted, threads can't be started, the clock can't be read, and a
-   sleep ends at once.
+   sockets is cut short or fails, connections can't be accepted, threads can't be started, the clock can't be read, a
+   sleep ends at once, and the time-outs of sockets are shorter.
 
    How often stands in the file HOSTILE, a row of 32-bit numbers that who started the program may change at any time.
    Of the odds, 0 is never, and n is once in n at random, with the seed SEED; so 1 is always. A read and a write fail once
@@ -13,10 +13,12 @@
 #include <pthread.h>
 #include <stdint.h>
 #include <stdlib.h>
+#include <string.h>
 #include <sys/mman.h>
 #include <sys/socket.h>
 #include <sys/stat.h>
 #include <sys/syscall.h>
+#include <sys/time.h>
 #include <time.h>
 #include <unistd.h>
 
@@ -25,9 +27,11 @@ enum { READS, WRITES, WAYS };
 
 /* `most` bytes are read at a time, or written, where it is not 0. `growth_at` and `read_at` count down to the growth that
    is refused and the read that fails, and `room` is one more than the bytes that may be written before a write fails;
-   with 0 none is. The odds of growths hold behind the first `calm` ones. */
+   with 0 none is. The odds of growths hold behind the first `calm` ones. `thread_at` counts down to the thread that can't
+   be started. Time-outs are `haste` times as short, where it is not 0, and of what is written to a connection that was
+   accepted the system keeps `kept` bytes, about. */
 struct page {
-    uint32_t odds[ODDS], most, growth_at, read_at, room, calm, made[ODDS], asked[WAYS];
+    uint32_t odds[ODDS], most, growth_at, read_at, room, calm, thread_at, haste, kept, made[ODDS], asked[WAYS];
 };
 
 static volatile struct page *page;
@@ -181,7 +185,12 @@ int accept4(int listener, struct sockaddr *address, socklen_t *length, int flags
     static const int errors[] = {EMFILE, ENFILE, ECONNABORTED, EINTR, EPROTO};
     if (happens(ACCEPT))
         return any_of(errors, 5);
-    return syscall(SYS_accept4, listener, address, length, flags);
+    int came = syscall(SYS_accept4, listener, address, length, flags);
+    if (came >= 0 && page && page->kept) {
+        int bytes = page->kept;
+        syscall(SYS_setsockopt, came, SOL_SOCKET, SO_SNDBUF, &bytes, sizeof bytes);
+    }
+    return came;
 }
 
 int accept(int listener, struct sockaddr *address, socklen_t *length) { return accept4(listener, address, length, 0); }
@@ -190,7 +199,24 @@ int pthread_create(pthread_t *thread, const pthread_attr_t *how, void *(*run)(vo
     static int (*next)(pthread_t *, const pthread_attr_t *, void *(*)(void *), void *);
     if (!next)
         next = (int (*)(pthread_t *, const pthread_attr_t *, void *(*)(void *), void *))dlsym(RTLD_NEXT, "pthread_create");
+    if (page && counted_down(&page->thread_at) == 1) {
+        __sync_fetch_and_add(&page->made[THREAD], 1);
+        return EAGAIN;
+    }
     return happens(THREAD) ? EAGAIN : next(thread, how, run, with);
+}
+
+int setsockopt(int device, int level, int name, const void *value, socklen_t size) {
+    struct timeval shorter;
+    int is_limit = level == SOL_SOCKET && (name == SO_RCVTIMEO || name == SO_SNDTIMEO) && size == sizeof shorter;
+    if (is_limit && page && page->haste) {
+        memcpy(&shorter, value, sizeof shorter);
+        int64_t micros = (shorter.tv_sec * INT64_C(1000000) + shorter.tv_usec) / page->haste;
+        shorter.tv_sec = micros / 1000000;
+        shorter.tv_usec = micros % 1000000;
+        value = &shorter;
+    }
+    return syscall(SYS_setsockopt, device, level, name, value, size);
 }
 
 int clock_gettime(clockid_t clock, struct timespec *now) {
@@ -201,6 +227,10 @@ int clock_gettime(clockid_t clock, struct timespec *now) {
 int nanosleep(const struct timespec *wanted, struct timespec *rest) {
     static const int errors[] = {EINTR, EINVAL};
     return happens(SLEEP) ? any_of(errors, 2) : syscall(SYS_nanosleep, wanted, rest);
+}
+
+int clock_nanosleep(clockid_t clock, int flags, const struct timespec *wanted, struct timespec *rest) {
+    return happens(SLEEP) || syscall(SYS_clock_nanosleep, clock, flags, wanted, rest) == 0 ? 0 : errno;
 }
 
 #include "refusing.h"

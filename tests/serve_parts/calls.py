@@ -169,6 +169,7 @@ class Scripted:
         try:
             with Peer(self.socket.accept()[0]) as peer:
                 for step in self.steps:
+                    peer.acknowledge_late()
                     began = time.monotonic()
                     body = peer.hear()
                     self.took.append(time.monotonic() - began)

@@ -7,7 +7,7 @@ import subprocess
 import time
 
 from model_parts.account import Key, receipt
-from serve_parts.programs import Server, free_port
+from serve_parts.programs import Server, taken_port
 from serve_parts.wire import (
     BAD_TEXT, MAX_FRAME, PATIENCE, Peer, cancel, demand, drain, frame, give, hello, members_of, refused, replied,
     reply_of, request, take, together, until, waits, welcome)
@@ -216,6 +216,28 @@ def a_request_that_waits_alone(program):
         server.judged(asked, [(first, {"reply": "cancelled"}), (second, {"reply": "timedout"})])
 
 
+def repeats(program):
+    """What is asked again is told the same and not done again, and an item whose giver was told that nobody took it goes to
+    nobody."""
+    with Server(program, workers=1, connections=1) as server:
+        numbers, asked, told = itertools.count(1), {}, []
+        with server.greeted(1) as peer:
+            def twice(call, **reply):
+                key = Key(1, 1, 1, next(numbers))
+                asked[key] = call
+                told.append((key, reply))
+                for _ in range(2):
+                    peer.expect(request(key, call), replied(key, **reply))
+
+            twice(give("put", "a"), reply="done")
+            twice(take("now"), reply="item", item="a")
+            twice(take("now"), reply="empty")
+            for wait, word in [("now", "nobody"), (0, "timedout"), (20, "timedout")]:
+                twice(give("transfer", "b", wait), reply=word)
+                twice(take("now"), reply="empty")
+        server.judged(asked, told)
+
+
 def sessions_of_both_versions(program):
     """A hello tells its session's version, which no other hello of its incarnation changes. In the second a transfer is
     told who took its item: in its own frame where it waits, at once where a consumer does, and again."""
@@ -393,6 +415,7 @@ def no_packet_waits(program):
     with Server(program, workers=1, connections=1) as server:
         with server.greeted(1) as peer:
             def seconds(number):
+                peer.acknowledge_late()
                 key, began = Key(1, 1, 1, number), time.monotonic()
                 peer.expect(request(key, give("put", "a")), replied(key, reply="done"))
                 return time.monotonic() - began
@@ -494,10 +517,11 @@ def a_port_that_is_taken(program):
 
 def nobody_listens(program):
     """A caller where nobody listens prints nothing, and doesn't read its input."""
-    words = call_words(connect=f"127.0.0.1:{free_port()}")
     read, write = os.pipe()
     try:
-        ran = subprocess.run([program, *words], stdin=read, capture_output=True, timeout=PATIENCE)
+        with taken_port() as port:
+            words = call_words(connect=f"127.0.0.1:{port}")
+            ran = subprocess.run([program, *words], stdin=read, capture_output=True, timeout=PATIENCE)
         judge(words, ran, 1, b"address fault\n")
     finally:
         os.close(read)
@@ -604,8 +628,8 @@ def bad_words(program):
 
 
 CASES = [
-    a_hand_over, one_after_the_other, a_consumer_that_waits, an_answer_before_a_wait, a_drain, a_request_that_waits_alone,
-    sessions_of_both_versions, many_that_wait, a_new_incarnation, long_texts,
+    a_hand_over, one_after_the_other, a_consumer_that_waits, an_answer_before_a_wait, a_drain, repeats,
+    a_request_that_waits_alone, sessions_of_both_versions, many_that_wait, a_new_incarnation, long_texts,
     ends_of_connections, too_many_frames, no_packet_waits, its_connections, a_late_client, a_silent_peer, many_at_once,
     a_port_that_is_taken, nobody_listens, broken_streams, addresses, bad_words,
 ]

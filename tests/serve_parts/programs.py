@@ -1,7 +1,9 @@
 """The program's processes: a server on a port of this machine, and a caller. None is left running."""
+import contextlib
 import os
 import pathlib
 import random
+import re
 import socket
 import subprocess
 import threading
@@ -13,6 +15,8 @@ from serve_parts.wire import PATIENCE, Peer, Wrong, demand, members_of, until, w
 PORTS = range(20_000, 32_000)
 # How often another free port is tried, where somebody takes the one that was free.
 TRIES = 5
+# Whoever does nothing for so many seconds, and is not kept from it, rests.
+REST = 0.05
 
 
 def free_port():
@@ -25,6 +29,14 @@ def free_port():
             except OSError:
                 continue
         return port
+
+
+@contextlib.contextmanager
+def taken_port():
+    """A port at which nobody listens, nor can until the end of the block."""
+    with socket.socket() as holder:
+        holder.bind(("127.0.0.1", 0))
+        yield holder.getsockname()[1]
 
 
 def listens_at(pid, port):
@@ -152,6 +164,24 @@ class Server(Process):
         peer.expect(hello(client, incarnation, version), welcome(client, self.epoch, incarnation, version))
         return peer
 
+    def waits(self):
+        """How often each of its threads waited so far, where all of them do so now."""
+        told = [path.read_text() for path in pathlib.Path(f"/proc/{self.process.pid}/task").glob("*/status")]
+        asleep = all(re.search(r"^State:\tS", text, re.MULTILINE) for text in told)
+        return [re.findall(r"ctxt_switches:\t(\d+)", text) for text in told] if asleep else None
+
+    def rests(self):
+        """Whether each of its threads waits, and went on waiting for a moment: it does nothing until something comes. That a
+        slow machine lets a thread not run is no rest."""
+        before = self.waits()
+        time.sleep(REST)
+        return before is not None and before == self.waits()
+
+    def accepted(self):
+        """How many connections it has accepted that are open; it listens."""
+        opened = pathlib.Path(f"/proc/{self.process.pid}/fd").glob("*")
+        return sum(os.readlink(path).startswith("socket:") for path in opened) - 1
+
     def use_up(self):
         """Makes the connections that are left, one by one, so that the server ends: it must serve these and no more."""
         ends, served = time.monotonic() + 4 * PATIENCE, self.made
@@ -192,9 +222,9 @@ class Server(Process):
 class Caller(Process):
     """A caller, with these lines for its input."""
 
-    def __init__(self, program, port, client, lines, incarnation=1, tries=2 * PATIENCE, speak=1):
+    def __init__(self, program, port, client, lines, incarnation=1, tries=2 * PATIENCE, speak=1, **more):
         super().__init__([program, "call", "--connect", f"127.0.0.1:{port}", "--client", str(client),
-                          "--incarnation", str(incarnation), "--tries", str(tries), "--speak", str(speak)])
+                          "--incarnation", str(incarnation), "--tries", str(tries), "--speak", str(speak)], **more)
         try:
             self.process.stdin.write(lines)
             self.process.stdin.close()

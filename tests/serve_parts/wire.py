@@ -132,6 +132,11 @@ class Peer:
                 raise ConnectionResetError(fault.errno, "the connection was reset") from None
             raise
 
+    def acknowledge_late(self):
+        """What comes next is acknowledged with what is sent behind it, or after a while: a packet that waits for its like then
+        waits for so long, each time."""
+        self.socket.setsockopt(socket.IPPROTO_TCP, socket.TCP_QUICKACK, 0)
+
     def send(self, data):
         self.socket.sendall(data)
 

@@ -1,9 +1,11 @@
-"""How many reads and writes of its connection a worker needs."""
+"""How many reads and writes of its connection a worker needs, and how much it holds back."""
 from model_parts.account import Key
 from serve_parts.wire import demand, frame, give, hello, replied, request, welcome
 from torture_parts.system import HostileServer, System
 
 REQUESTS = 16
+# Long answers that are asked for in one piece, how many of them there is room for, and how many bytes are held back at most.
+LONG, IN_HAND, HELD = 30, 5, 16_384
 # How often it is tried, where the machine cuts a piece in two.
 TRIES = 10
 
@@ -35,4 +37,34 @@ def a_read_and_a_write_a_piece(program):
     demand((3, 2) in seen, f"{REQUESTS} requests in a piece have these reads and writes: {seen}")
 
 
-CASES = [a_read_and_a_write_a_piece]
+def long_answers(program):
+    """The reads and writes of a connection over which a hello comes, an item of the greatest length, and requests for it in one
+    piece, which are repeats."""
+    system = System()
+    with HostileServer(program, system, workers=1, connections=1) as server:
+        put, peek, item = Key(1, 1, 1, 1), Key(1, 1, 1, 2), "\x01" * 512
+        asked, answer = {put: give("put", item), peek: {"call": "peek", "queue": 3}}, replied(peek, reply="peeked", item=item)
+        demand(IN_HAND * len(frame(answer)) <= HELD < (IN_HAND + 1) * len(frame(answer)), f"{len(answer)} bytes of an answer")
+        with server.connect() as peer:
+            peer.expect(hello(1), welcome(1))
+            peer.expect(request(put, asked[put]), replied(put, reply="done"))
+            peer.send(frame(request(peek, asked[peek])) * LONG)
+            for _ in range(LONG):
+                got = peer.hear()
+                demand(got == answer, f"{peek} was answered {got!r}")
+            peer.end()
+            peer.expect_end()
+        server.judged(asked, [])
+    return system.asked()
+
+
+def what_is_held_back(program):
+    """Of the answers to a piece as many are held back as there is room for, and then go out in one write; never more."""
+    wanted, seen = (4, 2 + LONG // IN_HAND), []
+    while wanted not in seen and len(seen) < TRIES:
+        seen.append(long_answers(program))
+        demand(seen[-1][1] >= wanted[1], f"{LONG} long answers take {seen[-1]} reads and writes, and not {wanted}")
+    demand(wanted in seen, f"{LONG} long answers to a piece have these reads and writes, and never {wanted}: {seen}")
+
+
+CASES = [a_read_and_a_write_a_piece, what_is_held_back]

@@ -1,6 +1,5 @@
 """A server that has no room for its account, few descriptors, or no threads."""
 import os
-import pathlib
 import resource
 import signal
 import tempfile
@@ -13,6 +12,8 @@ from torture_parts.system import HostileServer, System
 
 NO_ROOM = (1, b"run fault 2\n")
 PUTS = 40
+# Accepts that all fail.
+ACCEPTS = 1_000
 
 
 def a_talk(peer, client, count):
@@ -83,18 +84,12 @@ def descriptors(server):
     return len(os.listdir(f"/proc/{server.process.pid}/fd"))
 
 
-def all_sleep(server):
-    """Whether each thread of a server waits for something: the one that accepts then does so."""
-    threads = pathlib.Path(f"/proc/{server.process.pid}/task").glob("*/stat")
-    return all(stat.read_text().rpartition(")")[2].split()[0] == "S" for stat in threads)
-
-
 def few_descriptors(program):
     """What can't be accepted for want of a descriptor counts as a connection; those that are open are served on."""
     for room in (0, 1, 3):
         with Server(program, workers=5, connections=9) as server:
             first = server.greeted(1)
-            until("the server accepts again", lambda: all_sleep(server))
+            until("the server accepts again", server.rests)
             least = descriptors(server)
             resource.prlimit(server.process.pid, resource.RLIMIT_NOFILE, (least + room, least + room))
             # The accept that waits already has its descriptor.
@@ -158,4 +153,32 @@ def few_threads(program):
             server.judged(asked, told)
 
 
-CASES = [a_full_disk, a_disk_that_fills, few_descriptors, no_thread, few_threads]
+def one_thread_less(program):
+    """Whichever of the workers can't be started, the last one too: the others serve, as many connections at once as they are."""
+    for workers, refused in [(2, 1), (3, 1), (3, 2), (2, 2), (3, 3), (64, 64)]:
+        system = System()
+        system.be(thread_at=refused)
+        with HostileServer(program, system, workers, connections=workers) as server:
+            peers = [server.greeted(client) for client in range(1, workers)]
+            demand(system.made("thread") == 1, f"{system.made('thread')} threads of {workers} were refused")
+            asked, told = {}, []
+            for client, peer in enumerate(peers, 1):
+                talk = a_talk(peer, client, 2)
+                asked, told = {**asked, **talk[0]}, told + talk[1]
+                peer.close()
+            server.greeted(workers).close()
+            server.judged(asked, told)
+
+
+def accepts_that_fail(program):
+    """Behind each accept that fails there is a pause. Here all of them end at once, and are counted."""
+    system = System()
+    system.be(accept=1, sleep=1)
+    with HostileServer(program, system, workers=1, connections=ACCEPTS) as server:
+        demand(server.ended().entries == (), "the account has entries")
+    failed, pauses = system.made("accept"), system.made("sleep")
+    demand(failed >= ACCEPTS and pauses >= ACCEPTS, f"{failed} accepts failed, and {pauses} pauses were made")
+
+
+CASES = [a_full_disk, a_disk_that_fills, few_descriptors, no_thread, few_threads, one_thread_less,
+         accepts_that_fail]

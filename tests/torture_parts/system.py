@@ -11,10 +11,10 @@ from serve_parts.programs import Server
 from serve_parts.wire import Peer
 
 SOURCE = pathlib.Path(__file__).resolve().parent.parent / "hostile.c"
-# What happens by odds, and what is counted down, in the order of the page; then how often each of the odds happened, and
-# how many reads and writes of sockets were asked for.
+# What happens by odds, and the other numbers, in the order of the page; then how often each of the odds happened, and how
+# many reads and writes of sockets were asked for.
 ODDS = ("growth", "cut_read", "failed_read", "cut_write", "failed_write", "accept", "thread", "clock", "sleep")
-NUMBERS = (*ODDS, "most", "growth_at", "read_at", "room", "calm")
+NUMBERS = (*ODDS, "most", "growth_at", "read_at", "room", "calm", "thread_at", "haste", "kept")
 WAYS = ("reads", "writes")
 PAGE = struct.Struct(f"={len(NUMBERS) + len(ODDS) + len(WAYS)}I")
 # Connections that a server may be asked for: it ends when so many could not be accepted.
@@ -95,8 +95,8 @@ class HostileServer(Server):
         super().__init__(program, workers, connections, epoch, env=system.env, **more)
 
     def no_more(self):
-        """No connection can be accepted from now on, so the server ends once those that are open did."""
-        self.system.be(accept=1)
+        """No connection can be accepted from now on, and no pause is made, so the server ends once those that are open did."""
+        self.system.be(accept=1, sleep=1)
         with contextlib.suppress(ConnectionError):
             # The accept that waits already is not refused.
             self.connect().close()
