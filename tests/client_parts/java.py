@@ -431,6 +431,7 @@ def a_timeout_is_kept(java):
         java.expect("exchange x 50000", "threw TimeoutException")
 
 
+@in_time
 def a_wait_is_no_silence(java):
     """Patience begins anew with each answer that the request waits."""
     slow = lambda one: (time.sleep(1), waiting(one))[1]

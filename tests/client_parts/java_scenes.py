@@ -337,9 +337,9 @@ def no_descriptors(_java):
 
 @java.in_time
 def times(_java):
-    """A call with a time ends within it and a second, with a silent server and with none."""
+    """A call with a time ends behind it and a second, long before the patience of 100 seconds, with a silent server and none."""
     with scripted(welcome, reply("done"), otherwise=SILENCE) as server, playing("times", server.port) as program:
-        for told, least, most in [("threw Unsettled of 1/1/1/2", 1300, 6000), ("threw NotAsked of null", 800, 6000)]:
+        for told, least, most in [("threw Unsettled of 1/1/1/2", 1_300, 60_000), ("threw NotAsked of null", 800, 60_000)]:
             program.expect(told)
             took = int(program.line())
             demand(least <= took < most, f"it took {took} milliseconds")
