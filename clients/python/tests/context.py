@@ -1,6 +1,7 @@
 """What all tests use: the package from this clone, sessions that wait long, and what a call raises."""
 import contextlib
 import faulthandler
+import functools
 import os
 import pathlib
 import sys
@@ -15,6 +16,20 @@ import rendezvous as rv  # noqa: E402
 # come: long, for a slow machine, but where clients are tried that never end.
 HANG = 300
 PATIENCE = GENEROUS = int(os.environ.get("RV_PATIENCE", "120"))
+# How often what has to be done in time is tried.
+TRIES = 5
+
+
+def in_time(test):
+    """A test with a patience of a second or less, behind which the client says less: where the machine was too slow for that,
+    it is tried again."""
+    @functools.wraps(test)
+    def tried(case):
+        for _ in range(TRIES - 1):
+            with contextlib.suppress(Exception):
+                return test(case)
+        return test(case)
+    return tried
 
 
 class Case(unittest.TestCase):

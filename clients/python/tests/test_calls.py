@@ -3,7 +3,7 @@ import itertools
 import json
 import unittest
 
-from context import Case, asked, key, raised_by, rv, session
+from context import Case, asked, in_time, key, raised_by, rv, session
 from scripted import BY, HANG_UP, SILENCE, Scripted, frame, received_by, reply, twice, waiting, welcome
 
 # As many texts as a drain gives, each as long as an item may be, and escaped.
@@ -102,6 +102,7 @@ class Calls(Case):
 class Receipts(Case):
     """Receipts name the consumer's key, and nothing else."""
 
+    @in_time
     def test_receipts(self):
         """A receipt names the consumer that its reply names, in the reply's epoch, however the reply came."""
         named = rv.Receipt(key(1, 9), rv.Key(9, 2, 3, 4))
@@ -159,6 +160,7 @@ class Drains(Case):
             with session(server) as one:
                 self.assertEqual((one.drain(3, 2), len(server.heard)), (["a", "a"], 3))
 
+    @in_time
     def test_a_drain_that_is_given_up(self):
         """A drain that is unsettled gives its items when it is given up; a cancelled one took none."""
         for told, wanted in [(reply("cancelled"), rv.replies.Cancelled(key(1))),

@@ -4,7 +4,7 @@ import threading
 import unittest
 from unittest import mock
 
-from context import Case, asked, key, rv, session, until
+from context import Case, asked, in_time, key, rv, session, until
 from rendezvous import link
 from scripted import HANG_UP, SILENCE, Listening, Scripted, frame, bytes_of, hang_up, refused, reply, waiting, welcome
 
@@ -56,6 +56,7 @@ class Made(Case):
 class Kept(Case):
     """How long a connection is used."""
 
+    @in_time
     def test_a_connection_that_the_server_closed_meanwhile(self):
         """A session that was idle takes a new one unseen: no copy is counted as sent over the old one."""
         with Scripted(welcome, reply("done")) as server, session(server, patience=0.5) as one:

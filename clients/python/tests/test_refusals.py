@@ -1,7 +1,7 @@
 """What a refusal, a welcome and a broken link are to a call."""
 import unittest
 
-from context import Case, asked, key, rv, session
+from context import Case, asked, in_time, key, rv, session
 from scripted import (
     HANG_UP, SILENCE, Scripted, frame, old_server, received_by, refused, reply, twice, waiting, welcome)
 
@@ -60,6 +60,7 @@ class Hellos(Case):
             self.assertEqual([kind for kind, *_ in asked(server)], ["hello", "hello", "request"])
             one.close()
 
+    @in_time
     def test_a_hello_without_room(self):
         """It is said again; where there is none all the time, the call is told so, and nothing was asked."""
         with Scripted(refused(10), refused(11), SILENCE, welcome) as server, session(server, answer=0.5) as one:

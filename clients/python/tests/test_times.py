@@ -2,7 +2,7 @@
 import threading
 import unittest
 
-from context import Case, asked, behind, key, raised_by, rv, session, until
+from context import Case, asked, behind, in_time, key, raised_by, rv, session, until
 from scripted import HANG_UP, SILENCE, Listening, Scripted, refused, reply, running_first, waiting, welcome
 
 # The limit of what hangs, in seconds, far above what a call with a short time of its own takes.
@@ -69,6 +69,7 @@ class OwnTimes(Case):
             session(server, patience=60.0).poll(3, timeout=0.1)
         self.assertIn(f"{server.address}: connection refused", str(told.raised))
 
+    @in_time
     def test_a_put_with_a_time(self):
         """A put at a full server ends in its own time; without one, in the session's patience."""
         for patience, more in ((60.0, {"timeout": 0.2}), (0.5, {})):
@@ -85,6 +86,7 @@ class OwnTimes(Case):
 class Patience(Case):
     """Calls that nothing is heard of."""
 
+    @in_time
     def test_an_unsettled_request(self):
         """Without an answer the call ends by its key, and can be asked again; nothing else may be asked before."""
         with Scripted(welcome) as server, session(server, patience=1.0, answer=0.3) as one:
@@ -102,6 +104,7 @@ class Patience(Case):
             self.assertEqual(one.take(3), "a")
             self.assertEqual(one.last, rv.replies.Item(key(2), "a"))
 
+    @in_time
     def test_an_accepted_request(self):
         """What the server said to wait is told so; waiting renews the patience."""
         with Scripted(welcome, waiting, waiting) as server, session(server, patience=0.7, answer=60.0) as one:
@@ -112,6 +115,7 @@ class Patience(Case):
         with Scripted(welcome, *slow, reply("item", item="a")) as server, session(server, patience=30.0) as one:
             self.assertEqual(one.take(3), "a")
 
+    @in_time
     def test_a_request_that_is_given_up(self):
         """It is cancelled, also over many connections, and then the next one is asked."""
         for told, wanted in ((reply("cancelled"), rv.replies.Cancelled(key(1))),
@@ -125,6 +129,7 @@ class Patience(Case):
                 one.put(3, "a")
                 self.assertEqual(asked(server)[-4:], [("cancel", 1, None)] * 3 + [("request", 2, "put")])
 
+    @in_time
     def test_it_is_cancelled_once_it_was_given_up(self):
         """A request whose cancel has no answer is not asked again, but cancelled, also by again."""
         with Scripted(welcome) as server, session(server, patience=0.5) as one:
@@ -135,6 +140,7 @@ class Patience(Case):
             self.assertEqual(one.again(), rv.replies.Cancelled(key(1)))
             self.assertEqual([kind for kind, *_ in asked(server)], ["hello", "request", "cancel", "cancel"])
 
+    @in_time
     def test_nobody_listens(self):
         """No server: nothing was asked, and the reason is told; a later call is another try."""
         with Scripted(welcome) as server:

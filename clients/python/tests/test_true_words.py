@@ -5,7 +5,7 @@ import sys
 import threading
 import unittest
 
-from context import GENEROUS, Case, asked, behind, key, raised_by, rv, session, until
+from context import GENEROUS, Case, asked, behind, in_time, key, raised_by, rv, session, until
 from let_in import handled, interrupt, on_line
 from rendezvous.driver import Driver, Job
 from scripted import HANG_UP, SILENCE, Scripted, received_by, refused, reply, running_first, welcome
@@ -189,6 +189,7 @@ class Cancels(Case):
 class Refusals(Case):
     """Refusals that are final, and those that are not."""
 
+    @in_time
     def test_no_room_with_a_copy_out(self):
         """The first copy of a transfer was lost sight of, the second is refused: nothing is known, and then it was met."""
         with Scripted(welcome, HANG_UP) as server, session(server, patience=1.0) as one:
@@ -201,6 +202,7 @@ class Refusals(Case):
             self.assertEqual(one.again(), rv.Receipt(key(1), rv.Key(1, 2, 1, 1)))
             self.assertEqual({number for _, number, _ in asked(server)[1:]}, {1})
 
+    @in_time
     def test_no_room_without_a_copy_out(self):
         """Each copy was refused: it is certainly in no queue, and the number is used again."""
         with Scripted(welcome) as server, session(server, patience=0.5) as one:
@@ -211,6 +213,7 @@ class Refusals(Case):
             self.assertEqual(one.transfer(3, "b"), rv.Receipt(key(1), rv.Key(1, 2, 1, 1)))
             self.assertEqual((server.heard[-1]["number"], server.heard[-1]["item"]), (1, "b"))
 
+    @in_time
     def test_no_room_behind_no_memory(self):
         """What a refusal 11 leaves open is not known to be full, until a later refusal 10."""
         with Scripted(welcome) as server, session(server, patience=0.5) as one:
