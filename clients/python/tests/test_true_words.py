@@ -125,6 +125,8 @@ class Cancels(Case):
             with self.raises(rv.Cancelled, key=None) as told:
                 one.take(3)
             self.assertIn("before anything was asked", str(told.raised))
+            # The call may end before the thread that cancelled it goes on.
+            until("what the cancel gave", lambda: answers)
             self.assertEqual((answers, [kind for kind, *_ in asked(server)]), ([True], ["hello"]))
             self.assertEqual((one.take(3), one.last.key), ("a", key(1)))
             one.close()
