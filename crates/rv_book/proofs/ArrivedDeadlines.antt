@@ -41,7 +41,8 @@ but_has : (P : ℕ → Type 0) (duty : Option OwedDuty) (r : ℕ) → ButDuty P 
 but_has P None r but = but
 but_has P (Some d) r but = but.0
 
-module _ (a : Account) (e : Entry) (key : Key) (call : Call) (legal : Legal a) (free : NamesFreePartners a.entries e) (arrives : e.act ≡ Arrive key call) where
+module _ (a : Account) (e : Entry) (key : Key) (call : Call) (legal : Legal a) (free : NamesFreePartners a.entries e) (arrives : e.act ≡ Arrive key call)
+    (deadline : Option ℕ) (own_deadline : (limit : ℕ) → deadline ≡ Some limit → deadline_of e.moment call ≡ Some limit) where
   abbrev after : List Entry
   after = a.entries ++ e ∷ []
 
@@ -50,13 +51,13 @@ module _ (a : Account) (e : Entry) (key : Key) (call : Call) (legal : Legal a) (
 
   -- a request that waited; or the arrival itself, if it has a deadline
   abbrev Either : ℕ → Type 0
-  Either r = Waiting a.entries r ⊎ ((r ≡ place) × IsSome (deadline_of e.moment call))
+  Either r = Waiting a.entries r ⊎ ((r ≡ place) × IsSome deadline)
 
   own_limit : limit_at after place ≡ limit_of e.moment call
   own_limit = ap (option_and_then limit_in) (get-append_end a.entries e) ∙ ap (λ does. option_and_then (limit_of e.moment) (call_in does)) arrives
 
-  has_limit : (limit : ℕ) → deadline_of e.moment call ≡ Some limit → limit_at after place ≡ Some limit
-  has_limit limit is = own_limit ∙ deadline_is_limit e.moment (wait_of call) limit is
+  has_limit : (limit : ℕ) → deadline ≡ Some limit → limit_at after place ≡ Some limit
+  has_limit limit is = own_limit ∙ deadline_is_limit e.moment (wait_of call) limit (own_deadline limit is)
 
   -- ---- the request that it met
 
@@ -82,7 +83,7 @@ module _ (a : Account) (e : Entry) (key : Key) (call : Call) (legal : Legal a) (
   goes (Some p) new names waits = absurd (met_last a.entries e _ p free (names_it e p names) (waiting_is_open after place waits))
 
   module _ (partner : Option ℕ) (duty : OwedDuty) (own other : Option OwedDuty) (names : e.partners ≡ just partner) (at : duty.place ≡ place) (own_is : OwnDuty (side_of call) (wait_of call) partner duty own)
-      (other_is : PartnersDuty a.entries partner other) where
+      (other_is : PartnersDuty a.entries partner other) (unmet_has : partner ≡ None → deadline ≡ deadline_of e.moment call) where
     -- ---- who is left waits
 
     new_waits : (mine : Option OwedDuty) → mine ≡ own → ButDuty (ButDuty Either other) mine place → Waiting after place
@@ -124,16 +125,16 @@ module _ (a : Account) (e : Entry) (key : Key) (call : Call) (legal : Legal a) (
       | inr new ↦
           let on = goes partner new.1 names (subst (Waiting after) new.0 waits) in
           let lasts : Lasts (wait_of call) = on.stays.1 in
-          let deadline : deadline_of e.moment call ≡ Some limit = lasting_deadline e.moment (wait_of call) lasts ∙ sym own_limit ∙ ap (limit_at after) (sym new.0) ∙ has in
+          let is : deadline ≡ Some limit = unmet_has on.unmet ∙ lasting_deadline e.moment (wait_of call) lasts ∙ sym own_limit ∙ ap (limit_at after) (sym new.0) ∙ has in
           let nobody = just_none e place (names ∙ ap just on.unmet) in
-          subst (ButDuty (ButDuty Either other) own) (sym new.0) (new_left own refl on (but_other partner other place names other_is (inr (refl, ap is_some deadline)) nobody))
+          subst (ButDuty (ButDuty Either other) own) (sym new.0) (new_left own refl on (but_other partner other place names other_is (inr (refl, ap is_some is)) nobody))
     ]
 
     -- the deadlines after the arrival, from those before it
-    pub due_arrived : (due : Deadlines) → AreDeadlines a.entries due → AreDeadlines after (without_duty after own (without_duty after other (with_deadline (deadline_of e.moment call) place due)))
+    pub due_arrived : (due : Deadlines) → AreDeadlines a.entries due → AreDeadlines after (without_duty after own (without_duty after other (with_deadline deadline place due)))
     due_arrived due are =
         let same = due_on a.entries (e ∷ []) (Waiting a.entries) due are (limit_waits a.entries (e ∷ [])) in
-        let more = due_with after (Waiting a.entries) due place same (deadline_of e.moment call) has_limit in
-        let less = due_without_duty after Either (with_deadline (deadline_of e.moment call) place due) other more in
-        let least = due_without_duty after (ButDuty Either other) (without_duty after other (with_deadline (deadline_of e.moment call) place due)) own less in
+        let more = due_with after (Waiting a.entries) due place same deadline has_limit in
+        let less = due_without_duty after Either (with_deadline deadline place due) other more in
+        let least = due_without_duty after (ButDuty Either other) (without_duty after other (with_deadline deadline place due)) own less in
         due_same after (ButDuty (ButDuty Either other) own) (Waiting after) _ least left_waits waits_left

@@ -31,14 +31,6 @@ giver_has (Some wait) None queue kind = absurd kind
 pub gives_item : (call : Call) (queue : ℕ) → side_of call ≡ Gives queue → (item : List ℕ) × (item_of call ≡ Some item)
 gives_item call queue is = giver_has (wait_of call) (item_of call) queue (kind_at call (Gives queue) is)
 
-taker_has : (wait : Option Wait) (item : Option (List ℕ)) (queue : ℕ) → IsKind (Takes queue) wait item → (it : Wait) × (wait ≡ Some it)
-taker_has (Some wait) item queue kind = (wait, refl)
-taker_has None item queue kind = absurd kind
-
--- what takes has a wait
-pub takes_wait : (call : Call) (queue : ℕ) → side_of call ≡ Takes queue → (wait : Wait) × (wait_of call ≡ Some wait)
-takes_wait call queue is = taker_has (wait_of call) (item_of call) queue (kind_at call (Takes queue) is)
-
 exchanger_has : (wait : Option Wait) (item : Option (List ℕ)) (exchanger : ℕ) → IsKind (Exchanges exchanger) wait item → (it : Wait) × (bytes : List ℕ) × (wait ≡ Some it) × (item ≡ Some bytes)
 exchanger_has (Some wait) (Some bytes) exchanger kind = (wait, bytes, refl, refl)
 exchanger_has (Some wait) None exchanger kind = absurd kind
@@ -48,10 +40,6 @@ exchanger_has None None exchanger kind = absurd kind
 -- what exchanges hands over an item
 pub exchanges_item : (call : Call) (exchanger : ℕ) → side_of call ≡ Exchanges exchanger → (item : List ℕ) × (item_of call ≡ Some item)
 exchanges_item call exchanger is = let has = exchanger_has (wait_of call) (item_of call) exchanger (kind_at call (Exchanges exchanger) is) in (has.1, has.3)
-
--- and has a wait
-pub exchanges_wait : (call : Call) (exchanger : ℕ) → side_of call ≡ Exchanges exchanger → (wait : Wait) × (wait_of call ≡ Some wait)
-exchanges_wait call exchanger is = let has = exchanger_has (wait_of call) (item_of call) exchanger (kind_at call (Exchanges exchanger) is) in (has.0, has.2)
 
 -- what stays may name one
 pub staying_single : (call : Call) → Stays call → may_name call ≡ 1

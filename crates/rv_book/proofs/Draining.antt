@@ -14,7 +14,7 @@ use Rattle.rv_session.specs.Table.{OnlyAdvances, Table, session_for, settled_ses
 use Rattle.rv_session.specs.Meanings.{HasNext}
 use Rattle.rv_session.specs.Standings.{standing_of}
 use Rattle.rv_session.specs.declared.standing.Standing.TheVariants as standing
-use Rattle.rv_book.specs.Meeting.{HasRoomToName}
+use Rattle.rv_book.specs.Meeting.{HasRoomToName, opposed_by}
 use Rattle.rv_session.specs.declared.kept.Kept.{Kept}
 use Rattle.rv_session.specs.declared.kept.Kept.TheVariants as kept
 use Rattle.rv_session.specs.declared.session.Session.{Session}
@@ -25,10 +25,11 @@ use Rattle.rv_account.specs.Account.{Account, Names, Stored, call_at, entry, lim
 use Rattle.rv_account.specs.Calls.{IsPut, Lasts, MayMeet, Stays, limit_after, may_name, need_by, need_of, opposite}
 use Rattle.rv_book.specs.declared.state.BookState.{BookState}
 use Rattle.rv_book.specs.Arriving.{IsKept, IsRecorded, WillTell}
+use Rattle.rv_book.proofs.Parking.{none_beside}
 use Rattle.rv_book.proofs.NextKeys.{IsNext}
 use Rattle.rv_book.specs.Counting.{NumberOf}
 use Rattle.rv_book.specs.Draining.{IsDraining, MayDrain, items_in}
-use Rattle.rv_book.specs.Elapsing.{AreDeadlines, deadline_after, with_deadline, without_deadline}
+use Rattle.rv_book.specs.Elapsing.{AreDeadlines, deadline_after, deadline_beside, with_deadline, without_deadline}
 use Rattle.rv_book.specs.Legal.{KeepsTime, Legal, MayFollow, NothingDue}
 use Rattle.rv_book.specs.Limits.{FitEntries}
 use Rattle.std.specs.Global.{Vec}
@@ -288,7 +289,8 @@ pub may_drain : (old new : BookState) (moment : ℕ) (key : Key) (call : Call) (
 may_drain old new moment key call queue max room k comes stands next side at_once most prepared names will =
     let ready = prepared.ready in
     let same = ready.same in
-    let due : new.due ≡ old.due = prepared.due ∙ ap (λ wait. with_deadline (deadline_after moment wait) (length (account_of old).entries) old.due) at_once in
+    let due : new.due ≡ old.due = prepared.due ∙ ap (λ deadline. with_deadline deadline (length (account_of old).entries) old.due)
+    (ap (λ wait. deadline_beside (opposed_by new.waiters (opposite (side_of call))) (deadline_after moment wait)) at_once ∙ none_beside (opposed_by new.waiters (opposite (side_of call)))) in
     let one : need_of call ≡ 1 = ap need_by at_once in
     let sound = sound_same old (with_due new old.due) comes.sound same in
     let roomy : old.waiting + need_of call ≤ new.account.room = ready.room in

@@ -71,9 +71,6 @@ items_fit a (p ∷ places) xs fits is =
 
 -- ---- what a drain takes
 
-partners_read : Option Entry → Option (List ℕ)
-partners_read o = option_map (λ e. e.partners) o
-
 -- the partners of which these are the items
 drained_from : (es : List Entry) (o : Option (List ℕ)) (xs : List (List ℕ)) → option_and_then (items_at es) o ≡ Some xs → (places : List ℕ) × (o ≡ Some places) × (items_at es places ≡ Some xs)
 drained_from es None xs is = absurd (none-some xs is)
@@ -119,11 +116,6 @@ module _ (queue max : ℕ) where
   drain_kept b r legal arrived =
       let has = has_items b r legal arrived in
       record { reply = Drained has.0; is = ap (option_map Drained) has.1; replies = (has.0, has.1, refl) }
-
-  pub drain_replies : (a : Account) (partner : Option ℕ) → WillReply a own partner (kept.Drained (length a.entries))
-  drain_replies a partner moment key version before after asked =
-      let e = entry moment (Arrive key own) (just partner) in
-      drain_kept (with_entry a e) (length a.entries) after (ap call_read (get-append_end a.entries e))
 
   -- no more than it may take, and each within its limit
   fits_drained : (a : Account) (r : ℕ) (xs : List (List ℕ)) → Legal a → FitsAccount a → call_at a.entries r ≡ Some own → Drains a.entries r xs → FitsItems xs

@@ -109,39 +109,6 @@ module _ (old new : Waiters) (exchanger : ℕ) (changed : ExchangerChanged old n
   arrived_exchanges wait duty result (inr (inl waits)) = waits_alone wait duty result waits.0 waits.1
   arrived_exchanges wait duty result (inr (inr goes)) = swapped_nothing wait duty result goes.0 goes.1
 
-  -- ---- a request that leaves
-
-  left_free : (place : ℕ) (es : List Entry) (duty : OwedDuty) (result : Option OwedDuty) → LeftExchanger before after place result → (earlier : OwedDuty) → before ≡ Some earlier → earlier.place ≡ place
-      → AreParked es old → owed_at es place ≡ Some duty → (result ≡ Some duty) × (after ≡ None)
-  left_free place es duty None left earlier waited there parked owed = absurd (left.0 earlier waited there)
-  left_free place es duty (Some back) left earlier waited there parked owed =
-      let own : owed_at es back.place ≡ Some back = parked.exchangers exchanger back left.waited in
-      (sym (sym (ap (owed_at es) left.own) ∙ own) ∙ owed, left.left)
-
-  pub left_exchanger : (place : ℕ) (es : List Entry) (duty : OwedDuty) (result : Option OwedDuty) → LeftExchanger before after place result → AreParked es old → StandsOn old (Exchanges exchanger) place
-      → owed_at es place ≡ Some duty → LeavesSide old new (Exchanges exchanger) duty result
-  left_exchanger place es duty result left parked stands owed =
-      let earlier = who_waits before stands.i place stands.there in
-      let gone = left_free place es duty result left earlier.0 earlier.1 earlier.2 parked owed in
-      let same : duty.place ≡ earlier.0.place = owed_place es place duty owed ∙ sym earlier.2 in
-      record {
-        is = gone.0;
-        places = ap place_of_duty gone.1 ∙ sym (ap (λ l. filter (λ r. not (r == duty.place)) l) (ap place_of_duty earlier.1) ∙ none_left earlier.0.place duty.place (sym same));
-        others = others_stay;
-        parked = λ other was. parked_at other was (λ d there. absurd (none-some d (sym gone.1 ∙ there)));
-      }
-    where
-      who_waits : (o : Option OwedDuty) (i place : ℕ) → slice_get (place_of_duty o) i ≡ Some place → (earlier : OwedDuty) × (o ≡ Some earlier) × (earlier.place ≡ place)
-      who_waits None i place at = absurd (none-some place at)
-      who_waits (Some earlier) zero place at = (earlier, refl, same_Some _ _ at)
-      who_waits (Some earlier) (suc i) place at = absurd (none-some place at)
-
-      none_left : (p q : ℕ) → p ≡ q → filter (λ r. not (r == q)) (p ∷ []) ≡ []
-      none_left p q same = ap (λ b. cond b (p ∷ []) []) (equal p q same)
-        where
-          equal : (p q : ℕ) → p ≡ q → not (p == q) ≡ false
-          equal p q same = grind (arith, nat_tests)
-
 -- ---- free exchangers
 
 pub none_free : AllFree []

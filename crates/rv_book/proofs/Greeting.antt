@@ -2,7 +2,7 @@
 use Rattle.std.proofs.Common.{◌≡◌, inl, inr, ℕ, ◌≤◌, List, [], length, Option, Some, None, IfSome, IsSome, is_some, refl, sym, ap, subst, ◌∙◌, arith, option_and_then}
 use Rattle.std.proofs.lemmas.Option.{same_Some}
 use Rattle.rv_text.specs.declared.answer.Refusal.{Refusal}
-use Rattle.rv_text.specs.declared.call.Side.{Side}
+use Rattle.rv_text.specs.declared.call.Call.{Call}
 use Rattle.rv_text.specs.declared.version.Version.{Version}
 use Rattle.rv_session.specs.OwedDuty.{OwedDuty}
 use Rattle.rv_session.specs.Table.{OnlySets, OnlySettles, fresh, session_of, waiting_of}
@@ -50,11 +50,6 @@ has_one es client r waits request = record {
   names = record { named = ap (option_and_then key_in) request.arrived; of_client = sym request.of_client };
 }
 
--- where the session waits, the account has a request that waits
-pub waiting_if : (state : BookState) (client : ℕ) (waiting : Option ℕ) → IsSound state → waiting ≡ waiting_of state.sessions client → IfSome waiting (Waiting (account_of state).entries)
-waiting_if state client None sound is = tt
-waiting_if state client (Some place) sound is = (waiting_there (account_of state) state.sessions client place sound.sessions_are (sym is)).waits.waits
-
 -- a client that has a session has one still
 pub still_known : (old mid : BookState) (waiting : Option ℕ) (kept : Kept) (client : ℕ) (s : Session) → EndsIf old mid waiting kept → session_of old.sessions client ≡ Some s → IsSome (session_of mid.sessions client)
 still_known old mid None kept client s ends there = ap is_some (ap (λ (state : BookState). session_of state.sessions client) ends ∙ there)
@@ -65,8 +60,8 @@ still_known old mid (Some place) kept client s ends there = elim (same_or_not cl
 
 -- ---- a state that was made ready
 
-pub comes_ready : (old ready : BookState) (moment : ℕ) (does : Act) (need : ℕ) (side : Option Side) → Comes old moment does → HasRoomReady old ready need side → Comes ready moment does
-comes_ready old ready moment does need side comes prepared = record {
+pub comes_ready : (old ready : BookState) (moment : ℕ) (does : Act) (need : ℕ) (call : Option Call) → Comes old moment does → HasRoomReady old ready need call → Comes ready moment does
+comes_ready old ready moment does need call comes prepared = record {
   sound = sound_same old ready comes.sound prepared.same;
   time = subst (λ a. KeepsTime a moment) (sym prepared.same.account) comes.time;
   moment_fits = comes.moment_fits;
@@ -74,8 +69,8 @@ comes_ready old ready moment does need side comes prepared = record {
   act_fits = comes.act_fits;
 }
 
-pub space_ready : (old ready : BookState) (need : ℕ) (side : Option Side) → HasRoomReady old ready need side → HasSpace ready need
-space_ready old ready need side prepared =
+pub space_ready : (old ready : BookState) (need : ℕ) (call : Option Call) → HasRoomReady old ready need call → HasSpace ready need
+space_ready old ready need call prepared =
     let entries = ap (λ (a : Account). length a.entries) prepared.same.account in
     omega (arith, prepared.space, entries, prepared.same.waiting)
 

@@ -16,13 +16,6 @@ lasting_need (Some (Millis zero)) is lasts = absurd (omega arith)
 lasting_need (Some (Millis (suc n))) is lasts = refl
 lasting_need (Some Forever) is lasts = refl
 
-pub passing_need : (wait : Option Wait) → (Lasts wait → ⊥) → need_by wait ≡ 1
-passing_need None passes = refl
-passing_need (Some Now) passes = refl
-passing_need (Some (Millis zero)) passes = refl
-passing_need (Some (Millis (suc n))) passes = absurd (passes (omega arith))
-passing_need (Some Forever) passes = absurd (passes tt)
-
 pub need_positive : (wait : Option Wait) → 1 ≤ need_by wait
 need_positive None = omega arith
 need_positive (Some Now) = omega arith
@@ -32,13 +25,6 @@ need_positive (Some Forever) = omega arith
 
 -- ---- its limit
 
--- the limit of a wait that lasts is ahead
-pub limit_ahead : (moment : ℕ) (wait : Option Wait) (limit : ℕ) → Lasts wait → option_and_then (limit_after moment) wait ≡ Some limit → moment < limit
-limit_ahead moment None limit lasts is = absurd (none-some limit is)
-limit_ahead moment (Some Now) limit lasts is = absurd (none-some limit is)
-limit_ahead moment (Some (Millis n)) limit lasts is = let same : moment + n ≡ limit = same_Some _ _ is in omega arith
-limit_ahead moment (Some Forever) limit lasts is = absurd (none-some limit is)
-
 -- a wait that lasts has its limit as its deadline, and one that doesn't has none
 pub lasting_deadline : (moment : ℕ) (wait : Option Wait) → Lasts wait → deadline_after moment wait ≡ option_and_then (limit_after moment) wait
 lasting_deadline moment None lasts = refl
@@ -46,10 +32,3 @@ lasting_deadline moment (Some Now) lasts = refl
 lasting_deadline moment (Some (Millis zero)) lasts = absurd (omega arith)
 lasting_deadline moment (Some (Millis (suc n))) lasts = refl
 lasting_deadline moment (Some Forever) lasts = refl
-
-pub passing_deadline : (moment : ℕ) (wait : Option Wait) → (Lasts wait → ⊥) → deadline_after moment wait ≡ None
-passing_deadline moment None passes = refl
-passing_deadline moment (Some Now) passes = refl
-passing_deadline moment (Some (Millis zero)) passes = refl
-passing_deadline moment (Some (Millis (suc n))) passes = absurd (passes (omega arith))
-passing_deadline moment (Some Forever) passes = refl

@@ -19,6 +19,7 @@ pub mod Withdrawn
 pub mod Exchanging
 pub mod WaitersBySide
 pub mod Owing
+pub mod Parking
 pub mod Following
 pub mod Lines
 pub mod OnePartner

@@ -151,19 +151,10 @@ module _ (R : Refusal → Type 0) (S G : Type 0) (a : Account) (client incarnati
 
 -- ---- the lines one by one
 
--- what each line says leads from one reading to another
-pub RefuseOr-map : (D R S : Refusal → Type 0) (O P : Type 0) → ((refusal : Refusal) → R refusal → S refusal) → (O → P) → RefuseOr D R O → RefuseOr D S P
-RefuseOr-map D R S O P f g (inl h) = inl (record { refusal = h.refusal; is_due = h.is_due; refuses_it = f h.refusal h.refuses_it })
-RefuseOr-map D R S O P f g (inr h) = inr (h.0, g h.1)
-
 -- and to one conclusion
 pub RefuseOr-elim : (D R : Refusal → Type 0) (O G : Type 0) → ((refusal : Refusal) → D refusal → R refusal → G) → (O → G) → RefuseOr D R O → G
 RefuseOr-elim D R O G f g (inl h) = f h.refusal h.is_due h.refuses_it
 RefuseOr-elim D R O G f g (inr h) = g h.1
-
-pub WhereElse-map : (C T U O P : Type 0) → (T → U) → (O → P) → WhereElse C T O → WhereElse C U P
-WhereElse-map C T U O P f g (inl h) = inl (h.0, f h.1)
-WhereElse-map C T U O P f g (inr h) = inr (h.0, g h.1)
 
 pub WhereElse-elim : (C T O G : Type 0) → (C → T → G) → (O → G) → WhereElse C T O → G
 WhereElse-elim C T O G f g (inl h) = f h.0 h.1

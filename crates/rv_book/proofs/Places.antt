@@ -53,19 +53,3 @@ get-set_other (x ∷ xs) zero zero v h = absurd (h refl)
 get-set_other (x ∷ xs) zero (suc j) v h = refl
 get-set_other (x ∷ xs) (suc i) zero v h = refl
 get-set_other (x ∷ xs) (suc i) (suc j) v h = get-set_other xs i j v (λ e. h (ap suc e))
-
--- ---- a list with one element taken out
-
-pub get-remove_before : {X : Type 0} (xs : List X) (i j : ℕ) → j < i → slice_get (remove xs i) j ≡ slice_get xs j
-get-remove_before [] zero j h = absurd (omega arith)
-get-remove_before [] (suc i) j h = refl
-get-remove_before (x ∷ xs) zero j h = absurd (omega arith)
-get-remove_before (x ∷ xs) (suc i) zero h = refl
-get-remove_before (x ∷ xs) (suc i) (suc j) h = get-remove_before xs i j (omega arith)
-
-pub get-remove_from : {X : Type 0} (xs : List X) (i j : ℕ) → i ≤ j → slice_get (remove xs i) j ≡ slice_get xs (suc j)
-get-remove_from [] zero j h = refl
-get-remove_from [] (suc i) j h = refl
-get-remove_from (x ∷ xs) zero j h = refl
-get-remove_from (x ∷ xs) (suc i) zero h = absurd (omega arith)
-get-remove_from (x ∷ xs) (suc i) (suc j) h = get-remove_from xs i j (omega arith)

@@ -1,5 +1,5 @@
 -- What a request that is recorded leaves: a sound state, and what the request is told.
-use Rattle.std.proofs.Common.{◌≡◌, inl, inr, ℕ, suc, ◌+◌, ◌<◌, ◌≤◌, ◌∷◌, [], ◌++◌, List, length, Option, Some, None, IfSome, is_some, option_map, refl, sym, ap, subst, ◌∙◌, arith}
+use Rattle.std.proofs.Common.{◌≡◌, inl, inr, ℕ, suc, ◌+◌, ◌<◌, ◌≤◌, ◌∷◌, [], ◌++◌, List, length, Option, Some, None, IfSome, is_some, option_map, unwrap_or, refl, sym, ap, subst, ◌∙◌, arith}
 use Rattle.std.specs.Global.{Vec}
 use Rattle.std.specs.Vec.{vec_capacity}
 use Rattle.std.proofs.Math.Nat.{le-min}
@@ -20,7 +20,7 @@ use Rattle.rv_book.specs.Arriving.{GoesOnWaiting, IsKept, IsRecorded, WillReply,
 use Rattle.rv_book.proofs.NextKeys.{IsNext}
 use Rattle.rv_book.proofs.OldestMet.{MeetsOldest}
 use Rattle.rv_account.specs.Calls.{MayMeet, may_name, need_of, opposite}
-use Rattle.rv_book.specs.Elapsing.{AreDeadlines, without_duty}
+use Rattle.rv_book.specs.Elapsing.{AreDeadlines, deadline_among, deadline_beside, deadline_of, without_duty}
 use Rattle.rv_book.specs.Counting.{NumberOf}
 use Rattle.rv_account.specs.declared.entry.Act.TheVariants.{Arrive}
 use Rattle.rv_account.specs.declared.entry.Entry.{Entry}
@@ -42,6 +42,7 @@ use Rattle.rv_book.proofs.Keys.{no_hello}
 use Rattle.rv_book.proofs.Lasting.{lasting_need, need_positive}
 use Rattle.rv_book.proofs.Legality.{Legal-with_entry}
 use Rattle.rv_book.proofs.Owing.{Waits-after, goes_not_on, goes_on}
+use Rattle.rv_book.proofs.Parking.{among_is, nobody_opposed}
 use Rattle.rv_book.proofs.Replying.{recorded_kept, recorded_waits}
 use Rattle.rv_book.proofs.Settling.{own_stays, sessions_recorded}
 use Rattle.rv_book.proofs.Standing.{is_next}
@@ -96,8 +97,11 @@ module _ {old : BookState} {moment : ℕ} {key : Key} {call : Call} {places : Ve
   pub meets : MeetsOldest (account_of old).entries (side_of call) arrived.partner
   meets = meets_partner before.entries old.waiters waiters (side_of call) (wait_of call) (length before.entries) arrived.partner sound.waiters_are is.on.meets
 
+  meets_one : may_name call ≡ 1
+  meets_one = ap (λ o. unwrap_or o 1) is.may.single
+
   pub follows : MayFollow before own_entry
-  follows = arrival_follows before moment key call arrived.partner is.may.comes.time is.may.comes.nothing_due next is.may.meets_one meets
+  follows = arrival_follows before moment key call arrived.partner is.may.comes.time is.may.comes.nothing_due next meets_one meets
 
   pub legal_after : Legal (with_entry before own_entry)
   legal_after = Legal-with_entry before own_entry sound.legal follows
@@ -117,10 +121,20 @@ module _ {old : BookState} {moment : ℕ} {key : Key} {call : Call} {places : Ve
   pub waiters_are : AreWaiters (before.entries ++ own_entry ∷ []) waiters
   waiters_are = waiters_after before own_entry old.waiters waiters key call sound.legal sound.waiters_are follows.pairs.names_free_partners refl (duty_of_new old key) arrived refl refl is.on
 
+  -- where it met nobody, nobody was there
+  opposed_none : arrived.partner ≡ None → opposed_by old.waiters (opposite (side_of call)) ≡ 0
+  opposed_none unmet = by_partner arrived.partner unmet is.on.meets
+    where
+      by_partner : (partner : Option ℕ) → partner ≡ None → MeetsOrWaits old.waiters waiters (side_of call) (wait_of call) (length before.entries) partner → opposed_by old.waiters (opposite (side_of call)) ≡ 0
+      by_partner (Some p) none first = absurd (none-some p (sym none))
+      by_partner None none (inl waits) = nobody_opposed old.waiters (side_of call) waits.1.nobody
+      by_partner None none (inr goes) = nobody_opposed old.waiters (side_of call) goes.1
+
   due_are : AreDeadlines (before.entries ++ own_entry ∷ []) (without_duty (before.entries ++ own_entry ∷ []) arrived.own (without_duty (before.entries ++ own_entry ∷ []) arrived.other old.due))
   due_are =
       subst (λ due. AreDeadlines (before.entries ++ own_entry ∷ []) (without_duty (before.entries ++ own_entry ∷ []) arrived.own (without_duty (before.entries ++ own_entry ∷ []) arrived.other due))) (sym is.may.due)
-      (due_arrived before own_entry key call sound.legal follows.pairs.names_free_partners refl arrived.partner (duty_of_new old key) arrived.own arrived.other refl refl is.on.own other_is is.may.deadlines sound.due_are)
+      (due_arrived before own_entry key call sound.legal follows.pairs.names_free_partners refl (deadline_among old.waiters moment call) (among_is (opposed_by old.waiters (opposite (side_of call))) (deadline_of moment call))
+      arrived.partner (duty_of_new old key) arrived.own arrived.other refl refl is.on.own other_is (λ unmet. ap (λ n. deadline_beside n (deadline_of moment call)) (opposed_none unmet)) is.may.deadlines sound.due_are)
 
   -- what a call that looks sees, once it has arrived
   pub sees : (MayMeet call → ⊥) → AreWaiters before.entries waiters
@@ -139,7 +153,7 @@ module _ {old : BookState} {moment : ℕ} {key : Key} {call : Call} {places : Ve
       by_partner None nobody = tt
       by_partner (Some p) first =
           let there : opposed_by old.waiters (opposite (side_of call)) ≡ suc (length (waiting_on waiters first.other)) = ap (opposed_by old.waiters) first.opposes ∙ ap length first.first in
-          let one : may_name call ≡ 1 = is.may.meets_one in
+          let one : may_name call ≡ 1 = meets_one in
           let least : 1 ≤ min (may_name call) (opposed_by old.waiters (opposite (side_of call))) = le-min (omega arith) (omega arith) in
           let room : min (may_name call) (opposed_by old.waiters (opposite (side_of call))) ≤ vec_capacity places = is.may.names.room in
           omega arith

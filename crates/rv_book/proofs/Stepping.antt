@@ -14,18 +14,6 @@ use Rattle.rv_book.proofs.Lines.{room_left}
 use Rattle.rv_text.specs.declared.message.Message.{Message}
 use Rattle.rv_text.specs.declared.answer.Refusal.{Refusal}
 
--- ---- answers of calls
-
-ok_or_err : {X : Type 0} (x : X) (refusal : Refusal) → ◌≡◌ {A = Result X Refusal} (Ok x) (Err refusal) → ⊥
-ok_or_err x refusal e = cc
-
-one_refusal : {X : Type 0} (p q : Refusal) → ◌≡◌ {A = Result X Refusal} (Err p) (Err q) → p ≡ q
-one_refusal p q e = cc
-
-not_ok : {X : Type 0} (result : Result X Refusal) (refusal : Refusal) → result ≡ Err refusal → IsOk result → ⊥
-not_ok (Ok x) refusal is ok = ok_or_err x refusal is
-not_ok (Err other) refusal is ok = absurd (let no : ⊥ = cc in no)
-
 -- ---- clauses on a result
 
 pub err_gives : {X : Type 0} (result : Result X Refusal) (P Q : Refusal → Type 0) → IsErrAnd result P → ((refusal : Refusal) → P refusal → Q refusal) → IfErr result Q
@@ -47,9 +35,6 @@ on_ok_both (Err refusal) P Q R h k f = tt
 pub ok_gives : {X E : Type 0} (result : Result X E) (P : Type 0) → IsOk result → OnOk result P → P
 ok_gives (Ok x) P ok h = h
 ok_gives (Err e) P ok h = absurd (let no : ⊥ = cc in no)
-
-pub is_ok_of : {X : Type 0} (result : Result X Refusal) (x : X) → result ≡ Ok x → IsOk result
-is_ok_of result x is = subst IsOk (sym is) refl
 
 -- ---- the last lines
 

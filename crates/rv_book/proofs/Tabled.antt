@@ -287,20 +287,6 @@ module _ (old new : Waiters) (queue : ℕ) (changed : ChangedAt old new queue) (
   arrived_takes wait result (inr (inl stands)) = stands_by wait result stands.0 stands.1
   arrived_takes wait result (inr (inr goes)) = took_nothing (Some wait) result goes.0 goes.1
 
--- ---- an arrival that looks
-
-pub looked_on : (waiters : Waiters) (queue : ℕ) (wait : Option Wait) (duty : OwedDuty) (result : Arrival) → result ≡ record { partner = None; own = Some duty; other = None }
-    → ArrivedOn waiters waiters (Looks queue) wait duty result
-looked_on waiters queue wait duty result is =
-    let no_wait = λ (may : StaysBy (Looks queue) wait). looks_alone queue may.0 in
-    let same : SameWaiters waiters waiters = record { queues = λ other. record { givers = refl; takers = refl }; exchangers = λ exchanger. refl } in
-    subst (ArrivedOn waiters waiters (Looks queue) wait duty) (sym is) (record {
-      meets = inr (no_wait, (λ other opposes. absurd (none-some other opposes)), same);
-      own = (refl, λ unmet may. absurd (no_wait may));
-      other = λ es parked. refl;
-      parked = λ es parked owed. parked;
-    })
-
 -- ---- empty queues
 
 pub none_empty : AllEmpty []

@@ -44,10 +44,6 @@ cancel a r key legal cancelled =
     let session = numbers.of_session key (ap key_in does) in
     record { epoch = session.0; incarnation = session.1; turn = numbers.cancels key does }
 
--- the key of a request that waits
-pub key_of_waiting : (a : Account) (r : ℕ) → Waiting a.entries r → (key : Key) × (call : Call) × (act_at a.entries r ≡ Some (Arrive key call))
-key_of_waiting a r w = let named = act_called (act_at a.entries r) w.is_open.call w.is_open.arrived in (named.0, w.is_open.call, named.1)
-
 -- ---- what stands behind a request that waits
 
 -- no hello of its client, which would have stopped it

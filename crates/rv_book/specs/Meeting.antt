@@ -11,6 +11,7 @@ use Rattle.rv_text.specs.declared.call.Side.TheVariants.{Gives, Takes, Looks, Ex
 use Rattle.rv_session.specs.OwedDuty.{OwedDuty}
 use Rattle.rv_dual.specs.Offers.{duty_of, place_of}
 use Rattle.rv_dual.specs.Queue.{Queue, SameLists}
+use Rattle.rv_dual.specs.Room.{GrowsRoom, Room}
 use Rattle.rv_dual.specs.declared.giver.Offer.{Offer}
 use Rattle.rv_dual.specs.declared.giver.Offer.TheVariants.{Put, Waits}
 use Rattle.rv_swap.specs.Exchange.{LeavesExchanger, NotWaiting}
@@ -72,6 +73,25 @@ pub record TookNothing (old new : Queue) (duty : OwedDuty) (result : Arrival) : 
   pub nobody : old.givers ≡ []
   pub same : SameLists old new
   pub is : result ≡ record { partner = None; own = Some duty; other = None }
+
+-- who gives with this wait has room for its item, where it will lie there
+abbrev pub HasRoomToGive : Queue → Option Wait → Type 0
+HasRoomToGive q wait = Lasts wait → q.takers ≡ [] → 0 < q.giver_room.spare
+
+-- and so has who takes, where it will wait
+abbrev pub HasRoomToTake : Queue → Option Wait → Type 0
+HasRoomToTake q wait = Lasts wait → q.givers ≡ [] → 0 < q.taker_room.spare
+
+-- room was made for items alone, or for consumers alone
+pub record GrowsGivers (old new : Queue) : Type 0 where
+  pub same : SameLists old new
+  pub own : GrowsRoom old.giver_room new.giver_room
+  pub other : new.taker_room ≡ old.taker_room
+
+pub record GrowsTakers (old new : Queue) : Type 0 where
+  pub same : SameLists old new
+  pub own : GrowsRoom old.taker_room new.taker_room
+  pub other : new.giver_room ≡ old.giver_room
 
 -- where nobody of the other side is there, by the wait: it stays, or it goes
 abbrev pub ByWait : Option Wait → Type 0 → Type 0 → Type 0
@@ -216,20 +236,41 @@ Withdrew old new side place result = (entries : List Entry) (duty : OwedDuty) �
 
 -- ---- room
 
-abbrev pub room_of : Waiters → Side → ℕ
-room_of waiters (Gives queue) = (queue_at waiters.queues queue).room
-room_of waiters (Takes queue) = (queue_at waiters.queues queue).room
-room_of waiters (Looks queue) = 1
-room_of waiters (Exchanges exchanger) = 1
-
--- an arrival of the side that stays has room
-abbrev pub HasRoomOn : Waiters → Side → Type 0
-HasRoomOn waiters side = 0 < room_of waiters side
+-- the room of a side; who looks waits nowhere, and an exchanger has its own
+abbrev pub room_on : Waiters → Side → Room
+room_on waiters (Gives queue) = (queue_at waiters.queues queue).giver_room
+room_on waiters (Takes queue) = (queue_at waiters.queues queue).taker_room
+room_on waiters (Looks queue) = record { spare = 1; capacity = 1 }
+room_on waiters (Exchanges exchanger) = record { spare = 1; capacity = 1 }
 
 -- how many wait on this side, which an arrival meets, if it meets any
 abbrev pub opposed_by : Waiters → Option Side → ℕ
 opposed_by waiters None = 0
 opposed_by waiters (Some other) = length (waiting_on waiters other)
+
+-- who comes to the side with this wait lasts, and nobody is there whom it meets
+abbrev pub StaysAlone : Waiters → Side → Option Wait → Type 0
+StaysAlone waiters side wait = Lasts wait × (opposed_by waiters (opposite side) ≡ 0)
+
+-- an arrival of the side with this wait parks: it stays, and nobody is there whom it meets
+pub record ParksOn (waiters : Waiters) (side : Side) (wait : Option Wait) : Type 0 where
+  pub stays : StaysBy side wait
+  pub nobody : FindsNobody waiters side
+
+-- an arrival that parks has room on its side
+abbrev pub HasRoomOn : Waiters → Side → Option Wait → Type 0
+HasRoomOn waiters side wait = ParksOn waiters side wait → 0 < (room_on waiters side).spare
+
+-- it parks, and has no room: the one arrival for which a growth of a queue can be refused
+abbrev pub LacksRoomOn : Waiters → Side → Option Wait → Type 0
+LacksRoomOn waiters side wait = ParksOn waiters side wait × ((room_on waiters side).spare ≡ 0)
+
+-- room was made for an arrival that parks, on its own side alone; for any other nothing changed
+pub record MakesRoomFor (old new : Waiters) (side : Side) (wait : Option Wait) : Type 0 where
+  pub same : SameWaiters old new
+  pub own : GrowsRoom (room_on old side) (room_on new side)
+  pub others : (third : Side) → third ≢ side → room_on new third ≡ room_on old third
+  pub needless : ¬ ParksOn old side wait → new ≡ old
 
 -- nothing is listed, and there is room for all partners that the call can meet
 pub record HasRoomToName (waiters : Waiters) (call : Call) (places : Vec ℕ) : Type 0 where

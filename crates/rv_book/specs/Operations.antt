@@ -12,7 +12,7 @@ use Rattle.rv_text.specs.declared.call.Call.{Call}
 use Rattle.rv_text.specs.declared.answer.Answer.{Answer}
 use Rattle.rv_text.specs.declared.answer.Refusal.{Refusal}
 use Rattle.rv_text.specs.declared.answer.Refusal.TheVariants.{NoMemory}
-use Rattle.rv_text.specs.Calls.{side_of}
+use Rattle.rv_text.specs.Calls.{drains_of, side_of, wait_of}
 use Rattle.rv_session.specs.declared.kept.Kept.{Kept}
 use Rattle.rv_session.specs.Meanings.{HasNext}
 use Rattle.rv_session.specs.Standings.{standing_of}
@@ -29,13 +29,13 @@ use Rattle.rv_account.specs.declared.entry.Entry.{Entry}
 use Rattle.rv_account.specs.Account.{Account, call_at, with_entry}
 use Rattle.rv_book.specs.Legal.{KeepsTime, NothingDue}
 use Rattle.rv_book.specs.Limits.{FitEntries, FitsAccount, FitsAct}
-use Rattle.rv_account.specs.Calls.{MayMeet, may_name, need_of}
-use Rattle.rv_book.specs.Meeting.{HasRoomOn, HasRoomToName, LeavesSide, StandsOn}
+use Rattle.rv_account.specs.Calls.{MayMeet, need_of}
+use Rattle.rv_book.specs.Meeting.{HasRoomOn, HasRoomToName, LeavesSide, MakesRoomFor, StandsOn}
 use Rattle.rv_book.specs.Parked.{AreParked, AreWaiters, owed_at}
-use Rattle.rv_book.specs.Elapsing.{deadline_of, with_deadline, without_deadline}
+use Rattle.rv_book.specs.Elapsing.{deadline_among, with_deadline, without_deadline}
 use Rattle.rv_book.specs.Steps.{EpochFullDue, NextAt, Ticks, max_entries, max_moment, step_moment}
 use Rattle.rv_book.specs.Saying.{answer_of}
-use Rattle.rv_book.specs.Views.{SameWaiters}
+use Rattle.rv_book.specs.Views.{SameWaiters, Waiters}
 use Rattle.rv_session.specs.OwedDuty.{OwedDuty}
 use Rattle.rv_book.specs.Waiting.{limit_at}
 use Rattle.rv_due.specs.Deadlines.{Deadlines}
@@ -55,10 +55,15 @@ pub record Comes (state : BookState) (moment : ℕ) (does : Act) : Type 0 where
   pub nothing_due : NothingDue (account_of state).entries moment
   pub act_fits : FitsAct does
 
--- an arrival of the side that waits has room there; a hello needs none
-abbrev pub HasRoomFor : BookState → Option Side → Type 0
+-- an arrival with this call that parks has room on its side; a hello needs none
+abbrev pub HasRoomFor : BookState → Option Call → Type 0
 HasRoomFor state None = Unit {0}
-HasRoomFor state (Some side) = HasRoomOn state.waiters side
+HasRoomFor state (Some call) = HasRoomOn state.waiters (side_of call) (wait_of call)
+
+-- the room of those who wait grew for an arrival with this call, if one needs it; else nothing did
+abbrev pub GrowsFor : Waiters → Waiters → Option Call → Type 0
+GrowsFor old new None = new ≡ old
+GrowsFor old new (Some call) = MakesRoomFor old new (side_of call) (wait_of call)
 
 -- the account and what the tables hold are as they were; their room may have grown
 pub record IsSame (old new : BookState) : Type 0 where
@@ -88,11 +93,11 @@ abbrev pub HasSpace : BookState → ℕ → Type 0
 HasSpace state need = length (account_of state).entries + state.waiting + need ≤ max_entries
 
 -- nothing changed but the room: so many entries have their own, each request that waits has too, and so has
--- an arrival of the side that waits
-pub record HasRoomReady (old new : BookState) (need : ℕ) (side : Option Side) : Type 0 where
+-- an arrival with this call that parks
+pub record HasRoomReady (old new : BookState) (need : ℕ) (call : Option Call) : Type 0 where
   pub same : IsSame old new
   pub room : old.waiting + need ≤ new.account.room
-  pub side_room : HasRoomFor new side
+  pub side_room : HasRoomFor new call
   pub space : HasSpace old need
 
 -- the state with other deadlines
@@ -105,10 +110,11 @@ with_due state due = record {
   due = due;
 }
 
--- all that a request adds has room, and if it may wait its deadline is there already
+-- all that a request adds has room, and if it will wait its deadline is there already
 pub record IsPrepared (old new : BookState) (moment : ℕ) (call : Call) : Type 0 where
-  pub ready : HasRoomReady old (with_due new old.due) (need_of call) (Some (side_of call))
-  pub due : new.due ≡ with_deadline (deadline_of moment call) (length (account_of old).entries) old.due
+  pub ready : HasRoomReady old (with_due new old.due) (need_of call) (Some call)
+  pub due : new.due
+      ≡ with_deadline (deadline_among new.waiters moment call) (length (account_of old).entries) old.due
 
 -- a request that has its session's next number comes to a state that is sound but for the deadline of the
 -- request itself, and all that it adds has room
@@ -117,13 +123,14 @@ pub record MayRecord (state : BookState) (moment : ℕ) (key : Key) (call : Call
     pub deadlines : Deadlines
     pub comes : Comes (with_due state deadlines) moment (Arrive key call)
     pub due : state.due
-        ≡ with_deadline (deadline_of moment call) (length (account_of state).entries) deadlines
+        ≡ with_deadline (deadline_among state.waiters moment call) (length (account_of state).entries)
+        deadlines
     pub stands : standing_of state.sessions key ≡ standing.Next
     pub next : HasNext state.sessions key
     pub room : state.waiting + need_of call ≤ state.account.room
-    pub side_room : HasRoomOn state.waiters (side_of call)
+    pub side_room : HasRoomOn state.waiters (side_of call) (wait_of call)
     pub space : HasSpace state (need_of call)
-    pub meets_one : may_name call ≡ 1
+    pub single : drains_of call ≡ None
     pub names : HasRoomToName state.waiters call places
 
 -- what a call that looks at its queue sees there is what the account says

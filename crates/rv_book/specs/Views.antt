@@ -5,11 +5,15 @@ use Rattle.rv_text.specs.declared.call.Side.TheVariants.{Gives, Takes, Looks, Ex
 use Rattle.rv_session.specs.OwedDuty.{OwedDuty}
 use Rattle.rv_dual.specs.Offers.{places_of}
 use Rattle.rv_dual.specs.Queue.{Queue, SameLists}
+use Rattle.rv_dual.specs.Room.{Room}
 
 -- ---- queues
 
+abbrev pub no_room : Room
+no_room = record { spare = 0; capacity = 0 }
+
 abbrev pub empty_queue : Queue
-empty_queue = record { givers = []; takers = []; room = 0 }
+empty_queue = record { givers = []; takers = []; giver_room = no_room; taker_room = no_room }
 
 -- the queue of this number; an empty one where there is no such queue
 abbrev pub queue_at : List Queue → ℕ → Queue

@@ -16,9 +16,7 @@ use std::marker::Model;
 use std::snapshot::Snapshot;
 
 /// The book of an epoch, which contracts see as its [`Account`].
-///
-/// The account is always legal and within the limits; what the book keeps beside it, one session for
-/// each client, 64 queues and 64 exchangers of who waits, and their limits, is what the account says.
+/// The account is always legal and within the limits; all that the book keeps beside it is what that says.
 #[derive(Drop)]
 pub struct Book {
     state: BookState,
@@ -48,8 +46,7 @@ impl Book {
         self.state.account()
     }
 
-    /// Opens a book with an empty account of an epoch, 1 to 2^53 - 1, at a moment in milliseconds; one
-    /// above 2^62 counts as 2^62. It fails only where memory was refused.
+    /// Opens a book of an epoch, 1 to 2^53 - 1, at a moment in milliseconds, which counts as at most 2^62.
     pub fn open(alloc: Global, epoch: u64, now: u64) -> Result<Book, NoMemory>
         requires { FitsIdentifier epoch }
         ensures epoch { IfOk result (λ book. book.epoch ≡ epoch) }
@@ -60,16 +57,13 @@ impl Book {
         Ok(Book { state })
     }
 
-    /// Takes one step with a message that came at a moment in milliseconds. First, where some waiting
-    /// request has a limit at or before the moment, one tick times out all such requests. Then the message is
-    /// recorded; or it is refused, or repeats one that was answered and is told the same again, and the
-    /// account stays as it is. It always gives a verdict; where a growth was refused the verdict is refusal
-    /// 11, and nothing changed but by the tick, which takes no memory. A moment before the book's own counts
-    /// as the book's own, one above 2^62 as 2^62.
+    /// Takes one step with a message that came at a moment in milliseconds, which counts as no less than the
+    /// book's own and at most 2^62. First, where something is due, one tick times it out and takes no memory.
+    /// Then the message is recorded; or it is refused, or repeats one that was answered and is told the same
+    /// again, and the account stays. Where a growth was refused the verdict is refusal 11.
     ///
-    /// The cost grows neither with the entries nor with the clients, on average. To end a wait by a time-out,
-    /// a cancel or a hello searches the queue of its request, and a limit that comes or goes is searched for
-    /// among the limits, each in logarithmic time. Where nothing is due the least limit alone is looked at.
+    /// The cost grows neither with the entries nor with the clients, on average: a wait that ends by a tick,
+    /// cancel or hello is searched for in its queue, and a limit among the limits, in logarithmic time.
     pub fn handle(&mut self, now: u64, message: Message) -> Verdict
         requires { FitsMessage message }
         ensures step { Next self.old now message self.new result.said }
@@ -90,8 +84,7 @@ impl Book {
         }
     }
 
-    /// The answer that a verdict of this book stands for, in the state that gave it and in every later
-    /// one. It fails only where the answer is a reply with items' texts, for which memory was refused.
+    /// The answer that a verdict of this book stands for, now and later. It fails only for memory of texts.
     pub fn answer(&self, alloc: Global, verdict: &Verdict) -> Result<Answer, NoMemory>
         requires { WasGiven self.now verdict.now }
         ensures ok { IfOk result (λ answer. answer ≡ verdict.now.said) }

@@ -15,14 +15,12 @@ pub fn ticks_can_enter()
     ensures { TicksCanEnter }
 {}
 
-/// After the time-outs of a step, where no refusal of a request is due, a repeat has its answer, or a legal
-/// account with the request's entry exists, and with it the request's reply, or that it waits.
+/// After a step's time-outs a request for which no refusal is due has its answer here or in a next account.
 pub fn requests_can_enter()
     ensures { RequestsCanEnter }
 {}
 
-/// After the time-outs of a step, where no refusal of a cancel is due, its request has its reply, or a legal
-/// account with the cancel's entry exists, after which the request is cancelled.
+/// After a step's time-outs a cancel for which no refusal is due has its reply here or in a next account.
 pub fn cancels_can_enter()
     ensures { CancelsCanEnter }
 {}
@@ -32,8 +30,7 @@ pub fn hellos_can_enter()
     ensures { HellosCanEnter }
 {}
 
-/// In a legal account the items of each queue leave in their order of arrival (the fair dual queue of
-/// Scherer, Lea and Scott), and none that waits is passed over.
+/// In a legal account the items of each queue leave in their order of arrival, and none is passed over.
 pub fn items_leave_in_order()
     ensures { ItemsLeaveInOrder }
 {}
@@ -53,8 +50,7 @@ pub fn one_next()
     ensures { OneNext }
 {}
 
-/// Wherever a verdict is, a step of its message, from some legal account of as many entries as it was given
-/// before, leads to one of as many as after, with its answer.
+/// Wherever a verdict is, a step from some legal account of its length before gives its answer and length.
 pub fn verdict_is_of_a_step(verdict: &Verdict)
     ensures { IsOfStep verdict.now }
 {

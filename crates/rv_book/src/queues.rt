@@ -1,12 +1,12 @@
 //! The queues: who waits in each, the oldest first.
-ghost use Rattle.std.specs.Prelude.{◌≡◌, ◌<◌, None, Some, OnOk, IfOk, length, slice_get};
+ghost use Rattle.std.specs.Prelude.{◌≡◌, ◌<◌, [], None, Some, OnOk, OnErr, IfOk, length, slice_get};
 ghost use Rattle.rv_text.specs.Limits.{FitsQueue};
 ghost use Rattle.rv_dual.specs.Offers.{duty_of, place_of, places_of};
 ghost use Rattle.rv_dual.specs.Meanings.{TakenFront};
 ghost use Rattle.rv_dual.specs.Queue.{IsAbove};
 ghost use Rattle.rv_dual.specs.Withdrawing.{Withdraws};
-ghost use Rattle.rv_book.specs.Meeting.{Gave, Took};
-ghost use Rattle.rv_book.specs.Views.{AllEmpty, OnlyQueue, SameQueues, queue_at};
+ghost use Rattle.rv_book.specs.Meeting.{Gave, GrowsGivers, GrowsTakers, HasRoomToGive, HasRoomToTake, Took};
+ghost use Rattle.rv_book.specs.Views.{AllEmpty, OnlyQueue, queue_at};
 
 use crate::arrival::Arrival;
 use rv_account::lasts;
@@ -18,7 +18,7 @@ use std::marker::Model;
 
 // A put arrives: its duty comes back, whether a consumer waits or not.
 fn put(queue: &mut Dual, duty: Duty) -> Arrival
-    requires room { 0 < queue.old.room }
+    requires room { queue.old.takers ≡ [] → 0 < queue.old.giver_room.spare }
     requires above { IsAbove queue.old duty.place }
     ensures { Gave queue.old queue.new None duty result }
 {
@@ -61,7 +61,7 @@ fn took(pair: Pair) -> Arrival
 
 // A request that gives arrives: where no consumer is there it waits, or goes.
 fn transfer(queue: &mut Dual, wait: Wait, duty: Duty) -> Arrival
-    requires room { 0 < queue.old.room }
+    requires room { HasRoomToGive queue.old (Some wait) }
     requires above { IsAbove queue.old duty.place }
     ensures { Gave queue.old queue.new (Some wait) duty result }
 {
@@ -80,7 +80,7 @@ fn transfer(queue: &mut Dual, wait: Wait, duty: Duty) -> Arrival
 
 // Who takes arrives: where no item is there it waits, or goes.
 fn receive(queue: &mut Dual, wait: Wait, duty: Duty) -> Arrival
-    requires room { 0 < queue.old.room }
+    requires room { HasRoomToTake queue.old (Some wait) }
     requires above { IsAbove queue.old duty.place }
     ensures { Took queue.old queue.new (Some wait) duty result }
 {
@@ -145,19 +145,32 @@ impl Queues {
         (dual.items(), dual.consumers())
     }
 
-    /// Makes room for an arrival in a queue. Where a growth is refused nothing changes.
-    pub(crate) fn reserve(&mut self, queue: u64) -> Result<(), NoMemory>
+    /// Makes room for one more item in a queue. Where a growth is refused all that wait stay.
+    pub(crate) fn reserve_giver(&mut self, queue: u64) -> Result<(), NoMemory>
         requires { FitsQueue queue }
-        ensures same { SameQueues self.old self.new }
-        ensures room { OnOk result (0 < (queue_at self.new queue).room) }
+        ensures makes { GrowsGivers (queue_at self.old queue) (queue_at self.new queue) }
+        ensures others { OnlyQueue queue self.old self.new }
+        ensures room { OnOk result (0 < (queue_at self.new queue).giver_room.spare) }
+        ensures full { OnErr result ((queue_at self.old queue).giver_room.spare ≡ 0) }
     {
-        self.queues[queue as usize].reserve()
+        self.queues[queue as usize].reserve_giver()
+    }
+
+    /// Makes room for one more consumer in a queue, as `reserve_giver` does for an item.
+    pub(crate) fn reserve_taker(&mut self, queue: u64) -> Result<(), NoMemory>
+        requires { FitsQueue queue }
+        ensures makes { GrowsTakers (queue_at self.old queue) (queue_at self.new queue) }
+        ensures others { OnlyQueue queue self.old self.new }
+        ensures room { OnOk result (0 < (queue_at self.new queue).taker_room.spare) }
+        ensures full { OnErr result ((queue_at self.old queue).taker_room.spare ≡ 0) }
+    {
+        self.queues[queue as usize].reserve_taker()
     }
 
     /// A giver meets the queue's oldest consumer, which leaves; else it waits last, if its wait lasts.
     pub(crate) fn give(&mut self, queue: u64, wait: Option<Wait>, duty: Duty) -> Arrival
         requires fits { FitsQueue queue }
-        requires room { 0 < (queue_at self.old queue).room }
+        requires room { HasRoomToGive (queue_at self.old queue) wait }
         requires above { IsAbove (queue_at self.old queue) duty.place }
         ensures gave { Gave (queue_at self.old queue) (queue_at self.new queue) wait duty result }
         ensures others { OnlyQueue queue self.old self.new }
@@ -172,7 +185,7 @@ impl Queues {
     /// A taker meets the queue's oldest item, which leaves; else it waits last, if its wait lasts.
     pub(crate) fn receive(&mut self, queue: u64, wait: Wait, duty: Duty) -> Arrival
         requires fits { FitsQueue queue }
-        requires room { 0 < (queue_at self.old queue).room }
+        requires room { HasRoomToTake (queue_at self.old queue) (Some wait) }
         requires above { IsAbove (queue_at self.old queue) duty.place }
         ensures took { Took (queue_at self.old queue) (queue_at self.new queue) (Some wait) duty result }
         ensures others { OnlyQueue queue self.old self.new }

@@ -1,15 +1,17 @@
 //! Where requests wait for each other: the queues and the exchangers, by the side of a call.
-ghost use Rattle.std.specs.Prelude.{◌≡◌, OnOk, IfOk, length, slice_get};
+ghost use Rattle.std.specs.Prelude.{◌≡◌, ◌↔◌, OnOk, OnErr, IfOk, IsTrue, length, slice_get};
 ghost use Rattle.rv_text.specs.Calls.{side_of, wait_of};
 ghost use Rattle.rv_text.specs.Limits.{FitsQueue, FitsSide};
 ghost use Rattle.rv_text.specs.declared.call.Side.TheVariants.{Gives, Takes};
 ghost use Rattle.rv_account.specs.Calls.{opposite};
-ghost use Rattle.rv_book.specs.Meeting.{ArrivedOn, HasRoomOn, LeftFront, Withdrew, opposed_by};
-ghost use Rattle.rv_book.specs.Views.{AreBelow, NobodyWaits, SameWaiters, waiting_on};
+ghost use Rattle.rv_book.specs.Meeting.{ArrivedOn, HasRoomOn, LacksRoomOn, LeftFront, MakesRoomFor};
+ghost use Rattle.rv_book.specs.Meeting.{StaysAlone, Withdrew, opposed_by};
+ghost use Rattle.rv_book.specs.Views.{AreBelow, NobodyWaits, waiting_on};
 
 use crate::arrival::Arrival;
 use crate::exchangers::Exchangers;
 use crate::queues::Queues;
+use rv_account::lasts;
 use rv_session::{Duty, Place};
 use rv_text::{Call, NoMemory, Side};
 use std::alloc::Global;
@@ -70,15 +72,27 @@ impl Waiters {
         }
     }
 
-    /// Makes room for an arrival of this side; an exchanger needs none. A refused growth changes nothing.
-    pub(crate) fn reserve(&mut self, side: Side) -> Result<(), NoMemory>
-        requires { FitsSide side }
-        ensures same { SameWaiters self.old self.new }
-        ensures room { OnOk result (HasRoomOn self.new side) }
+    // Whether an arrival with this call stays, and meets nobody.
+    fn parks(&self, call: &Call) -> bool
+        requires { FitsSide (side_of call.now) }
+        ensures { IsTrue result ↔ StaysAlone self.now (side_of call.now) (wait_of call.now) }
     {
-        match side {
-            Side::Gives(queue) => self.queues.reserve(queue),
-            Side::Takes(queue) => self.queues.reserve(queue),
+        call.wait().is_none_or(|wait| lasts(wait)) && self.opposed(call.side()) == 0
+    }
+
+    /// Makes room for an arrival that parks in a queue, on its own side; no other arrival needs any.
+    pub(crate) fn reserve(&mut self, call: &Call) -> Result<(), NoMemory>
+        requires { FitsSide (side_of call.now) }
+        ensures makes { MakesRoomFor self.old self.new (side_of call.now) (wait_of call.now) }
+        ensures room { OnOk result (HasRoomOn self.new (side_of call.now) (wait_of call.now)) }
+        ensures full { OnErr result (LacksRoomOn self.old (side_of call.now) (wait_of call.now)) }
+    {
+        if !self.parks(call) {
+            return Ok(());
+        }
+        match call.side() {
+            Side::Gives(queue) => self.queues.reserve_giver(queue),
+            Side::Takes(queue) => self.queues.reserve_taker(queue),
             Side::Looks(_) | Side::Exchanges(_) => Ok(()),
         }
     }
@@ -86,7 +100,7 @@ impl Waiters {
     /// A request meets the oldest of the other side, which leaves; else it waits last, if its wait lasts.
     pub(crate) fn arrive(&mut self, call: &Call, duty: Duty) -> Arrival
         requires fits { FitsSide (side_of call.now) }
-        requires room { HasRoomOn self.old (side_of call.now) }
+        requires room { HasRoomOn self.old (side_of call.now) (wait_of call.now) }
         requires above { AreBelow self.old duty.place }
         ensures { ArrivedOn self.old self.new (side_of call.now) (wait_of call.now) duty result }
     {

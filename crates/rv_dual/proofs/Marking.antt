@@ -23,14 +23,6 @@ held_at test slots i out at is =
     let both = held test at.element out at.passes (is ∙ ap (option_and_then holder) at.there) in
     (at.there ∙ ap Some both.0, both.1)
 
-held_some : {X : Type 0} (test : X → Bool) (s : Slot X) → passes_in test s ≡ true → None ≡ holder s → ⊥
-held_some test (Holds x) passes is = none-some _ is
-held_some test (Withdrawn p) passes is = false≢true passes
-
--- and somebody does
-pub held_somebody : {X : Type 0} (test : X → Bool) (slots : List (Slot X)) (i : ℕ) → PassesAt (passes_in test) slots i → None ≡ option_and_then holder (slice_get slots i) → ⊥
-held_somebody test slots i at is = held_some test at.element at.passes (is ∙ ap (option_and_then holder) at.there)
-
 inside : {X : Type 0} (slots : List (Slot X)) (i : ℕ) (x : X) → slice_get slots i ≡ Some (Holds x) → (j : ℕ) × (slice_get (waiting_in slots) j ≡ Some x)
 inside [] i x there = absurd (none-some _ there)
 inside (Holds y ∷ slots) zero x there = (0, ap (option_and_then holder) there)
@@ -85,11 +77,3 @@ module _ {X : Type 0} (place_of : X → ℕ) (p : ℕ) (test : X → Bool) (law 
   waiting_marked (Withdrawn q ∷ slots) (suc i) x rises there passes = waiting_marked slots i x (rest_pairs ◌<◌ q (slot_places place_of slots) rises) there passes
 
 -- ---- the first
-
-pub popped : {X : Type 0} (old new : List (Slot X)) (s : Slot X) (x : X) → old ≡ s ∷ new → Some x ≡ holder s → waiting_in old ≡ x ∷ waiting_in new
-popped old new (Holds y) x parts is = ap waiting_in parts ∙ ap (λ z. z ∷ waiting_in new) (sym (same_Some _ _ is))
-popped old new (Withdrawn p) x parts is = absurd (none-some _ (sym is))
-
-pub never_marked : {X : Type 0} (old new : List (Slot X)) (s : Slot X) → FirstHolds old → old ≡ s ∷ new → None ≡ holder s → ⊥
-never_marked old new (Holds y) first parts is = none-some _ is
-never_marked old new (Withdrawn p) first parts is = false≢true (sym first ∙ ap (λ l. is_marked (first_slot l)) parts)

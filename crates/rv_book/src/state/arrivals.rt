@@ -1,6 +1,7 @@
 //! Requests: what arrives, what it meets or takes out of its queue, and what a repeat is told.
-ghost use Rattle.std.specs.Prelude.{◌≡◌, ◌<◌, ◌≤◌, [], OnOk, OnErr, IfOk, IfErr, IfSome, true, false, length};
-ghost use Rattle.std.specs.Prelude.{min, take, vec_capacity, vec_len};
+ghost use Rattle.std.specs.Prelude.{◌≡◌, ◌<◌, ◌≤◌, [], OnOk, OnErr, IfOk, IfErr, IfSome, None, true, false};
+ghost use Rattle.std.specs.Prelude.{length, min, take, vec_capacity, vec_len};
+ghost use Rattle.rv_text.specs.Calls.{drains_of};
 ghost use Rattle.rv_text.specs.Limits.{FitsCall, FitsQueue};
 ghost use Rattle.rv_book.specs.Arriving.{GoesOnWaiting, IsRecorded, WillReply, said_of};
 ghost use Rattle.rv_account.specs.Calls.{need_of};
@@ -39,8 +40,7 @@ fn reply_to_partner(side: Side, place: Place) -> Kept
 {
     match side {
         Side::Gives(_) => Kept::Item(place),
-        Side::Takes(_) => Kept::ReceivedBy(place),
-        Side::Looks(_) => Kept::ReceivedBy(place),
+        Side::Takes(_) | Side::Looks(_) => Kept::ReceivedBy(place),
         Side::Exchanges(_) => Kept::Swapped(place),
     }
 }
@@ -154,9 +154,10 @@ impl BookState {
         self.settle(own, kept)
     }
 
-    // What is kept as the reply of a call that arrived with this partner and doesn't wait.
+    // What is kept as the reply of a call, no drain, that arrived with this partner and doesn't wait.
     fn reply_to(&self, call: &Call, partner: Option<Place>) -> Kept
-        requires { FitsCall call.now }
+        requires fits { FitsCall call.now }
+        requires single { drains_of call.now ≡ None }
         ensures { Sees self.now call.now → ¬ GoesOnWaiting call.now partner
             → WillReply (account_of self.now) call.now partner result }
     {
@@ -182,7 +183,7 @@ impl BookState {
                 Some(place) => Kept::Peeked(place),
                 None => Kept::Empty,
             },
-            Call::Drain { .. } => Kept::Drained(self.account.len()),
+            Call::Drain { .. } => unreachable!(),
         }
     }
 
@@ -226,8 +227,7 @@ impl BookState {
         while places.len() < max && self.take_item(queue, places) {}
     }
 
-    // Takes the oldest item out of a queue, if one waits there, and lists its place, for which there is room.
-    // Its giver, where it waits, is told that the request which is recorded next received it. Tells if so.
+    // Takes a queue's oldest item out, if there is one, and lists it: what is recorded next received it.
     fn take_item(&mut self, queue: u64, listed: &mut Vec<Place>) -> bool
         requires fits { FitsQueue queue }
         requires draining { IsDraining self.old listed.old.items }

@@ -25,8 +25,7 @@ use rv_session::{Duty, Kept, Place, Standing};
 use rv_text::{Key, Refusal};
 
 impl BookState {
-    /// Times out all requests that are due at a moment, by one tick; where none is, nothing changes. It takes
-    /// no memory, and there is always room. Where nothing is due the least limit alone is looked at.
+    /// Times out all requests that are due at a moment, by one tick, which always has its room.
     pub(super) fn time_out(&mut self, moment: u64)
         requires { IsTime self.old moment }
         ensures time { IsTime self.new moment }
@@ -92,8 +91,7 @@ impl BookState {
         }
     }
 
-    /// Settles the request that a duty is for, if there is one: it has this reply, as its session's version
-    /// tells it, and no deadline any more. Gives that reply.
+    /// Settles a duty's request, if there is one, with this reply, as its session's version tells it.
     pub(super) fn settle(&mut self, duty: Option<Duty>, kept: Kept) -> Option<Kept>
         requires waits { IfSome duty (IsOwedIn self.old.sessions) }
         requires fit { FitEntries (account_of self.old).entries }
@@ -104,15 +102,11 @@ impl BookState {
         ensures waiters { self.new.waiters ≡ self.old.waiters }
         ensures waiting { self.new.waiting ≡ self.old.waiting }
     {
-        match duty {
-            Some(duty) => {
-                self.forget(duty.place());
-                let told = kept.told_in(self.sessions.version(&duty));
-                self.sessions.settle(duty, told);
-                Some(told)
-            }
-            None => None,
-        }
+        let duty = duty?;
+        self.forget(duty.place());
+        let told = kept.told_in(self.sessions.version(&duty));
+        self.sessions.settle(duty, told);
+        Some(told)
     }
 
     // Takes the deadline out of the request that arrived at a place, if it has one.

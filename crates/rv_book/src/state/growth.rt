@@ -1,28 +1,28 @@
 //! What a step adds has its room first: all growths of a step, before its first change.
-ghost use Rattle.std.specs.Prelude.{◌≡◌, ◌≤◌, OnOk, OnErr, IfOk, IfErr, IfSome};
+ghost use Rattle.std.specs.Prelude.{◌≡◌, ◌≤◌, OnOk, OnErr, IfOk, IfErr, IfSome, option_map};
 ghost use Rattle.rv_text.specs.Limits.{FitsCall, FitsSide};
 ghost use Rattle.rv_account.specs.Calls.{need_of};
 ghost use Rattle.rv_book.specs.Steps.{max_moment};
 ghost use Rattle.rv_text.specs.Calls.{side_of};
 ghost use Rattle.rv_book.specs.Meeting.{HasRoomToName};
-ghost use Rattle.rv_book.specs.Operations.{HasRoomReady, IsPrepared, IsSame, NoEntryDue};
+ghost use Rattle.rv_book.specs.Elapsing.{deadline_among};
+ghost use Rattle.rv_book.specs.Operations.{GrowsFor, HasRoomReady, IsPrepared, IsSame, NoEntryDue};
 ghost use Rattle.rv_book.specs.Tables.{IsSound, account_of};
 
 use super::{BookState, MAX_ENTRIES};
 use rv_account::{deadline_after, may_name, need_of};
 use rv_session::Place;
-use rv_text::{Call, NoMemory, Refusal, Side};
+use rv_text::{Call, NoMemory, Refusal};
 
 impl BookState {
-    /// Tests the epoch's room, and makes all growths that an entry and its side need. It changes room alone.
-    /// What follows it can't fail, but for the list of a request's partners, its deadline, and the session of
-    /// a new client.
-    pub(super) fn make_room(&mut self, need: usize, side: Option<Side>) -> Result<(), Refusal>
+    /// Tests the epoch's room, and makes all growths of an entry and a call that parks. Room alone changes.
+    pub(super) fn make_room(&mut self, need: usize, call: Option<&Call>) -> Result<(), Refusal>
         requires sound { IsSound self.old }
         requires small { need ≤ 2 }
-        requires fits { IfSome side FitsSide }
+        requires fits { IfSome call (λ c. FitsSide (side_of c.now)) }
         ensures same { IsSame self.old self.new }
-        ensures ok { OnOk result (HasRoomReady self.old self.new need side) }
+        ensures grows { GrowsFor self.old.waiters self.new.waiters (option_map (λ c. c.now) call.entry) }
+        ensures ok { OnOk result (HasRoomReady self.old self.new need (option_map (λ c. c.now) call.entry)) }
         ensures err { IfErr result (NoEntryDue (account_of self.old) need) }
     {
         let more = self.waiting + need;
@@ -30,8 +30,8 @@ impl BookState {
             return Err(Refusal::EpochFull);
         }
         self.account.reserve(more)?;
-        if let Some(side) = side {
-            self.waiters.reserve(side)?;
+        if let Some(call) = call {
+            self.waiters.reserve(call)?;
         }
         Ok(())
     }
@@ -45,6 +45,18 @@ impl BookState {
         Vec::with_capacity(self.account.allocator(), most)
     }
 
+    // The deadline of a call, which it has where it may wait and nobody is there whom it meets.
+    fn deadline_among(&self, moment: u64, call: &Call) -> Option<u64>
+        requires moment { moment ≤ max_moment }
+        requires fits { FitsCall call.now }
+        ensures { result ≡ deadline_among self.now.waiters moment call.now }
+    {
+        match self.waiters.opposed(call.side()) {
+            0 => deadline_after(moment, call.wait()),
+            _ => None,
+        }
+    }
+
     /// Makes all growths of a request: its entries, side, partners and any deadline. What follows can't fail.
     pub(super) fn prepare(&mut self, moment: u64, call: &Call) -> Result<Vec<Place>, Refusal>
         requires sound { IsSound self.old }
@@ -55,9 +67,9 @@ impl BookState {
         ensures same { OnErr result (IsSame self.old self.new) }
         ensures err { IfErr result (NoEntryDue (account_of self.old) (need_of call.now)) }
     {
-        self.make_room(need_of(call), Some(call.side()))?;
+        self.make_room(need_of(call), Some(call))?;
         let places = self.room_to_name(call)?;
-        if let Some(limit) = deadline_after(moment, call.wait()) {
+        if let Some(limit) = self.deadline_among(moment, call) {
             self.due.add(limit, self.account.len())?;
         }
         Ok(places)

@@ -5,7 +5,7 @@ use Rattle.rv_session.specs.declared.kept.Kept.TheVariants as kept
 use Rattle.rv_session.specs.Meanings.{HasNext}
 use Rattle.rv_session.specs.Standings.{standing_of}
 use Rattle.rv_account.specs.Account.{Account}
-use Rattle.rv_book.specs.Elapsing.{deadline_of, with_deadline}
+use Rattle.rv_book.specs.Elapsing.{deadline_among, with_deadline}
 use Rattle.rv_book.specs.Legal.{KeepsTime, NothingDue}
 use Rattle.rv_book.specs.Arriving.{WillTell}
 use Rattle.rv_book.specs.Draining.{items_in}
@@ -35,13 +35,13 @@ record-requires c =
         nothing_due = subst (λ (a : Account). NothingDue a.entries c.args.moment) (sym same.account) comes.nothing_due;
         act_fits = comes.act_fits;
       };
-      due = prepared.due ∙ ap (λ (a : Account). with_deadline (deadline_of c.args.moment c.args.call) (length a.entries) old.due) (sym same.account);
+      due = prepared.due ∙ ap (λ (a : Account). with_deadline (deadline_among new.waiters c.args.moment c.args.call) (length a.entries) old.due) (sym same.account);
       stands = ap (λ t. standing_of t c.args.key) same.sessions ∙ c.requires.stands;
       next = subst (λ t. HasNext t c.args.key) (sym same.sessions) c.requires.next;
       room = omega (arith, prepared.ready.room, same.waiting);
       side_room = prepared.ready.side_room;
       space = let entries = ap (λ (a : Account). length a.entries) same.account in omega (arith, prepared.ready.space, entries, same.waiting);
-      meets_one = ap (λ o. unwrap_or o 1) (sym c.drains.ensures ∙ c.in_default.is);
+      single = sym c.drains.ensures ∙ c.in_default.is;
       names = c.in_ok-places.ensures.names;
     }
 

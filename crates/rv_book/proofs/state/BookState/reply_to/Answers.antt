@@ -8,7 +8,6 @@ use Rattle.rv_book.specs.Arriving.{GoesOnWaiting, WillReply}
 use Rattle.rv_book.specs.Operations.{Sees}
 use Rattle.rv_book.specs.Tables.{account_of}
 use Rattle.rv_book.proofs.Counts.{count_replies}
-use Rattle.rv_book.proofs.Drains.{drain_replies}
 use Rattle.rv_book.proofs.Opposites.{looks_alone}
 use Rattle.rv_book.proofs.Peeks.{peek_finds_none, peek_replies}
 use Rattle.rv_book.proofs.Puts.{put_replies}
@@ -101,9 +100,3 @@ returns-in-None-front c = λ sees ends.
     let are = (subst (Sees state) c.in-Peek.is sees) (looks_alone queue) in
     subst (λ (call : Call). WillReply a call c.args.partner kept.TheVariants.Empty) (sym c.in-Peek.is)
     (peek_finds_none a queue c.args.partner (seen_none a.entries state.waiters queue are (sym c.in-None-front.is ∙ c.front.ensures)))
-
-pub returns-in-Drain : goal.returns-in-Drain
-returns-in-Drain c = λ sees ends.
-    let a = account_of c.args.self.now in
-    subst (λ (call : Call). WillReply a call c.args.partner (kept.TheVariants.Drained c.len.result)) (sym c.in-Drain.is)
-    (subst (λ n. WillReply a (Drain c.in-Drain.queue c.in-Drain.max) c.args.partner (kept.TheVariants.Drained n)) (sym c.len.ensures) (drain_replies c.in-Drain.queue c.in-Drain.max a c.args.partner))

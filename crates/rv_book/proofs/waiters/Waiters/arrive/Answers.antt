@@ -1,10 +1,11 @@
 -- What the arrival did in its queue or at its exchanger is what it did to all who wait.
-use Rattle.std.proofs.Common.{◌∙◌, refl, sym, subst}
+use Rattle.std.proofs.Common.{◌∙◌, Some, refl, sym, subst}
 use Rattle.rv_text.specs.declared.call.Side.TheVariants.{Exchanges, Gives, Takes}
 use Rattle.rv_text.specs.Calls.{side_of, wait_of}
-use Rattle.rv_book.specs.Meeting.{ArrivedOn}
+use Rattle.rv_book.specs.Meeting.{ArrivedOn, HasRoomOn}
 use Rattle.rv_book.specs.Views.{AreBelow, Waiters}
 use Rattle.rv_book.proofs.Exchanging.{arrived_exchanges}
+use Rattle.rv_book.proofs.Parking.{room_to_give, room_to_take}
 use Rattle.rv_book.proofs.Tabled.{above, arrived_gives, arrived_takes}
 use Rattle.rv_book.proofs.waiters.Waiters.arrive.Goals as goal
 
@@ -17,6 +18,22 @@ pub receive-requires-clause-above : goal.receive-requires-clause-above
 receive-requires-clause-above c =
     let old : Waiters = record { queues = c.self.inside.queues; exchangers = c.self.inside.exchangers } in
     above old c.in-Takes.queue c.args.duty.place (subst (λ (s : Waiters). AreBelow s c.args.duty.place) (sym c.self.view_is) c.requires.above)
+
+pub give-requires-clause-room : goal.give-requires-clause-room
+give-requires-clause-room c =
+    let old : Waiters = record { queues = c.self.inside.queues; exchangers = c.self.inside.exchangers } in
+    room_to_give old c.in-Gives.queue c.wait.result
+    (subst (λ w. HasRoomOn old (Gives c.in-Gives.queue) w) (sym c.wait.ensures)
+    (subst (λ s. HasRoomOn old s (wait_of c.args.call.now)) (sym c.side.ensures ∙ c.in-Gives.is)
+    (subst (λ (s : Waiters). HasRoomOn s (side_of c.args.call.now) (wait_of c.args.call.now)) (sym c.self.view_is) c.requires.room)))
+
+pub receive-requires-clause-room : goal.receive-requires-clause-room
+receive-requires-clause-room c =
+    let old : Waiters = record { queues = c.self.inside.queues; exchangers = c.self.inside.exchangers } in
+    room_to_take old c.in-Takes.queue (Some c.unwrap.result)
+    (subst (λ w. HasRoomOn old (Takes c.in-Takes.queue) w) (sym (sym c.unwrap.ensures ∙ c.wait-in-Takes.ensures))
+    (subst (λ s. HasRoomOn old s (wait_of c.args.call.now)) (sym c.side.ensures ∙ c.in-Takes.is)
+    (subst (λ (s : Waiters). HasRoomOn s (side_of c.args.call.now) (wait_of c.args.call.now)) (sym c.self.view_is) c.requires.room)))
 
 pub returns-in-Gives : goal.returns-in-Gives
 returns-in-Gives c =
