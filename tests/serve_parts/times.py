@@ -5,12 +5,14 @@ import time
 from model_parts.account import Key, Request
 from serve_parts.plain import DELAY, in_its_own_frame, told_that_it_waits
 from serve_parts.programs import Server
-from serve_parts.wire import demand, frame, give, hello, replied, request, take, until, welcome
+from serve_parts.wire import demand, frame, give, hello, replied, request, take, together, until, welcome
 
-# So often an item is waited for, until one comes before a packet that waits would.
-ITEMS = 200
-# So often a request waits alone, until one is told so in as many seconds.
-WAITS_ALONE, MOST_SECONDS = 6, 3
+# So often an item is waited for, until one comes before a packet that waits would, in seconds.
+ITEMS, SOON = 500, DELAY * 7 / 8
+# The pauses of a request that waits, each of so many seconds. So often one waits alone, until one takes not more than so many
+# times as long as they do here.
+PAUSES, PAUSE = 200, 0.005
+WAITS_ALONE, MOST_TIMES = 4, 3
 # Puts, and the seconds between them: no part of a tenth.
 PUTS, STEP = 60, 0.007
 # Requests that wait, in one piece.
@@ -26,7 +28,7 @@ def an_item_behind_an_answer(program):
         asked = {}
         with server.greeted(1) as taker, server.greeted(2) as giver:
             took = (seconds_to_item(taker, giver, number, asked) for number in range(ITEMS))
-            demand(any(seconds < DELAY / 2 for seconds in took), f"in {ITEMS} tries no item came within {DELAY / 2} seconds")
+            demand(any(seconds < SOON for seconds in took), f"in {ITEMS} tries no item came within {SOON} seconds")
         server.judged(asked, [])
 
 
@@ -46,14 +48,26 @@ def seconds_to_item(taker, giver, number, asked):
 
 
 def a_wait_ends(program):
-    """A request that waits alone is told so within seconds, once at least."""
+    """A request that waits alone is told so behind as many pauses as there may be, each of them as short as it is to be: in one
+    try at least it takes not much longer than as many pauses of this test's own, which are made meanwhile."""
     with Server(program, workers=1, connections=1) as server:
         asked = {}
         with server.greeted(1) as peer:
-            took = (told_that_it_waits(peer, Key(1, 1, 1, number), asked) for number in range(1, 1 + WAITS_ALONE))
-            demand(any(seconds <= MOST_SECONDS for seconds in took),
-                   f"{WAITS_ALONE} times it was told that its request waits after more than {MOST_SECONDS} seconds")
+            def is_soon(number):
+                took, own = together(lambda: told_that_it_waits(peer, Key(1, 1, 1, number), asked), seconds_of_pauses)
+                return took <= MOST_TIMES * own
+
+            demand(any(is_soon(number) for number in range(1, 1 + WAITS_ALONE)),
+                   f"{WAITS_ALONE} times a request that waits took more than {MOST_TIMES} times as long as its pauses")
         server.judged(asked, [])
+
+
+def seconds_of_pauses():
+    """The seconds that as many pauses take as a request that waits has."""
+    began = time.monotonic()
+    for _ in range(PAUSES):
+        time.sleep(PAUSE)
+    return time.monotonic() - began
 
 
 def moments_beside_a_clock(program):

@@ -87,8 +87,9 @@ class Scripted(Listening):
     def deed_for(self, came):
         """The deed that meets what came."""
         with self.lock:
-            self.heard.append(came)
+            # Who sees that it came may change what meets the next one.
             deed = self.deeds.pop(0) if self.deeds else self.otherwise
+            self.heard.append(came)
             return deed(came) if callable(deed) else deed
 
 
