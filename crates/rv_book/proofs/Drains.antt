@@ -13,10 +13,10 @@ use Rattle.rv_text.proofs.Kept.{item_fits}
 use Rattle.rv_session.specs.declared.kept.Kept.TheVariants as kept
 use Rattle.rv_account.specs.declared.entry.Act.TheVariants.{Arrive}
 use Rattle.rv_account.specs.declared.entry.Entry.{Entry}
-use Rattle.rv_account.specs.Account.{Account, Among, act_at, call_at, call_in, item_at, items_at, just, partners_at, with_entry}
+use Rattle.rv_account.specs.Account.{Account, Among, act_at, call_at, call_in, item_at, items_at, partners_at, with_entry}
 use Rattle.rv_account.specs.Calls.{Stays, opposite}
 use Rattle.rv_account.proofs.Items.{joined, parts}
-use Rattle.rv_book.specs.Arriving.{IsKept, WillReply, WillTell, entry}
+use Rattle.rv_book.specs.Arriving.{IsKept, WillTell, entry}
 use Rattle.rv_book.specs.Legal.{Legal}
 use Rattle.rv_book.specs.Limits.{FitsAccount}
 use Rattle.rv_book.specs.Replies.{Drains}

@@ -1,6 +1,5 @@
 -- What a change of one exchanger is to all who wait, side by side.
-use Rattle.std.proofs.Common.{◌≡◌, arith, inl, inr, ℕ, zero, suc, List, [], ◌∷◌, ◌++◌, cond, not, ◌==◌, false, Option, Some, None, refl, sym, ap, subst, ◌∙◌}
-use Rattle.std.specs.List.{filter, slice_get}
+use Rattle.std.proofs.Common.{◌≡◌, inl, inr, ℕ, zero, suc, List, [], ◌∷◌, ◌++◌, Option, Some, None, refl, sym, ap, subst, ◌∙◌}
 use Rattle.std.proofs.lemmas.Option.{none-some, same_Some}
 use Rattle.rv_text.specs.declared.call.Side.{Side}
 use Rattle.rv_text.specs.declared.call.Side.TheVariants.{Exchanges, Gives, Looks, Takes}
@@ -11,12 +10,10 @@ use Rattle.rv_dual.specs.Queue.{SameLists}
 use Rattle.rv_account.specs.declared.entry.Entry.{Entry}
 use Rattle.rv_book.specs.declared.arrival.Arrival.{Arrival}
 use Rattle.rv_account.specs.Calls.{Lasts}
-use Rattle.rv_book.specs.Meeting.{ArrivedOn, Exchanged, FindsNobody, LeavesSide, LeftExchanger, StandsOn, SwappedNothing, SwappedWith, WaitsAlone}
+use Rattle.rv_book.specs.Meeting.{ArrivedOn, Exchanged, FindsNobody, SwappedNothing, SwappedWith, WaitsAlone}
 use Rattle.rv_book.specs.Parked.{AreParked, IsParked, owed_at}
 use Rattle.rv_book.specs.Views.{AllFree, OnlyExchanger, SameWaiters, Waiters, exchanger_at, place_of_duty, queue_at, takers_places, waiting_on}
 use Rattle.rv_book.proofs.Numbers.{same_or_not}
-use Rattle.rv_book.proofs.Withdrawn.{owed_place}
-use Rattle.std.proofs.lemmas.Bool.Decides.{nat_tests}
 
 -- ---- one exchanger
 

@@ -1,5 +1,5 @@
 -- Who parks: it stays, and nobody is there whom it meets. Its room, and its deadline.
-use Rattle.std.proofs.Common.{◌≡◌, ℕ, zero, suc, [], length, Option, Some, None, refl, sym, ap, subst, ◌∙◌}
+use Rattle.std.proofs.Common.{◌≡◌, ℕ, zero, suc, [], length, Option, Some, None, refl, ap, subst}
 use Rattle.std.proofs.lemmas.Option.{none-some, same_Some}
 use Rattle.rv_text.specs.declared.call.Side.{Side}
 use Rattle.rv_text.specs.declared.call.Side.TheVariants.{Exchanges, Gives, Looks, Takes}

@@ -13,7 +13,7 @@ use Rattle.rv_book.specs.Sessions.{HasIncarnation, LastHello, LastNumber, NamesK
 use Rattle.rv_book.specs.Legal.{IsNextNumber, Legal, WaitsUnder, before}
 use Rattle.rv_book.specs.Waiting.{EndsWait, Waiting, limit_at}
 use Rattle.rv_book.proofs.Growing.{act_read, read_there}
-use Rattle.rv_book.proofs.Keys.{act_arrives, act_called, act_named, key_read, no_hello}
+use Rattle.rv_book.proofs.Keys.{act_arrives, act_named, key_read, no_hello}
 use Rattle.rv_book.proofs.Fronts.{Legal-before, read_front, read_whole, waiting_in_front}
 
 -- what a legal account says of the arrival at r, of those before it

@@ -1,5 +1,5 @@
 -- A line in which the slot of one who waited is marked.
-use Rattle.std.proofs.Common.{◌≡◌, ℕ, zero, suc, ◌+◌, ◌<◌, Bool, true, false, cond, List, [], ◌∷◌, length, Some, None, sym, ap, ◌∙◌, subst, arith}
+use Rattle.std.proofs.Common.{◌≡◌, ℕ, zero, suc, ◌+◌, ◌<◌, Bool, true, false, cond, List, [], ◌∷◌, length, Some, sym, ap, ◌∙◌, subst, arith}
 use Rattle.std.specs.Prelude.{Contains, not, option_and_then, slice_get, slice_set}
 use Rattle.std.specs.List.{AllPairs, filter}
 use Rattle.std.proofs.lemmas.Bool.{false≢true, false_from_ne_true}
@@ -7,7 +7,7 @@ use Rattle.std.proofs.lemmas.Option.{same_Some, none-some, get_or_from_slice_get
 use Rattle.rv_dual.specs.declared.slot.Slot.{Slot}
 use Rattle.rv_dual.specs.declared.slot.Slot.TheVariants.{Holds, Withdrawn}
 use Rattle.rv_dual.specs.Entries.{PassesAt}
-use Rattle.rv_dual.specs.Slots.{FirstHolds, NoSlotAt, Rises, first_slot, holder, is_marked, passes_in, slot_place, slot_places, waiting_in}
+use Rattle.rv_dual.specs.Slots.{NoSlotAt, Rises, holder, passes_in, slot_place, slot_places, waiting_in}
 use Rattle.rv_dual.proofs.Removing.{rest_pairs, without_none}
 use Rattle.rv_dual.proofs.Searching.{nowhere}
 use Rattle.rv_dual.proofs.Found.{contains_at}

@@ -1,7 +1,7 @@
 -- What is kept is the reply, whomever the call met.
 use Rattle.std.proofs.Common.{◌∙◌, Option, None, sym, subst}
 use Rattle.rv_text.specs.declared.call.Call.{Call}
-use Rattle.rv_text.specs.declared.call.Call.TheVariants.{Drain, Swap, Take, Transfer}
+use Rattle.rv_text.specs.declared.call.Call.TheVariants.{Swap, Take, Transfer}
 use Rattle.rv_text.specs.declared.call.Side.TheVariants.{Gives, Takes}
 use Rattle.rv_session.specs.declared.kept.Kept as kept
 use Rattle.rv_book.specs.Arriving.{GoesOnWaiting, WillReply}
