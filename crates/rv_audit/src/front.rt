@@ -1,4 +1,4 @@
-//! What an audit keeps of the entries that it has passed_account.
+//! What an audit keeps of the entries that it has read so far.
 ghost use Rattle.std.specs.Prelude.{◌≡◌, ◌↔◌, ◌<◌, ◌^◌, ℕ, Some, None, true, false};
 ghost use Rattle.std.specs.Prelude.{option_and_then, length, IfNone, IfSome, IsTrue, OnOk};
 ghost use Rattle.rv_text.specs.declared.call.Side.{Side};

@@ -1,4 +1,4 @@
-//! Whether an entry breaks a rule, behind the entries that an audit has passed_account.
+//! Whether an entry breaks a rule, behind the entries that an audit has read so far.
 ghost use Rattle.std.specs.Prelude.{◌≡◌, ◌↔◌, IfNone, IfSome, IsTrue, Some, option_map};
 ghost use Rattle.std.specs.List.Sorted.{IsStrictlyIncreasing};
 ghost use Rattle.rv_text.specs.declared.message.Key.{Key};
