@@ -1,11 +1,11 @@
 -- The account and its tables stay sound, whatever a step does.
 use Rattle.std.proofs.Common.{◌≡◌, inl, inr, ℕ, ◌+◌, ◌≤◌, ◌^◌, List, [], ◌∷◌, ◌++◌, length, Some, refl, sym, ap, subst, ◌∙◌, arith, length-append, nat_cmp}
 use Rattle.std.proofs.lemmas.Bool.{false≢true}
-use Rattle.std.specs.FinMap.{empty, get-empty}
+use Rattle.std.specs.FinMap.{get, get-empty}
 use Rattle.std.specs.List.{slice_get}
 use Rattle.std.proofs.lemmas.Option.{none-some}
 use Rattle.rv_text.specs.Limits.{FitsIdentifier}
-use Rattle.rv_session.specs.Table.{Table, session_of}
+use Rattle.rv_session.specs.Table.{Table, IsOpened, SameSessions}
 use Rattle.rv_account.specs.Account.{Account, with_entry}
 use Rattle.rv_book.specs.Counting.{NumberOf}
 use Rattle.rv_account.specs.declared.entry.Entry.{Entry}
@@ -18,7 +18,7 @@ use Rattle.std.specs.FinSet.{empty as no_deadline}
 use Rattle.rv_book.specs.Elapsing.{AreDeadlines}
 use Rattle.rv_book.specs.Parked.{AreWaiters}
 use Rattle.rv_book.specs.Operations.{IsSame}
-use Rattle.rv_book.specs.Tables.{AreSessions, IsSound, account_of}
+use Rattle.rv_book.specs.Tables.{AreSessions, IsSessionOf, IsSound, account_of}
 use Rattle.rv_book.specs.Views.{NobodyWaits}
 use Rattle.rv_book.specs.Waiting.{Waiting}
 use Rattle.rv_book.proofs.Counting.{one_number}
@@ -44,6 +44,13 @@ sound_same old new sound same =
       due_are = subst (λ (a : Account). AreDeadlines a.entries new.due) (sym same.account) (subst (AreDeadlines (account_of old).entries) (sym same.due) sound.due_are);
       spare = let room : old.account.room ≤ new.account.room = same.room in let spare : old.waiting ≤ old.account.room = sound.spare in let waiting : new.waiting ≡ old.waiting = same.waiting in omega arith;
     }
+
+-- the sessions are as they were, whatever room they have
+pub sessions_same : (a : Account) (old new : Table) → SameSessions old new → AreSessions a old → AreSessions a new
+sessions_same a old new same are = record {
+  epoch = same.epoch ∙ are.epoch;
+  each = λ client. subst (λ m. IsSessionOf a client (get m client)) (sym same.sessions) (are.each client);
+}
 
 -- ---- with one entry more
 
@@ -96,7 +103,7 @@ none_waits es none = record {
 }
 
 pub sound_empty : (state : BookState) → FitsIdentifier (account_of state).epoch → (account_of state).opened ≤ 2 ^ 62 → (account_of state).entries ≡ []
-    → state.sessions ≡ record { epoch = (account_of state).epoch; sessions = empty } → NobodyWaits state.waiters → state.waiting ≡ 0 → state.due ≡ no_deadline → IsSound state
+    → IsOpened state.sessions (account_of state).epoch → NobodyWaits state.waiters → state.waiting ≡ 0 → state.due ≡ no_deadline → IsSound state
 sound_empty state epoch opened none sessions no_places zero_wait no_due =
     let a = account_of state in
     let nothing = λ (r : ℕ) (e : Entry) (there : slice_get a.entries r ≡ Some e). none-some e (sym (ap (λ (es : List Entry). slice_get es r) none) ∙ there) in
@@ -110,7 +117,7 @@ sound_empty state epoch opened none sessions no_places zero_wait no_due =
         room = λ waits count. let nobody_there : waits ≡ 0 = one_number (Waiting a.entries) waits 0 count counted in let short : length a.entries ≡ 0 = ap length none in omega arith;
         clients = few_none a.entries none;
       };
-      sessions_are = no_sessions a state.sessions none (ap (λ (t : Table). t.epoch) sessions) (λ client. ap (λ (t : Table). session_of t client) sessions ∙ get-empty nat_cmp client);
+      sessions_are = no_sessions a state.sessions none sessions.epoch_is (λ client. ap (λ m. get m client) sessions.nobody ∙ get-empty nat_cmp client);
       waiters_are = no_waiters a.entries state.waiters none no_places;
       waiting_is = subst (NumberOf (Waiting a.entries)) (sym zero_wait) counted;
       due_are = record {

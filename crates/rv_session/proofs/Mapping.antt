@@ -76,5 +76,12 @@ put_table old new k v before is puts was longer room =
           (λ none. subst (λ n. n < 1024) is.distinct (room (there ∙ none))) longer;
     }
 
+-- a session that was replaced
+pub written_table : (old new : List (ℕ × Session)) (k : ℕ) (v : Session) → IsTable old → PutsSession old new k v → length new ≡ length old → IsSome (get (map_of old) k) → IsTable new
+written_table old new k v is puts same known = record {
+  distinct = ap len (map_put old new k v puts) ∙ len_known (map_of old) k v known ∙ is.distinct ∙ sym same;
+  room = subst (λ n. n ≤ 1024) (sym same) is.room;
+}
+
 pub empty_table : IsTable []
 empty_table = record { distinct = len-empty nat_cmp Session; room = omega arith }

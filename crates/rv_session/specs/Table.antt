@@ -1,8 +1,9 @@
--- A table of sessions: the epoch, and a map from clients to their sessions.
-use Rattle.std.specs.Prelude.{◌≡◌, ◌≢◌, ◌+◌, ℕ, Option, Some, None, IsSome, option_and_then, option_map, refl}
+-- A table of sessions: the epoch, a map from clients to their sessions, and the room for more of them.
+use Rattle.std.specs.Prelude.{◌≡◌, ◌≢◌, ◌+◌, ◌≤◌, ℕ, Option, Some, None, IsSome}
+use Rattle.std.specs.Prelude.{option_and_then, option_map, refl}
 use Rattle.std.specs.Ordering.{nat_cmp}
 use Rattle.std.specs.Coded.{Coded, code_by, coded×, coded_ℕ}
-use Rattle.std.specs.FinMap.{FinMap}
+use Rattle.std.specs.FinMap.{FinMap, empty}
 use Rattle.std.specs.FinMap as map
 use Rattle.rv_text.specs.declared.message.Key.{Key}
 use Rattle.rv_text.specs.declared.version.Version.{Version}
@@ -14,11 +15,15 @@ use Rattle.rv_session.specs.declared.session.RequestState.TheVariants.{Fresh, Wa
 pub record Table : Type 0 where
   pub epoch : ℕ
   pub sessions : FinMap nat_cmp Session
+  -- how many more clients can get a session before the table takes memory
+  pub room : ℕ
 
--- a table is stored as the pair of its fields
+-- a table is stored as its fields
 abbrev pub table_code : Coded Session → Coded Table
-table_code code = code_by (ℕ × FinMap nat_cmp Session) (coded× coded_ℕ (map.code coded_ℕ code))
-    (λ t. (t.epoch, t.sessions)) (λ p. record { epoch = p.0; sessions = p.1 }) (λ _. refl)
+table_code code = code_by ((ℕ × FinMap nat_cmp Session) × ℕ)
+    (coded× (coded× coded_ℕ (map.code coded_ℕ code)) coded_ℕ)
+    (λ t. ((t.epoch, t.sessions), t.room))
+    (λ p. record { epoch = p.0.0; sessions = p.0.1; room = p.1 }) (λ _. refl)
 
 -- the client's session, if it has one
 abbrev pub session_of : Table → ℕ → Option Session
@@ -61,13 +66,25 @@ settled_session session place kept = record {
   state = Settled place kept;
 }
 
--- the new table has this session of the client, and else it is the old one
+-- the table of an epoch, in which nobody has a session yet
+pub record IsOpened (t : Table) (epoch : ℕ) : Type 0 where
+  pub epoch_is : t.epoch ≡ epoch
+  pub nobody : t.sessions ≡ empty
+
+-- all sessions are as they were, and there is no less room
+pub record SameSessions (old new : Table) : Type 0 where
+  pub epoch : new.epoch ≡ old.epoch
+  pub sessions : new.sessions ≡ old.sessions
+  pub room : old.room ≤ new.room
+
+-- the new table has this session of the client, and else it is the old one; only a new client takes room
 pub record OnlySets (old new : Table) (client : ℕ) (session : Session) : Type 0 where
   pub epoch : new.epoch ≡ old.epoch
   pub own : session_of new client ≡ Some session
   pub others : (other : ℕ) → other ≢ client → session_of new other ≡ session_of old other
   pub known : IsSome (session_of old client) → session_count new ≡ session_count old
   pub unknown : session_of old client ≡ None → session_count new ≡ session_count old + 1
+  pub room : IsSome (session_of old client) → new.room ≡ old.room
 
 -- the key's number is the last of its session, and of it stands this; the session's version stays, and so
 -- does all else

@@ -1,5 +1,5 @@
 //! The sessions of an epoch: one for each client, with what stands of its last request; and the duty to
-//! settle a request, which can be neither copied nor lost.
+//! settle a request, which can't be copied, and can't be dropped unless it is laid aside.
 #![tactic(auto)]
 
 mod duty;

@@ -27,6 +27,7 @@ pub struct Sessions {
 }
 
 impl Model for Sessions {
+    ghost use Rattle.indexmap.specs.IndexMap.{spare};
     ghost use Rattle.rv_session.specs.Entries.{map_of, IsTable};
     ghost use Rattle.rv_session.specs.Table.{Table, table_code};
     ghost use Rattle.rv_session.specs.contracts.session.Session as session;
@@ -35,25 +36,24 @@ impl Model for Sessions {
 
     ghost coded = { table_code session.the_row.coded };
 
-    ghost view = { λ s. record { epoch = s.epoch; sessions = map_of s.sessions.entries } };
+    ghost view = { λ s. record { epoch = s.epoch; sessions = map_of s.sessions.entries; room = spare s.sessions } };
 
     ghost invariant = { λ s. IsTable s.sessions.entries };
 }
 
 impl Sessions {
     ghost use Rattle.std.specs.Prelude.{IsOk, ◌≤◌};
-    ghost use Rattle.std.specs.FinMap.{empty};
     ghost use Rattle.rv_session.specs.declared.session.RequestState.TheVariants.{Settled, Waits};
     ghost use Rattle.rv_session.specs.declared.kept.Kept.TheVariants.{Cancelled};
     ghost use Rattle.rv_session.specs.declared.standing.Standing.TheVariants.{Next};
-    ghost use Rattle.rv_session.specs.Table.{OnlyAdvances, OnlySets, OnlySettles};
+    ghost use Rattle.rv_session.specs.Table.{IsOpened, OnlyAdvances, OnlySets, OnlySettles, SameSessions};
     ghost use Rattle.rv_session.specs.Table.{session_of, session_count, version_in, waiting_of};
     ghost use Rattle.rv_session.specs.Meanings.{GreetingMeans, StandingMeans};
     ghost use Rattle.rv_session.specs.Standings.{MayEnter, greeting_of, max_clients, standing_of};
 
     /// The table of an epoch, whatever its number, with no session. It takes no memory yet.
     pub fn open(alloc: Global, epoch: u64) -> Sessions
-        ensures { result ≡ record { epoch = epoch; sessions = empty } }
+        ensures { IsOpened result epoch }
     {
         let sessions = IndexMap::new(alloc);
         Sessions { epoch, sessions }
@@ -66,25 +66,43 @@ impl Sessions {
         self.sessions.get(&client).copied()
     }
 
-    // Gives a client this session, where it has one or there is room for it. Only a new client takes memory.
-    fn put(&mut self, client: u64, session: Session) -> Result<(), NoMemory>
-        requires { session_of self.old client ≡ None → session_count self.old < max_clients }
+    // Replaces the session of a client that has one, and takes no memory.
+    fn set(&mut self, client: u64, session: Session)
+        requires { IsSome (session_of self.old client) }
+        ensures { OnlySets self.old self.new client session }
+    {
+        match self.sessions.get_mut(&client) {
+            Some(own) => *own = session,
+            None => unreachable!(),
+        }
+    }
+
+    // Gives a client without a session this one, where there is room for it.
+    fn add(&mut self, client: u64, session: Session) -> Result<(), NoMemory>
+        requires room { session_count self.old < max_clients }
+        requires none { session_of self.old client ≡ None }
         ensures ok { OnOk result (OnlySets self.old self.new client session) }
-        ensures err { OnErr result (self.new ≡ self.old) }
-        ensures known { IsSome (session_of self.old client) → IsOk result }
+        ensures err { OnErr result (SameSessions self.old self.new) }
+        ensures room { 0 < self.old.room → IsOk result }
     {
         self.sessions.insert(client, session)?;
         Ok(())
     }
 
-    // Replaces the session of a client that has one.
-    fn set(&mut self, client: u64, session: Session)
-        requires { IsSome (session_of self.old client) }
-        ensures { OnlySets self.old self.new client session }
+    // Gives a client this session, where it has one or there is room for it. Only a new client takes memory.
+    fn put(&mut self, client: u64, session: Session) -> Result<(), NoMemory>
+        requires { session_of self.old client ≡ None → session_count self.old < max_clients }
+        ensures ok { OnOk result (OnlySets self.old self.new client session) }
+        ensures err { OnErr result (SameSessions self.old self.new) }
+        ensures known { IsSome (session_of self.old client) → IsOk result }
+        ensures room { 0 < self.old.room → IsOk result }
     {
-        match self.put(client, session) {
-            Ok(()) => (),
-            Err(_) => unreachable!(),
+        match self.session_of(client) {
+            Some(_) => {
+                self.set(client, session);
+                Ok(())
+            }
+            None => self.add(client, session),
         }
     }
 
@@ -104,13 +122,14 @@ impl Sessions {
 
     /// Opens the session of an incarnation and a version of a client, in which nothing was asked yet. It is
     /// asked where [`greet`](Sessions::greet) gives `Unknown` or `Newer` with nothing that waits. For a
-    /// client that has a session it takes no memory and succeeds; for another it fails only where memory was
-    /// refused, and then nothing changes.
+    /// client that has a session it takes no memory and succeeds, and so it does where there is room; else it
+    /// fails only where memory was refused, and then all sessions stay.
     pub fn enter(&mut self, client: u64, incarnation: u64, version: Version) -> Result<(), NoMemory>
         requires { MayEnter self.old client incarnation version }
         ensures ok { OnOk result (OnlySets self.old self.new client (fresh incarnation version)) }
-        ensures err { OnErr result (self.new ≡ self.old) }
+        ensures err { OnErr result (SameSessions self.old self.new) }
         ensures known { IsSome (session_of self.old client) → IsOk result }
+        ensures room { 0 < self.old.room → IsOk result }
     {
         self.put(client, Session::fresh(incarnation, version))
     }

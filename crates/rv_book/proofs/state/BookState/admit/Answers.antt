@@ -3,13 +3,12 @@ use Rattle.std.proofs.Common.{◌∙◌, inr, [], refl, sym, ap, subst, arith, o
 use Rattle.rv_session.specs.Standings.{MayEnter}
 use Rattle.rv_session.specs.Table.{fresh, session_of, waiting_place}
 use Rattle.rv_account.specs.declared.entry.Act.TheVariants.{Hello}
-use Rattle.rv_book.specs.declared.state.BookState.{BookState}
 use Rattle.rv_account.specs.Account.{with_entry}
 use Rattle.rv_book.specs.Arriving.{entry}
 use Rattle.rv_book.specs.Operations.{NoEntryDue}
 use Rattle.rv_book.specs.Tables.{account_of}
 use Rattle.rv_book.proofs.Greeting.{comes_ready, sound_idle, space_ready}
-use Rattle.rv_book.proofs.Keeping.{sound_same}
+use Rattle.rv_book.proofs.Keeping.{sessions_same, sound_same}
 use Rattle.rv_book.proofs.Lines.{room_left}
 use Rattle.rv_book.proofs.SessionTable.{Changes, set_changes}
 use Rattle.rv_book.proofs.Standing.{may_new, none_lower, room_for_client}
@@ -22,10 +21,16 @@ returns-in_err-make_room-clause-sound c = sound_same c.args.self.now c.make_room
 pub returns-in_err-enter-clause-sound : goal.returns-in_err-enter-clause-sound
 returns-in_err-enter-clause-sound c =
     let ready = c.make_room.new.self in
-    let same = c.in_ok-make_room.ensures.same in
-    let left : BookState = record { account = ready.account; sessions = c.enter.new.self; waiters = ready.waiters; waiting = ready.waiting; due = ready.due } in
-    sound_same c.args.self.now left c.requires.comes.sound
-    (record { due = same.due; account = same.account; room = same.room; sessions = c.in_err-enter.ensures.err ∙ same.sessions; waiters = same.waiters; waiting = same.waiting })
+    let sound = sound_same c.args.self.now ready c.requires.comes.sound c.in_ok-make_room.ensures.same in
+    record {
+      legal = sound.legal;
+      fits = sound.fits;
+      sessions_are = sessions_same (account_of ready) ready.sessions c.enter.new.self c.in_err-enter.ensures.err sound.sessions_are;
+      waiters_are = sound.waiters_are;
+      waiting_is = sound.waiting_is;
+      due_are = sound.due_are;
+      spare = sound.spare;
+    }
 
 pub returns-in_err-enter-clause-err : goal.returns-in_err-enter-clause-err
 returns-in_err-enter-clause-err c =
