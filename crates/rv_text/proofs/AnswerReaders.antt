@@ -12,14 +12,14 @@ use Rattle.rv_text.specs.declared.answer.Answer.TheVariants as answer
 use Rattle.rv_text.specs.declared.version.Version.{Version}
 use Rattle.rv_text.specs.declared.version.Version.TheVariants.{One, Two}
 use Rattle.rv_text.specs.declared.message.Key.{Key}
-use Rattle.rv_text.specs.Limits.{FitsAnswer, IsOfEpoch}
+use Rattle.rv_text.specs.Limits.{FitsAnswer, FitsReply, IsOfEpoch}
 use Rattle.rv_text.specs.Members.{whole, code_numbers, members_of}
 use Rattle.rv_text.specs.Rows.{reply_row, code_of, detail_row, answer_row}
 use Rattle.rv_text.specs.Reading.{◌>>=◌, whole_among, item_among, texts_among}
 use Rattle.rv_text.specs.Reading.{key_among, version_among, received_by, current_version_among, refusal_telling_version}
 use Rattle.rv_text.specs.Reading.{counted_among, reply_lines, reply_among, refusal_telling, refusal_lines, refusal_among, welcome_among, replied_among, waiting_among, refused_among, answer_lines, answer_among, answers}
 use Rattle.rv_text.proofs.Sound.{answer_sound}
-use Rattle.rv_text.proofs.Steps.{step_found, last_found, Has, HasRow, whole_found, text_found, find_texts, texts_found, among_found, numbered_found, Lacks, IsReader}
+use Rattle.rv_text.proofs.Steps.{step_found, last_found, Has, HasRow, whole_found, text_found, find_texts, are_few, texts_found, among_found, numbered_found, Lacks, IsReader}
 use Rattle.rv_text.proofs.Readers.{key_found, find_key, without_version, version_found, find_version}
 
 -- that a transfer was received, and not by whom, is told by no client
@@ -98,16 +98,16 @@ module _ (ms : Members) where
   abbrev FindsReply : ℕ → Reply → Type 0
   FindsReply epoch reply = reply_among epoch ms ≡ Some reply
 
-  find_reply : (epoch : ℕ) (reply : Reply) → IsOfEpoch epoch reply → HasReply reply → Lacks (without_reply reply) ms → FindsReply epoch reply
-  find_reply epoch reply.Received of_epoch has lacks = rw (has.0, lacks.0) refl
-  find_reply epoch (reply.ReceivedBy taker) of_epoch has lacks =
+  find_reply : (epoch : ℕ) (reply : Reply) → FitsReply reply → IsOfEpoch epoch reply → HasReply reply → Lacks (without_reply reply) ms → FindsReply epoch reply
+  find_reply epoch reply.Received fits of_epoch has lacks = rw (has.0, lacks.0) refl
+  find_reply epoch (reply.ReceivedBy taker) fits of_epoch has lacks =
       subst (λ e. FindsReply e (reply.ReceivedBy taker)) of_epoch (rw (has.0, has.1.0, has.1.1.0, has.1.1.1.0) refl)
-  find_reply epoch (reply.Item item) of_epoch has lacks = rw (has.0, has.1.0) refl
-  find_reply epoch (reply.Swapped item) of_epoch has lacks = rw (has.0, has.1.0) refl
-  find_reply epoch (reply.Peeked item) of_epoch has lacks = rw (has.0, has.1.0) refl
-  find_reply epoch (reply.Drained texts) of_epoch has lacks = rw (has.0, has.1.0, find_texts texts) refl
-  find_reply epoch (reply.Counted items consumers) of_epoch has lacks = rw (has.0, has.1.0, has.1.1.0) refl
-  find_reply epoch _ of_epoch has lacks = rw has.0 refl
+  find_reply epoch (reply.Item item) fits of_epoch has lacks = rw (has.0, has.1.0) refl
+  find_reply epoch (reply.Swapped item) fits of_epoch has lacks = rw (has.0, has.1.0) refl
+  find_reply epoch (reply.Peeked item) fits of_epoch has lacks = rw (has.0, has.1.0) refl
+  find_reply epoch (reply.Drained texts) fits of_epoch has lacks = rw (has.0, has.1.0, are_few texts fits.0, find_texts texts) refl
+  find_reply epoch (reply.Counted items consumers) fits of_epoch has lacks = rw (has.0, has.1.0, has.1.1.0) refl
+  find_reply epoch _ fits of_epoch has lacks = rw has.0 refl
 
   abbrev HasRefusal : Refusal → Type 0
   HasRefusal refusal = HasRow ms (whole (codes "code") code_numbers (code_of refusal) ∷ detail_row refusal)
@@ -212,7 +212,7 @@ module _ (ms : Members) where
       rw (has.0, has.1.0, has.1.1.0, has.1.1.1.0, find_version ms version has.1.1.1.1 lacks) refl
   find_answer (answer.Replied key reply) fits has lacks =
       let of_key = find_key ms key (has.1.0, (has.1.1.0, (has.1.1.1.0, (has.1.1.1.1.0, tt)))) in
-      rw (has.0, of_key, find_reply key.epoch reply fits.2 has.1.1.1.1.1 lacks) refl
+      rw (has.0, of_key, find_reply key.epoch reply fits.1 fits.2 has.1.1.1.1.1 lacks) refl
   find_answer (answer.Waiting key) fits has lacks = rw (has.0, find_key ms key has.1) refl
   find_answer (answer.Refused refusal) fits has lacks = rw (has.0, find_refusal refusal has.1) refl
 

@@ -90,11 +90,11 @@ module _ (ms : Members) where
   call_found = among_found ms HasCall (codes "call") call_lines (
     (λ word. queue_step _ (λ queue q. item_step _ (λ item i. last_found HasCall (call.Put queue item) (word, (q, (i, tt)))))),
     (
-      (λ word. queue_step _ (λ queue q. item_step _ (λ item i. wait_step _ (λ w is. last_found HasCall (call.Transfer queue item w) (word, (q, (is, (i, tt)))))))),
+      (λ word. queue_step _ (λ queue q. wait_step _ (λ w is. item_step _ (λ item i. last_found HasCall (call.Transfer queue item w) (word, (q, (is, (i, tt)))))))),
       (
         (λ word. queue_step _ (λ queue q. wait_step _ (λ w is. last_found HasCall (call.Take queue w) (word, (q, (is, tt)))))),
         (
-          (λ word. step_found HasCall (whole_among (codes "exchanger") ms) _ (λ exchanger e. item_step _ (λ item i. wait_step _ (λ w is.
+          (λ word. step_found HasCall (whole_among (codes "exchanger") ms) _ (λ exchanger e. wait_step _ (λ w is. item_step _ (λ item i.
               last_found HasCall (call.Swap exchanger item w) (word, (whole_found ms (codes "exchanger") exchanger e, (is, (i, tt)))))))),
           (
             (λ word. queue_step _ (λ queue q. last_found HasCall (call.Count queue) (word, (q, tt)))),

@@ -1,18 +1,19 @@
 -- The steps of a reader: each finds just what stands in the object.
-use Rattle.std.proofs.Common.{String, Global, ◌≡◌, ℕ, List, [], ◌∷◌, length, map, codes}
-use Rattle.std.proofs.Common.{Bool, true, false, cond, Option, Some, None, option_and_then, bytes_eq, nat_eq, refl, ap, ap₂, subst, inl, inr}
+use Rattle.std.proofs.Common.{String, Global, ◌≡◌, ℕ, suc, List, [], ◌∷◌, length, map, codes}
+use Rattle.std.proofs.Common.{Bool, true, false, cond, Option, Some, None, option_and_then, bytes_eq, nat_eq, refl, sym, ap, ap₂, subst, inl, inr}
 use Rattle.std.proofs.lemmas.Bool.Decides.{Decides-eqb}
+use Rattle.std.proofs.lemmas.Bool.{le-leb}
 use Rattle.std.proofs.lemmas.Option.{same_Some}
 use Rattle.std.proofs.lemmas.Slice.Eq.{bytes_eq-Decides}
-use Rattle.std.specs.Prelude.{◌⊎◌}
+use Rattle.std.specs.Prelude.{◌⊎◌, ◌≤◌, nat_le}
 use Rattle.serde_json.specs.Data.{unsigned, negative, float, Data, null, boolean, number, string, array, object, Items, no_items, item, Members}
-use Rattle.serde_json.specs.View.{items_of, members_view}
+use Rattle.serde_json.specs.View.{items_of, items_view, members_view}
 use Rattle.serde_json.specs.declared.value.Value.{Value}
-use Rattle.serde_json.proofs.Views.{members_len-members_view}
-use Rattle.serde_json.specs.Events.{members_len}
-use Rattle.serde_json.specs.Find.{get_member, as_number, as_u64, as_str, as_array}
+use Rattle.serde_json.proofs.Views.{items_len-items_view, members_len-members_view}
+use Rattle.serde_json.specs.Events.{items_len, members_len}
+use Rattle.serde_json.specs.Find.{get_member, as_number, as_u64, as_str}
 use Rattle.rv_text.specs.Members.{Member, Field, field_of, members_of, texts_value}
-use Rattle.rv_text.specs.Reading.{◌>>=◌, ReaderLine, under, among, numbered_among, whole_among, text_among, texts_of, texts_among}
+use Rattle.rv_text.specs.Reading.{◌>>=◌, ReaderLine, under, among, numbered_among, whole_among, text_among, few_in, texts_of, texts_among}
 use Rattle.rv_text.specs.Reading.{Shape}
 use Rattle.rv_text.proofs.Objects.{HoldsFields}
 use Rattle.rv_text.proofs.Sound.{IsSoundRow}
@@ -54,13 +55,17 @@ as_str_is (boolean b) s e = absurd (cc)
 as_str_is (array ds) s e = absurd (cc)
 as_str_is (object ms) s e = absurd (cc)
 
-as_array_is : (d : Data) (ds : Items) → as_array d ≡ Some ds → d ≡ array ds
-as_array_is (array es) ds e = ap array (cc)
-as_array_is null ds e = absurd (cc)
-as_array_is (boolean b) ds e = absurd (cc)
-as_array_is (number n) ds e = absurd (cc)
-as_array_is (string s) ds e = absurd (cc)
-as_array_is (object ms) ds e = absurd (cc)
+few_is : (few : Bool) (es ds : Items) → cond few (Some es) None ≡ Some ds → es ≡ ds
+few_is true es ds e = cc
+few_is false es ds e = absurd (cc)
+
+few_in_is : (d : Data) (ds : Items) → few_in d ≡ Some ds → d ≡ array ds
+few_in_is (array es) ds e = ap array (few_is (nat_le (items_len es) 16) es ds e)
+few_in_is null ds e = absurd (cc)
+few_in_is (boolean b) ds e = absurd (cc)
+few_in_is (number n) ds e = absurd (cc)
+few_in_is (string s) ds e = absurd (cc)
+few_in_is (object ms) ds e = absurd (cc)
 
 number_found : (o : Option Data) (n : ℕ) → option_and_then as_u64 (option_and_then as_number o) ≡ Some n → o ≡ Some (number (unsigned n))
 number_found None n e = absurd (cc)
@@ -70,9 +75,9 @@ string_found : (o : Option Data) (s : List ℕ) → option_and_then as_str o ≡
 string_found None s e = absurd (cc)
 string_found (Some d) s e = ap Some (as_str_is d s e)
 
-array_found : (o : Option Data) (ds : Items) → option_and_then as_array o ≡ Some ds → o ≡ Some (array ds)
-array_found None ds e = absurd (cc)
-array_found (Some d) ds e = ap Some (as_array_is d ds e)
+few_found : (o : Option Data) (ds : Items) → option_and_then few_in o ≡ Some ds → o ≡ Some (array ds)
+few_found None ds e = absurd (cc)
+few_found (Some d) ds e = ap Some (few_in_is d ds e)
 
 -- ---- lists of texts
 
@@ -80,6 +85,14 @@ array_found (Some d) ds e = ap Some (as_array_is d ds e)
 pub find_texts : (texts : List (List ℕ)) → texts_of (items_of (map string texts)) ≡ Some texts
 find_texts [] = refl
 find_texts (s ∷ texts) = rw (find_texts texts) refl
+
+as_many : (texts : List (List ℕ)) → items_len (items_of (map string texts)) ≡ length texts
+as_many [] = refl
+as_many (s ∷ texts) = ap suc (as_many texts)
+
+-- and they are few, where the texts are
+pub are_few : (texts : List (List ℕ)) → length texts ≤ 16 → nat_le (items_len (items_of (map string texts))) 16 ≡ true
+are_few texts few = subst (λ n. nat_le n 16 ≡ true) (sym (as_many texts)) (le-leb (length texts) 16 few)
 
 each_found : (d : Data) (ds : Items) (head : Option (List ℕ)) (tail : Option (List (List ℕ))) → as_str d ≡ head → texts_of ds ≡ tail
     → ((texts : List (List ℕ)) → tail ≡ Some texts → ds ≡ items_of (map string texts))
@@ -117,7 +130,7 @@ module _ (ms : Members) where
   text_found name s e = string_found (get_member name ms) s e
 
   pub texts_found : (texts : List (List ℕ)) → texts_among ms ≡ Some texts → Has (codes "texts", texts_value texts)
-  texts_found texts e = array_found (get_member (codes "texts") ms) (items_of (map string texts)) (list_found (option_and_then as_array (get_member (codes "texts") ms)) texts e)
+  texts_found texts e = few_found (get_member (codes "texts") ms) (items_of (map string texts)) (list_found (option_and_then few_in (get_member (codes "texts") ms)) texts e)
 
   -- each line finds what has P, where its word or number is found
   abbrev pub AreLines : {K A : Type 0} → (A → Type 0) → (K → Type 0) → List (ReaderLine K A) → Type 0
@@ -157,6 +170,10 @@ pub record IsReader (A : Type 0) (shape : Shape A) : Type 0 where
   pub lacks : (x : A) → Lacks (without x) (members_of (shape.row x))
   pub finds : (ms : Members) (x : A) → shape.Fits x → HoldsFields (map field_of (shape.row x)) ms
       → Lacks (without x) ms → shape.found ms ≡ Some x
+
+-- as many items as the list has values
+pub items_counted : (vs : List Value) → items_len (items_view vs) ≡ length vs
+items_counted = items_len-items_view
 
 -- as many members as the map has entries
 pub members_counted : (es : List (String Global × Value)) → members_len (members_view es) ≡ length es

@@ -1,14 +1,14 @@
 -- For private clauses: what the decoder looks for among the members of an object, each by its name, and what
 -- the encoder puts there.
 use Rattle.std.specs.Prelude.{◌≡◌, ◌==◌, ℕ, Bool, List, [], ◌∷◌, length, map, codes, if◌then◌else◌}
-use Rattle.std.specs.Prelude.{Option, Some, None, option_and_then, nat_eq, Result, Ok, Err}
+use Rattle.std.specs.Prelude.{Option, Some, None, option_and_then, nat_eq, nat_le, Result, Ok, Err}
 use Rattle.std.specs.Prelude.{String, string_cmp}
 use Rattle.std.specs.declared.alloc.Global.{Global}
 use Rattle.std.specs.BTreeMap.{BTreeMap, IsOrdered}
 use Rattle.std.specs.Str.{bytes_eq}
 use Rattle.serde_json.specs.Data.{Data, Items, Members}
 use Rattle.serde_json.specs.Data as json
-use Rattle.serde_json.specs.Events.{members_len}
+use Rattle.serde_json.specs.Events.{items_len, members_len}
 use Rattle.serde_json.specs.View.{members_view}
 use Rattle.serde_json.specs.declared.value.Value.{Value}
 use Rattle.serde_json.specs.Find.{get_member, as_number, as_u64, as_str, as_array}
@@ -117,9 +117,16 @@ texts_of (json.item value values) = do
   texts ← texts_of values
   Some (text ∷ texts)
 
+-- the values of a list, where they are as many as a drain takes at most
+abbrev pub few_of : Items → Option Items
+few_of values = if nat_le (items_len values) 16 then Some values else None
+
+abbrev pub few_in : Data → Option Items
+few_in value = option_and_then few_of (as_array value)
+
 abbrev pub texts_among : Members → Option (List (List ℕ))
 texts_among members = do
-  values ← option_and_then as_array (get_member (codes "texts") members)
+  values ← option_and_then few_in (get_member (codes "texts") members)
   texts_of values
 
 abbrev pub wait_lines : List (ReaderLine (List ℕ) Wait)
@@ -148,15 +155,15 @@ key_among members = do
 abbrev pub transfer_among : Members → Option Call
 transfer_among members = do
   queue ← queue_among members
-  item ← item_among members
   wait ← wait_among members
+  item ← item_among members
   Some (call.Transfer queue item wait)
 
 abbrev pub swap_among : Members → Option Call
 swap_among members = do
   exchanger ← whole_among (codes "exchanger") members
-  item ← item_among members
   wait ← wait_among members
+  item ← item_among members
   Some (call.Swap exchanger item wait)
 
 abbrev pub drain_among : Members → Option Call
@@ -325,7 +332,7 @@ answer_among members = among (codes "kind") answer_lines members
 
 -- what a body may be read as: how it is found, its members and its limits
 pub record Shape (A : Type 0) : Type 1 where
-  -- whatever other members stand beside, and whatever the limits
+  -- whatever other members stand beside, and whatever the limits, but that a list has 16 texts at most
   pub found : Members → Option A
   pub row : A → List Member
   pub Fits : A → Type 0

@@ -79,8 +79,7 @@ pub enum Refusal {
     /// 11: a growth of memory was refused.
     #[error("out of memory")]
     NoMemory,
-    /// 12: a hello of the session's incarnation asks for another version than the session's, which is
-    /// given.
+    /// 12: a hello of the session's incarnation asks for another version than the session's, which is given.
     #[error("the session's version is {}", .0.number())]
     OtherVersion(Version),
 }
@@ -97,10 +96,7 @@ impl Reply {
         match self {
             Reply::Counted { .. } => 3,
             Reply::ReceivedBy(_) => 4,
-            Reply::Item(_) => 2,
-            Reply::Swapped(_) => 2,
-            Reply::Peeked(_) => 2,
-            Reply::Drained(_) => 2,
+            Reply::Item(_) | Reply::Swapped(_) | Reply::Peeked(_) | Reply::Drained(_) => 2,
             _ => 1,
         }
     }
@@ -111,9 +107,7 @@ impl Reply {
         ensures { IsTrue result ↔ FitsReply self.now }
     {
         match self {
-            Reply::Item(item) => item.fits(),
-            Reply::Swapped(item) => item.fits(),
-            Reply::Peeked(item) => item.fits(),
+            Reply::Item(item) | Reply::Swapped(item) | Reply::Peeked(item) => item.fits(),
             Reply::Drained(items) => items.fits(),
             Reply::ReceivedBy(taker) => {
                 fits_identifier(taker.client)
@@ -147,12 +141,8 @@ impl Refusal {
         ensures { result ≡ length (detail_row self.now) }
     {
         match self {
-            Refusal::OtherEpoch(_) => 1,
-            Refusal::OldIncarnation(_) => 1,
-            Refusal::OldNumber(_) => 1,
-            Refusal::Busy(_) => 1,
-            Refusal::Gap(_) => 1,
-            Refusal::OtherVersion(_) => 1,
+            Refusal::OtherEpoch(_) | Refusal::OldIncarnation(_) | Refusal::OtherVersion(_) => 1,
+            Refusal::OldNumber(_) | Refusal::Busy(_) | Refusal::Gap(_) => 1,
             _ => 0,
         }
     }
@@ -166,8 +156,7 @@ impl Refusal {
             Refusal::OtherEpoch(current) => fits_identifier(*current),
             Refusal::OldIncarnation(current) => fits_identifier(*current),
             Refusal::Busy(number) => fits_identifier(*number),
-            Refusal::OldNumber(last) => *last <= MAX_IDENTIFIER,
-            Refusal::Gap(last) => *last <= MAX_IDENTIFIER,
+            Refusal::OldNumber(last) | Refusal::Gap(last) => *last <= MAX_IDENTIFIER,
             _ => true,
         }
     }

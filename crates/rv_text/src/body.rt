@@ -1,8 +1,8 @@
 //! The value whose body given bytes are, for each kind of value that has a body.
-ghost use Rattle.std.specs.Prelude.{◌≡◌, ◌⊎◌, ◌↔◌, IsTrue, IfOk, IfErr, OnOk, length, string_cmp};
+ghost use Rattle.std.specs.Prelude.{◌≡◌, ◌↔◌, IsTrue, IfOk, IfErr, OnOk, length, string_cmp};
 ghost use Rattle.std.specs.BTreeMap.{IsOrdered};
 ghost use Rattle.serde_json.specs.View.{view, members_view};
-ghost use Rattle.rv_text.specs.Bodies.{HasBodyLength, Reads, IsNotJson};
+ghost use Rattle.rv_text.specs.Bodies.{HasBodyLength, Reads};
 ghost use Rattle.rv_text.specs.Reading.{FindsAmong, Unread, Shape, FindsAlone, FindsIn};
 
 use crate::fault::TextFault;
@@ -18,9 +18,9 @@ pub const MAX_BODY_BYTES: usize = 65_535;
 pub(crate) trait Body: Drop {
     ghost shape: { Shape Self };
 
-    /// Reads it, whatever other members stand beside, and whatever the limits.
-    fn read(alloc: Global, members: &Members) -> Result<Self, TextFault>
-        ensures { FindsAmong members.now result shape.found };
+    /// Reads it, whatever else stands beside, and whatever the limits but 16 texts. Items are taken out last.
+    fn read(alloc: Global, members: &mut Members) -> Result<Self, TextFault>
+        ensures { FindsAmong members.old result shape.found };
 
     /// How many members it has.
     fn member_count(&self) -> usize
@@ -35,19 +35,20 @@ pub(crate) trait Body: Drop {
 pub(crate) fn decode<B: Body>(alloc: Global, bytes: &[u8]) -> Result<B, TextFault>
     ensures { FindsIn B.shape bytes.now result }
 {
-    let value = read_value(alloc, bytes)?;
-    let members = value.as_object().ok_or(TextFault::NotMessage)?;
+    let mut value = read_value(alloc, bytes)?;
+    let members = value.as_object_mut().ok_or(TextFault::NotMessage)?;
     read_alone(alloc, members)
 }
 
 // The value that is found among the members, where they are no more than its own and within its limits.
 #[tactic(auto, using(crate::proofs::Steps::members_counted))]
-fn read_alone<B: Body>(alloc: Global, members: &Members) -> Result<B, TextFault>
-    ensures alone { FindsAlone B.shape result (members_view members.now.entries) }
-    ensures ordered { OnOk result (IsOrdered string_cmp members.now) }
+fn read_alone<B: Body>(alloc: Global, members: &mut Members) -> Result<B, TextFault>
+    ensures alone { FindsAlone B.shape result (members_view members.old.entries) }
+    ensures ordered { OnOk result (IsOrdered string_cmp members.old) }
 {
+    let count = members.len();
     let value = B::read(alloc, members)?;
-    if members.len() == value.member_count() && value.is_within() {
+    if count == value.member_count() && value.is_within() {
         Ok(value)
     } else {
         Err(TextFault::NotMessage)
@@ -62,23 +63,15 @@ fn read_value(alloc: Global, bytes: &[u8]) -> Result<Value, TextFault>
     if !has_body_length(bytes) {
         return Err(TextFault::NotMessage);
     }
-    read_json(alloc, bytes)
+    match Value::from_slice(alloc, bytes) {
+        Ok(value) => Ok(value),
+        Err(error) if error.is_memory() => Err(TextFault::NoMemory),
+        Err(_) => Err(TextFault::NotJson),
+    }
 }
 
 fn has_body_length(bytes: &[u8]) -> bool
     ensures { IsTrue result ↔ HasBodyLength bytes.now }
 {
     (1..=MAX_BODY_BYTES).contains(&bytes.len())
-}
-
-fn read_json(alloc: Global, bytes: &[u8]) -> Result<Value, TextFault>
-    ensures value { IfOk result (λ value. Reads bytes.now (view value)) }
-    ensures fault { IfErr result (λ fault. (fault ≡ TextFault.NoMemory)
-        ⊎ ((fault ≡ TextFault.NotJson) × IsNotJson bytes.now)) }
-{
-    match Value::from_slice(alloc, bytes) {
-        Ok(value) => Ok(value),
-        Err(error) if error.is_memory() => Err(TextFault::NoMemory),
-        Err(_) => Err(TextFault::NotJson),
-    }
 }

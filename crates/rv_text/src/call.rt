@@ -157,13 +157,10 @@ impl Call {
         ensures { result ≡ side_of self.now }
     {
         match self {
-            Call::Put { queue, .. } => Side::Gives(*queue),
-            Call::Transfer { queue, .. } => Side::Gives(*queue),
-            Call::Take { queue, .. } => Side::Takes(*queue),
+            Call::Put { queue, .. } | Call::Transfer { queue, .. } => Side::Gives(*queue),
+            Call::Take { queue, .. } | Call::Drain { queue, .. } => Side::Takes(*queue),
             Call::Swap { exchanger, .. } => Side::Exchanges(*exchanger),
-            Call::Count { queue } => Side::Looks(*queue),
-            Call::Peek { queue } => Side::Looks(*queue),
-            Call::Drain { queue, .. } => Side::Takes(*queue),
+            Call::Count { queue } | Call::Peek { queue } => Side::Looks(*queue),
         }
     }
 
@@ -172,8 +169,7 @@ impl Call {
         ensures { result ≡ wait_of self.now }
     {
         match self {
-            Call::Transfer { wait, .. } => Some(*wait),
-            Call::Take { wait, .. } => Some(*wait),
+            Call::Transfer { wait, .. } | Call::Take { wait, .. } => Some(*wait),
             Call::Swap { wait, .. } => Some(*wait),
             Call::Drain { .. } => Some(Wait::Now),
             _ => None,
@@ -195,8 +191,7 @@ impl Call {
         ensures { option_map (λ i. i.now) result ≡ item_of self.now }
     {
         match self {
-            Call::Put { item, .. } => Some(item),
-            Call::Transfer { item, .. } => Some(item),
+            Call::Put { item, .. } | Call::Transfer { item, .. } => Some(item),
             Call::Swap { item, .. } => Some(item),
             _ => None,
         }

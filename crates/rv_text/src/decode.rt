@@ -46,7 +46,7 @@ pub fn decode_call(alloc: Global, bytes: &[u8]) -> Result<Call, TextFault>
 impl Body for Message {
     ghost shape = { messages };
 
-    fn read(alloc: Global, members: &Members) -> Result<Message, TextFault> {
+    fn read(_alloc: Global, members: &mut Members) -> Result<Message, TextFault> {
         match read_text(members, "kind")? {
             "hello" => Ok(Message::Hello {
                 client: read_whole(members, "client")?,
@@ -55,7 +55,7 @@ impl Body for Message {
             }),
             "request" => Ok(Message::Request {
                 key: read_key(members)?,
-                call: read_call(alloc, members)?,
+                call: read_call(members)?,
             }),
             "cancel" => Ok(Message::Cancel {
                 key: read_key(members)?,
@@ -80,7 +80,7 @@ impl Body for Message {
 impl Body for Answer {
     ghost shape = { answers };
 
-    fn read(alloc: Global, members: &Members) -> Result<Answer, TextFault> {
+    fn read(alloc: Global, members: &mut Members) -> Result<Answer, TextFault> {
         match read_text(members, "kind")? {
             "welcome" => Ok(Answer::Welcome {
                 epoch: read_whole(members, "epoch")?,
@@ -118,8 +118,8 @@ impl Body for Answer {
 impl Body for Call {
     ghost shape = { calls };
 
-    fn read(alloc: Global, members: &Members) -> Result<Call, TextFault> {
-        read_call(alloc, members)
+    fn read(_alloc: Global, members: &mut Members) -> Result<Call, TextFault> {
+        read_call(members)
     }
 
     // Its word and its place, how many items it drains or else its wait, and its item.

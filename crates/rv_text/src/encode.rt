@@ -253,10 +253,10 @@ fn put_detail(members: &mut Members, alloc: Global, refusal: Refusal) -> Result<
     ensures { OnOk result (PutsRow (detail_row refusal) members.old members.new) }
 {
     match refusal {
-        Refusal::OtherEpoch(current) => put_whole(members, alloc, "current", current),
-        Refusal::OldIncarnation(current) => put_whole(members, alloc, "current", current),
-        Refusal::OldNumber(last) => put_whole(members, alloc, "last", last),
-        Refusal::Gap(last) => put_whole(members, alloc, "last", last),
+        Refusal::OtherEpoch(current) | Refusal::OldIncarnation(current) => {
+            put_whole(members, alloc, "current", current)
+        }
+        Refusal::OldNumber(last) | Refusal::Gap(last) => put_whole(members, alloc, "last", last),
         Refusal::Busy(number) => put_whole(members, alloc, "open", number),
         Refusal::OtherVersion(version) => { put_whole(members, alloc, "current", version.number()) }
         _ => Ok(()),

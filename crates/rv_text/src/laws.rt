@@ -1,8 +1,7 @@
 //! What holds of messages, answers, calls and their bodies: each contract is a law, no body does anything.
 ghost use Rattle.std.specs.Prelude.{◌≡◌};
 ghost use Rattle.rv_text.specs.Bodies.{refused_text};
-ghost use Rattle.rv_text.specs.Laws.{OneMessage, WrittenBody, OneAnswer, WrittenAnswer};
-ghost use Rattle.rv_text.specs.Laws.{OneCall, WrittenCall};
+ghost use Rattle.rv_text.specs.Laws.{OneMessage, WrittenBody, OneAnswer, WrittenAnswer, OneCall, WrittenCall};
 
 use crate::answer::Refusal;
 use crate::encode::{BAD_TEXT_BODY, NO_MEMORY_BODY};

@@ -2,18 +2,17 @@
 ghost use Rattle.std.specs.Prelude.{◌≡◌, option_map};
 ghost use Rattle.serde_json.specs.Find.{get_member, as_str};
 ghost use Rattle.serde_json.specs.View.{view, items_view, members_view};
-ghost use Rattle.rv_text.specs.Reading.{Finds, FindsAmong, FindsSeenAmong, whole_among, text_among};
-ghost use Rattle.rv_text.specs.Reading.{texts_of, texts_among};
-ghost use Rattle.rv_text.specs.Reading.{item_among, wait_among, wait_word_among, key_among, call_among};
-ghost use Rattle.rv_text.specs.Reading.{version_among, received_among, reply_among, refusal_among};
-ghost use Rattle.rv_text.specs.Reading.{current_version_among};
+ghost use Rattle.rv_text.specs.Reading.{Finds, FindsAmong, FindsSeenAmong, whole_among, text_among, few_of};
+ghost use Rattle.rv_text.specs.Reading.{few_in, texts_of, texts_among, item_among, wait_among};
+ghost use Rattle.rv_text.specs.Reading.{key_among, call_among, version_among};
+ghost use Rattle.rv_text.specs.Reading.{received_among, reply_among, refusal_among, current_version_among};
 
 use crate::answer::{Refusal, Reply};
 use crate::call::{Call, Wait};
 use crate::fault::TextFault;
 use crate::message::Key;
 use crate::version::Version;
-use rv_item::{Item, Items};
+use rv_item::{Item, Items, MAX_DRAIN};
 use serde_json::{Map, Value};
 use std::alloc::Global;
 
@@ -48,53 +47,75 @@ pub(crate) fn read_text<'v>(members: &'v Members, name: &str) -> Result<&'v str,
         .ok_or(TextFault::NotMessage)
 }
 
-fn read_item(alloc: Global, members: &Members) -> Result<Item, TextFault>
-    ensures { FindsAmong members.now result item_among }
+// Takes the value at the name out of the members.
+fn take_member(members: &mut Members, name: &str) -> Option<Value>
+    ensures { option_map view result ≡ get_member name.now (members_view members.old.entries) }
 {
-    let value = member(members, "item").ok_or(TextFault::NotMessage)?;
-    item_of(alloc, value)
+    members.remove(name)
 }
 
-fn read_texts(alloc: Global, members: &Members) -> Result<Items, TextFault>
-    ensures { FindsAmong members.now result texts_among }
+fn take_item(members: &mut Members) -> Result<Item, TextFault>
+    ensures { FindsAmong members.old result item_among }
 {
-    let values = member(members, "texts")
-        .and_then(Value::as_array)
-        .ok_or(TextFault::NotMessage)?;
-    read_each_text(alloc, values)
+    let value = take_member(members, "item").ok_or(TextFault::NotMessage)?;
+    item_of(value)
+}
+
+fn take_texts(alloc: Global, members: &mut Members) -> Result<Items, TextFault>
+    ensures { FindsAmong members.old result texts_among }
+{
+    let value = take_member(members, "texts").ok_or(TextFault::NotMessage)?;
+    take_each_text(alloc, values_of(value)?)
+}
+
+// The values of a list of 16 at most.
+fn values_of(value: Value) -> Result<Vec<Value>, TextFault>
+    ensures { Finds (λ values. items_view values.items) result (few_in (view value)) }
+{
+    match value {
+        Value::Array(values) => few_of(values),
+        _ => Err(TextFault::NotMessage),
+    }
+}
+
+#[tactic(auto, using(crate::proofs::Steps::items_counted))]
+fn few_of(values: Vec<Value>) -> Result<Vec<Value>, TextFault>
+    ensures { Finds (λ values. items_view values.items) result (few_of (items_view values.items)) }
+{
+    if values.len() as u64 <= MAX_DRAIN {
+        Ok(values)
+    } else {
+        Err(TextFault::NotMessage)
+    }
 }
 
 // The items whose texts these values are, in their order.
-fn read_each_text(alloc: Global, values: &[Value]) -> Result<Items, TextFault>
-    ensures { Finds (λ items. items) result (texts_of (items_view values.now)) }
+fn take_each_text(alloc: Global, values: Vec<Value>) -> Result<Items, TextFault>
+    ensures { Finds (λ items. items) result (texts_of (items_view values.items)) }
 {
     let mut items = Items::new(alloc);
     for value in values {
-        items.push(item_of(alloc, value)?)?;
+        items.push(item_of(value)?)?;
     }
     Ok(items)
 }
 
-// The item whose text the value is.
-fn item_of(alloc: Global, value: &Value) -> Result<Item, TextFault>
-    ensures { Finds (λ item. item) result (as_str (view value.now)) }
+// The item whose text the value is, which it takes over.
+fn item_of(value: Value) -> Result<Item, TextFault>
+    ensures { Finds (λ item. item) result (as_str (view value)) }
 {
-    let text = value.as_str().ok_or(TextFault::NotMessage)?;
-    Ok(Item::from_text(String::from_str(alloc, text)?))
+    match value {
+        Value::String(text) => Ok(Item::from_text(text)),
+        _ => Err(TextFault::NotMessage),
+    }
 }
 
 fn read_wait(members: &Members) -> Result<Wait, TextFault>
     ensures { FindsAmong members.now result wait_among }
 {
-    match whole(members, "wait") {
-        Some(millis) => Ok(Wait::Millis(millis)),
-        None => read_wait_word(members),
+    if let Some(millis) = whole(members, "wait") {
+        return Ok(Wait::Millis(millis));
     }
-}
-
-fn read_wait_word(members: &Members) -> Result<Wait, TextFault>
-    ensures { FindsAmong members.now result wait_word_among }
-{
     match read_text(members, "wait")? {
         "now" => Ok(Wait::Now),
         "forever" => Ok(Wait::Forever),
@@ -113,18 +134,18 @@ pub(crate) fn read_key(members: &Members) -> Result<Key, TextFault>
     })
 }
 
-pub(crate) fn read_call(alloc: Global, members: &Members) -> Result<Call, TextFault>
-    ensures { FindsAmong members.now result call_among }
+pub(crate) fn read_call(members: &mut Members) -> Result<Call, TextFault>
+    ensures { FindsAmong members.old result call_among }
 {
     match read_text(members, "call")? {
         "put" => Ok(Call::Put {
             queue: read_whole(members, "queue")?,
-            item: read_item(alloc, members)?,
+            item: take_item(members)?,
         }),
         "transfer" => Ok(Call::Transfer {
             queue: read_whole(members, "queue")?,
-            item: read_item(alloc, members)?,
             wait: read_wait(members)?,
+            item: take_item(members)?,
         }),
         "take" => Ok(Call::Take {
             queue: read_whole(members, "queue")?,
@@ -132,8 +153,8 @@ pub(crate) fn read_call(alloc: Global, members: &Members) -> Result<Call, TextFa
         }),
         "swap" => Ok(Call::Swap {
             exchanger: read_whole(members, "exchanger")?,
-            item: read_item(alloc, members)?,
             wait: read_wait(members)?,
+            item: take_item(members)?,
         }),
         "count" => Ok(Call::Count {
             queue: read_whole(members, "queue")?,
@@ -175,24 +196,28 @@ fn read_received(members: &Members, epoch: u64) -> Result<Reply, TextFault>
 }
 
 // The reply in an answer of this epoch.
-pub(crate) fn read_reply(alloc: Global, members: &Members, epoch: u64) -> Result<Reply, TextFault>
-    ensures { FindsAmong members.now result (reply_among epoch) }
+pub(crate) fn read_reply(
+    alloc: Global,
+    members: &mut Members,
+    epoch: u64,
+) -> Result<Reply, TextFault>
+    ensures { FindsAmong members.old result (reply_among epoch) }
 {
     match read_text(members, "reply")? {
         "done" => Ok(Reply::Done),
         "received" => read_received(members, epoch),
         "nobody" => Ok(Reply::Nobody),
-        "item" => Ok(Reply::Item(read_item(alloc, members)?)),
+        "item" => Ok(Reply::Item(take_item(members)?)),
         "empty" => Ok(Reply::Empty),
-        "swapped" => Ok(Reply::Swapped(read_item(alloc, members)?)),
+        "swapped" => Ok(Reply::Swapped(take_item(members)?)),
         "timedout" => Ok(Reply::TimedOut),
         "cancelled" => Ok(Reply::Cancelled),
         "counted" => Ok(Reply::Counted {
             items: read_whole(members, "items")?,
             consumers: read_whole(members, "consumers")?,
         }),
-        "peeked" => Ok(Reply::Peeked(read_item(alloc, members)?)),
-        "drained" => Ok(Reply::Drained(read_texts(alloc, members)?)),
+        "peeked" => Ok(Reply::Peeked(take_item(members)?)),
+        "drained" => Ok(Reply::Drained(take_texts(alloc, members)?)),
         _ => Err(TextFault::NotMessage),
     }
 }
