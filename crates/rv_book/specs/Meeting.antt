@@ -34,11 +34,17 @@ abbrev pub own_by : Option Wait → OwedDuty → Option OwedDuty
 own_by None duty = Some duty
 own_by (Some wait) duty = None
 
+-- neither side took memory or gave it back
+pub record SameMemory (old new : Queue) : Type 0 where
+  pub givers : new.giver_room.capacity ≡ old.giver_room.capacity
+  pub takers : new.taker_room.capacity ≡ old.taker_room.capacity
+
 -- it gave to the first of the consumers, which left
 pub record GaveTo (old new : Queue) (duty : OwedDuty) (result : Arrival) : Type 0 where
   pub taker : OwedDuty
   pub oldest : old.takers ≡ taker ∷ new.takers
   pub givers : new.givers ≡ old.givers
+  pub memory : SameMemory old new
   pub is : result ≡ record { partner = Some taker.place; own = Some duty; other = Some taker }
 
 -- no consumer is there: its item waits behind the others
@@ -46,12 +52,14 @@ pub record LaysDown (old new : Queue) (wait : Option Wait) (duty : OwedDuty) (re
   pub nobody : old.takers ≡ []
   pub givers : new.givers ≡ old.givers ++ offer_by wait duty ∷ []
   pub takers : new.takers ≡ old.takers
+  pub memory : SameMemory old new
   pub is : result ≡ record { partner = None; own = own_by wait duty; other = None }
 
 -- no consumer is there, and it leaves nothing
 pub record GaveNobody (old new : Queue) (duty : OwedDuty) (result : Arrival) : Type 0 where
   pub nobody : old.takers ≡ []
   pub same : SameLists old new
+  pub memory : SameMemory old new
   pub is : result ≡ record { partner = None; own = Some duty; other = None }
 
 -- it took the first of the items, which left
@@ -59,6 +67,7 @@ pub record TookFrom (old new : Queue) (duty : OwedDuty) (result : Arrival) : Typ
   pub offer : Offer
   pub oldest : old.givers ≡ offer ∷ new.givers
   pub takers : new.takers ≡ old.takers
+  pub memory : SameMemory old new
   pub is : result ≡ record { partner = Some (place_of offer); own = Some duty; other = duty_of offer }
 
 -- no item is there: it waits behind the other consumers
@@ -66,12 +75,14 @@ pub record StandsBy (old new : Queue) (duty : OwedDuty) (result : Arrival) : Typ
   pub nobody : old.givers ≡ []
   pub takers : new.takers ≡ old.takers ++ duty ∷ []
   pub givers : new.givers ≡ old.givers
+  pub memory : SameMemory old new
   pub is : result ≡ record { partner = None; own = None; other = None }
 
 -- no item is there, and it goes
 pub record TookNothing (old new : Queue) (duty : OwedDuty) (result : Arrival) : Type 0 where
   pub nobody : old.givers ≡ []
   pub same : SameLists old new
+  pub memory : SameMemory old new
   pub is : result ≡ record { partner = None; own = Some duty; other = None }
 
 -- who gives with this wait has room for its item, where it will lie there
