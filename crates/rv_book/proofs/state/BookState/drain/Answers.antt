@@ -1,5 +1,5 @@
 -- After a drain the account and its tables are sound, and it is told what is kept.
-use Rattle.std.proofs.Common.{◌≡◌, ◌+◌, ◌≤◌, Some, length, take, sym, ap, subst, ◌∙◌}
+use Rattle.std.proofs.Common.{◌≡◌, ◌+◌, Some, length, take, sym, ap, subst, ◌∙◌}
 use Rattle.rv_session.specs.OwedDuty.{OwedDuty}
 use Rattle.rv_account.specs.Account.{Account, Stored, limit_at}
 use Rattle.rv_account.specs.Calls.{may_name}

@@ -1,5 +1,5 @@
 -- After a request that was recorded the account and its tables are sound, and it is told its reply or that it waits.
-use Rattle.std.proofs.Common.{◌≡◌, ◌∙◌, ◌≤◌, ◌+◌, Option, length, refl, sym, ap, subst}
+use Rattle.std.proofs.Common.{◌≡◌, ◌∙◌, ◌+◌, Option, length, refl, sym, ap, subst}
 use Rattle.rv_text.specs.Calls.{side_of}
 use Rattle.rv_session.specs.OwedDuty.{OwedDuty}
 use Rattle.rv_session.specs.Table.{OnlyAdvances}
