@@ -36,7 +36,11 @@ impl Model for Sessions {
 
     ghost coded = { table_code session.the_row.coded };
 
-    ghost view = { λ s. record { epoch = s.epoch; sessions = map_of s.sessions.entries; room = spare s.sessions } };
+    ghost view = { λ s. record {
+      epoch = s.epoch;
+      sessions = map_of s.sessions.entries;
+      room = spare s.sessions;
+    } };
 
     ghost invariant = { λ s. IsTable s.sessions.entries };
 }
