@@ -10,7 +10,7 @@ use Rattle.rv_run.specs.declared.output.Output.{Output}
 use Rattle.rv_run.specs.Output.{IsShort, StopsAfter, gathered_bytes, sent_before}
 use Rattle.rv_run.proofs.Printing.{Appends-nothing, all_out, part_out, printed_append}
 use Rattle.rv_world.specs.World.{World, first_world}
-use Rattle.rv_play.specs.Plays.{PlaysFirst, PrintsAll, PrintsFront, PrintsSome}
+use Rattle.rv_play.specs.Plays.{PlaysFirst, PrintsFront, PrintsSome}
 use Rattle.rv_play.specs.Turns.{LineTurn, Plays, TakesTurn, lines_of, turn_texts}
 
 -- ---- one turn more
@@ -71,9 +71,6 @@ module _ {W : Type 0} (contents : W → Option (List ℕ)) {input : List ℕ} (s
 
   plays_first : (left : List (List ℕ)) → lines rest ≡ left → PlaysFirst input so_far.turns left
   plays_first left are = record { cut = so_far.cut ∙ ap (λ l. lines_of so_far.turns ++ l) are; last = world; plays = so_far.plays }
-
-  pub prints_all : (now' : Sink W) → rest ≡ [] → sink_failed now' ≡ sink_failed start → SinkTakes contents now now' (gathered_bytes output) → PrintsAll contents input start now'
-  prints_all now' none stays out = record { turns = so_far.turns; plays = plays_first [] (ap lines none); went_out = all_texts now' out; sink_stays = stays }
 
   -- a line has no text, for want of memory
   pub prints_some : (now' : Sink W) (line after : List ℕ) → lines rest ≡ line ∷ lines after → sink_failed now' ≡ sink_failed start → SinkTakes contents now now' (gathered_bytes output)

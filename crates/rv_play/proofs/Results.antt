@@ -36,10 +36,6 @@ number_fits text word n is plain few small = subst FitsLine (sym is) (record {
 
 -- ---- results
 
-pub word_result : (w : World) (shown : Result Seen WorldRefusal) (s : String Global) (word : List ℕ) → string_bytes s ≡ word → IsPlain word → length word ≤ 20
-    → (string_bytes s ≡ word → TellsResult w shown (string_bytes s)) → IsResult w shown s
-word_result w shown s word is plain few tells = record { tells = tells is; fits = word_fits (string_bytes s) word is plain few }
-
 pub number_result : (w : World) (shown : Result Seen WorldRefusal) (s : String Global) (word : List ℕ) (n : ℕ) → string_bytes s ≡ word ++ decimal n → IsPlain word → length word ≤ 20 → n < 2 ^ 64
     → (string_bytes s ≡ word ++ decimal n → TellsResult w shown (string_bytes s)) → IsResult w shown s
 number_result w shown s word n is plain few small tells = record { tells = tells is; fits = number_fits (string_bytes s) word n is plain few small }

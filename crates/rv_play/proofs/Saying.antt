@@ -52,10 +52,7 @@ word_lacks_space (event.NewEpoch epoch) = greater_lack 32 (codes "epoch") refl
 pub no_space : (line : List ℕ) → Lacks 32 line → SaysNoEvent line
 no_space line lacks e says = not_lacking 32 (word_of e) says.fields (subst (Lacks 32) says.parts lacks)
 
--- a line says what its first word and the rest say
-pub parts_say : (line word fields : List ℕ) (e : Event) → line ≡ word ++ 32 ∷ fields → SaysParts word fields e → SaysEvent line e
-parts_say line word fields e is says = record { fields = fields; parts = is ∙ ap (λ w. w ++ 32 ∷ fields) says.0; rest = says.1 }
-
+-- a line says no event that its first word and the rest don't say
 pub parts_say_none : (line word fields : List ℕ) → line ≡ word ++ 32 ∷ fields → Lacks 32 word → ((e : Event) → ¬ SaysParts word fields e) → SaysNoEvent line
 parts_say_none line word fields is lacks none e says =
     let one = cut_once 32 (word_of e) says.fields word fields (word_lacks_space e) lacks (sym says.parts ∙ is) in

@@ -9,19 +9,20 @@ ghost use Rattle.rv_play.specs.Turns.{refusal_number};
 
 use crate::event::read_event;
 use rv_lines::LineFault;
+use rv_run::RunFault;
 use rv_text::{NoMemory, encode_answer};
 use rv_world::{Event, Seen, World, WorldRefusal};
-use std::alloc::{AllocError, Global};
+use std::alloc::Global;
 
 /// Gives the world the event that a line says, and tells what came of it. It fails only where memory for the
 /// line's reading or for the text was refused.
-pub(crate) fn play_line(alloc: Global, world: &mut World, line: &[u8]) -> Result<String, NoMemory>
+pub(crate) fn play_line(alloc: Global, world: &mut World, line: &[u8]) -> Result<String, RunFault>
     ensures { IfOk result (PlaysLine world.old line.now world.new) }
 {
     match read_event(alloc, line) {
-        Ok(event) => play_event(alloc, world, &event),
-        Err(LineFault::Bad) => String::from_str(alloc, "bad line"),
-        Err(LineFault::NoMemory) => Err(AllocError),
+        Ok(event) => play_event(alloc, world, &event).map_err(RunFault::from),
+        Err(LineFault::Bad) => String::from_str(alloc, "bad line").map_err(RunFault::from),
+        Err(LineFault::NoMemory) => Err(RunFault::NoMemory),
     }
 }
 

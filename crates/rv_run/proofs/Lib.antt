@@ -1,4 +1,5 @@
 -- The lemmas on what was read and printed, for the runs above too.
+pub mod Faulting
 pub mod Giving
 pub mod Printing
 pub mod Sending
