@@ -1,5 +1,5 @@
 //! Audits the account that the lines of an input say.
-ghost use Rattle.std.specs.Prelude.{◌≡◌, Err, IfOk};
+ghost use Rattle.std.specs.Prelude.{◌≡◌, Err, IfErr, IfOk};
 ghost use Rattle.rv_app.specs.Audits.{Audited, HasLine, StoppedTelling, TellsOf};
 ghost use Rattle.rv_app.specs.Outcomes.{FailedReading, FoundTooLong, LackedMemory};
 
@@ -9,7 +9,7 @@ use rv_lines::{AccountFault, read_account};
 use rv_run::{OutputFault, RunFault, read_input};
 use rv_text::NoMemory;
 use rv_world::{Audit, audit};
-use std::alloc::{AllocError, Global};
+use std::alloc::Global;
 use std::io::{Read, Write};
 
 /// What an audit said of an input.
@@ -62,16 +62,17 @@ pub fn audit_run<R: Read, W: Write>(
 }
 
 // What an audit of the input's lines says, and the line with its LF that tells it.
-fn tell_input(alloc: Global, input: &[u8]) -> Result<(AuditSaid, String), NoMemory>
-    ensures { IfOk result (HasLine input.now) }
+fn tell_input(alloc: Global, input: &[u8]) -> Result<(AuditSaid, String), RunFault>
+    ensures ok { IfOk result (HasLine input.now) }
+    ensures fault { IfErr result (λ fault. fault ≡ RunFault.NoMemory) }
 {
     match read_account(alloc, input) {
-        Ok(account) => tell_account(alloc, &account),
+        Ok(account) => tell_account(alloc, &account).map_err(RunFault::from),
         Err(AccountFault::BadLine(number)) => {
             let line = format!(in alloc; "bad line {number}\n")?;
             Ok((AuditSaid::BadLine, line))
         }
-        Err(AccountFault::NoMemory) => Err(AllocError),
+        Err(AccountFault::NoMemory) => Err(RunFault::NoMemory),
     }
 }
 
