@@ -11,6 +11,10 @@ sink_device sink = sink.device
 abbrev pub sink_failed : {W : Type 0} → Sink W → Bool
 sink_failed sink = sink.failed
 
+-- a sink over this device, which has failed or not
+abbrev pub sink_over : {W : Type 0} → W → Bool → Sink W
+sink_over device failed = record { device = device; failed = failed }
+
 -- the bytes that the device holds, where they are known, by its `W.contents`
 abbrev pub sink_contents : {W : Type 0} → (W → Option (List ℕ)) → Sink W → Option (List ℕ)
 sink_contents contents sink = contents sink.device

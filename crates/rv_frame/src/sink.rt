@@ -1,12 +1,13 @@
 //! A writer that remembers that a write failed, and counts what went out.
 ghost use Rattle.std.specs.Prelude.{◌≡◌, ◌<◌, ◌≤◌, true, false, take, length, IfErr, OnOk, OnErr, IsErrOf};
+ghost use Rattle.std.specs.Prelude.{[]};
 ghost use Rattle.rv_frame.specs.Sink.{SinkTakes, sink_device, sink_failed};
 
 use std::io::Write;
 use thiserror::Error;
 
-/// A write to the device failed, at this call or at an earlier one: `Sink::failed` is true from
-/// then on. Of the bytes of the call exactly the first `sent` went out.
+/// A write or a flush of the device failed, at this call or at an earlier one: `Sink::failed` is true from
+/// then on. Of the bytes of the call exactly the first `sent` went out; at a flush that is 0.
 #[derive(Clone, Copy, Debug, PartialEq, Eq, Error)]
 #[error("a write to the device failed after {sent} bytes")]
 pub struct WriteFault {
@@ -14,7 +15,10 @@ pub struct WriteFault {
     pub sent: usize,
 }
 
-/// A writer over a device. Once a write failed it stays failed, and gives the device nothing more.
+// The fault of a flush.
+const NONE_SENT: WriteFault = WriteFault { sent: 0 };
+
+/// A writer over a device. Once a write or a flush failed it stays failed, and gives the device nothing more.
 #[derive(Drop)]
 pub struct Sink<W> {
     device: W,
@@ -22,7 +26,7 @@ pub struct Sink<W> {
 }
 
 impl<W> Sink<W> {
-    /// A sink over this writer, its device, of which no write failed yet.
+    /// A sink over this writer, its device, of which nothing failed yet.
     pub fn new(writer: W) -> Sink<W>
         ensures device { sink_device result ≡ writer }
         ensures failed { sink_failed result ≡ false }
@@ -33,7 +37,7 @@ impl<W> Sink<W> {
         }
     }
 
-    /// Whether a write failed.
+    /// Whether a write or a flush failed.
     pub fn failed(&self) -> bool
         ensures { result ≡ sink_failed self.now }
     {
@@ -47,8 +51,8 @@ impl<W: Write> Sink<W> {
     /// A write error of any kind is a fault, `Interrupted` too, and so is a write that takes 0
     /// bytes. None is tried again. With no bytes to write the device is not asked.
     ///
-    /// The device is never flushed. Standard output and sockets hold nothing back. A device that
-    /// does, as a `BufWriter`, is lent as a `&mut` and flushed by its owner.
+    /// The device is not flushed. Standard output and sockets hold nothing back; of a device that
+    /// does, as a `BufWriter`, what it holds counts as taken, and goes on by [`Sink::flush`].
     ///
     /// `WriteFault` says that a write of this call failed, after the device took exactly `sent`
     /// of the bytes and not all of them, or that the sink had failed before, and then `sent` is
@@ -84,5 +88,39 @@ impl<W: Write> Sink<W> {
             }
         }
         Ok(())
+    }
+
+    /// Flushes the device, once, so that what it holds back goes on. Of the bytes that it took none
+    /// is lost and none added.
+    ///
+    /// `WriteFault` says that this flush failed, for an error of whatever kind, or that the sink had
+    /// failed before; `sent` is 0. The sink has then failed.
+    pub fn flush(&mut self) -> Result<(), WriteFault>
+        ensures bytes { SinkTakes W.contents self.old self.new [] }
+        ensures none { IfErr result (λ fault. fault.sent ≡ 0) }
+        ensures ok { OnOk result ((sink_failed self.old ≡ false) × (sink_failed self.new ≡ false)) }
+        ensures fault { OnErr result (sink_failed self.new ≡ true) }
+        ensures refused { sink_failed self.old ≡ true → IsErrOf result (record { sent = 0 }) }
+        ensures kept { sink_failed self.old ≡ true → self.new ≡ self.old }
+    {
+        let Sink { device, failed } = self;
+        if *failed {
+            return Err(NONE_SENT);
+        }
+        match device.flush() {
+            Ok(()) => Ok(()),
+            Err(_) => {
+                *failed = true;
+                Err(NONE_SENT)
+            }
+        }
+    }
+
+    /// The device, as the last call left it.
+    pub fn into_inner(self) -> W
+        ensures { result ≡ sink_device self }
+    {
+        let Sink { device, failed: _ } = self;
+        device
     }
 }

@@ -4,17 +4,17 @@ use Rattle.std.proofs.KnownBytes.{Appends-nil, Appends-trans, Consumes-nil, Cons
 use Rattle.std.proofs.lemmas.List.{length-map, map-append}
 use Rattle.std.proofs.lemmas.List.Elements.{All-nil}
 use Rattle.rv_frame.specs.Cut.{Cut, End, frame_bytes, row_bytes}
-use Rattle.rv_frame.specs.Sink.{SinkTakes}
+use Rattle.rv_frame.specs.Sink.{SinkTakes, sink_failed}
 use Rattle.rv_frame.specs.Stream.{HasFed, Stream}
 use Rattle.rv_frame.specs.declared.source.Source.{Source}
 use Rattle.rv_frame.specs.declared.sink.Sink.{Sink}
 use Rattle.rv_frame.proofs.Cuts.{row_append}
 use Rattle.rv_server.specs.Asking.{Cover, GetsStamps}
 use Rattle.rv_server.specs.Progress.{AnswersFrame, Out, Progress, StopsAtFrame, out}
-use Rattle.rv_server.specs.Reading.{ReadsOn, ReadsOut, TakesFrame}
+use Rattle.rv_server.specs.Reading.{FailsAtSink, ReadsOn, ReadsOut, TakesFrame}
 use Rattle.rv_server.specs.Stamps.{Numbered, added_entries}
-use Rattle.rv_server.specs.AnsweredFrames.{AnsweredFrame, AreAnsweredFrames, AreFor, IsAnsweredFrame, IsFor, stamps_of}
-use Rattle.rv_server.specs.Works.{AreForNext, Connection, Listed, Worked, Works, connection, max_frames, nothing}
+use Rattle.rv_server.specs.AnsweredFrames.{AnsweredFrame, AreAnsweredFrames, AreFor, IsAnsweredFrame, IsFor, IsWaiting, stamps_of}
+use Rattle.rv_server.specs.Works.{AreForNext, Connection, Listed, StopsBetween, Worked, Works, connection, max_frames, nothing}
 use Rattle.rv_server.specs.declared.fault.WorkFault.{WorkFault}
 use Rattle.rv_server.specs.declared.fault.WorkFault.TheVariants.{BadLength, CutFrame, NoMemory, ReadFault, TooLong, WriteFault}
 use Rattle.rv_server.proofs.Getting.{added_append, cover_append, covers_all}
@@ -102,6 +102,23 @@ module _ {R W : Type 0} (remaining : R → Option (List ℕ)) (contents : W → 
         cover = cover_on before.share mid.share after.share number body listed.stamps listed'.stamps frame.stamps so_far.share so_far.cover made.stamps;
       }
 
+  -- a flush of the sink changes nothing
+  pub flushed : (before mid : Connection R W) (listed : Listed) (stream : Stream) (number : ℕ) (sink : Sink W) → Progress remaining contents before mid listed stream number
+      → SinkTakes contents mid.sink sink [] → Progress remaining contents before (connection mid.source sink mid.share) listed stream number
+  flushed before mid listed stream number sink so_far none = record {
+    bytes = so_far.bytes;
+    answered = so_far.answered;
+    count = so_far.count;
+    read = so_far.read;
+    fed = so_far.fed;
+    right = so_far.right;
+    items = so_far.items;
+    stamps = so_far.stamps;
+    written = subst (λ (l : List ℕ). SinkTakes contents before.sink sink l) (append-nil _) (Appends-trans _ _ _ _ _ so_far.written none);
+    share = so_far.share;
+    cover = so_far.cover;
+  }
+
   -- the cut of all that was read: the frames that were answered, and these more
   cut_to : (before mid : Connection R W) (listed : Listed) (old new : Stream) (number : ℕ) (source : Source R) (taken more : List (List ℕ))
       → (so_far : Progress remaining contents before mid listed old number) → (reads : ReadsOn remaining mid.source source old new taken)
@@ -147,23 +164,34 @@ module _ {R W : Type 0} (remaining : R → Option (List ℕ)) (contents : W → 
 
   stops_reading : (before mid : Connection R W) (listed : Listed) (old new : Stream) (number : ℕ) (source : Source R) (fault : WorkFault)
       → Progress remaining contents before mid listed old number → number ≤ max_frames → TakesFrame remaining mid.source source old new (Err fault)
-      → Works remaining contents before (connection source mid.sink mid.share) listed (Some fault)
-  stops_reading before mid listed old new number source ReadFault so_far few took =
+      → FailsAtSink (sink_failed mid.sink) fault → Works remaining contents before (connection source mid.sink mid.share) listed (Some fault)
+  stops_reading before mid listed old new number source ReadFault so_far few took failed =
       (new.end, worked_out before mid listed old new number source _ so_far few took.0, took.1)
-  stops_reading before mid listed old new number source CutFrame so_far few took =
+  stops_reading before mid listed old new number source CutFrame so_far few took failed =
       (new.end, worked_out before mid listed old new number source _ so_far few took.0, took.0.left, took.1)
-  stops_reading before mid listed old new number source (BadLength n) so_far few took =
+  stops_reading before mid listed old new number source (BadLength n) so_far few took failed =
       subst (λ (e : End). Worked remaining contents before (connection source mid.sink mid.share) listed [] e [] []) took.left
       (worked_out before mid listed old new number source _ so_far few took)
-  stops_reading before mid listed old new number source NoMemory so_far few took = record {
+  stops_reading before mid listed old new number source NoMemory so_far few took failed = record {
     more = took.0.frames;
     end = took.0.end;
     pending = [];
     few = inl refl;
     worked = worked_to before mid listed old took.0 number source [] took.0.frames so_far few took.1 refl;
   }
-  stops_reading before mid listed old new number source (WriteFault sent) so_far few took = absurd took
-  stops_reading before mid listed old new number source TooLong so_far few took = absurd took
+  stops_reading before mid listed old new number source (WriteFault sent) so_far few took failed = inr (record {
+    none = took.0;
+    stops = record {
+      more = [];
+      end = new.end;
+      pending = [];
+      few = inl refl;
+      worked = worked_out before mid listed old new number source _ so_far few took.1;
+    };
+    waited = All-nil (λ (stamp : Numbered). IsWaiting stamp.1.said);
+    failed = failed;
+  })
+  stops_reading before mid listed old new number source TooLong so_far few took failed = absurd took
 
   pub too_long : (before mid : Connection R W) (listed : Listed) (old new : Stream) (number : ℕ) (source : Source R) (body : List ℕ)
       → number ≡ max_frames → Progress remaining contents before mid listed old number → ReadsOn remaining mid.source source old new (body ∷ [])
@@ -205,12 +233,25 @@ module _ {R W : Type 0} (remaining : R → Option (List ℕ)) (contents : W → 
   as_many before mid listed listed' stream number so_far items =
       ap length (items ∙ so_far.items) ∙ length-map so_far.answered (λ (t : AnsweredFrame). t.item) ∙ so_far.count
 
+  -- stamps were got for the next frame, and nothing of its answer was written
+  abbrev between : (before mid : Connection R W) (listed listed' : Listed) (old new : Stream) (number : ℕ) (body : List ℕ) (source : Source R) (after : Out W) (got : List Numbered)
+      → Progress remaining contents before mid listed old number → number < max_frames → ReadsOn remaining mid.source source old new (body ∷ [])
+      → listed'.items ≡ listed.items → GetsStamps number body mid.share listed.stamps after.share listed'.stamps got → SinkTakes contents mid.sink after.sink []
+      → StopsBetween remaining contents before (connection source after.sink after.share) listed'
+  between before mid listed listed' old new number body source after got so_far few reads items stamps none = record {
+    more = body ∷ new.frames;
+    end = new.end;
+    pending = got;
+    few = inr (subst (λ (n : ℕ). n < max_frames) (sym (as_many before mid listed listed' old number so_far items)) few);
+    worked = stopped_at before mid listed listed' old new number body source after got [] so_far (omega (arith, few)) reads items stamps none;
+  }
+
   stops_frame : (before mid : Connection R W) (listed listed' : Listed) (old new : Stream) (number : ℕ) (body : List ℕ) (source : Source R) (after : Out W)
       (fault : WorkFault)
       → Progress remaining contents before mid listed old number → number < max_frames → ReadsOn remaining mid.source source old new (body ∷ [])
       → StopsAtFrame contents number body (out mid.sink mid.share) after listed listed' fault
       → Works remaining contents before (connection source after.sink after.share) listed' (Some fault)
-  stops_frame before mid listed listed' old new number body source after (WriteFault sent) so_far few reads broke = record {
+  stops_frame before mid listed listed' old new number body source after (WriteFault sent) so_far few reads (inl broke) = inl (record {
     frame = broke.frame;
     is = subst (λ (n : ℕ). IsAnsweredFrame n broke.frame) (sym (as_many before mid listed listed' old number so_far broke.items)) broke.is;
     few = subst (λ (n : ℕ). n < max_frames) (sym (as_many before mid listed listed' old number so_far broke.items)) few;
@@ -221,15 +262,15 @@ module _ {R W : Type 0} (remaining : R → Option (List ℕ)) (contents : W → 
         subst (λ (b : List ℕ). Worked remaining contents before (connection source after.sink after.share) listed' (b ∷ new.frames) new.end broke.frame.stamps (take sent (frame_bytes broke.frame.answer))) (sym broke.of)
         (stopped_at before mid listed listed' old new number body source after broke.frame.stamps _ so_far (omega (arith, few)) reads broke.items broke.stamps broke.written);
     failed = broke.failed;
-  }
-  stops_frame before mid listed listed' old new number body source after NoMemory so_far few reads lacks = record {
-    more = body ∷ new.frames;
-    end = new.end;
-    pending = lacks.got;
-    few = inr (subst (λ (n : ℕ). n < max_frames) (sym (as_many before mid listed listed' old number so_far lacks.items)) few);
-    worked = stopped_at before mid listed listed' old new number body source after lacks.got [] so_far (omega (arith, few)) reads lacks.items lacks.stamps
-        (subst (λ (s : Sink W). SinkTakes contents mid.sink s []) (sym lacks.same) (Appends-nil _));
-  }
+  })
+  stops_frame before mid listed listed' old new number body source after (WriteFault sent) so_far few reads (inr fails) = inr (record {
+    none = fails.none;
+    stops = between before mid listed listed' old new number body source after fails.waited.got so_far few reads fails.items fails.waited.gets fails.none_written;
+    waited = fails.waited.waited;
+    failed = fails.failed;
+  })
+  stops_frame before mid listed listed' old new number body source after NoMemory so_far few reads lacks =
+      between before mid listed listed' old new number body source after lacks.got so_far few reads lacks.items lacks.stamps lacks.none_written
   stops_frame before mid listed listed' old new number body source after ReadFault so_far few reads none = absurd none
   stops_frame before mid listed listed' old new number body source after CutFrame so_far few reads none = absurd none
   stops_frame before mid listed listed' old new number body source after (BadLength n) so_far few reads none = absurd none
@@ -239,10 +280,10 @@ module _ {R W : Type 0} (remaining : R → Option (List ℕ)) (contents : W → 
 
   pub stopped_reading : (before mid : Connection R W) (listed : Listed) (old new : Stream) (number : ℕ) (source : Source R) (cause fault : WorkFault) → fault ≡ cause
       → Progress remaining contents before mid listed old number → number ≤ max_frames → TakesFrame remaining mid.source source old new (Err cause)
-      → Works remaining contents before (connection source mid.sink mid.share) listed (Some fault)
-  stopped_reading before mid listed old new number source cause fault is so_far few took =
+      → FailsAtSink (sink_failed mid.sink) cause → Works remaining contents before (connection source mid.sink mid.share) listed (Some fault)
+  stopped_reading before mid listed old new number source cause fault is so_far few took failed =
       subst (λ (f : WorkFault). Works remaining contents before (connection source mid.sink mid.share) listed (Some f)) (sym is)
-      (stops_reading before mid listed old new number source cause so_far few took)
+      (stops_reading before mid listed old new number source cause so_far few took failed)
 
   pub stopped_frame : (before mid : Connection R W) (listed listed' : Listed) (old new : Stream) (number : ℕ) (body : List ℕ) (source : Source R) (after : Out W)
       (cause fault : WorkFault) → fault ≡ cause

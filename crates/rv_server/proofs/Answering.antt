@@ -1,11 +1,12 @@
 -- One frame is answered: from what was got and told of it to the answered frame.
-use Rattle.std.proofs.Common.{◌≡◌, ◌<◌, ◌++◌, ◌∷◌, [], ℕ, List, Err, IsErrAnd, IfErr, IfOk, Ok, OnErr, OnOk, Option, Result, arith, length, refl, subst, sym, take, true}
+use Rattle.std.proofs.Common.{inl, inr, ◌≡◌, ◌<◌, ◌++◌, ◌∷◌, [], ℕ, List, Err, IsErrAnd, IfErr, IfOk, Ok, OnErr, OnOk, Option, Result, arith, length, refl, subst, sym, take, true}
 use Rattle.rv_text.specs.Bodies.{HasBodyLength}
 use Rattle.rv_frame.specs.Cut.{IsFrameBody, frame_bytes}
 use Rattle.rv_frame.specs.Sink.{SinkTakes, sink_failed}
 use Rattle.rv_frame.specs.declared.sink.Sink.{Sink}
 use Rattle.rv_frame.specs.declared.sink.WriteFault.{WriteFault as SinkFault}
-use Rattle.rv_server.specs.Asking.{GetsStamps, GetsTold, TellsFrame}
+use Rattle.std.proofs.KnownBytes.{Appends-nil, Appends-trans}
+use Rattle.rv_server.specs.Asking.{GetsStamps, GetsTold, StopsAsking, TellsFrame}
 use Rattle.rv_server.specs.Progress.{AnswersFrame, Out, StopsAtFrame}
 use Rattle.rv_server.specs.Stamps.{Numbered}
 use Rattle.rv_server.specs.AnsweredFrames.{AnsweredFrame, BodySays, IsAnsweredFrame}
@@ -14,7 +15,7 @@ use Rattle.rv_server.specs.Writing.{IsAnswer, WritesAnswer, WritesPart}
 use Rattle.rv_server.specs.declared.asking.FrameAnswer.{FrameAnswer}
 use Rattle.rv_server.specs.declared.asking.FrameAnswer.TheVariants as told
 use Rattle.rv_server.specs.declared.fault.WorkFault.{WorkFault}
-use Rattle.rv_server.specs.declared.fault.WorkFault.TheVariants.{NoMemory, WriteFault}
+use Rattle.rv_server.specs.declared.fault.WorkFault.TheVariants.{BadLength, CutFrame, NoMemory, ReadFault, TooLong, WriteFault}
 use Rattle.rv_server.proofs.Getting.{nothing_got}
 use Rattle.rv_server.specs.declared.served.Item.{Item}
 use Rattle.rv_server.specs.declared.served.Item.TheVariants as item
@@ -80,32 +81,55 @@ module _ {W : Type 0} (contents : W → Option (List ℕ)) where
         got = [];
         items = items;
         stamps = subst (λ (l : List Numbered). GetsStamps number body at.share old.stamps at.share l []) (sym stamps) (nothing_got number body at.share old.stamps);
-        same = refl;
+        none_written = Appends-nil _;
       })
 
-  pub answers_frame : (number : ℕ) (body : List ℕ) (before after : Out W) (old new : Listed) (t : FrameAnswer) (i : Item)
-      → GetsTold number body before.share old.stamps after.share new.stamps t → WritesAnswer contents before.sink after.sink t i
+  pub answers_frame : (number : ℕ) (body : List ℕ) (before after : Out W) (old new : Listed) (mid : Sink W) (t : FrameAnswer) (i : Item)
+      → SinkTakes contents before.sink mid [] → GetsTold number body before.share old.stamps after.share new.stamps t → WritesAnswer contents mid after.sink t i
       → new.items ≡ old.items ++ i ∷ [] → AnswersFrame contents number body before after old new
-  answers_frame number body before after old new t i told writes items = record {
+  answers_frame number body before after old new mid t i none told writes items = record {
     frame = frame_of body told.got i writes.answer;
     of = refl;
     is = frame_is number body before.share after.share old.stamps new.stamps t i writes.answer told writes.is writes.fits;
     items = items;
     stamps = told.gets;
-    written = writes.written;
+    written = Appends-trans _ _ _ _ _ none writes.written;
   }
 
-  pub breaks_frame : (number : ℕ) (body : List ℕ) (before after : Out W) (old new : Listed) (t : FrameAnswer) (sent : ℕ) (fault : WorkFault)
-      → fault ≡ WriteFault sent → GetsTold number body before.share old.stamps after.share new.stamps t
-      → WritesPart contents before.sink after.sink t sent → new.items ≡ old.items → StopsAtFrame contents number body before after old new fault
-  breaks_frame number body before after old new t sent fault is told writes items =
-      subst (λ (f : WorkFault). StopsAtFrame contents number body before after old new f) (sym is) (record {
+  pub breaks_frame : (number : ℕ) (body : List ℕ) (before after : Out W) (old new : Listed) (mid : Sink W) (t : FrameAnswer) (sent : ℕ) (fault : WorkFault)
+      → fault ≡ WriteFault sent → SinkTakes contents before.sink mid [] → GetsTold number body before.share old.stamps after.share new.stamps t
+      → WritesPart contents mid after.sink t sent → new.items ≡ old.items → StopsAtFrame contents number body before after old new fault
+  breaks_frame number body before after old new mid t sent fault is none told writes items =
+      subst (λ (f : WorkFault). StopsAtFrame contents number body before after old new f) (sym is) (inl (record {
         frame = frame_of body told.got writes.item writes.answer;
         of = refl;
         is = frame_is number body before.share after.share old.stamps new.stamps t writes.item writes.answer told writes.is writes.fits;
         items = items;
         stamps = told.gets;
         part = writes.part;
-        written = writes.written;
+        written = Appends-trans _ _ _ _ _ none writes.written;
         failed = writes.failed;
-      })
+      }))
+
+  -- asking stopped before there was an answer
+  stops_asking : (number : ℕ) (body : List ℕ) (before after : Out W) (old new : Listed) (fault : WorkFault)
+      → SinkTakes contents before.sink after.sink [] → new.items ≡ old.items
+      → StopsAsking number body before.share old.stamps after.share new.stamps (sink_failed after.sink) fault → StopsAtFrame contents number body before after old new fault
+  stops_asking number body before after old new NoMemory none items stops = record { got = stops.got; items = items; stamps = stops.gets; none_written = none }
+  stops_asking number body before after old new (WriteFault sent) none items stops = inr (record {
+    none = stops.0;
+    items = items;
+    waited = stops.1;
+    none_written = none;
+    failed = stops.2;
+  })
+  stops_asking number body before after old new ReadFault none items stops = absurd stops
+  stops_asking number body before after old new CutFrame none items stops = absurd stops
+  stops_asking number body before after old new (BadLength n) none items stops = absurd stops
+  stops_asking number body before after old new TooLong none items stops = absurd stops
+
+  pub stopped_asking : (number : ℕ) (body : List ℕ) (before after : Out W) (old new : Listed) (cause fault : WorkFault) → fault ≡ cause
+      → SinkTakes contents before.sink after.sink [] → new.items ≡ old.items
+      → StopsAsking number body before.share old.stamps after.share new.stamps (sink_failed after.sink) cause → StopsAtFrame contents number body before after old new fault
+  stopped_asking number body before after old new cause fault is none items stops =
+      subst (λ (f : WorkFault). StopsAtFrame contents number body before after old new f) (sym is) (stops_asking number body before after old new cause none items stops)

@@ -1,12 +1,14 @@
 -- Stamps that are got for a frame, one behind the other.
-use Rattle.std.proofs.Common.{add-zero, ◌≡◌, ◌∙◌, ◌+◌, ◌++◌, ◌∷◌, ◌≤◌, [], ℕ, List, Err, Ok, OnErr, Result, ap, arith, refl, subst, sym, append-nil, append_assoc}
+use Rattle.std.proofs.Common.{add-zero, ◌≡◌, ◌∙◌, ◌+◌, ◌++◌, ◌∷◌, ◌≤◌, [], ℕ, Bool, List, true, ap, arith, refl, subst, sym, append-nil, append_assoc}
 use Rattle.std.specs.List.{All}
 use Rattle.std.proofs.lemmas.List.Elements.{All-append, All-cons, All-head, All-nil, All-tail}
 use Rattle.std.proofs.lemmas.List.Sums.{sum_by-append, sum_by-cons}
 use Rattle.rv_text.specs.declared.answer.Answer.{Answer}
-use Rattle.rv_server.specs.Asking.{Cover, GetsSome, GetsStamps, GetsTold, OnlyWaited, TellsFrame, Waits}
+use Rattle.rv_server.specs.Asking.{Cover, GetsSome, GetsStamps, GetsTold, OnlyWaited, StopsAsking, TellsFrame, Waits}
 use Rattle.rv_server.specs.Stamps.{Covers, Numbered, Stamped, added_entries, added_by}
 use Rattle.rv_server.specs.AnsweredFrames.{IsFor, IsWaiting, LastSays, WaitsBetween}
+use Rattle.rv_server.specs.declared.fault.WorkFault.{WorkFault}
+use Rattle.rv_server.specs.declared.fault.WorkFault.TheVariants as fault
 use Rattle.rv_server.specs.declared.asking.FrameAnswer.{FrameAnswer}
 use Rattle.rv_server.specs.declared.asking.FrameAnswer.TheVariants.{BadText, NoMemory, Said}
 
@@ -122,12 +124,18 @@ waits_behind number body share share' share'' old mid new answer first waits sec
 }
 
 -- and then memory was refused, and nothing was got
-pub some_behind : {T E : Type 0} (r : Result T E) (number : ℕ) (body : List ℕ) (share share' share'' : ℕ) (old mid new : List Numbered)
-    → OnlyWaited number body share old share' mid → share'' ≡ share' → new ≡ mid → OnErr r (GetsSome number body share old share'' new)
-some_behind (Ok x) number body share share' share'' old mid new first same_share same = tt
-some_behind (Err e) number body share share' share'' old mid new first same_share same =
-    subst (λ (n : ℕ). GetsSome number body share old n new) (sym same_share)
-    (subst (λ (l : List Numbered). GetsSome number body share old share' l) (sym same) (record { got = first.got; gets = first.gets }))
+pub lacks_behind : (number : ℕ) (body : List ℕ) (share share' share'' : ℕ) (old mid new : List Numbered) (failed : Bool) (cause : WorkFault) → cause ≡ fault.NoMemory
+    → OnlyWaited number body share old share' mid → share'' ≡ share' → new ≡ mid → StopsAsking number body share old share'' new failed cause
+lacks_behind number body share share' share'' old mid new failed cause is first same_share same =
+    subst (λ (f : WorkFault). StopsAsking number body share old share'' new failed f) (sym is)
+    (subst (λ (n : ℕ). GetsSome number body share old n new) (sym same_share)
+    (subst (λ (l : List Numbered). GetsSome number body share old share' l) (sym same) (record { got = first.got; gets = first.gets })))
+
+-- and then the sink failed
+pub unsent_behind : (number : ℕ) (body : List ℕ) (share share' : ℕ) (old new : List Numbered) (failed : Bool) (sent : ℕ) (cause : WorkFault) → cause ≡ fault.WriteFault sent → sent ≡ 0
+    → OnlyWaited number body share old share' new → failed ≡ true → StopsAsking number body share old share' new failed cause
+unsent_behind number body share share' old new failed sent cause is none waited fails =
+    subst (λ (f : WorkFault). StopsAsking number body share old share' new failed f) (sym is) (none, waited, fails)
 
 pub none_waited : (number : ℕ) (body : List ℕ) (share : ℕ) (old : List Numbered) → OnlyWaited number body share old share old
 none_waited number body share old = record { got = []; gets = nothing_got number body share old; waited = All-nil AnswerWaits }

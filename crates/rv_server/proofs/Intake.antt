@@ -8,7 +8,7 @@ use Rattle.rv_frame.specs.Source.{source_remaining}
 use Rattle.rv_frame.specs.Stream.{Feeds, HasFed, Stream}
 use Rattle.rv_frame.specs.declared.source.Source.{Source}
 use Rattle.rv_frame.proofs.Cuts.{fed_is_cut}
-use Rattle.rv_server.specs.Reading.{ReadsOn, ReadsPiece, TakesFrame}
+use Rattle.rv_server.specs.Reading.{FailsAtSink, ReadsOn, ReadsPiece, TakesFrame}
 use Rattle.rv_server.specs.declared.fault.WorkFault.{WorkFault}
 use Rattle.rv_server.specs.declared.fault.WorkFault.TheVariants.{BadLength, CutFrame, NoMemory, ReadFault, TooLong, WriteFault}
 use Rattle.rv_server.proofs.Rests.{feeds_at}
@@ -90,3 +90,20 @@ module _ {R : Type 0} (remaining : R → Option (List ℕ)) where
   stopped_then a b c s t u cause (Ok took) is none first read = absurd is
   stopped_then a b c s t u cause (Err fault) is none first read =
       subst (λ (f : WorkFault). TakesFrame remaining a c s u (Err f)) (sym is) (stops_then a b c s t u cause none first read)
+
+  -- the sink failed before a read
+  pub unsent_then : (a b : Source R) (s t : Stream) (sent : ℕ) (r : Result (Option (Vec ℕ Global)) WorkFault) → IsErrAnd r (λ fault. fault ≡ WriteFault sent)
+      → sent ≡ 0 → t.frames ≡ [] → ReadsOn remaining a b s t [] → TakesFrame remaining a b s t r
+  unsent_then a b s t sent (Ok took) is zero none first = absurd is
+  unsent_then a b s t sent (Err fault) is zero none first =
+      subst (λ (f : WorkFault). TakesFrame remaining a b s t (Err f)) (sym is) (zero, record { reads = first; all_taken = none; left = tt })
+
+-- a fault of reading is none of the sink
+read_fault : {R : Type 0} (remaining : R → Option (List ℕ)) (a b : Source R) (s t : Stream) (failed : Bool) (fault : WorkFault) → ReadsPiece remaining a b s t (Err fault)
+    → FailsAtSink failed fault
+read_fault remaining a b s t failed (WriteFault sent) read = absurd read
+read_fault remaining a b s t failed ReadFault read = tt
+read_fault remaining a b s t failed CutFrame read = tt
+read_fault remaining a b s t failed (BadLength n) read = tt
+read_fault remaining a b s t failed NoMemory read = tt
+read_fault remaining a b s t failed TooLong read = tt

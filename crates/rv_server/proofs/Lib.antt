@@ -4,3 +4,4 @@ pub mod Intake
 pub mod Getting
 pub mod Answering
 pub mod Advancing
+pub mod Passing

@@ -1,11 +1,13 @@
 -- What is got for one frame, by asking the desk for it once or more often.
-use Rattle.std.specs.Prelude.{ℕ, ◌≡◌, ◌+◌, ◌≤◌, ◌∷◌, ◌++◌, [], IfOk, List, Result}
+use Rattle.std.specs.Prelude.{ℕ, ◌≡◌, ◌+◌, ◌≤◌, ◌∷◌, ◌++◌, [], Bool, IfOk, List, Result, true}
 use Rattle.std.specs.List.{All}
 use Rattle.rv_text.specs.Limits.{FitsAnswer}
 use Rattle.rv_text.specs.declared.answer.Answer.{Answer}
 use Rattle.rv_text.specs.declared.message.Message.{Message}
 use Rattle.rv_server.specs.Stamps.{Numbered, Stamped, added_entries, added_by}
 use Rattle.rv_server.specs.AnsweredFrames.{AreFor, IsNoMessage, IsWaiting, LastSays}
+use Rattle.rv_server.specs.declared.fault.WorkFault.{WorkFault}
+use Rattle.rv_server.specs.declared.fault.WorkFault.TheVariants as fault
 use Rattle.rv_server.specs.declared.asking.FrameAnswer.{FrameAnswer}
 use Rattle.rv_server.specs.declared.asking.FrameAnswer.TheVariants.{BadText, NoMemory, Said}
 
@@ -65,3 +67,10 @@ pub record OnlyWaited (number : ℕ) (body : List ℕ) (share : ℕ) (old : List
   pub got : List Numbered
   pub gets : GetsStamps number body share old share' new got
   pub waited : All (λ (stamp : Numbered). IsWaiting stamp.1.said) got
+
+-- asking stopped: memory was refused; or the sink failed where a pause was to come, and all that was got waits
+abbrev pub StopsAsking : ℕ → List ℕ → ℕ → List Numbered → ℕ → List Numbered → Bool → WorkFault → Type 0
+StopsAsking number body share old share' new failed fault.NoMemory = GetsSome number body share old share' new
+StopsAsking number body share old share' new failed (fault.WriteFault sent) =
+    (sent ≡ 0) × OnlyWaited number body share old share' new × (failed ≡ true)
+StopsAsking number body share old share' new failed _ = ⊥

@@ -7,4 +7,5 @@ pub mod Serving
 pub mod Reading
 pub mod Asking
 pub mod Writing
+pub mod Sending
 pub mod Progress

@@ -1,5 +1,5 @@
 -- How far a worker has come, and what one frame more does.
-use Rattle.std.specs.Prelude.{ℕ, ◌≡◌, ◌+◌, ◌<◌, ◌∷◌, ◌++◌, [], List, Option, map, length, take, true}
+use Rattle.std.specs.Prelude.{ℕ, ◌≡◌, ◌+◌, ◌<◌, ◌⊎◌, ◌∷◌, ◌++◌, [], List, Option, map, length, take, true}
 use Rattle.rv_frame.specs.Cut.{frame_bytes, row_bytes}
 use Rattle.rv_frame.specs.Sink.{SinkTakes, sink_failed}
 use Rattle.rv_frame.specs.Stream.{HasFed, Stream}
@@ -9,7 +9,7 @@ use Rattle.rv_server.specs.declared.fault.WorkFault.{WorkFault}
 use Rattle.rv_server.specs.declared.fault.WorkFault.TheVariants.{NoMemory, WriteFault}
 use Rattle.rv_server.specs.Stamps.{Numbered, added_entries}
 use Rattle.rv_server.specs.AnsweredFrames.{AnsweredFrame, AreAnsweredFrames, IsAnsweredFrame, stamps_of}
-use Rattle.rv_server.specs.Asking.{Cover, GetsStamps}
+use Rattle.rv_server.specs.Asking.{Cover, GetsStamps, OnlyWaited}
 use Rattle.rv_server.specs.Works.{Connection, Listed}
 
 -- where answers go: the sink, and the share of the seat
@@ -48,11 +48,21 @@ module _ {W : Type 0} (contents : W → Option (List ℕ)) where
     pub got : List Numbered
     pub items : new.items ≡ old.items
     pub stamps : GetsStamps number body before.share old.stamps after.share new.stamps got
-    pub same : after.sink ≡ before.sink
+    pub none_written : SinkTakes contents before.sink after.sink []
+
+  -- it was not answered, since the sink failed where a pause was to come
+  pub record FailsBeforePause (number : ℕ) (body : List ℕ) (before after : Out W) (old new : Listed)
+      (sent : ℕ) : Type 0 where
+    pub none : sent ≡ 0
+    pub items : new.items ≡ old.items
+    pub waited : OnlyWaited number body before.share old.stamps after.share new.stamps
+    pub none_written : SinkTakes contents before.sink after.sink []
+    pub failed : sink_failed after.sink ≡ true
 
   abbrev pub StopsAtFrame : ℕ → List ℕ → Out W → Out W → Listed → Listed → WorkFault → Type 0
   StopsAtFrame number body before after old new (WriteFault sent) =
       BreaksFrame number body before after old new sent
+      ⊎ FailsBeforePause number body before after old new sent
   StopsAtFrame number body before after old new NoMemory = LacksFrame number body before after old new
   StopsAtFrame number body before after old new _ = ⊥
 

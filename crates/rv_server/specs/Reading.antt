@@ -36,6 +36,11 @@ TakesWhole old new (Err CutFrame) = ⊥
 TakesWhole old new (Err (WriteFault sent)) = ⊥
 TakesWhole old new (Err TooLong) = ⊥
 
+-- where it is a write fault the sink has failed
+abbrev pub FailsAtSink : Bool → WorkFault → Type 0
+FailsAtSink failed (WriteFault sent) = failed ≡ true
+FailsAtSink failed _ = Unit {0}
+
 module _ {R : Type 0} (remaining : R → Option (List ℕ)) where
   -- these bytes were read, and behind all that was fed before them they are fed; of the frames of all, these
   -- were taken
@@ -69,7 +74,7 @@ module _ {R : Type 0} (remaining : R → Option (List ℕ)) where
   ReadsPiece before after old new (Err TooLong) = ⊥
 
   -- the next frame was taken, or why there is none; a piece for which memory was refused is read and lost,
-  -- so the stream that was met need not be the one that is left
+  -- so the stream that was met need not be the one that is left; a write fault is that of a flush before a read
   abbrev pub TakesFrame : Source R → Source R → Stream → Stream → Result (Option (Vec ℕ Global)) WorkFault
       → Type 0
   TakesFrame before after old new (Ok (Some body)) =
@@ -82,5 +87,6 @@ module _ {R : Type 0} (remaining : R → Option (List ℕ)) where
       ReadsOut before after old new IsCut × SourceHasEnded remaining after
   TakesFrame before after old new (Err (BadLength n)) = ReadsOut before after old new (λ end. end ≡ Bad n)
   TakesFrame before after old new (Err NoMemory) = (met : Stream) × ReadsOn before after old met []
-  TakesFrame before after old new (Err (WriteFault sent)) = ⊥
+  TakesFrame before after old new (Err (WriteFault sent)) =
+      (sent ≡ 0) × ReadsOut before after old new (λ end. Unit {0})
   TakesFrame before after old new (Err TooLong) = ⊥

@@ -1,6 +1,7 @@
 -- What stands after a worker read a connection to its end, or stopped.
 use Rattle.std.specs.Prelude.{ℕ, ◌≡◌, ◌≢◌, ◌⊎◌, ◌+◌, ◌<◌, ◌≤◌, ◌∷◌, ◌++◌, [], List, Option, None, Some}
 use Rattle.std.specs.Prelude.{map, length, take, true}
+use Rattle.std.specs.List.{All}
 use Rattle.rv_frame.specs.Cut.{Bad, Cut, End, Open, frame_bytes, row_bytes}
 use Rattle.rv_frame.specs.Sink.{SinkTakes, sink_failed}
 use Rattle.rv_frame.specs.Source.{SourceGives, SourceHasEnded, source_failed}
@@ -13,7 +14,7 @@ use Rattle.rv_server.specs.declared.served.Item.{Item}
 use Rattle.rv_server.specs.declared.served.Served.{Served}
 use Rattle.rv_server.specs.Stamps.{Covers, Numbered, Stamped, added_entries, shown_stamps}
 use Rattle.rv_server.specs.AnsweredFrames.{AnsweredFrame, AreAnsweredFrames, AreFor, IsAnsweredFrame}
-use Rattle.rv_server.specs.AnsweredFrames.{stamps_of}
+use Rattle.rv_server.specs.AnsweredFrames.{IsWaiting, stamps_of}
 
 -- the most frames of a connection
 abbrev pub max_frames : ℕ
@@ -86,23 +87,31 @@ module _ {R W : Type 0} (remaining : R → Option (List ℕ)) (contents : W → 
         (take sent (frame_bytes frame.answer))
     pub failed : sink_failed after.sink ≡ true
 
-  -- memory was refused, for the next frame or before it
-  pub record WorkLacksMemory (before after : Connection R W) (list : Listed) : Type 0 where
+  -- of the next frame's answer nothing was written; stamps were got for it, or none
+  pub record StopsBetween (before after : Connection R W) (list : Listed) : Type 0 where
     pub more : List (List ℕ)
     pub end : End
     pub pending : List Numbered
     pub few : (pending ≡ []) ⊎ (length list.items < max_frames)
     pub worked : Worked before after list more end pending []
 
+  -- a flush failed, before a read or before a pause: what was got for the next frame says that it waits
+  pub record SendingFails (before after : Connection R W) (list : Listed) (sent : ℕ) : Type 0 where
+    pub none : sent ≡ 0
+    pub stops : StopsBetween before after list
+    pub waited : All (λ (stamp : Numbered). IsWaiting stamp.1.said) stops.pending
+    pub failed : sink_failed after.sink ≡ true
+
   -- what stands by the fault, if there is one
   abbrev pub Works : Connection R W → Connection R W → Listed → Option WorkFault → Type 0
   Works before after list None = WorkedOut before after list (Open []) × SourceHasEnded remaining after.source
   Works before after list (Some ReadFault) =
       (end : End) × WorkedOut before after list end × (source_failed after.source ≡ true)
-  Works before after list (Some (WriteFault sent)) = AnswerBreaksOff before after list sent
+  Works before after list (Some (WriteFault sent)) =
+      AnswerBreaksOff before after list sent ⊎ SendingFails before after list sent
   Works before after list (Some CutFrame) =
       (end : End) × WorkedOut before after list end × IsCut end × SourceHasEnded remaining after.source
   Works before after list (Some (BadLength n)) = WorkedOut before after list (Bad n)
-  Works before after list (Some NoMemory) = WorkLacksMemory before after list
+  Works before after list (Some NoMemory) = StopsBetween before after list
   Works before after list (Some TooLong) = (body : List ℕ) × (later : List (List ℕ)) × (end : End)
       × Worked before after list (body ∷ later) end [] [] × (length list.items ≡ max_frames)

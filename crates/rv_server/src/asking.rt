@@ -1,12 +1,16 @@
 //! Asks the desk for one frame, until its answer is one that doesn't wait.
-ghost use Rattle.std.specs.Prelude.{◌≡◌, IfOk, IsTrue, OnErr};
-ghost use Rattle.rv_server.specs.Asking.{GetsSome, GetsTold, Waits};
+ghost use Rattle.std.specs.Prelude.{◌≡◌, [], IfErr, IfOk, IsTrue, OnErr};
+ghost use Rattle.rv_frame.specs.Sink.{SinkTakes, sink_failed};
+ghost use Rattle.rv_server.specs.Asking.{GetsTold, StopsAsking, Waits};
 ghost use Rattle.rv_server.specs.Stamps.{shown_stamps};
 
 use crate::desk::{Clock, Desk, Gate};
+use crate::fault::WorkFault;
 use crate::shared::{Seat, Shared};
+use rv_frame::Sink;
 use rv_text::{Answer, NoMemory, TextFault, decode_message};
 use std::alloc::Global;
+use std::io::Write;
 use std::sync::Wait;
 use std::sync::ledger::Ledger;
 
@@ -72,27 +76,31 @@ impl<'a, T: Wait, D: Desk, L: Ledger, C: Clock, G: Gate> Post<'a, T, D, L, C, G>
         }
     }
 
-    /// Asks for the frame of this number and body. Where its request waits it pauses, and asks again: at
-    /// most 200 pauses, and then the last answer stands.
-    pub(crate) fn ask(
+    /// Asks for the frame of this number and body. Where its request waits it flushes the sink, pauses, and
+    /// asks again: at most 200 pauses, and then the last answer stands. Where the flush fails it ends.
+    pub(crate) fn ask<W: Write>(
         &self,
         seat: &mut Seat<L>,
+        sink: &mut Sink<W>,
         stamps: &mut Vec<(u32, D::Stamp)>,
         number: u32,
         body: &[u8],
-    ) -> Result<FrameAnswer, NoMemory>
+    ) -> Result<FrameAnswer, WorkFault>
         ensures told { IfOk result (GetsTold number body.now seat.old
             (shown_stamps D.stamped stamps.old.items) seat.new (shown_stamps D.stamped stamps.new.items)) }
-        ensures refused { OnErr result (GetsSome number body.now seat.old
-            (shown_stamps D.stamped stamps.old.items) seat.new (shown_stamps D.stamped stamps.new.items)) }
+        ensures stopped { IfErr result (StopsAsking number body.now seat.old
+            (shown_stamps D.stamped stamps.old.items) seat.new (shown_stamps D.stamped stamps.new.items)
+            (sink_failed sink.new)) }
+        ensures none_written { SinkTakes W.contents sink.old sink.new [] }
     {
         for _paused in 0..MAX_PAUSES {
             let told = self.ask_once(seat, stamps, number, body)?;
             if !told.waits() {
                 return Ok(told);
             }
+            sink.flush()?;
             self.gate.pause();
         }
-        self.ask_once(seat, stamps, number, body)
+        Ok(self.ask_once(seat, stamps, number, body)?)
     }
 }

@@ -13,8 +13,8 @@ pub enum WorkFault {
     /// 1: a read failed, at this call or at an earlier one. The source has failed.
     #[error("a read of the connection failed")]
     ReadFault,
-    /// 2: a write failed, at this call or at an earlier one, after so many bytes of one answer's frame. The
-    /// sink has failed.
+    /// 2: a write failed, at this call or at an earlier one, after so many bytes of one answer's frame; or a
+    /// flush did, and then it is 0. The sink has failed.
     #[error("a write to the connection failed after {0} bytes of a frame")]
     WriteFault(usize),
     /// 3: the input ended in the middle of a frame.

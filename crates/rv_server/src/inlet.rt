@@ -1,10 +1,11 @@
 //! The frames of a connection, read from its source.
-ghost use Rattle.rv_server.specs.Reading.{ReadsPiece, TakesFrame, TakesWhole};
+ghost use Rattle.rv_frame.specs.Sink.{SinkTakes, sink_failed};
+ghost use Rattle.rv_server.specs.Reading.{FailsAtSink, ReadsPiece, TakesFrame, TakesWhole};
 
 use crate::fault::WorkFault;
-use rv_frame::{FrameFault, Frames, Source};
+use rv_frame::{FrameFault, Frames, Sink, Source};
 use std::alloc::Global;
-use std::io::Read;
+use std::io::{Read, Write};
 use std::marker::Model;
 
 // The most bytes that are read at once.
@@ -48,17 +49,22 @@ impl Inlet {
     }
 
     /// The body of the next whole frame; `None` where the source ended behind the last one. It reads only
-    /// where no whole frame was read yet, and each read gives a byte or ends: at most 65,537 reads.
-    pub(crate) fn next_frame<R: Read>(
+    /// where no whole frame was read yet, and flushes the sink before each read. Each read gives a byte or
+    /// ends: at most 65,537 reads.
+    pub(crate) fn next_frame<R: Read, W: Write>(
         &mut self,
         source: &mut Source<R>,
+        sink: &mut Sink<W>,
     ) -> Result<Option<Vec<u8>>, WorkFault>
-        ensures { TakesFrame R.remaining source.old source.new self.old self.new result }
+        ensures taken { TakesFrame R.remaining source.old source.new self.old self.new result }
+        ensures none_written { SinkTakes W.contents sink.old sink.new [] }
+        ensures failed { IfErr result (FailsAtSink (sink_failed sink.new)) }
     {
         loop {
             if let Some(body) = self.whole_frame()? {
                 return Ok(Some(body));
             }
+            sink.flush()?;
             if !self.read_on(source)? {
                 return self.at_end();
             }

@@ -6,7 +6,7 @@ mod book;
 mod desk;
 mod fault;
 mod inlet;
-mod outbox;
+mod sending;
 mod served;
 mod shared;
 mod sockets;

@@ -5,17 +5,16 @@ ghost use Rattle.rv_server.specs.declared.sockets.ServeFault.TheVariants.{NoMemo
 
 use crate::asking::Post;
 use crate::desk::{Clock, Desk, Gate};
-use crate::outbox::{Outbox, SendingGate};
 use crate::shared::{Seat, Shared};
-use crate::worker::work;
 use crossbeam_channel::{Receiver, Sender};
-use rv_frame::{Sink, Source};
+use rv_frame::Source;
 use std::alloc::{AllocError, Global};
 use std::net::{TcpListener, TcpStream};
 use std::sync::Wait;
 use std::sync::ledger::Ledger;
-use std::thread;
 use std::thread::Threads;
+use std::time::Duration;
+use std::{io, thread};
 use thiserror::Error;
 
 /// What came of the connections of a listener, and the seats of those who served them.
@@ -26,7 +25,7 @@ pub struct Report<L: Ledger> {
     /// How many connections were answered to their end, with all answers sent.
     pub served: u32,
     /// How many were not: their worker stopped by a [`WorkFault`](crate::WorkFault), an answer could not be
-    /// sent, accepting them failed, or their hand-over to a worker found no memory.
+    /// sent, accepting them or limiting their time failed, or they found no memory.
     pub faults: u32,
 }
 
@@ -97,37 +96,45 @@ fn unseated<L: Ledger>(workers: Vec<Worker<L>>, seats: &mut Vec<Seat<L>>) -> u32
     all
 }
 
-// Accepts so many connections, and hands each to the next worker that is free. Then no more can come: the
-// listener goes, so that who comes late is refused, and so does the way to the workers.
-fn accept_all<T: Wait>(rt: &T, listener: TcpListener, to: Sender<TcpStream>, connections: u32) {
-    for _ in 0..connections {
-        if let Ok((stream, _)) = listener.accept() {
-            // Where this finds no memory the connection is closed.
-            let _ = to.send(rt, stream);
-        }
-    }
+// After so many seconds a read of a connection whose peer says nothing fails.
+const READ_SECONDS: u64 = 600;
+
+// After so many seconds a write to a connection whose peer takes nothing fails.
+const WRITE_SECONDS: u64 = 60;
+
+// Sets how long a connection is waited for.
+fn limit(stream: &TcpStream) -> io::Result<()> {
+    stream.set_read_timeout(Some(Duration::from_secs(READ_SECONDS)))?;
+    stream.set_write_timeout(Some(Duration::from_secs(WRITE_SECONDS)))
 }
 
 impl<'a, T: Wait, D: Desk, L: Ledger, C: Clock, G: Gate> Post<'a, T, D, L, C, G> {
+    // Accepts so many connections, and hands each to the next worker that is free. Then no more can come: the
+    // listener goes, so that who comes late is refused, and so does the way to the workers.
+    fn accept_all(&self, listener: TcpListener, to: Sender<TcpStream>, connections: u32) {
+        for _ in 0..connections {
+            match listener.accept() {
+                Ok((stream, _)) => {
+                    // Where this finds no memory the connection is closed.
+                    let _ = to.send(self.rt, stream);
+                }
+                Err(_) => self.gate.pause(),
+            }
+        }
+    }
+
     // Answers the frames of a connection, and tells whether it came to its end and all answers were sent.
     fn serve_connection(&self, seat: &mut Seat<L>, stream: TcpStream) -> bool {
+        if limit(&stream).is_err() {
+            return false;
+        }
         // A connection that won't send at once is served all the same.
         let _ = stream.set_nodelay(true);
-        let outbox = Outbox::new(self.alloc, &stream);
-        let gate = SendingGate::new(self.gate, &outbox);
-        let mut source = Source::new(&outbox);
-        let mut sink = Sink::new(&outbox);
-        let served = work(
-            self.rt,
-            self.alloc,
-            self.shared,
-            seat,
-            self.clock,
-            &gate,
-            &mut source,
-            &mut sink,
-        );
-        outbox.send().is_ok() && served.is_ok()
+        let mut source = Source::new(&stream);
+        match self.answer_through(seat, &mut source, &stream) {
+            Ok(passed) => passed.fault.is_none(),
+            Err(_) => false,
+        }
     }
 
     // Serves what is handed over, one connection after the other, until no more can come.
@@ -171,7 +178,7 @@ where
                 started = started || thread.is_ok();
             }
             if started {
-                accept_all(self.rt, listener, to, connections);
+                self.accept_all(listener, to, connections);
             }
             started
         })
@@ -206,11 +213,17 @@ where
 /// Serves so many connections of the listener, by one thread for each seat, and ends when all of them were
 /// served. A worker answers a connection as [`work`] does, until it ends, and then takes the next. It sends
 /// its answers before each read of the connection, before each pause and at the end, all that there are at
-/// once. An accepted connection waits while all workers are busy, and while as many as there are workers wait
-/// so, no further one is accepted.
+/// once, and earlier where they have more than 16,384 bytes. An accepted connection waits while all workers are
+/// busy. While as many as there are workers wait so, one more is accepted and waits too, and then no further
+/// one.
+///
+/// A connection whose peer says nothing for 10 minutes while its worker reads ends by a read fault, and one
+/// whose peer takes nothing for 60 seconds by a write fault. A failed send ends a connection at once: no further
+/// frame of it is asked for, and what was not sent is lost.
 ///
 /// A thread that can't be started is left out, and its seat stays. An accept that fails counts as a
-/// connection. After the last one was accepted the listener is closed, so that whoever comes late is refused.
+/// connection, and the gate's pause comes before the next one. After the last one was accepted the listener
+/// is closed, so that whoever comes late is refused.
 ///
 /// The report has as many seats as were handed in, on a fault too. Each connection counts once: as served,
 /// where its frames were answered to its end and all answers were sent, or as a fault. A [`ServeFault`]

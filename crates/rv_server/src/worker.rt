@@ -73,7 +73,7 @@ impl<'a, T: Wait, D: Desk, L: Ledger, C: Clock, G: Gate> Post<'a, T, D, L, C, G>
             (out sink.new seat.new) (listing_of D.stamped served.old) (listing_of D.stamped served.new)) }
     {
         served.items.reserve(1)?;
-        let told = self.ask(seat, &mut served.stamps, number, body)?;
+        let told = self.ask(seat, sink, &mut served.stamps, number, body)?;
         let item = write_told(self.alloc, sink, &told)?;
         served.items.push_reserved(item);
         Ok(())
@@ -96,12 +96,12 @@ impl<'a, T: Wait, D: Desk, L: Ledger, C: Clock, G: Gate> Post<'a, T, D, L, C, G>
     {
         let mut inlet = Inlet::new(self.alloc);
         for number in 0..MAX_FRAMES {
-            match inlet.next_frame(source)? {
+            match inlet.next_frame(source, sink)? {
                 Some(body) => self.serve_frame(seat, sink, served, number, body.as_slice())?,
                 None => return Ok(()),
             }
         }
-        match inlet.next_frame(source)? {
+        match inlet.next_frame(source, sink)? {
             Some(_) => Err(WorkFault::TooLong),
             None => Ok(()),
         }
@@ -110,6 +110,8 @@ impl<'a, T: Wait, D: Desk, L: Ledger, C: Clock, G: Gate> Post<'a, T, D, L, C, G>
 
 /// Answers the frames of a connection, in order, one frame for each, until its source ends or a fault comes.
 /// It reads pieces of up to 4,096 bytes, and a further one only where all frames that it read are answered.
+/// The sink is flushed before each read and before each pause, so that no answer is held back while the worker
+/// waits for its peer or for others; what was written since the last read or pause is left to the caller.
 ///
 /// A frame's body that is no message's is answered by [`BAD_TEXT_BODY`]. Else the desk is asked for its
 /// message, under the lock. Where the answer waits, the worker pauses with the lock free, decodes the body
@@ -117,8 +119,9 @@ impl<'a, T: Wait, D: Desk, L: Ledger, C: Clock, G: Gate> Post<'a, T, D, L, C, G>
 /// memory was refused to the message or to the answer's text, [`NO_MEMORY_BODY`] is the answer.
 ///
 /// At most 65,536 frames are answered. The seat's share rises by what the messages of the stamps added. A
-/// [`WorkFault`] comes with what was done before it; after a write fault each answer before it is out whole,
-/// and so many bytes of one more as the fault counts.
+/// [`WorkFault`] comes with what was done before it; after a write fault each answer before it was written
+/// whole, and so many bytes of one more as the fault counts: none where it was a flush that failed. Behind a
+/// failed write or flush nothing more is asked.
 ///
 /// It waits for the lock, for the gate, and for what the source and the sink wait for.
 pub fn work<T: Wait, D: Desk, L: Ledger, C: Clock, G: Gate, R: Read, W: Write>(

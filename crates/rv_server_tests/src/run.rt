@@ -46,10 +46,22 @@ impl Clock for Rising {
     }
 }
 
-// A gate that counts its pauses.
+/// A gate that counts its pauses.
 #[derive(Drop)]
-struct Counting {
+pub(crate) struct Counting {
     pauses: AtomicU64,
+}
+
+impl Counting {
+    pub(crate) fn new() -> Counting {
+        Counting {
+            pauses: AtomicU64::new(0),
+        }
+    }
+
+    pub(crate) fn count(&self) -> u64 {
+        self.pauses.load(Ordering::SeqCst)
+    }
 }
 
 impl Gate for Counting {
@@ -165,12 +177,10 @@ pub(crate) fn connects<L: Ledger, R: Wait + Abort + AllocGlobal, C: Clock>(
     mut writer: TestWriter,
     pauses: u64,
 ) {
-    let gate = Counting {
-        pauses: AtomicU64::new(0),
-    };
+    let gate = Counting::new();
     let ended = answer(rt, shared, seat, clock, &gate, reader, &mut writer);
     row.came(rt, &ended, writer.taken());
-    same(rt, gate.pauses.load(Ordering::SeqCst), pauses);
+    same(rt, gate.count(), pauses);
 }
 
 // A server of one worker over a ledger answers what the reader gives as the row says.
