@@ -10,7 +10,7 @@ use Rattle.rv_frame.specs.Sink.{SinkTakes, sink_contents, sink_device, sink_fail
 use Rattle.rv_frame.specs.declared.sink.Sink.{Sink}
 use Rattle.rv_frame.specs.declared.source.Source.{Source}
 use Rattle.rv_server.specs.AnsweredFrames.{IsWaiting}
-use Rattle.rv_server.specs.Sending.{IsTold, held_behind}
+use Rattle.rv_server.specs.Sending.{IsFirstFault, held_behind}
 use Rattle.rv_server.specs.Stamps.{Numbered}
 use Rattle.rv_server.specs.Works.{AnswerBreaksOff, Listed, SendingFails, StopsBetween, Worked, Works, connection}
 use Rattle.rv_server.specs.declared.fault.WorkFault.{WorkFault}
@@ -92,7 +92,7 @@ module _ {R V W : Type 0} (remaining : R → Option (List ℕ)) (contents : V �
   })
 
   -- with the fault that is told of it
-  pub told_along : (fault told : Option WorkFault) (held : List ℕ) → IsTold fault told held → Works remaining contents (connection source old share) (connection source' new share') list fault
+  pub told_along : (fault told : Option WorkFault) (held : List ℕ) → IsFirstFault fault told held → Works remaining contents (connection source old share) (connection source' new share') list fault
       → Works remaining contents' (connection source old' share) (connection source' new' share') list told
   told_along (Some fault) told held is works =
       subst (λ (f : Option WorkFault). Works remaining contents' (connection source old' share) (connection source' new' share') list f) (sym is) (works_along (Some fault) works)

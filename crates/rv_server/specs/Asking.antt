@@ -68,7 +68,8 @@ pub record OnlyWaited (number : ℕ) (body : List ℕ) (share : ℕ) (old : List
   pub gets : GetsStamps number body share old share' new got
   pub waited : All (λ (stamp : Numbered). IsWaiting stamp.1.said) got
 
--- asking stopped: memory was refused; or the sink failed where a pause was to come, and all that was got waits
+-- asking stopped: memory was refused; or the sink failed where a pause was to come, and all that was got
+-- waits
 abbrev pub StopsAsking : ℕ → List ℕ → ℕ → List Numbered → ℕ → List Numbered → Bool → WorkFault → Type 0
 StopsAsking number body share old share' new failed fault.NoMemory = GetsSome number body share old share' new
 StopsAsking number body share old share' new failed (fault.WriteFault sent) =

@@ -74,7 +74,7 @@ module _ {R : Type 0} (remaining : R → Option (List ℕ)) where
   ReadsPiece before after old new (Err TooLong) = ⊥
 
   -- the next frame was taken, or why there is none; a piece for which memory was refused is read and lost,
-  -- so the stream that was met need not be the one that is left; a write fault is that of a flush before a read
+  -- so the stream that was met need not be the one that is left; a write fault is a flush's, before a read
   abbrev pub TakesFrame : Source R → Source R → Stream → Stream → Result (Option (Vec ℕ Global)) WorkFault
       → Type 0
   TakesFrame before after old new (Ok (Some body)) =

@@ -1,4 +1,4 @@
--- What stands of a connection whose answers are held back in part: what its writer took, followed by the rest.
+-- What stands of a connection whose answers are held back in part: what its writer took, and then the rest.
 use Rattle.std.specs.Prelude.{ℕ, ◌≡◌, [], false, true, List, Option, None, Some}
 use Rattle.std.specs.Io.KnownBytes.{append_known}
 use Rattle.rv_frame.specs.declared.source.Source.{Source}
@@ -32,7 +32,7 @@ WorksThrough remaining contents source source' writer writer' held share share' 
     (connection source' (sink_over (passing writer' held) true) share') list fault
 
 -- the worker's fault is told; without one, that some bytes were not sent
-abbrev pub IsTold : Option WorkFault → Option WorkFault → List ℕ → Type 0
-IsTold (Some fault) told held = told ≡ Some fault
-IsTold None None held = held ≡ []
-IsTold None (Some fault) held = fault ≡ WriteFault 0
+abbrev pub IsFirstFault : Option WorkFault → Option WorkFault → List ℕ → Type 0
+IsFirstFault (Some fault) told held = told ≡ Some fault
+IsFirstFault None None held = held ≡ []
+IsFirstFault None (Some fault) held = fault ≡ WriteFault 0

@@ -3,7 +3,7 @@ ghost use Rattle.std.specs.Prelude.{◌≡◌, [], IfOk, None, OnErr};
 ghost use Rattle.std.specs.Io.Buffered.{writer_contents};
 ghost use Rattle.std.specs.Io.KnownBytes.{Keeps};
 ghost use Rattle.rv_frame.specs.Sink.{sink_contents};
-ghost use Rattle.rv_server.specs.Sending.{IsTold, WorksThrough, held_behind};
+ghost use Rattle.rv_server.specs.Sending.{IsFirstFault, WorksThrough, held_behind};
 ghost use Rattle.rv_server.specs.Works.{listing_of};
 
 use crate::asking::Post;
@@ -49,7 +49,8 @@ fn parted<W: Write + Drop>(alloc: Global, sink: Sink<BufWriter<W>>) -> (W, Vec<u
     }
 }
 
-// Sends what is held back, behind all that a worker did. What can't be sent is a fault where there is no other.
+// Sends what is held back, behind all that a worker did. What can't be sent is a fault, where there is no
+// other.
 fn closed<D: Desk, W: Write + Drop>(
     alloc: Global,
     served: Served<D>,
@@ -57,7 +58,7 @@ fn closed<D: Desk, W: Write + Drop>(
     sink: Sink<BufWriter<W>>,
 ) -> Passed<D, W>
     ensures served { result.served ≡ served }
-    ensures fault { IsTold fault result.fault result.held.items }
+    ensures fault { IsFirstFault fault result.fault result.held.items }
     ensures sent { Keeps (sink_contents (writer_contents W.contents) sink)
         (held_behind (W.contents result.writer) result.held.items) }
 {
@@ -73,7 +74,7 @@ fn closed<D: Desk, W: Write + Drop>(
 
 // The first fault: the worker's, or that not all was sent.
 fn told(fault: Option<WorkFault>, held: &[u8]) -> Option<WorkFault>
-    ensures { IsTold fault result held.now }
+    ensures { IsFirstFault fault result held.now }
 {
     match fault {
         Some(fault) => Some(fault),

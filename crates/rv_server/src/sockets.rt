@@ -213,13 +213,13 @@ where
 /// Serves so many connections of the listener, by one thread for each seat, and ends when all of them were
 /// served. A worker answers a connection as [`work`] does, until it ends, and then takes the next. It sends
 /// its answers before each read of the connection, before each pause and at the end, all that there are at
-/// once, and earlier where they have more than 16,384 bytes. An accepted connection waits while all workers are
-/// busy. While as many as there are workers wait so, one more is accepted and waits too, and then no further
-/// one.
+/// once, and earlier where they have more than 16,384 bytes. An accepted connection waits while all workers
+/// are busy. While as many as there are workers wait so, one more is accepted and waits too, and then no
+/// further one.
 ///
 /// A connection whose peer says nothing for 10 minutes while its worker reads ends by a read fault, and one
-/// whose peer takes nothing for 60 seconds by a write fault. A failed send ends a connection at once: no further
-/// frame of it is asked for, and what was not sent is lost.
+/// whose peer takes nothing for 60 seconds by a write fault. A failed send ends a connection at once: no
+/// further frame of it is asked for, and what was not sent is lost.
 ///
 /// A thread that can't be started is left out, and its seat stays. An accept that fails counts as a
 /// connection, and the gate's pause comes before the next one. After the last one was accepted the listener

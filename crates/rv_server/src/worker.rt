@@ -110,8 +110,8 @@ impl<'a, T: Wait, D: Desk, L: Ledger, C: Clock, G: Gate> Post<'a, T, D, L, C, G>
 
 /// Answers the frames of a connection, in order, one frame for each, until its source ends or a fault comes.
 /// It reads pieces of up to 4,096 bytes, and a further one only where all frames that it read are answered.
-/// The sink is flushed before each read and before each pause, so that no answer is held back while the worker
-/// waits for its peer or for others; what was written since the last read or pause is left to the caller.
+/// The sink is flushed before each read and before each pause, so that no answer is held back while the
+/// worker waits for its peer or for others. What was written since is left to the caller.
 ///
 /// A frame's body that is no message's is answered by [`BAD_TEXT_BODY`]. Else the desk is asked for its
 /// message, under the lock. Where the answer waits, the worker pauses with the lock free, decodes the body

@@ -1,6 +1,6 @@
 //! What no clause says of a server: what its workers answer over memory, how often they ask, pause and read,
-//! that a pause leaves the lock free, that a worker whose answers cannot be sent ends, and that connections on
-//! sockets are served side by side.
+//! that a pause leaves the lock free, that a worker whose answers cannot be sent ends, and that connections
+//! on sockets are served side by side.
 #![tactic(auto)]
 
 #[cfg(test)]
