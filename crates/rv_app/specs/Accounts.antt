@@ -36,10 +36,13 @@ module _ {W : Type 0} (contents : W → Option (List ℕ)) where
   StopsWriting a old new NoMemory = WritesSome a old new
   StopsWriting a old new TooLong = ⊥
 
-  -- a server ended: the account of its book, which is legal and keeps the limits, was written, or its writing
-  -- stopped
-  pub record EndsWithAccount {T : Type 0} (old new : Sink W) (written : Result T RunFault) : Type 0 where
+  -- a server ended: an account of this epoch that was opened at this moment, which is legal and keeps the
+  -- limits, was written, or its writing stopped
+  pub record EndsWithAccount {T : Type 0} (epoch moment : ℕ) (old new : Sink W) (written : Result T RunFault)
+      : Type 0 where
     pub account : Account
+    pub of_epoch : account.epoch ≡ epoch
+    pub opened_at : account.opened ≡ moment
     pub legal : Legal account
     pub fits : FitsAccount account
     pub all : OnOk written (WritesAll account old new)

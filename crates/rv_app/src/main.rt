@@ -11,6 +11,7 @@ mod client;
 mod fault;
 pub mod laws;
 mod line;
+mod opened;
 mod run;
 mod server;
 mod turn;
@@ -34,7 +35,8 @@ use std::net::{TcpListener, TcpStream};
 use std::process::ExitCode;
 use std::sync::Wait;
 use std::thread::Threads;
-use std::{env, time};
+use std::time::Duration;
+use std::{env, io, time};
 use thiserror::Error;
 
 // Where standard error takes nothing, the status alone tells the fault.
@@ -137,6 +139,15 @@ fn run_audit(rt: &HostRuntime) -> Result<ExitCode, ProgramFault> {
     }
 }
 
+// A server that says nothing for so many seconds, or takes nothing, is a fault of the link.
+const LINK_SECONDS: u64 = 60;
+
+// Sets how long a server is waited for.
+fn limit(stream: &TcpStream) -> io::Result<()> {
+    stream.set_read_timeout(Some(Duration::from_secs(LINK_SECONDS)))?;
+    stream.set_write_timeout(Some(Duration::from_secs(LINK_SECONDS)))
+}
+
 // Connects first, and then reads the lines. Where the delay of small packets cannot be switched off, the run
 // goes on, slower.
 fn run_call(
@@ -153,6 +164,9 @@ fn run_call(
     let Ok(stream) = TcpStream::connect(rt, connect) else {
         return Err(ProgramFault::Address);
     };
+    if limit(&stream).is_err() {
+        return Err(ProgramFault::Address);
+    }
     let _ = stream.set_nodelay(true);
     let mut lines = Source::new(rt.stdin());
     let mut out = Sink::new(rt.stdout());

@@ -1,12 +1,12 @@
 //! Serves the book of an epoch over the connections of a listener, from its opening to its account.
-ghost use Rattle.std.specs.Prelude.{◌≡◌, ◌≤◌, Err, IfErr, IfOk, IsOk, OnErr, OnOk};
+ghost use Rattle.std.specs.Prelude.{◌≡◌, ◌≤◌, ◌^◌, Err, IfErr, IfOk, IsOk, OnErr, OnOk};
 ghost use Rattle.rv_app.specs.Accounts.{EndsWithAccount};
 ghost use Rattle.rv_app.specs.declared.fault.ProgramFault.TheVariants as program;
 ghost use Rattle.rv_text.specs.Limits.{FitsIdentifier};
 
 use crate::account::write_account;
 use crate::fault::ProgramFault;
-use rv_book::Book;
+use crate::opened::{OpenedBook, Opening};
 use rv_frame::Sink;
 use rv_run::RunFault;
 use rv_server::{Clock, Closing, Gate, ServeFault, Shared, finish, serve};
@@ -88,8 +88,9 @@ impl ServerEnd {
 }
 
 /// Opens the book of an epoch at moment 0 and serves so many connections, by at most so many workers at once.
-/// When all were served, and after a fault of the server too, it writes the book's account. Where there is no
-/// memory for the book, its lock and its seats, nothing is served or written.
+/// When all were served, and after a fault of the server too, it writes the book's account: one of this
+/// epoch, opened at moment 0. Where there is no memory for the book, its lock and its seats, nothing is
+/// served or written.
 pub(crate) fn serve_epoch<R: Threads + Wait + AllocGlobal + time::Clock + Sync, W: Write>(
     rt: &R,
     listener: TcpListener,
@@ -102,42 +103,47 @@ pub(crate) fn serve_epoch<R: Threads + Wait + AllocGlobal + time::Clock + Sync, 
     requires some { 1 ≤ workers }
     requires most { workers ≤ 64 }
     ensures account { IfOk result (λ end.
-        EndsWithAccount W.contents sink.old sink.new end.written) }
+        EndsWithAccount W.contents epoch 0 sink.old sink.new end.written) }
     ensures nothing { OnErr result (sink.new ≡ sink.old) }
 {
     let blank = Blank::new(workers as u64);
-    serve_book::<Brand, R, W>(rt, blank, listener, epoch, workers, connections, sink)
+    serve_book::<Brand, Brand, R, W>(rt, blank, listener, epoch, 0, workers, connections, sink)
 }
 
-// The whole life of a server, under the name of its ledger.
-fn serve_book<L, R, W>(
+// The whole life of a server, under the name of its ledger and the opening of its book.
+fn serve_book<L, O, R, W>(
     rt: &R,
     blank: Blank,
     listener: TcpListener,
     epoch: u64,
+    moment: u64,
     workers: usize,
     connections: u32,
     sink: &mut Sink<W>,
 ) -> Result<ServerEnd, NoMemory>
 where
     L: Ledger + Send + Sync,
+    O: Opening + Send,
     R: Threads + Wait + AllocGlobal + time::Clock + Sync,
     W: Write,
     requires name { blank.name ≡ L.name }
     requires parts { blank.parts ≡ L.parts }
     requires made { blank.parts ≡ workers }
     requires epoch { FitsIdentifier epoch }
+    requires small { moment ≤ 2 ^ 62 }
+    requires of_epoch { epoch ≡ O.epoch }
+    requires at_moment { moment ≡ O.moment }
     requires some { 1 ≤ workers }
     requires most { workers ≤ 64 }
     ensures account { IfOk result (λ end.
-        EndsWithAccount W.contents sink.old sink.new end.written) }
+        EndsWithAccount W.contents O.epoch O.moment sink.old sink.new end.written) }
     ensures nothing { OnErr result (sink.new ≡ sink.old) }
 {
     let alloc = rt.alloc();
     let clock = SinceStart::new(rt);
     let gate = Sleeping { rt };
-    let book = Book::open(alloc, epoch, 0)?;
-    let (shared, seats) = Shared::<Book, L>::open(alloc, blank, book, workers)?;
+    let book = OpenedBook::<O>::open(alloc, epoch, moment)?;
+    let (shared, seats) = Shared::<OpenedBook<O>, L>::open(alloc, blank, book, workers)?;
     let (seats, ended) = match serve(
         rt,
         alloc,
@@ -161,8 +167,12 @@ where
 }
 
 // Writes the account of a book.
-fn write_book<W: Write>(alloc: Global, book: &Book, sink: &mut Sink<W>) -> Result<(), RunFault>
-    ensures { EndsWithAccount W.contents sink.old sink.new result }
+fn write_book<O: Opening, W: Write>(
+    alloc: Global,
+    opened: &OpenedBook<O>,
+    sink: &mut Sink<W>,
+) -> Result<(), RunFault>
+    ensures { EndsWithAccount W.contents O.epoch O.moment sink.old sink.new result }
 {
-    write_account(alloc, book.account(), sink)
+    write_account(alloc, opened.book().account(), sink)
 }
