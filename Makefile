@@ -2,17 +2,18 @@
 PREFIX ?= /usr/local
 PROGRAM = crates/rv_app/out/rv_app
 
-.PHONY: run try test check edits torture install bench build
+.PHONY: run demo test check edits torture install bench build
 
-# the four answers of the first example, by the proved program
+# the four answers of the first example, and a hand-over between two programs, by the proved program
 run: build
 	@$(PROGRAM) book --epoch 1 < examples/first.in
+	@echo
+	@tools/handover.py $(PROGRAM)
 
-# the same answers about a minute after a clone, by a program that nothing has proved yet
-try:
-	@command -v rt > /dev/null || { echo "rt is missing: put the rt of the Rattle kit on the PATH" >&2; exit 1; }
-	@echo "unproved: this is the code as it is written, and no proof was made of it; make run proves it first" >&2
-	@cd crates/rv_app && rt try -- book --epoch 1 < ../../examples/first.in
+# a hand-over over a bad link, told in plain words: a minute or two after a clone, by code that nothing has proved yet
+demo:
+	@command -v python3 > /dev/null || { echo "python3 is missing: the demo is written in it" >&2; exit 1; }
+	@tools/demo.py
 
 # the gate: proofs, edits and tests, the built program from outside, the documents; the last line counts all of them.
 # rt ci keeps what it passed: a later gate proves and tries what changed and the crates above it; tests/all --anew does all

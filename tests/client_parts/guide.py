@@ -3,6 +3,7 @@ fresh."""
 import os
 import pathlib
 import re
+import shutil
 import subprocess
 import tempfile
 import xml.dom.minidom
@@ -19,7 +20,7 @@ PORT = "7411"
 # What is printed behind each block.
 END = "---- end of a block"
 PICTURES = {
-    "link": [["play", "examples/packets.play", "examples/packets.out"], None],
+    "link": [["play", "examples/demo.play", "examples/demo.out"], None],
     "account": [["account"], "examples/day.account"],
 }
 
@@ -101,4 +102,81 @@ def a_receipt_in_pictures(_):
         xml.dom.minidom.parseString(ran.stdout)
 
 
-CASES = [the_pictures, a_marked_fault, a_receipt_in_pictures, the_guide]
+def drawn(*words, account):
+    """The picture of an account, which is well formed; nothing is said on standard error."""
+    ran = subprocess.run([ROOT / "tools/draw", "account", *words], input=account, capture_output=True, text=True, timeout=300)
+    demand(ran.returncode == 0 and not ran.stderr, f"{words}: {ran.stderr}")
+    xml.dom.minidom.parseString(ran.stdout)
+    return ran.stdout
+
+
+def parts_of_accounts(_):
+    """Of an account a window is drawn, or what one queue has to do with, and how many entries are left out between."""
+    day = (ROOT / "examples/day.account").read_text()
+    for words, there, left_out in [
+        ([], ["hello 1", "swap &quot;x&quot;", "put &quot;c&quot;", "tick", "cancel"], []),
+        (["--queue", "3"], ["take", "transfer &quot;b&quot;", "tick", "queue 3", "… 3 …", "… 4 …"], ["hello 1", "cancel", "queue 4"]),
+        (["--from", "7", "--to", "8"], ["swap &quot;x&quot;", "exchanger 5"], ["take", "tick", "queue 3"]),
+        (["--from", "99"], ["epoch 1 opened 0"], ["hello 1"]),
+    ]:
+        shown = re.findall(r"<text[^>]*>([^<]*)<", drawn(*words, account=day))
+        demand(set(there) <= set(shown) and not set(left_out) & set(shown), f"{words}: {shown}")
+
+
+def many_entries(_):
+    """Of an epoch's 99,999 puts, each of which is looked for to the end, a picture is there long before the time is over."""
+    call = '"call":"put","client":1,"epoch":1,"incarnation":1,"item":"a","kind":"request"'
+    lines = ['epoch 1 opened 0', '0 - {"client":1,"incarnation":1,"kind":"hello"}',
+             *(f'0 - {{{call},"number":{number},"queue":3}}' for number in range(1, 100_000))]
+    picture = drawn("--to", "1000", account="".join(f"{line}\n" for line in lines))
+    width = int(re.search(r'width="(\d+)"', picture)[1])
+    demand(width < 20_000, f"it is {width} pixels wide")
+
+
+def wrong_words_of_draw(_):
+    """Words that mean nothing are answered by the usage, and no account by a line that says so."""
+    for words in [[], ["play"], ["play", "one"], ["account", "--queue"], ["account", "--queue", "x"], ["account", "--to", "-1"],
+                  ["account", "3"], ["accounts"]]:
+        ran = subprocess.run([ROOT / "tools/draw", *words], input="", capture_output=True, text=True, timeout=300)
+        demand(ran.returncode == 1 and not ran.stdout and ran.stderr.startswith("usage: tools/draw"), f"{words}: {ran.stderr}")
+    ran = subprocess.run([ROOT / "tools/draw", "account"], input="", capture_output=True, text=True, timeout=300)
+    demand(ran.returncode == 1 and ran.stderr == "there is no account on standard input\n", ran.stderr)
+
+
+def the_demo(program):
+    """What `make demo` tells of the play, and that its account is the audited one."""
+    ran = subprocess.run([ROOT / "tools/demo.py", program], capture_output=True, text=True, timeout=300)
+    demand(ran.returncode == 0 and not ran.stderr, f"{ran.returncode}: {ran.stdout}{ran.stderr}")
+    for line in ['client 1 asks: transfer "a" into queue 3, and waits ... which comes late',
+                 '    the server gets client 2\'s take, and answers: item "a" ... which is lost',
+                 '    client 1 gets: received, by client 2\'s request 1',
+                 '    client 1: transfer "b" into queue 3, if somebody is there now: nobody',
+                 '    3     9 ms  client 2: take from queue 3, and waits; it meets place 2',
+                 "The auditor's word on it: legal"]:
+        demand(line in ran.stdout.splitlines(), f"{line!r} is not in\n{ran.stdout}")
+    picture = pathlib.Path(ran.stdout.strip().splitlines()[-1].removeprefix("A picture of it: "))
+    demand(picture.read_bytes() == (ROOT / "docs/pictures/link.svg").read_bytes(), "the demo draws another picture")
+    shutil.rmtree(picture.parent)
+
+
+def a_demo_of_a_wrong_program(_):
+    """A program that plays otherwise is told as it plays, and its account is found to be another than was audited."""
+    with tempfile.TemporaryDirectory(prefix="rv-demo-") as name:
+        wrong = pathlib.Path(name) / "rv"
+        results = (ROOT / "examples/demo.out").read_text().replace('"item":"a","kind":"reply"', '"item":"z","kind":"reply"')
+        wrong.write_text(f"#!/bin/sh\n[ $1 = audit ] && echo legal && exit\ncat <<'END'\n{results}END\n")
+        wrong.chmod(0o700)
+        ran = subprocess.run([ROOT / "tools/demo.py", wrong], capture_output=True, text=True, timeout=300)
+    demand(ran.returncode == 1 and 'item "z"' in ran.stdout and "That is not the account" in ran.stderr, ran.stdout + ran.stderr)
+
+
+def the_hand_over(program):
+    """What `make run` shows of a hand-over between two programs."""
+    ran = subprocess.run([ROOT / "tools/handover.py", program], capture_output=True, text=True, timeout=300)
+    demand(ran.returncode == 0 and not ran.stderr, f"{ran.returncode}: {ran.stdout}{ran.stderr}")
+    for line in ["    second was received by client 2, in its request 2", "    took third", "The auditor's word on it: legal"]:
+        demand(line in ran.stdout.splitlines(), f"{line!r} is not in\n{ran.stdout}")
+
+
+CASES = [the_pictures, a_marked_fault, a_receipt_in_pictures, parts_of_accounts, many_entries, wrong_words_of_draw, the_demo,
+         a_demo_of_a_wrong_program, the_hand_over, the_guide]

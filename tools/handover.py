@@ -1,0 +1,76 @@
+#!/usr/bin/env python3
+"""Runs a hand-over between two programs: a server, a producer and a consumer in Python, what each was told, the server's
+account, and the auditor's word on it. The server ends behind its two connections.
+
+usage: tools/handover.py PROGRAM
+"""
+import os
+import pathlib
+import socket
+import subprocess
+import sys
+import time
+
+ROOT = pathlib.Path(__file__).resolve().parent.parent
+sys.dont_write_bytecode = True
+from story import entry_words  # noqa: E402
+
+# How many seconds any of the programs may take, before it counts as hung.
+PATIENCE = 120
+
+
+def free_address():
+    """An address of this machine that nobody listens at."""
+    with socket.socket() as found:
+        found.bind(("127.0.0.1", 0))
+        return f"127.0.0.1:{found.getsockname()[1]}"
+
+
+def begin(words):
+    """Starts a program, of which what it prints is kept."""
+    environment = {**os.environ, "PYTHONPATH": str(ROOT / "clients/python/src"), "PYTHONDONTWRITEBYTECODE": "1"}
+    return subprocess.Popen(words, env=environment, stdout=subprocess.PIPE, text=True)
+
+
+def printed(process, name):
+    """What a program printed, which has to end well."""
+    lines, _ = process.communicate(timeout=PATIENCE)
+    if process.returncode:
+        sys.exit(f"{name} ended by {process.returncode}")
+    return lines.splitlines()
+
+
+def hand_over(program, address):
+    """A server, and its two clients; what each of the three printed."""
+    options = ["--listen", address, "--epoch", str(int(time.time())), "--workers", "4", "--connections", "2"]
+    print(f"A server:      rv serve {' '.join(options)}")
+    running = {"server": begin([program, "serve", *options])}
+    try:
+        for client, name in ((2, "consumer"), (1, "producer")):
+            print(f"A {name}:    python3 examples/clients/{name}.py {address} {client} 1", flush=True)
+            running[name] = begin([sys.executable, ROOT / f"examples/clients/{name}.py", address, str(client), "1"])
+        return {name: printed(running[name], name) for name in ("consumer", "producer", "server")}
+    finally:
+        for process in running.values():
+            process.kill()
+
+
+def main():
+    if len(sys.argv) != 2:
+        sys.exit(__doc__.strip().split("\n")[-1])
+    program = str(pathlib.Path(sys.argv[1]).resolve())
+    told = hand_over(program, free_address())
+    for name in ("producer", "consumer"):
+        print(f"\nThe {name} prints:")
+        print("\n".join(f"    {line}" for line in told[name]))
+    head, *entries = told["server"]
+    print("\nThe server ends, and prints its account, which is all that it did, by place and moment:")
+    opened = int(head.split(" ")[-1])
+    print("\n".join(f"    {place}  {entry_words(line, opened)}" for place, line in enumerate(entries)))
+    text = "".join(f"{line}\n" for line in told["server"])
+    audit = subprocess.run([program, "audit"], input=text, stdout=subprocess.PIPE, text=True)
+    print(f"The auditor's word on it: {audit.stdout.strip()}")
+    sys.exit(audit.returncode)
+
+
+main()
