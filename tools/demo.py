@@ -56,7 +56,7 @@ def finish(run):
     """The lines that a run printed. `rv audit` ends by 1 for an account that isn't legal, and then says which."""
     printed, said = run.communicate()
     if run.returncode and not printed:
-        sys.exit(said or f"{' '.join(run.args)} ended by {run.returncode}")
+        sys.exit(said.rstrip() or f"{' '.join(run.args)} ended by {run.returncode}")
     return printed.splitlines()
 
 

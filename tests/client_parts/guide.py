@@ -170,6 +170,41 @@ def a_demo_of_a_wrong_program(_):
     demand(ran.returncode == 1 and 'item "z"' in ran.stdout and "That is not the account" in ran.stderr, ran.stdout + ran.stderr)
 
 
+def stand_in(folder, said):
+    """The environment in which `rt` is a script of this text."""
+    rt = pathlib.Path(folder) / "rt"
+    rt.write_text(f"#!/bin/sh\n{said}")
+    rt.chmod(0o700)
+    return {**os.environ, "PATH": f"{folder}:{os.environ['PATH']}"}
+
+
+def a_demo_with_no_proof(_):
+    """Where no proved program fits, the code is compiled as it is; of what `rt` says nothing is shown, unless it fails."""
+    played = f"{ROOT}/examples/demo.out"
+    for said, status, there in [
+        (f"echo noise >&2\ncase $3$4 in *play) cat {played};; *audit) echo legal;; *) echo stand-in;; esac\n", 0, "make install"),
+        ("[ $1 = version ] && echo stand-in && exit\necho it broke >&2\nexit 1\n", 1, ""),
+    ]:
+        with tempfile.TemporaryDirectory(prefix="rv-demo-") as name:
+            ran = subprocess.run([ROOT / "tools/demo.py"], env={**stand_in(name, said), "TMPDIR": name}, capture_output=True,
+                                 text=True, timeout=300)
+        demand((ran.returncode, ran.stderr) == (status, "it broke\n" if status else ""), ran.stdout + ran.stderr)
+        demand("compiled as it is written" in ran.stdout and there in ran.stdout, ran.stdout)
+
+
+def the_progress_of_an_installation(_):
+    """While crates are proved, each that ends is told, with how many there are; what went wrong is told behind them."""
+    said = ("case $1 in version) echo stand-in;; run) echo it broke; exit 1;;\n"
+            "all) for crate in rv_item rv_text rv_book rv_tests; do echo == $crate; done;; esac\n")
+    with tempfile.TemporaryDirectory(prefix="rv-build-") as name:
+        ran = subprocess.run([ROOT / "tests/build", "rv_app"], env=stand_in(name, said), capture_output=True, text=True, timeout=300)
+    first, *ended, last = ran.stderr.splitlines()
+    demand(first.startswith("proving 18 crates, ") and last == "it broke" and ran.returncode == 1, ran.stderr)
+    for number, crate in enumerate(["rv_item", "rv_text", "rv_book"], 1):
+        demand(any(line.startswith(f"{crate} ended; {number} of 18 crates proved in ") for line in ended), ran.stderr)
+    demand("min still" in ended[2] and "rv_tests ended" not in ran.stderr, ran.stderr)
+
+
 def the_hand_over(program):
     """What `make run` shows of a hand-over between two programs."""
     ran = subprocess.run([ROOT / "tools/handover.py", program], capture_output=True, text=True, timeout=300)
@@ -179,4 +214,4 @@ def the_hand_over(program):
 
 
 CASES = [the_pictures, a_marked_fault, a_receipt_in_pictures, parts_of_accounts, many_entries, wrong_words_of_draw, the_demo,
-         a_demo_of_a_wrong_program, the_hand_over, the_guide]
+         a_demo_of_a_wrong_program, a_demo_with_no_proof, the_progress_of_an_installation, the_hand_over, the_guide]
