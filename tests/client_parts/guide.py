@@ -45,10 +45,12 @@ def the_guide(program):
         (folder / "bin/rv").symlink_to(program)
         path = f"{folder / 'bin'}:{os.environ['PATH']}"
         environment = {**os.environ, "PATH": path, "PYTHONPATH": f"{folder}/clients/python/src"}
-        environment["PYTHONDONTWRITEBYTECODE"] = "1"
+        environment["PYTHONDONTWRITEBYTECODE"], environment["TMPDIR"] = "1", str(folder / "bin")
+        there = {path.name for path in folder.iterdir()}
         typed = [(text.replace(PORT, port), shown) for info, text, shown in blocks()
                  if "hand" not in info and not ("java" in info and lacking)]
         run_script(typed, folder, environment)
+        demand({path.name for path in folder.iterdir()} == there, f"the guide leaves {sorted(folder.iterdir())}")
 
 
 def run_script(typed, folder, environment):
