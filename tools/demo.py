@@ -40,15 +40,15 @@ def begin(program, word, source):
                                 stderr=subprocess.PIPE, text=True)
 
 
-def wait(runs):
-    """Waits for both runs, and tells on a terminal for how long."""
+def wait(runs, is_tried):
+    """Waits for both runs, and where they are compiled first tells on a terminal for how long."""
     began = time.monotonic()
-    while any(run.poll() is None for run in runs):
+    while is_tried and any(run.poll() is None for run in runs):
         if sys.stderr.isatty():
-            print(f"\rcompiling for {time.monotonic() - began:.0f} s ", end="", file=sys.stderr, flush=True)
-        time.sleep(0.5 if time.monotonic() - began > 2 else 0.05)
-    if sys.stderr.isatty():
-        print("\r" + " " * 30 + "\r", end="", file=sys.stderr, flush=True)
+            print(f"\rcompiling for {time.monotonic() - began:.0f} s", end="", file=sys.stderr, flush=True)
+        time.sleep(0.2)
+    if is_tried and sys.stderr.isatty():
+        print("\r\033[K", end="", file=sys.stderr, flush=True)
     return [finish(run) for run in runs]
 
 
@@ -86,7 +86,7 @@ def main():
     print(ABOUT, flush=True)
     if is_tried:
         print("The code is compiled as it is written, in a minute or two; nothing is proved.\n", flush=True)
-    results, verdict = wait([begin(program, "play", PLAY), begin(program, "audit", ACCOUNT)])
+    results, verdict = wait([begin(program, "play", PLAY), begin(program, "audit", ACCOUNT)], is_tried)
     account = tell(PLAY.read_text(encoding="utf-8").splitlines(), results)
     if account != ACCOUNT.read_text(encoding="utf-8").splitlines():
         sys.exit(f"\nThat is not the account of {ACCOUNT.relative_to(ROOT)}, which was audited.")
