@@ -204,7 +204,7 @@ def the_progress_of_an_installation(_):
     demand(first.startswith("proving 18 crates, ") and last == "it broke" and ran.returncode == 1, ran.stderr)
     for number, crate in enumerate(["rv_item", "rv_text", "rv_book"], 1):
         demand(any(line.startswith(f"{crate} ended; {number} of 18 crates proved in ") for line in ended), ran.stderr)
-    demand("min still" in ended[2] and "rv_tests ended" not in ran.stderr, ran.stderr)
+    demand("min still" in ended[2] and "rv_tests ended" not in ran.stderr and "building rv_app" in ended, ran.stderr)
 
 
 def the_hand_over(program):
