@@ -14,6 +14,8 @@ mod expect;
 #[cfg(test)]
 mod line;
 #[cfg(test)]
+mod queues;
+#[cfg(test)]
 mod rows;
 #[cfg(test)]
 mod scripts;
