@@ -100,10 +100,11 @@ static ssize_t no_read(void) {
     return any_of(errors, 5);
 }
 
-/* A write that fails, with whatever error, or takes nothing. */
+/* A write that fails, with whatever error, or takes nothing. One that is only interrupted may be made again, so where a
+   write is to fail behind so many bytes, and no odds are given, it isn't of that kind. */
 static ssize_t no_write(void) {
-    static const int errors[] = {EPIPE, EIO, EINTR, EAGAIN, ENOBUFS};
-    return chance() % 6 ? any_of(errors, 5) : 0;
+    static const int errors[] = {EPIPE, EIO, EAGAIN, ENOBUFS, EINTR};
+    return chance() % 6 ? any_of(errors, page->odds[FAILED_WRITE] ? 5 : 4) : 0;
 }
 
 /* One more than the bytes that pass before the next read or write fails; 0 is not known yet. */
