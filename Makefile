@@ -16,26 +16,26 @@ demo:
 	@tools/demo.py
 
 # the gate: proofs, edits and tests, the built program from outside, the documents; the last line counts all of them.
-# rt ci keeps what it passed: a later gate proves and tries what changed and the crates above it; tests/all --anew does all
+# rt ci keeps what it passed: a later gate proves and tries what changed and the crates above it; tools/gate.py --anew does all
 test:
 	@command -v python3 > /dev/null || { echo "python3 is missing: the gate is written in it" >&2; exit 1; }
-	@tests/all
+	@tools/gate.py
 
 # what changed since the last check is proved, and the program run from outside: for who writes, and no gate
 check:
 	@command -v python3 > /dev/null || { echo "python3 is missing: the check is written in it" >&2; exit 1; }
-	@tests/all --kept
+	@tools/check.py
 
 # the edits beside the gate's, each of which the prover must refuse, and those that a test must see;
 # NAMES="rv_text .." tries those of some crates
 edits:
 	@command -v python3 > /dev/null || { echo "python3 is missing: the script is written in it" >&2; exit 1; }
-	@tests/edits $(NAMES)
+	@tools/edits.py $(NAMES)
 
 # the built program in a hostile system and over spoilt bytes, for an hour or SECONDS
 torture: build
 	@command -v python3 > /dev/null || { echo "python3 is missing: the script is written in it" >&2; exit 1; }
-	@tests/torture --seconds $(or $(SECONDS),3500) $(PROGRAM)
+	@tests/faults/torture.py --seconds $(or $(SECONDS),3500) $(PROGRAM)
 
 # the proved program, as PREFIX/bin/rv
 install: build
@@ -47,10 +47,10 @@ install: build
 # with OLD=PROGRAM beside that of another build
 bench: build
 	@command -v python3 > /dev/null || { echo "python3 is missing: the measurement is written in it" >&2; exit 1; }
-	@tests/build rv_bench
-	@tests/bench $(PROGRAM) crates/rv_bench/out/rv_bench $(if $(OLD),--old $(OLD))
+	@tools/build.py rv_bench
+	@tools/bench/bench.py $(PROGRAM) crates/rv_bench/out/rv_bench $(if $(OLD),--old $(OLD))
 
 # the proved program: as it is where its mark fits the sources, else proved and built
 build:
-	@command -v python3 > /dev/null || { echo "python3 is missing: tests/build is written in it" >&2; exit 1; }
-	@tests/build rv_app
+	@command -v python3 > /dev/null || { echo "python3 is missing: tools/build.py is written in it" >&2; exit 1; }
+	@tools/build.py rv_app

@@ -12,11 +12,10 @@ import sys
 import tempfile
 import time
 
-ROOT = pathlib.Path(__file__).resolve().parent.parent
-sys.dont_write_bytecode = True
-sys.path.append(str(ROOT / "tests"))
-import proved  # noqa: E402
-from story import Story, entry_words  # noqa: E402
+ROOT = pathlib.Path(__file__).resolve().parents[1]
+sys.dont_write_bytecode, sys.path[0] = True, str(ROOT)
+from tools import proved  # noqa: E402
+from tools.story import Story, entry_words  # noqa: E402
 
 PLAY, ACCOUNT = ROOT / "examples/demo.play", ROOT / "examples/handed.account"
 ABOUT = "A hand-over over a bad link, by the book and the clients that rv runs. Of what is sent some is lost, and some comes late.\n"
@@ -76,7 +75,7 @@ def draw(results):
     folder = pathlib.Path(tempfile.mkdtemp(prefix="rv-demo-"))
     (folder / "results").write_text("".join(f"{line}\n" for line in results), encoding="utf-8")
     with open(folder / "demo.svg", "wb") as picture:
-        subprocess.run([ROOT / "tools/draw", "play", PLAY, folder / "results"], stdout=picture, check=True)
+        subprocess.run([ROOT / "tools/draw.py", "play", PLAY, folder / "results"], stdout=picture, check=True)
     return folder / "demo.svg"
 
 

@@ -11,9 +11,9 @@ import subprocess
 import sys
 import time
 
-ROOT = pathlib.Path(__file__).resolve().parent.parent
-sys.dont_write_bytecode = True
-from story import entry_words  # noqa: E402
+ROOT = pathlib.Path(__file__).resolve().parents[1]
+sys.dont_write_bytecode, sys.path[0] = True, str(ROOT)
+from tools.story import entry_words  # noqa: E402
 
 # How many seconds any of the programs may take, before it counts as hung.
 PATIENCE = 120

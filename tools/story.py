@@ -1,7 +1,7 @@
 """A play in plain words: what each line was, what each client was told, and the account that the answers make."""
 import json
 
-from drawing.words import BY, answer_words, hello_words, item_words, place_words
+from tools.drawing.words import BY, answer_words, hello_words, item_words, place_words
 
 WAITS = {"now": "if somebody is there now", "forever": "and waits"}
 

@@ -3,8 +3,8 @@ import collections
 import heapq
 import json
 
-from drawing.picture import BAD, FAINT, INK, PALE, Picture
-from drawing.words import hello_words, item_words, place_words
+from tools.drawing.picture import BAD, FAINT, INK, PALE, Picture
+from tools.drawing.words import hello_words, item_words, place_words
 
 LEFT, TOP, ROW = 110, 50, 60
 # How wide a column is; where there are more columns than have words, all of them together are so wide.

@@ -1,8 +1,8 @@
 """A play as a sequence of packets: what each client said and heard, and what the link did with it."""
 import json
 
-from drawing.picture import BAD, FAINT, INK, Picture
-from drawing.words import answer_words, call_words, hello_words
+from tools.drawing.picture import BAD, FAINT, INK, Picture
+from tools.drawing.words import answer_words, call_words, hello_words
 
 ROW, COLUMN, SIDE, TOP = 22, 230, 190, 50
 # Words stand this far from a column.

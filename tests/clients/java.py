@@ -1,0 +1,503 @@
+"""The Java client: how it is built for tests, its machine on the table of cases, and its calls over a
+scripted server."""
+import contextlib
+import functools
+import itertools
+import json
+import os
+import pathlib
+import shutil
+import socket
+import subprocess
+import tempfile
+import time
+
+from scripted import (
+    BY, HANG_UP, SILENCE, Scripted, old_server, received_by, refused, reply, waiting, welcome)
+from tests import ROOT
+from tests.sockets.wire import Wrong, demand, frame, until
+
+FOLDER = ROOT / "clients/java/src"
+GSON = pathlib.Path("/usr/share/java/gson.jar")
+PATIENCE = 300
+# A patience that ends in a case, in milliseconds: long enough for a slow machine to ask.
+SHORT = 3_000
+# How often what has to be done in time is tried.
+TRIES = 5
+# The patience of other sessions in milliseconds: long, but where clients are tried that never end.
+LONG = 1_000 * int(os.environ.get("RV_PATIENCE", "60"))
+
+
+def missing():
+    """What the Java client lacks on this machine, if something: the compiler, or the library that reads
+    JSON."""
+    if not shutil.which("javac"):
+        return "javac is missing"
+    return None if GSON.exists() else "gson.jar is missing"
+
+
+@functools.lru_cache(maxsize=None)
+def built():
+    """The folder of the built classes, which is gone when this program ends."""
+    folder = tempfile.TemporaryDirectory(prefix="rv-java-")
+    sources = [str(path) for part in ("main", "test") for path in sorted((FOLDER / part).rglob("*.java"))]
+    sources += [str(path) for path in sorted((ROOT / "examples").rglob("*.java"))]
+    words = ["javac", "-Xlint:all", "-Werror", "--release", "17", "-cp", str(GSON), "-d", folder.name,
+             *sources]
+    ran = subprocess.run(words, capture_output=True, text=True, timeout=10 * PATIENCE)
+    demand(ran.returncode == 0, f"javac says {ran.stdout} {ran.stderr}")
+    return folder
+
+
+def command(name, *words):
+    """The words that run a class."""
+    path = f"{built().name}:{GSON}"
+    return ["java", "-XX:TieredStopAtLevel=1", "-Xshare:auto", "-cp", path, name, *map(str, words)]
+
+
+def the_java_process():
+    """Each case of the table, by the machine in Java."""
+    table = ROOT / "clients/cases.jsonl"
+    ran = subprocess.run(command("rendezvous.CaseTable", table), capture_output=True, text=True,
+                         timeout=PATIENCE)
+    cases = sum('"machine"' in line for line in table.read_text().splitlines())
+    demand((ran.stdout, ran.stderr) == (f"{cases} cases\n", ""), f"{ran.stdout[:1000]} {ran.stderr[:1000]}")
+
+
+def in_time(case):
+    """A case with a limit of a second or less, behind which the client says less: where a machine was too slow for that, it
+    is tried again."""
+    @functools.wraps(case)
+    def tried(*given):
+        for _ in range(TRIES - 1):
+            with contextlib.suppress(Wrong):
+                return case(*given)
+        return case(*given)
+    return tried
+
+
+class Driver:
+    """A Java program that does what it is told, line by line."""
+
+    def __init__(self):
+        self.process = subprocess.Popen(command("rendezvous.Driver"), stdin=subprocess.PIPE,
+                                        stdout=subprocess.PIPE,
+                                        text=True, encoding="utf-8")
+
+    def tell(self, line):
+        """What it prints for a line."""
+        self.process.stdin.write(line + "\n")
+        self.process.stdin.flush()
+        return self.process.stdout.readline().rstrip("\n")
+
+    def expect(self, line, wanted):
+        """It must print this for a line."""
+        got = self.tell(line)
+        demand(got == wanted, f"{line}: {got!r}, not {wanted!r}")
+
+
+@contextlib.contextmanager
+def driver():
+    """A driver that ends with the block."""
+    made = Driver()
+    try:
+        yield made
+    finally:
+        made.process.kill()
+        made.process.communicate()
+
+
+@contextlib.contextmanager
+def opened(java, *deeds, patience=LONG, version="", hello=welcome):
+    """A scripted server that meets the hello so, with the driver's client 1."""
+    with Scripted(hello, *deeds) as server:
+        java.expect(f"open {server.port} 1 {patience} {version}".rstrip(), "result open")
+        yield server
+
+
+def asked(server):
+    """What came, each as its kind, number and call."""
+    return [(one["kind"], one.get("number"), one.get("call")) for one in server.heard]
+
+
+def each_call(java):
+    """Each call's members and result."""
+    received = {1: reply("received"), 2: received_by(*BY)}
+    calls = [("put a", reply("done"), {"call": "put", "item": "a"}, "done"),
+             ("transfer a", received, {"call": "transfer", "item": "a", "wait": "forever"}, "received"),
+             ("try a", reply("nobody"), {"call": "transfer", "item": "a", "wait": "now"}, "false"),
+             ("try a", received, {"call": "transfer", "item": "a", "wait": "now"}, "true"),
+             ("try a 0", reply("timedout"), {"call": "transfer", "item": "a", "wait": 0}, "false"),
+             ("try a 1001", received, {"call": "transfer", "item": "a", "wait": 2}, "true"),
+             ("take", reply("item", item="\u2028<ü"), {"call": "take", "wait": "forever"}, "\u2028<ü"),
+             ("poll", reply("empty"), {"call": "take", "wait": "now"}, "null"),
+             ("poll -5", reply("timedout"), {"call": "take", "wait": 0}, "null"),
+             ("poll 5000000", reply("item", item=""), {"call": "take", "wait": 5000}, ""),
+             ("peek", reply("peeked", item="a"), {"call": "peek"}, "a"),
+             ("peek", reply("empty"), {"call": "peek"}, "null"),
+             ("size", reply("counted", items=2, consumers=0), {"call": "count"}, "2"),
+             ("consumers", reply("counted", items=0, consumers=3), {"call": "count"}, "3")]
+    for version, (number, (line, answer, members, result)) in itertools.product((1, 2), enumerate(calls)):
+        deed = answer[version] if isinstance(answer, dict) else answer
+        with opened(java, deed, version=version) as server:
+            java.expect(line, f"result {result}")
+            key = {"epoch": 1, "client": 1, "incarnation": 1, "number": 1}
+            wanted = {"kind": "request", "queue": 3, **key, **members}
+            demand(server.heard[1] == wanted, f"call {number}: {server.heard[1]}, not {wanted}")
+    with opened(java, reply("swapped", item="y"), reply("timedout")) as server:
+        java.expect("exchange x", "result y")
+        java.expect("exchange x 0", "threw TimeoutException")
+
+
+def receipts(java):
+    """A receipt has the transfer's key, and names the consumer that its reply names, in the reply's epoch."""
+    ninth = lambda hello: welcome(hello, 9)
+    calls = [("transfer-receipt a", "forever", "result {}"), ("try-receipt a", "now", "result Optional[{}]"),
+             ("try-receipt a 1001", 2, "result Optional[{}]")]
+    for line, wait, wanted in calls:
+        with opened(java, received_by(2, 3, 4), hello=ninth) as server:
+            java.expect("last", "result Optional.empty")
+            java.expect(line, wanted.format("9/1/1/1 by 9/2/3/4"))
+            java.expect("last", "result Optional[Receipt[key=9/1/1/1, by=Optional[9/2/3/4]]]")
+            demand(server.heard[1]["wait"] == wait, f"{server.heard}")
+        with opened(java, reply("received"), hello=ninth, version=1):
+            java.expect(line, wanted.format("9/1/1/1 by nobody named"))
+    with opened(java, reply("nobody"), reply("timedout"), reply("cancelled"), reply("done")):
+        java.expect("try-receipt a", "result Optional.empty")
+        java.expect("try-receipt a 0", "result Optional.empty")
+        java.expect("transfer-receipt a", "threw CancellationException")
+        java.expect("last", "result Optional[Cancelled[key=1/1/1/3]]")
+        java.expect("put a", "result done")
+        java.expect("last", "result Optional[Done[key=1/1/1/4]]")
+    with opened(java, HANG_UP, patience=SHORT) as server:
+        server.otherwise = HANG_UP
+        java.expect("transfer a", "threw Unsettled 1/1/1/1")
+        java.expect("last", "result Optional.empty")
+        server.otherwise = received_by(2, 3, 4)
+        java.expect("again", "result Receipt[key=1/1/1/1, by=Optional[1/2/3/4]]")
+        java.expect("last", "result Optional[Receipt[key=1/1/1/1, by=Optional[1/2/3/4]]]")
+
+
+def what_is_no_receipt(java):
+    """A reply that names a part of a consumer, names one where no receipt is told or the session is of the first
+    version, or names none in one of the second, settles nothing."""
+    whole = dict(zip(("by_client", "by_incarnation", "by_number"), (2, 3, 4)))
+    bad = [reply("received", **{n: value for n, value in whole.items() if n != name}) for name in whole]
+    odd = [("by_client", 0), ("by_incarnation", 2**53), ("by_number", 1.0), ("by_number", "1")]
+    bad += [reply("received", **{**whole, name: value}) for name, value in odd]
+    bad += [reply("received", **whole, by_epoch=1), reply("done", **whole), reply("received")]
+    with opened(java, *behind(waiting, bad), received_by(2, 3, 4)) as server:
+        java.expect("transfer-receipt a", "result 1/1/1/1 by 1/2/3/4")
+        demand(len(server.heard) == 2 + 2 * len(bad), f"{len(server.heard)} frames came")
+        demand(server.connections == 1 + len(bad), f"{server.connections} connections came")
+    with opened(java, received_by(2, 3, 4), reply("received"), version=1) as server:
+        java.expect("transfer-receipt a", "result 1/1/1/1 by nobody named")
+        demand(server.connections == 2, f"{server.connections} connections came")
+
+
+def behind(deed, others):
+    """The others, each behind that deed."""
+    return [one for other in others for one in (deed, other)]
+
+
+def versions(java):
+    """A session asks for version 2, or for the one that it is told, and only its own welcome counts."""
+    hello = {"kind": "hello", "client": 1, "incarnation": 1}
+    for version, said in [("", {"version": 2}), (2, {"version": 2}), (1, {})]:
+        other = {} if said else {"version": 2}
+        others = [lambda asked, odd=odd: {"kind": "welcome", "epoch": 1, "client": 1, "incarnation": 1, **odd}
+                  for odd in (other, {"version": 1}, {"version": 3}, {"version": "2"}, {"version": 2.0})]
+        deeds = [*others[1:], welcome, reply("done")]
+        with opened(java, *deeds, version=version, hello=others[0]) as server:
+            java.expect("put a", "result done")
+            hellos = [members for members in server.heard if members["kind"] == "hello"]
+            demand(hellos == [{**hello, **said}] * (len(others) + 1), f"{hellos}")
+    with opened(java, patience=SHORT, hello=lambda asked: {**welcome(asked), "client": 2}) as server:
+        server.otherwise = lambda asked: {**welcome(asked), "client": 2}
+        java.expect("put a", "threw NotAsked null")
+        demand(len(server.heard) < 60, f"{len(server.heard)} hellos were said")
+
+
+def other_versions(java):
+    """A hello of another version than the session's is told so, and by which; and so is one that an old
+    server does not know."""
+    for current in (1, 2):
+        with opened(java, version=3 - current, hello=refused(12, current=current)):
+            java.expect("put a", f"threw Refused null 12 other version {current}")
+            told = java.tell("words")
+            demand(told.endswith(f"in this incarnation speaks {current}"), f"it says {told}")
+    odd = [refused(12, current=odd) for odd in (0, 2, 3, "1")]
+    with opened(java, *odd, welcome, refused(12, current=1), reply("done"), hello=refused(12)) as server:
+        java.expect("put a", "result done")
+        demand(len(server.heard) == 8, f"{len(server.heard)} frames came")
+    with opened(java, welcome, reply("done"), hello=old_server):
+        java.expect("put a", "threw Refused null 1 bad text")
+        told = java.tell("words")
+        demand("version 1 alone" in told, f"it says {told}")
+        java.expect("put a", "result done")
+    with opened(java, reply("received"), version=1, hello=old_server):
+        java.expect("transfer-receipt a", "result 1/1/1/1 by nobody named")
+    for version in (0, 3):
+        java.expect(f"open 1 1 1 {version}", "threw IllegalArgumentException")
+
+
+def texts(count, begins=0):
+    """A deed: the reply of a drain that took so many items, which are numbers."""
+    return reply("drained", texts=[str(each) for each in range(begins, begins + count)])
+
+
+def drains_by_steps(java):
+    """Steps of at most 16, until one finds fewer or all that were asked for are there; the oldest first."""
+    runs = [("drain", [texts(16), texts(16, 16), texts(3, 32)], [16, 16, 16], 35),
+            ("drain", [texts(16), texts(0)], [16, 16], 16), ("drain", [texts(0)], [16], 0),
+            ("drain 2", [texts(2)], [2], 2), ("drain 16", [texts(16)], [16], 16),
+            ("drain 17", [texts(16), texts(1, 16)], [16, 1], 17), ("drain 40", [texts(15)], [16], 15),
+            ("drain 0", [], [], 0), ("drain -1", [], [], 0)]
+    for line, deeds, most, count in runs:
+        with opened(java, *deeds) as server:
+            java.expect(line, f"result {count}")
+            java.expect("drained", f"result [{', '.join(map(str, range(count)))}]")
+            key = {"epoch": 1, "client": 1, "incarnation": 1}
+            wanted = [{"kind": "request", **key, "number": number, "call": "drain", "queue": 3, "max": each}
+                      for number, each in enumerate(most, 1)]
+            demand(server.heard[1:] == wanted, f"{line}: {server.heard[1:]}, not {wanted}")
+
+
+def a_drain_is_asked_under_one_key(java):
+    """Over links that break, or bring what no drain gives, each step is asked until its list comes."""
+    bad = [["a"] * 17, ["a", 1], ["a", "x" * 513], "a", {}, None]
+    bad = [reply("drained", texts=one) for one in bad] + [reply("drained"), reply("item", item="a", texts=[])]
+    full = ["\u0001" * 512] * 16
+    long = lambda one: frame(json.dumps(reply("drained", texts=full)(one)).encode().ljust(65_535))
+    for part in (bad[:4], bad[4:], [texts(3)]):
+        with opened(java, long, HANG_UP, *part, refused(11), texts(2)) as server:
+            java.expect("drain 18", "result 18")
+            numbers = [number for _, number, _ in asked(server)]
+            demand(numbers == [None, 1] + [2] * (len(part) + 3), f"{numbers}")
+            demand(all(one == server.heard[2] for one in server.heard[2:]), "another request was sent")
+            java.expect("drained", f"result [{', '.join([*full, '0', '1'])}]")
+            demand(server.connections == 2 + len(part), f"{server.connections} connections came")
+
+
+def a_step_that_fails(java):
+    """What finished steps took is in the collection; an unsettled step is asked again for its items."""
+    with opened(java, texts(16), patience=SHORT) as server:
+        server.otherwise = refused(10)
+        java.expect("drain", "threw Full 1/1/1/2")
+        java.expect("drained", f"result [{', '.join(map(str, range(16)))}]")
+    with opened(java, texts(16), reply("cancelled"), texts(1)):
+        java.expect("drain", "threw CancellationException")
+        java.expect("last", "result Optional[Cancelled[key=1/1/1/2]]")
+        java.expect("drain", "result 1")
+        java.expect("drained", f"result [{', '.join(map(str, [*range(16), 0]))}]")
+    with opened(java, texts(16), patience=SHORT) as server:
+        server.otherwise = HANG_UP
+        java.expect("drain", "threw Unsettled 1/1/1/2")
+        server.otherwise = texts(2, 16)
+        java.expect("again", "result Drained[key=1/1/1/2, items=[16, 17]]")
+        java.expect("drained", f"result [{', '.join(map(str, range(16)))}]")
+
+
+def what_is_not_taken_in(java):
+    """A collection that is full throws; the step's items are still the session's."""
+    with opened(java, texts(3), reply("item", item="a")):
+        java.expect("drain-into 2", "threw IllegalStateException")
+        java.expect("last", "result Optional[Drained[key=1/1/1/1, items=[0, 1, 2]]]")
+        java.expect("take", "result a")
+        java.expect("last", "result Optional[Item[key=1/1/1/2, item=a]]")
+
+
+def repeats_until_it_is_told(java):
+    """Waiting, an answer to something else, a lost one, what is no frame and no answer."""
+    bad = [welcome, b"\x00\x00", frame(b"[" * 65_535), frame(b"{}"), frame(b"\xff"),
+           frame(b'{"kind":"refused","code":1.0}'), frame(b'{"code":12,"kind":"refused"}'),
+           frame(b'{"code":13,"kind":"refused"}'), frame(b'{"code":1,"code":1,"kind":"refused"}')]
+    deeds = [waiting, HANG_UP, *behind(waiting, bad), waiting, received_by(*BY)]
+    with opened(java, *deeds) as server:
+        java.expect("transfer a", "result received")
+        demand(all(members == server.heard[1] for members in server.heard[1:]), "another request was sent")
+        demand(len(server.heard) == 1 + len(deeds), f"{len(server.heard)} frames came")
+
+
+def an_unsettled_request(java):
+    """The call ends by its key; the request is asked again, or given up."""
+    with opened(java, waiting, patience=SHORT) as server:
+        server.otherwise = HANG_UP
+        java.expect("transfer a", "threw Unsettled 1/1/1/1 accepted")
+        told = java.tell("words")
+        demand("accepted, and never answered: " in told, f"it says {told}")
+        java.expect("put a", "threw IllegalStateException")
+        server.deeds, server.otherwise = [received_by(2, 3, 4), reply("done")], SILENCE
+        java.expect("again", "result Receipt[key=1/1/1/1, by=Optional[1/2/3/4]]")
+        java.expect("put a", "result done")
+        java.expect("again", "threw IllegalStateException")
+    with opened(java, patience=SHORT) as server:
+        server.otherwise = HANG_UP
+        java.expect("take", "threw Unsettled 1/1/1/1")
+        server.otherwise = reply("cancelled")
+        java.expect("giveup", "result Cancelled[key=1/1/1/1]")
+        demand(asked(server)[-1] == ("cancel", 1, None), "no cancel came")
+        java.expect("last", "result Optional[Cancelled[key=1/1/1/1]]")
+
+
+def no_room(java):
+    """A request that is refused for want of room is tried as long as patience lasts, and then certainly is not there;
+    but for one of which a copy is still under way."""
+    with opened(java, patience=SHORT) as server:
+        server.otherwise = refused(10)
+        java.expect("put a", "threw Full 1/1/1/1")
+        demand(len(server.heard) > 2 and server.connections == 1, f"{asked(server)}, {server.connections}")
+        server.otherwise = reply("done")
+        java.expect("put b", "result done")
+        demand(server.heard[-1]["number"] == 1, f"{asked(server)}")
+    with opened(java, HANG_UP, patience=SHORT) as server:
+        server.otherwise = refused(10)
+        java.expect("put a", "threw Unsettled 1/1/1/1")
+        server.otherwise = reply("done")
+        java.expect("again", "result Done[key=1/1/1/1]")
+    with opened(java, patience=SHORT, hello=refused(10)) as server:
+        server.otherwise = refused(10)
+        java.expect("put a", "threw Full null")
+        server.otherwise = refused(11)
+        java.expect("put a", "threw NotAsked null")
+        demand(server.connections == 1, f"{server.connections} connections came")
+
+
+def a_closed_connection_is_made_anew(java):
+    """One that the peer closed while nothing was asked, or on which it said something: no copy of a request is lost."""
+    with opened(java, reply("done"), reply("done"), reply("done")) as server:
+        java.expect("put a", "result done")
+        server.open[0].shutdown(socket.SHUT_RDWR)
+        java.expect("put b", "result done")
+        server.open[1].sendall(frame(b"{}"))
+        java.expect("put c", "result done")
+        demand([number for _, number, _ in asked(server)] == [None, 1, 2, 3], f"{asked(server)}")
+        demand(server.connections == 3, f"{server.connections} connections came")
+
+
+def nobody_listens(java):
+    """What was not sent is told so, with the address and the system's reason."""
+    java.expect("open 1 1 200", "result open")
+    java.expect("put a", "threw NotAsked null")
+    java.expect("words", "result nothing was sent: 127.0.0.1:1: connection refused")
+    java.expect("poll 1000", "threw NotAsked null")
+
+
+def interrupting(path, deed):
+    """A deed: the driver's thread is interrupted while it waits for the answer, and then it is met so."""
+    def meets(one):
+        path.touch()
+        until("an interrupt", lambda: not path.exists())
+        return deed(one) if callable(deed) else deed
+    return meets
+
+
+@in_time
+def interrupts(java):
+    """An interrupt is a cancel; a result that came before it is given; calls that do not wait go on."""
+    with tempfile.TemporaryDirectory(prefix="rv-interrupt-") as folder:
+        path = pathlib.Path(folder) / "now"
+        silence = interrupting(path, SILENCE)
+        deeds = [reply("done"), silence, reply("cancelled"), silence, reply("item", item="a")]
+        with opened(java, *deeds) as server:
+            java.expect("put a", "result done")
+            java.expect(f"interrupt {path}", "result soon")
+            java.expect("take", "threw InterruptedException")
+            java.expect(f"interrupt {path}", "result soon")
+            java.expect("take", "result a interrupted")
+            wanted = [("request", 1, "put"), ("request", 2, "take"), ("cancel", 2, None),
+                      ("request", 3, "take"), ("cancel", 3, None)]
+            demand(asked(server)[1:] == wanted, f"{asked(server)}")
+        with opened(java, reply("done"), interrupting(path, reply("done"))):
+            java.expect("put a", "result done")
+            java.expect(f"interrupt {path}", "result soon")
+            java.expect("put a", "result done interrupted")
+        with opened(java, interrupting(path, texts(16)), texts(3, 16)) as server:
+            java.expect(f"interrupt {path}", "result soon")
+            java.expect("drain", "result 19 interrupted")
+            java.expect("drained", f"result [{', '.join(map(str, range(19)))}]")
+            demand(len(server.heard) == 3, f"{asked(server)}")
+
+
+@in_time
+def a_timeout_is_kept(java):
+    """Where a request is not answered behind the call's own time, it is cancelled."""
+    with opened(java, SILENCE, reply("cancelled"), SILENCE, reply("item", item="a")) as server:
+        java.expect("poll 50000", "result null")
+        java.expect("last", "result Optional[Cancelled[key=1/1/1/1]]")
+        java.expect("poll 50000", "result a")
+        demand([kind for kind, _, _ in asked(server)] == ["hello"] + ["request", "cancel"] * 2, f"{asked(server)}")
+    with opened(java, SILENCE, reply("cancelled")):
+        java.expect("exchange x 50000", "threw TimeoutException")
+
+
+@in_time
+def a_wait_is_no_silence(java):
+    """Patience begins anew with each answer that the request waits."""
+    slow = lambda one: (time.sleep(1), waiting(one))[1]
+    with opened(java, *[slow] * 4, reply("item", item="a"), patience=SHORT):
+        java.expect("take", "result a")
+
+
+def refusals(java):
+    """What ends a call, what ends the session too, and what a repeat may change."""
+    with opened(java, refused(1), reply("done")) as server:
+        java.expect("put a", "threw Refused 1/1/1/1 1 bad text")
+        java.expect("put b", "result done")
+        demand([number for _, number, _ in asked(server)] == [None, 1, 1], f"{asked(server)}")
+    ends = [(refused(5, last=3), "Refused 1/1/1/2 5 old number"), (refused(6), "Refused 1/1/1/2 6 other call"),
+            (refused(7, open=1), "Refused 1/1/1/2 7 busy"), (refused(8, last=0), "EpochEnded 1/1/1/2 1"),
+            (refused(3), "EpochEnded 1/1/1/2 1"), (refused(2, current=5), "EpochEnded 1/1/1/2 5"),
+            (refused(4, current=2), "Replaced 1/1/1/2 2")]
+    for deed, wanted in ends:
+        with opened(java, reply("done"), deed) as server:
+            java.expect("put a", "result done")
+            java.expect("put b", f"threw {wanted}")
+            words = java.tell("words")
+            demand(wanted != "EpochEnded 1/1/1/2 1" or "anew in the same epoch 1" in words, f"it says {words}")
+            java.expect("put c", "threw IllegalStateException")
+            demand(len(server.heard) == 3, f"{asked(server)}")
+    faults = [refused(2, current=1), refused(4, current=1), refused(5, last=1), refused(7, open=1),
+              refused(8, last=3), refused(9), refused(11)]
+    for part in (faults[:4], faults[4:]):
+        with opened(java, *part, reply("done")) as server:
+            java.expect("put a", "result done")
+            demand(len(server.heard) == 2 + len(part), f"{asked(server)}")
+            demand(all(one == server.heard[1] for one in server.heard[1:]), f"{server.heard}")
+
+
+def refused_hellos(java):
+    """What ends a call at its hello, what ends the session too, and what a repeat may change."""
+    with opened(java, refused(11), refused(10), refused(2, current=3), refused(4, current=1), refused(3), welcome,
+                reply("done"), hello=refused(9)) as server:
+        java.expect("put a", "threw Refused null 9 clients full")
+        java.expect("put a", "result done")
+        kinds = [kind for kind, _, _ in asked(server)]
+        demand(kinds == ["hello"] * 7 + ["request"], f"{kinds}")
+    with opened(java, hello=refused(4, current=2)):
+        java.expect("put a", "threw Replaced null 2")
+        java.expect("put a", "threw IllegalStateException")
+    with opened(java, version=1, hello=refused(1)):
+        java.expect("put a", "threw Refused null 1 bad text")
+
+
+def what_is_left_out(java):
+    """Calls that the profile has not, and items and places that no request may have."""
+    with opened(java) as server:
+        java.expect("left-out", "result 14")
+        java.expect("bad", "result 10")
+        java.expect("put " + "x" * 600, "threw IllegalArgumentException")
+        java.expect("words", "result item above 512 bytes: 600")
+        demand(not server.heard, "something was sent")
+
+
+def whatever_is_let_in(_java):
+    """An interrupt, a close, a lost link and an error, at each call of the link."""
+    ran = subprocess.run(command("rendezvous.LetIn"), capture_output=True, text=True, timeout=PATIENCE)
+    demand(ran.returncode == 0 and ran.stdout.endswith(" calls of a link\n"), f"{ran.stdout} {ran.stderr[-3000:]}")
+
+
+CASES = [each_call, receipts, what_is_no_receipt, versions, other_versions, drains_by_steps,
+         a_drain_is_asked_under_one_key, a_step_that_fails, what_is_not_taken_in, repeats_until_it_is_told,
+         an_unsettled_request, no_room, a_closed_connection_is_made_anew, nobody_listens, interrupts,
+         a_timeout_is_kept, a_wait_is_no_silence, refusals, refused_hellos, what_is_left_out, whatever_is_let_in]

@@ -1,0 +1,64 @@
+"""Wrong clients in Java: copies with another body in them, and the case that must find each."""
+from tests.clients.wrong import (
+    ANOTHER_NUMBER, NEW_KEY, OTHER_EPOCH, NOBODY, NEWEST_FIRST, TOO_MANY, SHORT_FRAMES, OTHER_WELCOME,
+    OLD_HELLO, OWN_NUMBER, PART_OF_A_KEY, OTHER_VERSION, Edit, WrongClient)
+
+MACHINE, REPLIES, SESSION, RUNNING, CLIENTS, QUEUE, BODIES, LINK = (
+    f"clients/java/src/main/java/rendezvous/{name}.java"
+    for name in ("Machine", "Replies", "RvSession", "Running", "RvClients", "RvTransferQueue", "Bodies", "SocketLink"))
+
+IN_JAVA = [
+    WrongClient(ANOTHER_NUMBER, "java, the java process", [
+        Edit(MACHINE, 'Bodies.keyOf(answer).equals(key)', 'Bodies.number(answer, "epoch") == key.epoch()')]),
+    WrongClient(NEW_KEY, "java, repeats until it is told", [
+        Edit(MACHINE, '        draft.flying = Flying.NOTHING;\n        return draft.made();',
+             '        draft.flying = Flying.NOTHING;\n        draft.key = key == null ? null : key.next();\n'
+             '        return draft.made();')]),
+    WrongClient(OTHER_EPOCH, "java, the java process", [
+        Edit(MACHINE, 'case 2 -> above(refusal, "current", key.epoch())',
+             'case 2 -> Bodies.number(refusal, "current") != key.epoch()')]),
+    WrongClient("is sure that nothing is there where a copy is under way", "java, no room", [
+        Edit(MACHINE, 'full && out == 0', 'full')]),
+    WrongClient(NOBODY, "java, each call", [
+        Edit(QUEUE, 'Optional.of(receipt) : Optional.empty()',
+             'Optional.of(receipt) : Optional.of(new Receipt(outcome.key(), Optional.empty()))')]),
+    WrongClient(NEWEST_FIRST, "java, drains by steps", [
+        Edit(REPLIES, 'items.add(text.getAsString())', 'items.add(0, text.getAsString())')]),
+    WrongClient(TOO_MANY, "java, a drain is asked under one key", [
+        Edit(REPLIES, '<= Bodies.number(call, "max")', '<= Bodies.GREATEST_DRAIN')]),
+    WrongClient(SHORT_FRAMES, "java, a drain is asked under one key", [
+        Edit(LINK, 'if (length == 0) {', 'if (length < 1 || length > 4096) {')]),
+    WrongClient("loses what finished steps of a drain took", "java, a step that fails", [
+        Edit(QUEUE, 'int drained = 0;', 'int drained = 0;\n        var all = new java.util.ArrayList<String>();'),
+        Edit(QUEUE, 'into.addAll(items);', 'all.addAll(items);'),
+        Edit(QUEUE, 'return drained;', 'into.addAll(all);\n        return drained;')]),
+    WrongClient("drains more than it was asked for", "java, drains by steps", [
+        Edit(QUEUE, 'Math.min(Bodies.GREATEST_DRAIN, most - drained)', 'Bodies.GREATEST_DRAIN')]),
+    WrongClient(OTHER_WELCOME, "java, the java process", [
+        Edit(MACHINE, '            && named == version;', '            && named > 0;')]),
+    WrongClient(OLD_HELLO, "java, versions", [
+        Edit(MACHINE, 'if (version > 1) {', 'if (version > 2) {')]),
+    WrongClient(OWN_NUMBER, "java, receipts", [
+        Edit(REPLIES, 'Bodies.number(reply, "by_number")', 'Bodies.number(reply, "number")')]),
+    WrongClient(PART_OF_A_KEY, "java, what is no receipt", [
+        Edit(BODIES, 'names ? BY :', 'names ? BY.stream().filter(answer::has).toList() :')]),
+    WrongClient(OTHER_VERSION, "java, other versions", [
+        Edit(MACHINE, ' || code == 12 && current != version', '')]),
+    WrongClient("asks on a connection that is out of step", "java, a closed connection is made anew", [
+        Edit(SESSION, 'if (link != null && link.isOver()) {', 'if (link != null && closed) {')]),
+    WrongClient("forgets the interrupt of a call that gives its result", "java, whatever is let in", [
+        Edit(RUNNING, '        if (interrupted) {\n            Thread.c',
+             '        if (interrupted && !interruptible) {\n            Thread.c')]),
+    WrongClient("tells each cancel as a time that is over", "java_scenes, cancelled though nobody asked", [
+        Edit(SESSION, 'running.order() == Order.TIME', 'running.order() != Order.USER')]),
+    WrongClient("goes on behind a close", "java_scenes, close in a pause", [
+        Edit(SESSION, '(closed || running.isExpired())', 'running.isExpired()')]),
+    WrongClient("tells the outcome of another request", "java_scenes, the last outcome", [
+        Edit(SESSION, '            last = null;\n', '')]),
+    WrongClient("gives a thread its unsettled session again", "java_scenes, a pooled thread", [
+        Edit(CLIENTS, 'if (own != null && own.isIdle()) {', 'if (own != null) {')]),
+    WrongClient("keeps the connections of dead threads", "java_scenes, connections of dead threads", [
+        Edit(CLIENTS, '        left.stream().filter(RvSession::isIdle).forEach(RvSession::rest);\n', '')]),
+    WrongClient("leaves descriptors behind", "java_scenes, no descriptors", [
+        Edit(LINK, 'if (registered == null) {', 'if (registered == null && opened != null) {')]),
+]

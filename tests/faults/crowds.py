@@ -1,0 +1,134 @@
+"""Crowds of clients at a server to which the system is hostile, until each client has its reply to each request."""
+import os
+import random
+import signal
+import threading
+import time
+
+from tests.faults.system import HostileServer, System
+from tests.sockets import crowds
+from tests.sockets.crowds import Ledger, crowd_fault, take_the_rest
+from tests.sockets.wire import demand, hello, members_of, together
+
+NO_MEMORY = {"code": 11, "kind": "refused"}
+# Tries until a request has its reply, at most.
+MOST_TRIES = 400
+# Crowds until each kind of hostility has happened, at most: a slow machine may do little in one.
+MOST_CROWDS = 5
+
+
+class Stubborn(crowds.Client):
+    """A client that goes on where its connection breaks, or the server has no memory."""
+
+    def hear(self, key, body):
+        try:
+            super().hear(key, body)
+        except ConnectionError:
+            self.hang_up()
+
+    def say_hello(self, version, wanted):
+        for _ in range(MOST_TRIES):
+            try:
+                answer = self.link().told(hello(self.number, self.incarnation, version))
+            except ConnectionError:
+                self.hang_up()
+                continue
+            if answer != NO_MEMORY:
+                demand(answer == members_of(wanted), f"a hello was answered {answer}")
+                return
+        demand(False, f"client {self.number} has no answer to its hello after {MOST_TRIES} tries")
+
+    def try_once(self, key, call, body):
+        try:
+            super().try_once(key, call, body)
+        except ConnectionError:
+            self.hang_up()
+
+    def take_in(self, key, answer):
+        if answer != NO_MEMORY:
+            super().take_in(key, answer)
+
+
+def crowd_after_crowd(program, words, size, beside=None, **odds):
+    """Crowds, each with a chance of its own that these words and its number tell, until each kind of hostility has
+    happened."""
+    # A server that reads byte by byte has no read to cut.
+    missed = [name for name in odds if name != "cut_read"]
+    for number in range(MOST_CROWDS):
+        system = one_crowd(program, random.Random(f"{words} {number}"), size, beside, **odds)
+        missed = [name for name in missed if not system.made(name)]
+        if not missed:
+            return
+    demand(False, f"in {MOST_CROWDS} crowds no {missed} happened")
+
+
+def one_crowd(program, chance, size, beside=None, **odds):
+    """A crowd while the system is hostile so, and what must hold behind it. `beside` is done with the server meanwhile,
+    until an event is set. It gives the system."""
+    system, ledger, done = System(chance.randrange(2**31)), Ledger(), threading.Event()
+    with HostileServer(program, system, size + 1, epoch=chance.choice([1, 7, 2**53 - 1])) as server:
+        server.connect().close()
+        clients = [Stubborn(server, ledger, number, random.Random(chance.random())) for number in range(1, size + 1)]
+        system.be(**odds)
+
+        def all_clients():
+            try:
+                together(*(client.run for client in clients))
+            finally:
+                done.set()
+
+        together(all_clients, *([lambda: beside(chance, server, done)] if beside else []))
+        system.be()
+        left = take_the_rest(server, ledger, size + 1)
+        server.no_more()
+        fault = crowd_fault(ledger, left)
+        demand(not fault, f"of {size}: {fault}")
+        server.judged(ledger.asked, list(ledger.told.items()))
+    return system
+
+
+def growths_refused(program, seed):
+    """Each growth may be refused."""
+    for size, odds in [(6, 40), (20, random.Random(f"growths {seed}").choice([100, 300]))]:
+        crowd_after_crowd(program, f"growths {seed} {size}", size, growth=odds)
+
+
+def links_broken(program, seed):
+    """Each read and each write of a connection may be cut short or fail."""
+    crowd_after_crowd(program, f"links {seed}", 12, cut_read=2, failed_read=2_000, cut_write=2, failed_write=2_000)
+
+
+def connections_not_accepted(program, seed):
+    """Each accept may fail."""
+    crowd_after_crowd(program, f"accepts {seed}", 12, accept=3)
+
+
+def clocks_that_fail(program, seed):
+    """The clock can't be read now and then, which counts as moment 0, and a pause may end at once."""
+    crowd_after_crowd(program, f"clocks {seed}", 12, clock=5, sleep=3)
+
+
+def all_at_once(program, seed):
+    """Growths, reads, writes, accepts, clocks and pauses, all of them."""
+    crowd_after_crowd(program, f"all {seed}", 10, growth=200, cut_read=3, failed_read=3_000, cut_write=3,
+                      failed_write=3_000, accept=5, clock=50, sleep=20)
+
+
+def stop_and_go(chance, server, done):
+    """Stops a server and lets it go on, at random."""
+    try:
+        while not done.is_set():
+            time.sleep(chance.choice([0.001, 0.01, 0.05, 0.2]))
+            os.kill(server.process.pid, signal.SIGSTOP)
+            time.sleep(chance.choice([0, 0.001, 0.01, 0.1, 0.3]))
+            os.kill(server.process.pid, signal.SIGCONT)
+    finally:
+        os.kill(server.process.pid, signal.SIGCONT)
+
+
+def stopped_and_gone_on(program, seed):
+    """The server is stopped and goes on, in the middle of whatever it does."""
+    crowd_after_crowd(program, f"stopped {seed}", 12, stop_and_go)
+
+
+CASES = [growths_refused, links_broken, connections_not_accepted, clocks_that_fail, all_at_once, stopped_and_gone_on]

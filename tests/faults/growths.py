@@ -1,0 +1,328 @@
+#!/usr/bin/env python3
+"""Runs the built program on nineteen worked rows, each with the same lines again behind it, on the worked plays and on the worked
+account, and a server that nobody comes to, with each growth of memory refused in turn; on rows and plays as they are,
+with each growth refused and all behind it; and on lines that take no memory before their answer's text, with that and
+all growths behind it refused.
+
+A run ends by a fault with nothing printed, and a play also by a fault behind the results of the lines before; or one line
+says that memory was refused, and the others what follows from the account's having taken that line's step or not; or
+nothing differs. What follows is told by the model. So a line that is said again after want of memory is answered, and
+one that was answered gets its reply again. Where all growths are refused from one on, the lines before it are answered
+as ever, and all others say that memory was refused. The later the growth, the later the line: where a run came so far
+as some line, none with a later growth refused prints less than the lines before that.
+
+usage: tests/faults/growths.py PROGRAM
+"""
+import os
+import pathlib
+import re
+import shutil
+import subprocess
+import sys
+import tempfile
+
+ROOT = pathlib.Path(__file__).resolve().parents[2]
+sys.dont_write_bytecode, sys.path[0] = True, str(ROOT)
+from tests.model.account import Account  # noqa: E402
+from tests.model.rows import ANEW, DRAINED, DRAIN_ROW, ROWS, drain_texts, pairs_of, play_pairs  # noqa: E402
+from tests.model.steps import refused, ticked, told  # noqa: E402
+from tests.model.texts import NoReading, read_line  # noqa: E402
+from tests.model.version_rows import BOTH_ROW, FULL_ROW, NAMED_PLAY, NAMED_ROW, VERSION_ROWS  # noqa: E402
+from tests.model.world import World  # noqa: E402
+
+PROGRAM = os.path.abspath(sys.argv[1])
+# A put and a poll; a hand-over that waits, and its repeats, and one that does not wait; a new start that ends what waits,
+# and leaves a put; waits that end by their limit, at once, and before it; counts and peeks; consumers in order; cancels,
+# also before what they cancel; a swap; refusals; drains; sessions of version 2, and who received a transfer.
+REFUSED_IN = [
+    "a poll gets the item",
+    "a transfer waits for its consumer, and repeats get the replies again",
+    "a transfer that does not wait",
+    "a client starts anew",
+    "a transfer that times out at its limit",
+    "zero milliseconds",
+    "puts and transfers in one order; count and peek",
+    "consumers in order",
+    "a cancel before arrival",
+    "partners swap",
+    "refusals in their order",
+    "a transfer is met before its limit",
+    "a moment that falls counts as the book's own",
+    "the greatest moment that a line can have",
+    "one tick ends all that is due, and leaves what is not",
+    DRAIN_ROW,
+    FULL_ROW,
+    NAMED_ROW,
+    BOTH_ROW,
+]
+# What takes no memory before its answer's text: the lines before it, the line, and a line that is said behind it, with
+# its answer where the step was taken and where it was not.
+TWO = "hello 1/1 => welcome\nhello 2/1 => welcome\n"
+MIXED = "hello 1/1 version 2 => welcome\nhello 2/1 => welcome\n"
+GIVES, GIVEN = TWO + '1#1 transfer 3 "a" 10 => waiting', '1#1 transfer 3 "a" 10 => timedout'
+TAKES = TWO + "1#1 take 3 forever => waiting"
+TAKE_NO_MEMORY = [
+    ("a tick beside a hello that is said again", GIVES, "@20 hello 2/1 => welcome", GIVEN, "waiting"),
+    ("a tick beside a cancel that comes too late", GIVES, "@10 cancel 1#1 => timedout", GIVEN, "waiting"),
+    ("a tick beside a message that is refused", GIVES, "@10 cancel 2#9 => refused 8 0", GIVEN, "waiting"),
+    ("a tick that ends two", GIVES + "\n2#1 take 4 9 => waiting", "@10 hello 2/1 => welcome", "2#1 take 4 9 => timedout",
+     "waiting"),
+    ("a cancel of a request that waits", TAKES, "@1 cancel 1#1 => cancelled", "1#1 take 3 forever => cancelled", "waiting"),
+    ("a repeat of a request that waits", TAKES, "@1 1#1 take 3 forever => waiting", "1#1 take 3 forever => waiting",
+     "waiting"),
+    ("a repeat of a drain that took nothing", TWO + "1#1 drain 3 2 => drained", "@1 1#1 drain 3 2 => drained",
+     "1#1 drain 3 2 => drained", "drained"),
+    ("a repeat of a drain", TWO + '1#1 put 3 "a" => done\n2#1 drain 3 2 => drained "a"', '@1 2#1 drain 3 2 => drained "a"',
+     '2#1 drain 3 2 => drained "a"', 'drained "a"'),
+    ("a repeat of a transfer that was drained", TWO + '1#1 transfer 3 "a" forever => waiting\n2#1 drain 3 2 => drained "a"',
+     '1#1 transfer 3 "a" forever => received', '1#1 transfer 3 "a" forever => received', "received"),
+    ("a hello of another version", TWO, "@1 hello 1/1 version 2 => refused 12 1", "hello 1/1 => welcome", "welcome"),
+    ("a hello of the version before", MIXED, "@1 hello 1/1 => refused 12 2", "hello 1/1 => refused 12 2", "refused 12 2"),
+    ("a hello of version 2, again", MIXED, "@1 hello 1/1 version 2 => welcome", "hello 1/1 version 2 => welcome", "welcome"),
+    ("a tick beside a hello of another version", GIVES, "@10 hello 2/1 version 2 => refused 12 1", GIVEN, "waiting"),
+    ("a repeat that names a consumer", MIXED + '1#1 transfer 3 "a" forever => waiting\n2#1 drain 3 2 => drained "a"',
+     '1#1 transfer 3 "a" forever => received 2#1', '1#1 transfer 3 "a" forever => received 2#1', "received 2#1"),
+    ("a repeat of a reply", TWO + "1#1 take 3 now => empty", "@1 1#1 take 3 now => empty", "1#1 take 3 now => empty",
+     "empty"),
+]
+NO_MEMORY = '{"code":11,"kind":"refused"}'
+GOOD, RUN_FAULT = (0, ""), (1, "run fault 3\n")
+BEFORE_THE_LINES = [(2, "command fault 2\n"), RUN_FAULT]
+MOST_GROWTHS = 10_000
+# More refusals than a run has growths.
+ALL = 1_000_000
+# Rows where each growth is refused with all behind it.
+ALL_REFUSED_IN = [DRAIN_ROW, FULL_ROW, "a client starts anew", "a transfer that times out at its limit",
+                  "a client that starts anew"]
+
+
+def none_taken(account, line):
+    """The account that a line leaves whose message was not read."""
+    return account
+
+
+def tick_taken(account, line):
+    """The account that a line leaves whose own entry found no memory."""
+    try:
+        return ticked(account, read_line(line.encode())[0])
+    except NoReading:
+        return account
+
+
+def all_taken(account, line):
+    """The account that a line leaves whose answer's text found no memory."""
+    return told(account, line.encode())[0]
+
+
+def answers(epoch, lines, lacking=None, taken=all_taken):
+    """What lines are answered where the one of this number meets want of memory, and leaves the account so."""
+    account, texts = Account(epoch, 0), []
+    for number, line in enumerate(lines):
+        after, text = told(account, line.encode())
+        texts.append(NO_MEMORY if number == lacking else text)
+        account = taken(account, line) if number == lacking else after
+    return texts
+
+
+def results(lines, number, how):
+    """What a play prints where one of its lines meets want of memory: none where that line cannot meet it so."""
+    world, texts = World(), []
+    for line in lines[:number]:
+        texts.append(world.play(line.encode()))
+    if how == "ends":
+        return texts, RUN_FAULT
+    if how == "is refused":
+        texts.append("refused 7")
+    else:
+        account, text = world.accounts[-1], world.play(lines[number].encode())
+        if not text.startswith("answered"):
+            return None
+        world.to_client[-1] = (world.to_client[-1][0], refused(11))
+        world.accounts[-1] = world.accounts[-1] if how == "is taken" else account
+        texts.append(f"{text[: text.index('{')]}{NO_MEMORY}")
+    return texts + [world.play(line.encode()) for line in lines[number + 1 :]], GOOD
+
+
+def run(folder, words, text, growth, refusals=1):
+    """Runs the program with one growth refused, or so many from that on. Gives what it printed, how it ended, and whether
+    it came so far. It reads a file, whose reading takes as many growths each time; a pipe hands it over in pieces."""
+    given, reached = folder / "input", folder / "refused"
+    given.write_bytes(text)
+    reached.unlink(missing_ok=True)
+    room = {**os.environ, "LD_PRELOAD": str(folder / "refuse.so"), "REFUSED": str(reached)}
+    with given.open("rb") as source:
+        ran = subprocess.run([PROGRAM, *words], stdin=source, capture_output=True,
+                             env={**room, "REFUSE": str(growth), "REFUSALS": str(refusals)})
+    printed = ran.stdout.decode(errors="replace").split("\n")[:-1]
+    return printed, (ran.returncode, ran.stderr.decode(errors="replace")), reached.exists()
+
+
+def text_of(lines):
+    """The bytes of lines."""
+    return "".join(f"{line}\n" for line in lines).encode()
+
+
+def book_row(name, epoch, rows):
+    """A row of the book: its name, the program's words, its lines, and how it may end with one growth refused."""
+    lines = [line for line, _ in pairs_of(epoch, rows)] * 2
+    leaves = [none_taken, tick_taken, all_taken]
+    ends = [(answers(epoch, lines, number, taken), GOOD) for number in range(len(lines)) for taken in leaves]
+    return name, book_words(epoch), lines, answers(epoch, lines), ends
+
+
+def book_words(epoch):
+    """The words of a book of this epoch."""
+    return ["book", "--epoch", str(epoch)]
+
+
+def play_row(name, pairs):
+    """The same of a worked play."""
+    lines = [line for line, _ in pairs]
+    hows = ["ends", "is refused", "is taken", "is not taken"]
+    ends = [results(lines, number, how) for number in range(len(lines)) for how in hows]
+    return name, ["play"], lines, [result for _, result in pairs], ends
+
+
+def audit_rows():
+    """The same of audits of two legal accounts, the worked one and that of the drains: nothing is printed where there is no
+    memory."""
+    lines = (ROOT / "examples" / "items.account").read_text().splitlines()
+    yield "the worked account", ["audit"], lines, ["legal"], []
+    yield "the account of drains", ["audit"], next(drain_texts())[0].splitlines(), ["legal"], []
+
+
+def serve_row():
+    """The same of a server that nobody comes to: it opens no book, can't listen, starts no thread, or prints no line."""
+    words = ["serve", "--listen", "127.0.0.1:0", "--epoch", "1", "--workers", "2", "--connections", "0"]
+    head = ["epoch 1 opened 0"]
+    faults = [(1, "serve fault 2\n"), (1, "serve fault 1\n")]
+    ends = [([], faults[0]), ([], (1, "address fault\n")), ([], RUN_FAULT), *((head, fault) for fault in faults)]
+    return "a server that nobody comes to", words, [], head, ends
+
+
+def begun(words, printed, end, ample):
+    """The number of the line that met the refused growth: -1 where no line was begun, and None where nothing differs, so
+    that it can't be told."""
+    if (printed, end) == (ample, GOOD):
+        return None
+    if not printed and (end != RUN_FAULT or words[0] == "book"):
+        return -1
+    return next((number for number, pair in enumerate(zip(printed, ample)) if pair[0] != pair[1]), len(printed))
+
+
+def order_fault(words, runs, ample):
+    """What is wrong with runs of a book or of a play, each with a later growth refused, beside each other, if something is:
+    none met it in an earlier line than the one before, and a play is ended behind some of its results now and then."""
+    if words[0] not in ("book", "play"):
+        return None
+    met = [(growth, begun(words, printed, end, ample)) for growth, printed, end in runs]
+    told = [pair for pair in met if pair[1] is not None]
+    for (_, before), (growth, line) in zip(told, told[1:]):
+        if line < before:
+            return f"growth {growth} is refused in line {line + 1}, and one before it in line {before + 1}"
+    fronts = [printed for _, printed, end in runs if end == RUN_FAULT and ample[:1] == printed[:1]]
+    return None if fronts or words[0] == "book" else "no run ends by want of memory behind the first results"
+
+
+def refuse_from(folder, name, words, lines, ample):
+    """The numbers of good and of bad runs of a row, with each growth refused and all behind it: a play ends there."""
+    text, passed, failed, runs = text_of(lines), 0, 0, []
+    for growth in range(1, MOST_GROWTHS):
+        printed, end, is_refused = run(folder, words, text, growth, refusals=ALL)
+        if not is_refused:
+            break
+        runs.append((growth, printed, end))
+        at = next((number for number, pair in enumerate(zip(printed, ample)) if pair[0] != pair[1]), len(printed))
+        wanted = [(ample[:at], RUN_FAULT), (ample[:at] + ["refused 7"], RUN_FAULT)]
+        if words[0] == "book":
+            wanted = [(ample[:at] + [NO_MEMORY] * (len(lines) - at), GOOD)]
+        good = (printed, end) in wanted or not printed and end in BEFORE_THE_LINES
+        passed, failed = passed + good, failed + (not good)
+        if not good:
+            print(f"FAILED: {name}: all refused from growth {growth} on: {end}", *printed, sep="\n")
+    fault = order_fault(words, runs, ample)
+    if fault:
+        print(f"FAILED: {name}: all refused from a growth on: {fault}")
+    print(f"{name}: growths refused, each with all behind it: {passed}")
+    return passed, failed + (passed == 0) + bool(fault)
+
+
+def refuse_each(folder, name, words, lines, ample, allowed):
+    """The numbers of good and of bad runs of a row, with each growth refused and with none."""
+    text, runs = text_of(lines), []
+    counts = {"before": 0, "during": 0, "failed": 0}
+    for growth in range(1, MOST_GROWTHS):
+        printed, end, is_refused = run(folder, words, text, growth)
+        if not is_refused:
+            break
+        runs.append((growth, printed, end))
+        if end in BEFORE_THE_LINES and not printed:
+            counts["before"] += 1
+        elif (printed, end) in [(ample, GOOD), *allowed]:
+            counts["during"] += 1
+        else:
+            counts["failed"] += 1
+            print(f"FAILED: {name}: growth {growth} refused: {end}", *printed, sep="\n")
+    # The run after the last growth is that with ample memory.
+    good = not is_refused and (printed, end) == (ample, GOOD) and counts["before"] and (counts["during"] or not allowed)
+    if not good:
+        print(f"FAILED: {name}: the run with ample memory, or no growth was refused")
+    fault = order_fault(words, runs, ample)
+    if fault:
+        print(f"FAILED: {name}: {fault}")
+    print(f"{name}: growths refused before the first line: {counts['before']}, during the lines: {counts['during']}")
+    return counts["before"] + counts["during"] + bool(good), counts["failed"] + (not good) + bool(fault)
+
+
+def count_growths(folder, lines):
+    """How many growths a run over these lines makes."""
+    text, least, most = text_of(lines), 0, MOST_GROWTHS
+    while least < most:
+        middle = (least + most + 1) // 2
+        is_refused = run(folder, book_words(1), text, middle)[2]
+        least, most = (middle, most) if is_refused else (least, middle - 1)
+    return least
+
+
+def refuse_behind(folder, name, before, line, later, untaken):
+    """The numbers of good and bad runs where growths are refused behind the reading of a line's body: its answer's text is
+    the first that finds no memory, and its step was taken. Where the last growth of the reading is refused it was not.
+    How many growths the reading makes is told by a line of the same form that names client 0, and so is no message."""
+    before = [text for text, _ in pairs_of(1, before)]
+    [(line, _)], [(later, taken)], [(_, untaken)] = [
+        pairs_of(1, row) for row in (line, later, later.rpartition("=>")[0] + f"=> {untaken}")]
+    bad = re.sub(r'"client":\d', '"client":0', line)
+    read = count_growths(folder, [*before, bad])
+    text = text_of([*before, line, *[later] * 8])
+    passed = failed = 0
+    for growth, refusals, wanted in [(read, 1, untaken), *((read + 1, count, taken) for count in (1, 2, 5))]:
+        printed, end, _ = run(folder, book_words(1), text, growth, refusals)
+        told_later = [answer for answer in printed[len(before) + 1:] if answer != NO_MEMORY]
+        good = end == GOOD and printed[len(before)] == NO_MEMORY and set(told_later) == {wanted}
+        passed, failed = passed + good, failed + (not good)
+        if not good:
+            print(f"FAILED: {name}: {refusals} refused from growth {growth} on: {end}", *printed, sep="\n")
+    print(f"{name}: {passed} runs with growths refused behind the reading of its body")
+    return passed, failed
+
+
+def main():
+    if not shutil.which("cc"):
+        sys.exit("cc is missing: it builds what refuses the program's growths")
+    books = [book_row(*row) for row in [*ROWS, *VERSION_ROWS] if row[0] in REFUSED_IN]
+    plays = [play_row("the worked play", list(play_pairs())), play_row("a client that starts anew", list(play_pairs(ANEW))),
+             play_row("a drain over a link", list(play_pairs(DRAINED))),
+             play_row("a receipt of version 2 over a link", list(play_pairs(NAMED_PLAY)))]
+    with tempfile.TemporaryDirectory(prefix="growths-") as name:
+        folder = pathlib.Path(name)
+        library = ["-shared", "-fPIC", "-o", folder / "refuse.so", ROOT / "tests/faults/refuse.c", "-ldl"]
+        subprocess.run(["cc", "-O1", *library], check=True)
+        counts = [refuse_each(folder, *row) for row in [*books, *plays, *audit_rows(), serve_row()]]
+        counts += [refuse_from(folder, *row[:4]) for row in [*books, *plays] if row[0] in ALL_REFUSED_IN]
+        counts += [refuse_behind(folder, *case) for case in TAKE_NO_MEMORY]
+    passed, failed = map(sum, zip(*counts))
+    print(f"{passed} passed, {failed} failed")
+    sys.exit(failed > 0)
+
+
+main()

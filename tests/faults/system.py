@@ -1,0 +1,102 @@
+"""A system that is hostile to the program: what is loaded before it, and how often it refuses."""
+import contextlib
+import mmap
+import os
+import struct
+import subprocess
+import tempfile
+
+from tests import ROOT
+from tests.sockets.programs import Server
+from tests.sockets.wire import Peer
+
+SOURCE = ROOT / "tests/faults/hostile.c"
+# What happens by odds, and the other numbers, in the order of the page; then how often each of the odds happened, and how
+# many reads and writes of sockets were asked for.
+ODDS = ("growth", "cut_read", "failed_read", "cut_write", "failed_write", "accept", "thread", "clock", "sleep")
+NUMBERS = (*ODDS, "most", "growth_at", "read_at", "room", "calm", "thread_at", "haste", "kept")
+WAYS = ("reads", "writes")
+PAGE = struct.Struct(f"={len(NUMBERS) + len(ODDS) + len(WAYS)}I")
+# Connections that a server may be asked for: it ends when so many could not be accepted.
+CONNECTIONS = 100_000
+
+
+class System:
+    """How hostile the system is to a process. It is calm until it is told otherwise. A read or a write fails once in so
+    many bytes, all else once in so many times."""
+
+    folder = None
+
+    def __init__(self, seed=1):
+        file, name = tempfile.mkstemp(dir=System.folder)
+        os.truncate(file, PAGE.size)
+        self.page = mmap.mmap(file, PAGE.size)
+        os.close(file)
+        self.env = {**os.environ, "LD_PRELOAD": f"{System.folder}/hostile.so", "HOSTILE": name, "SEED": str(seed)}
+
+    def be(self, **numbers):
+        """Sets these numbers, and all others to 0."""
+        for at, name in enumerate(NUMBERS):
+            self.page[4 * at : 4 * at + 4] = struct.pack("=I", numbers.get(name, 0))
+
+    def number(self, name):
+        """A number as it stands now."""
+        return PAGE.unpack(self.page)[NUMBERS.index(name)]
+
+    def made(self, name):
+        """How often something happened so far."""
+        return PAGE.unpack(self.page)[len(NUMBERS) + ODDS.index(name)]
+
+    def asked(self):
+        """How many reads and how many writes of sockets were asked for so far."""
+        return PAGE.unpack(self.page)[len(NUMBERS) + len(ODDS) :]
+
+
+@contextlib.contextmanager
+def built():
+    """Builds what is loaded before the program; systems can be made within."""
+    with tempfile.TemporaryDirectory(prefix="torture-") as folder:
+        library = ["-shared", "-fPIC", "-o", f"{folder}/hostile.so", SOURCE, "-ldl"]
+        subprocess.run(["cc", "-O1", *library], check=True)
+        System.folder = folder
+        yield
+
+
+@contextlib.contextmanager
+def file_of(text):
+    """An input with these bytes. A file gives them whole: how many growths its reading takes follows from their number,
+    and not from the pieces in which a pipe would hand them over."""
+    with tempfile.TemporaryFile() as file:
+        file.write(text)
+        file.seek(0)
+        yield file
+
+
+class LossyPeer(Peer):
+    """A client's end of a connection that may break at any time. Where something can't be sent, the next answer tells."""
+
+    def send(self, data):
+        with contextlib.suppress(ConnectionError):
+            super().send(data)
+
+    def more(self):
+        if not super().more():
+            raise ConnectionResetError("the connection ended")
+        return True
+
+
+class HostileServer(Server):
+    """A server in a system of its own."""
+
+    peer = LossyPeer
+
+    def __init__(self, program, system, workers, connections=CONNECTIONS, epoch=1, **more):
+        self.system = system
+        super().__init__(program, workers, connections, epoch, env=system.env, **more)
+
+    def no_more(self):
+        """No connection can be accepted from now on, and no pause is made, so the server ends once those that are open did."""
+        self.system.be(accept=1, sleep=1)
+        with contextlib.suppress(ConnectionError):
+            # The accept that waits already is not refused.
+            self.connect().close()

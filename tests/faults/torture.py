@@ -1,0 +1,170 @@
+#!/usr/bin/env python3
+"""Runs the built program where all is hostile to it: a server under crowds of clients whose system refuses growths,
+breaks links, accepts nothing and stops it, or that has no room, no descriptors, no threads; and spoilt bodies, frames,
+account lines and play lines by the ten thousand, each with what the model says of it.
+
+Whatever happens, the account that a server prints must be legal and must have what each client was told.
+
+Each case is run once; with --seconds the random ones are run again with further seeds for so long. What fails is told
+with its seed. The last line counts the cases.
+"""
+import argparse
+import concurrent.futures
+import multiprocessing
+import os
+import pathlib
+import random
+import shutil
+import sys
+import time
+
+if "--selftest" in sys.argv:
+    os.environ.setdefault("RV_PATIENCE", "30")
+ROOT = pathlib.Path(__file__).resolve().parents[2]
+sys.dont_write_bytecode, sys.path[0] = True, str(ROOT)
+from tests.faults import callers, crowds, exchanges, limits, memory, mutants, silence, turns  # noqa: E402
+from tests.faults.system import built  # noqa: E402
+from tests.sockets.wire import PATIENCE, Wrong  # noqa: E402
+
+
+DOUBLE = str(ROOT / "tests/sockets/double.py")
+# The cases that are as they are; those of them that mostly wait; those that are random, and those that have so many spoilt
+# bodies.
+ONCE = [*turns.CASES, *limits.CASES, *exchanges.CASES]
+WAITING = silence.CASES
+RANDOM = [*memory.CASES, *crowds.CASES, *callers.CASES]
+SPOILT = [*mutants.CASES, *callers.SPOILT]
+# What the double of tests/sockets can do wrong, and a case that must see it, whoever is first; and which it must pass. A crowd
+# sees for sure what is wrong at its end alone: its judge is tested by tests/sockets/serve.py.
+WRONGS = [
+    ("prints no account", "links broken"),
+    ("leaves out the last entry", "connections not accepted"),
+    ("leaves out the last entry", "stopped and gone on"),
+    ("ends at a body that is none", "spoilt frames"),
+    ("needs its last thread", "one thread less"),
+    ("accepts again at once", "accepts that fail"),
+    ("sends each answer alone", "a read and a write a piece"),
+    ("sends each answer alone", "what is held back"),
+    ("holds back all answers to a piece", "what is held back"),
+    ("waits for a silent peer", "a silent client"),
+    ("ends a silent connection early", "a silent client"),
+    ("waits for a deaf peer", "a deaf client"),
+    ("waits for a silent server", "a silent server"),
+    ("waits for a silent server", "a caller at busy workers"),
+]
+# The seed of what is random there, and how many spoilt bodies it has.
+FIXED, FEW = 1, 500
+# How many doubles are tried at once: most of them wait.
+AT_ONCE = 8
+
+
+def came_of(case, *given):
+    """What is wrong in a case, if something is; what it gave, and the seconds that it took."""
+    began, fault, gave = time.monotonic(), None, None
+    try:
+        gave = case(*given)
+    except TimeoutError:
+        fault = f"nothing came for {PATIENCE} seconds"
+    except Wrong as wrong:
+        fault = str(wrong)
+    except Exception as other:
+        fault = f"{type(other).__name__}: {other}"
+    return fault, gave, time.monotonic() - began
+
+
+class Count:
+    """What passed and what failed."""
+
+    def __init__(self, asked):
+        self.asked, self.passed, self.failed = asked, 0, 0
+
+    def run(self, name, case, *given):
+        """Runs a case, if it is asked for."""
+        if self.asked.only in name:
+            self.judge(name, *came_of(case, *given))
+
+    def judge(self, name, fault, gave=None, seconds=0):
+        """Tells what came of a case."""
+        self.passed, self.failed = self.passed + (not fault), self.failed + bool(fault)
+        if fault:
+            print(f"FAILED: {name}: {fault}", flush=True)
+        elif self.asked.verbose or gave:
+            many = f"{gave}, " if gave else ""
+            print(f"ok: {name}: {many}{seconds:.1f} seconds", flush=True)
+
+
+def name_of(case):
+    """The words for a case."""
+    return case.__name__.replace("_", " ")
+
+
+def run(program, asked, count):
+    """Runs all cases once, and the random ones again for as long as is asked."""
+    ends, seed = time.monotonic() + asked.seconds, asked.seed
+    run_waiting(program, count)
+    for case in ONCE:
+        count.run(name_of(case), case, program)
+    while True:
+        for case in RANDOM:
+            count.run(f"{name_of(case)}, seed {seed}", case, program, seed)
+        for case in SPOILT:
+            count.run(f"{name_of(case)}, seed {seed}", case, program, seed, asked.mutants)
+        seed += 1
+        if time.monotonic() >= ends:
+            return
+
+
+def run_waiting(program, count):
+    """Runs the cases that mostly wait, side by side."""
+    cases = [case for case in WAITING if count.asked.only in name_of(case)]
+    with concurrent.futures.ThreadPoolExecutor(len(WAITING)) as pool:
+        tried = [(name_of(case), pool.submit(came_of, case, program)) for case in cases]
+        for name, one in tried:
+            count.judge(name, *one.result())
+
+
+def of_double(wrong, name):
+    """What is wrong in a case where the double does this wrong, or nothing, if something is; what it gave, and the seconds."""
+    os.environ["RV_WRONG"] = wrong
+    case = {name_of(case): case for case in [*ONCE, *WAITING, *RANDOM, *SPOILT]}[name]
+    return came_of(case, DOUBLE, *([FIXED] if case in RANDOM + SPOILT else []), *([FEW] if case in SPOILT else []))
+
+
+def selftest(count):
+    """The double must pass; each wrong double must fail its case."""
+    tried = [pair for pair in [*WRONGS, *(("", name) for name in dict.fromkeys(name for _, name in WRONGS))]
+             if count.asked.only in pair[1]]
+    with concurrent.futures.ProcessPoolExecutor(AT_ONCE, multiprocessing.get_context("fork")) as pool:
+        for (wrong, name), (fault, _, seconds) in zip(tried, pool.map(of_double, *zip(*tried))):
+            if not wrong:
+                count.judge(f"the double, {name}", fault, seconds=seconds)
+                continue
+            count.judge(f"a server that {wrong}, {name}", None if fault else "it passes", seconds=seconds)
+            if fault and count.asked.verbose:
+                print(f"    {fault[:200]}")
+
+
+def main():
+    parser = argparse.ArgumentParser(description=__doc__, formatter_class=argparse.RawDescriptionHelpFormatter)
+    parser.add_argument("program", nargs="?", default="crates/rv_app/out/rv_app")
+    parser.add_argument("--seconds", type=float, default=0, help="how long the random cases are run again; default: once")
+    parser.add_argument("--seed", type=int, default=random.randrange(10**6), help="default: any")
+    parser.add_argument("--mutants", type=int, default=10_000, help="how many of each kind a round has")
+    parser.add_argument("--only", default="", help="only the cases with these words in their name")
+    parser.add_argument("--selftest", action="store_true", help="test the cases themselves, on servers that are wrong")
+    parser.add_argument("--verbose", action="store_true", help="tell also what passed, with its seconds")
+    asked = parser.parse_args()
+    if not shutil.which("cc"):
+        sys.exit("cc is missing: it builds what stands between the program and its system")
+    count = Count(asked)
+    print(f"seed {asked.seed}", flush=True)
+    with built():
+        if asked.selftest:
+            selftest(count)
+        else:
+            run(os.path.abspath(asked.program), asked, count)
+    print(f"{count.passed} passed, {count.failed} failed")
+    sys.exit(count.failed > 0)
+
+
+main()

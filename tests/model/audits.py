@@ -1,0 +1,98 @@
+"""Compares what `rv audit` says of accounts with their verdicts: of those made by hand, and of random ones, most of
+them spoilt, whose verdict the model gives."""
+import os
+import random
+import subprocess
+from collections import Counter
+from concurrent.futures import ThreadPoolExecutor
+from itertools import islice
+
+from tests.model.broken import broken_texts
+from tests.model.broken_lines import line_texts
+from tests.model.full import full_texts
+from tests.model.spoilt import make_texts
+from tests.model.verdicts import KINDS, Unsure, kind_of, verdict
+
+# How many texts are made of one book's account, and how many of them are at hand at a time.
+TEXTS = 8
+AT_HAND = 400
+# A run of so many accounts has to meet each verdict.
+FULL_RUN = 2_000
+# The most seconds that one account may take, on a slow machine too.
+MOST_SECONDS = 600
+
+
+def hand_made():
+    """Each account that is made by hand, with its name and its verdict."""
+    for name, texts in [("form", line_texts()), ("account", broken_texts()), ("full account", full_texts())]:
+        yield from ((f"{name} {number} by hand", *pair) for number, pair in enumerate(texts, 1))
+
+
+def random_ones(seed, count):
+    """So many random accounts, each with its name, and with its verdict as the model has it."""
+    books = (make_texts(random.Random(f"{seed} {book}"), TEXTS) for book in range(count))
+    for number, text in enumerate(islice((text for texts in books for text in texts), count), 1):
+        yield f"account {number} of seed {seed}", text, verdict_or_fault(text)
+
+
+def verdict_or_fault(text):
+    """The verdict, or that the model's own audits differ: this no program says."""
+    try:
+        return verdict(text)
+    except Unsure as unsure:
+        return f"the model at odds with itself: {unsure}"
+
+
+def what_it_said(program, text):
+    """What the program prints for a text, with its status, and what it says on standard error."""
+    try:
+        ran = subprocess.run([program, "audit"], input=text, capture_output=True, timeout=MOST_SECONDS)
+    except subprocess.TimeoutExpired:
+        return b"", None, b"it took too long"
+    return ran.stdout, ran.returncode, ran.stderr
+
+
+def is_said(ran, expected):
+    """Whether this is what the program has to print, and its status."""
+    return ran == (f"{expected}\n".encode(), int(expected != "legal"), b"")
+
+
+def first_difference(program, accounts):
+    """How many accounts of each verdict were met, and the first that the program says something else of."""
+    met, accounts = Counter(), iter(accounts)
+    with ThreadPoolExecutor(os.cpu_count()) as several:
+        while part := list(islice(accounts, AT_HAND)):
+            runs = several.map(lambda account: what_it_said(program, account[1]), part)
+            for account, ran in zip(part, runs):
+                met[kind_of(account[2])] += 1
+                if not is_said(ran, account[2]):
+                    several.shutdown(wait=False, cancel_futures=True)
+                    return met, (*account, ran)
+    return met, None
+
+
+def compare_audits(program, seed, count):
+    """Compares those made by hand and so many random ones, in which each verdict is to be met."""
+    for accounts in [hand_made(), random_ones(seed, count)]:
+        met, difference = first_difference(program, accounts)
+        if difference:
+            show(*difference)
+            return False
+    print(f"seed {seed}: {count} accounts, each verdict as the model has it: "
+          + ", ".join(f"{kind} {met[kind]}" for kind in KINDS))
+    missed = [kind for kind in KINDS if not met[kind]]
+    if missed and count >= FULL_RUN:
+        print(f"FAILED: none of the accounts is {', '.join(missed)}")
+    return count < FULL_RUN or not missed
+
+
+def show(name, text, expected, ran):
+    """Prints a difference with the account's lines."""
+    output, status, errors = ran
+    print(f"FAILED: {name}: expected {expected!r}, got {output[:200]!r}, status {status}, "
+          f"standard error {errors[:200]!r}")
+    lines = text.splitlines(keepends=True)
+    for line in lines[:200]:
+        print(f"    {line[:5_000]!r}")
+    if len(lines) > 200:
+        print(f"    and {len(lines) - 200} lines more")

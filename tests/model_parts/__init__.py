@@ -1,1 +1,0 @@
-"""A plain second implementation of docs/MODEL.md, for tests/model."""

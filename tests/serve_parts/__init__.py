@@ -1,1 +1,0 @@
-"""The parts of tests/serve: real clients of a server of rv, over sockets of one machine."""

@@ -1,0 +1,1 @@
+"""Real clients of a server of rv, and real servers of a caller, over sockets of one machine."""

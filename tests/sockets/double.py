@@ -1,0 +1,487 @@
+#!/usr/bin/env python3
+"""A test double of `rv serve` and `rv call`, over the book of the model: for the tests of tests/sockets themselves.
+
+RV_WRONG in the environment names what it does wrong; tests/sockets/serve.py --selftest sees that a test fails for each of these.
+
+usage: tests/sockets/double.py serve --listen ADDR --epoch E --workers W --connections N
+       tests/sockets/double.py call --connect ADDR --client C --incarnation I --tries T --speak V
+       tests/sockets/double.py audit
+"""
+import os
+import pathlib
+import queue
+import re
+import socket
+import struct
+import sys
+import threading
+import time
+
+ROOT = pathlib.Path(__file__).resolve().parents[2]
+sys.dont_write_bytecode, sys.path[0] = True, str(ROOT)
+from tests.model.account import Account, Call, Hello, Key, Request, limit, waiting  # noqa: E402
+from tests.model.answers import read_answer  # noqa: E402
+from tests.model.lines import account_text  # noqa: E402
+from tests.model.steps import refused, step  # noqa: E402
+from tests.model.tables import table_audit  # noqa: E402
+from tests.model.texts import (  # noqa: E402
+    KEY, MAX_BODY_BYTES, MAX_IDENTIFIER, NoReading, demand, members_of, read_call, read_json, read_message, written)
+from tests.model.world import is_own  # noqa: E402
+from tests.sockets.accounts import call_members, read_account  # noqa: E402
+
+WRONG = os.environ.get("RV_WRONG", "")
+PAUSES, PAUSE = 200, 0.08 if WRONG == "pauses for too long" else 0.005
+FRAMES = 65_536
+# How many bytes of a connection's answers are held back at most.
+HELD = 2**30 if WRONG == "holds back all answers to a piece" else 16_384
+# After so many seconds a read of a connection ends, a write to one, and a caller's read.
+SILENCE, DEAFNESS, NO_ANSWER = 600, 60, 60
+
+
+class AddressFault(Exception):
+    """An address that is none, or where nobody listens, or somebody does."""
+
+
+class Desk:
+    """The model's book behind a lock. What a waiting request was told is kept until the book changes."""
+
+    def __init__(self, epoch):
+        self.lock = threading.Lock()
+        self.account = Account(epoch, 0)
+        self.kept, self.due = {}, None
+        self.began = time.monotonic()
+        # What a wrong server was asked before, and how many puts of its own it made.
+        self.put_before, self.injected = set(), 0
+
+    def moment(self):
+        """The milliseconds since it began."""
+        now = int((time.monotonic() - self.began) * 1000)
+        if WRONG == "counts tenths of seconds":
+            return now // 100
+        return now // 100 * 100 if WRONG == "rounds moments to tenths of seconds" else now
+
+    def handle(self, message):
+        """The members of the answer to a message."""
+        now = self.moment()
+        kept = self.kept.get(message)
+        if kept and (self.due is None or now < self.due):
+            return kept
+        account, answer = step(self.account, now, message)
+        if len(account.entries) > len(self.account.entries):
+            self.account, self.kept = account, {}
+            limits = [limit(account.entries, r) for r in waiting(account.entries)]
+            self.due = min((moment for moment in limits if moment is not None), default=None)
+        self.kept[message] = answer
+        return answer
+
+    def ask(self, body, send):
+        """The members of the answer to a body. `send` is done before each pause."""
+        try:
+            message = read_message(body)
+        except NoReading:
+            return refused(1)
+        message = self.spoilt(message)
+        for _ in range(PAUSES):
+            with self.lock:
+                answer = self.handle(message)
+                if WRONG == "holds the lock while it pauses" and answer["kind"] == "waiting":
+                    time.sleep(PAUSE)
+            if answer["kind"] != "waiting" or WRONG in ("never asks again", "says received when it waits"):
+                return self.spoilt_answer(message, answer)
+            send()
+            time.sleep(PAUSE)
+        with self.lock:
+            return self.spoilt_answer(message, self.handle(message))
+
+    def spoilt(self, message):
+        """The message that is asked in place of this one."""
+        if WRONG == "runs a repeated put again" and isinstance(message, Request) and message.call.word == "put":
+            with self.lock:
+                if self.handle(message) and self.handle(message)["kind"] == "reply" and message in self.put_before:
+                    self.inject(message.call)
+                self.put_before.add(message)
+        return message
+
+    def inject(self, call):
+        """A put of nobody's, by client 1,000,000."""
+        if not self.injected:
+            self.handle(Hello(1_000_000, 1))
+        self.injected += 1
+        key = Key(self.account.epoch, 1_000_000, 1, self.injected)
+        self.handle(Request(key, Call("put", call.at, call.item)))
+
+    def spoilt_answer(self, message, answer):
+        """The answer that is told in place of this one."""
+        reply, call = answer.get("reply"), getattr(message, "call", None)
+        if WRONG == "gives a timed out item to the next" and reply == "timedout" and call and call.word == "transfer":
+            with self.lock:
+                if message not in self.put_before:
+                    self.put_before.add(message)
+                    self.inject(call)
+        if WRONG == "tells what was drained newest first" and reply == "drained":
+            return {**answer, "texts": answer["texts"][::-1]}
+        if WRONG == "names the giver" and "by_client" in answer:
+            return {**answer, "by_client": answer["client"]}
+        if WRONG == "names nobody" and "by_client" in answer:
+            return {name: value for name, value in answer.items() if not name.startswith("by_")}
+        if WRONG == "takes each version for the first" and answer["kind"] == "welcome":
+            return {name: value for name, value in answer.items() if name != "version"}
+        if WRONG == "says received when it waits" and answer["kind"] == "waiting" and call.word == "transfer":
+            return {**answer, "kind": "reply", "reply": "received"}
+        if WRONG == "gives its own object back" and reply == "swapped":
+            return {**answer, "item": call.item}
+        return answer
+
+
+class Outlet:
+    """The answers over a connection, which are held back until they are sent."""
+
+    def __init__(self, connection):
+        self.connection, self.held = connection, b""
+
+    def hold(self, data):
+        """Takes an answer, behind the others where there is room."""
+        if len(self.held) + len(data) > HELD:
+            self.send()
+        self.held += data
+        if len(self.held) >= HELD or WRONG == "sends each answer alone":
+            self.send()
+
+    def send(self):
+        """Sends what is held back. Where that fails, what is held is lost."""
+        data, self.held = self.held, b""
+        try:
+            self.connection.sendall(data)
+        except OSError:
+            if WRONG != "goes on for a peer that went":
+                raise
+
+    def before_a_pause(self):
+        """Sends what is held back, unless it is wrong."""
+        if WRONG != "keeps answers back while one waits":
+            self.send()
+
+
+class Inlet:
+    """Frames out of a connection. `send` is done before each read."""
+
+    def __init__(self, connection, send):
+        self.connection, self.send, self.bytes = connection, send, b""
+
+    def next(self):
+        """The next body; None at the end, at a bad length, and where the rest is no frame."""
+        while True:
+            if len(self.bytes) >= 2:
+                size = int.from_bytes(self.bytes[:2])
+                if size == 0:
+                    return None
+                if len(self.bytes) >= 2 + size:
+                    body, self.bytes = self.bytes[2 : 2 + size], self.bytes[2 + size :]
+                    return body
+            self.send()
+            piece = self.connection.recv(4096)
+            if not piece:
+                return None
+            if WRONG == "loses what is cut" and len(self.bytes) > 3000:
+                self.bytes = b""
+            self.bytes += piece
+
+
+def end_behind(connection, name, seconds, wrong):
+    """Has a read or a write of a connection end after so many seconds, unless this is what is done wrong."""
+    if WRONG != wrong:
+        connection.setsockopt(socket.SOL_SOCKET, name, struct.pack("ll", seconds, 0))
+
+
+def work(desk, connection):
+    """Answers the frames of a connection until it ends."""
+    late = WRONG == "sends length and body apart"
+    connection.setsockopt(socket.IPPROTO_TCP, socket.TCP_NODELAY, int(not late and WRONG != "has no packet without its like"))
+    silence = 60 if WRONG == "ends a silent connection early" else SILENCE
+    end_behind(connection, socket.SO_RCVTIMEO, silence, "waits for a silent peer")
+    end_behind(connection, socket.SO_SNDTIMEO, DEAFNESS, "waits for a deaf peer")
+    outlet = Outlet(connection)
+    inlet = Inlet(connection, outlet.send)
+    for _ in range(FRAMES + (WRONG == "answers a frame too many")):
+        body = inlet.next()
+        if body is None:
+            break
+        answer = desk.ask(body, outlet.before_a_pause)
+        if WRONG == "ends at a body that is none" and answer == refused(1):
+            break
+        text = written(answer).encode()
+        pieces = [len(text).to_bytes(2), text]
+        if late:
+            for piece in pieces:
+                connection.sendall(piece)
+        else:
+            outlet.hold(b"".join(pieces))
+    else:
+        inlet.next()
+    outlet.send()
+
+
+def address(text):
+    """The host and port of an address."""
+    host, _, port = text.rpartition(":")
+    try:
+        if not host or not re.fullmatch("[0-9]{1,5}", port) or int(port) > 65_535:
+            raise AddressFault
+        return socket.getaddrinfo(host.strip("[]"), int(port), type=socket.SOCK_STREAM)[0]
+    except OSError as fault:
+        raise AddressFault from fault
+
+
+def listener(text):
+    """A socket that listens at an address."""
+    family, kind, protocol, _, at = address(text)
+    listens = socket.socket(family, kind, protocol)
+    listens.setsockopt(socket.SOL_SOCKET, socket.SO_REUSEADDR, 1)
+    try:
+        listens.bind(at)
+        listens.listen(128)
+    except OSError as fault:
+        raise AddressFault from fault
+    return listens
+
+
+def run_worker(desk, handed):
+    """Serves connections until there are no more."""
+    while (connection := handed.get()) is not None:
+        serve_one(desk, connection)
+
+
+def serve_one(desk, connection):
+    """Serves a connection; a fault of it ends it."""
+    with connection:
+        try:
+            work(desk, connection)
+        except OSError:
+            pass
+
+
+def started(desk, handed, workers):
+    """The threads of so many workers, and None for each that could not be started."""
+    threads = []
+    for _ in range(workers):
+        thread = threading.Thread(target=run_worker, args=(desk, handed), daemon=True)
+        try:
+            thread.start()
+        except RuntimeError:
+            thread = None
+        threads.append(thread)
+    return threads
+
+
+def accept_all(listens, count, deed):
+    """Accepts so many connections, and does this with each. Behind one that can't be accepted it pauses."""
+    for _ in range(count):
+        try:
+            connection, _ = listens.accept()
+        except OSError:
+            if WRONG != "accepts again at once":
+                time.sleep(PAUSE)
+            continue
+        deed(connection)
+
+
+def waiting_for(workers):
+    """How many connections may wait for so many workers; 0 is any number."""
+    return {"accepts all that come": 0, "accepts one for all its workers": 1}.get(WRONG, workers)
+
+
+def serve(listen, epoch, workers, connections):
+    """Serves so many connections, and then prints the account."""
+    desk, listens, handed = Desk(epoch), listener(listen), queue.Queue(waiting_for(workers))
+    alone = WRONG == "serves on one thread"
+    threads = [] if alone else started(desk, handed, workers)
+    goes = alone or any(threads[-1:] if WRONG == "needs its last thread" else threads)
+    if goes:
+        count = connections + (WRONG == "accepts one more")
+        accept_all(listens, count, (lambda connection: serve_one(desk, connection)) if alone else handed.put)
+    if WRONG != "keeps listening":
+        listens.close()
+    running = [thread for thread in threads if thread]
+    for _ in running:
+        handed.put(None)
+    for thread in running:
+        thread.join()
+    print_account(desk.account)
+    if not goes:
+        raise NoThread
+
+
+class NoThread(Exception):
+    """No thread could be started."""
+
+
+def print_account(account):
+    """Prints an account, unless it is wrong."""
+    if WRONG == "leaves out the last entry":
+        account = Account(account.epoch, 0, account.entries[:-1])
+    if WRONG != "prints no account":
+        printed(account_text(account).decode())
+
+
+class Stopped(Exception):
+    """A caller's word for why it ended."""
+
+
+class Link:
+    """A caller's end of a connection."""
+
+    def __init__(self, connection):
+        self.connection, self.stream = connection, connection.makefile("rb")
+
+    def ask(self, body):
+        """The members of the answer to a body; None at a fault of the link."""
+        pieces = [len(body).to_bytes(2), body]
+        try:
+            for piece in pieces if WRONG == "sends length and body apart" else [b"".join(pieces)]:
+                self.connection.sendall(piece)
+            length = self.stream.read(2) or b""
+            size = int.from_bytes(length)
+            if len(length) < 2 or size == 0:
+                return None
+            text = self.stream.read(size) or b""
+            return read_answer(text) if len(text) == size else None
+        except (OSError, NoReading):
+            return None
+
+
+def greet(link, hello, tries):
+    """Says hello until it is welcome; gives the epoch."""
+    body = written(members_of(hello)).encode()
+    for _ in range(tries):
+        answer = link.ask(body)
+        if answer is None:
+            break
+        if answer["kind"] == "refused":
+            raise Stopped(f"refused {answer['code']}")
+        if answer["kind"] == "welcome" and (is_own(hello, answer) or WRONG == "is welcome in any version"):
+            return answer["epoch"]
+    raise Stopped("not welcome")
+
+
+def ask_call(link, key, members, tries):
+    """The text of the reply to a call."""
+    body = written({"kind": "request", **vars(key), **members}).encode()
+    for _ in range(tries):
+        answer = link.ask(body)
+        if answer is None:
+            break
+        if answer.get("code") == 2 and answer["current"] > key.epoch:
+            raise Stopped(f"epoch ended {answer['current']}")
+        if answer.get("code") == 4 and answer["current"] > key.incarnation:
+            raise Stopped(f"replaced {answer['current']}")
+        if answer["kind"] == "reply" and all(answer[name] == getattr(key, name) for name in KEY):
+            return written(answer)
+    raise Stopped(f"unsettled {key.number}")
+
+
+def read_line(line):
+    """The members of a call text."""
+    try:
+        demand(1 <= len(line) <= MAX_BODY_BYTES)
+        members = read_json(line)
+        demand(isinstance(members, dict))
+        return call_members(read_call(members))
+    except NoReading:
+        raise Stopped("bad line") from None
+
+
+def call(connect, hello, tries):
+    """Says hello and calls line by line; gives the status."""
+    family, kind, protocol, _, at = address(connect)
+    connection = socket.socket(family, kind, protocol)
+    try:
+        connection.connect(at)
+    except OSError as fault:
+        raise AddressFault from fault
+    end_behind(connection, socket.SO_RCVTIMEO, NO_ANSWER, "waits for a silent server")
+    try:
+        text, late = sys.stdin.buffer.read(), []
+    except OSError as fault:
+        raise RunFault(1) from fault
+    lines = text.split(b"\n")
+    if not lines[-1]:
+        lines.pop()
+    status = 0
+    try:
+        link = Link(connection)
+        epoch = greet(link, hello, tries)
+        for number, line in enumerate(lines, 1):
+            late.append(ask_call(link, Key(epoch, hello.client, hello.incarnation, number), read_line(line), tries))
+            if WRONG != "prints when all is settled":
+                printed(f"{late.pop()}\n")
+    except Stopped as why:
+        late.append(str(why))
+        status = 1
+    for line in late:
+        printed(f"{line}\n")
+    return status
+
+
+def audit():
+    """Audits the account on standard input; gives the status."""
+    fault = table_audit(read_account(sys.stdin.buffer.read()))
+    print(f"fault {fault[0]} {fault[1]}" if fault else "legal")
+    return int(fault is not None)
+
+
+def option(given, name, least, most):
+    """The number of an option."""
+    demand(re.fullmatch("[0-9]{1,19}", given[name]) and least <= int(given[name]) <= most)
+    return int(given[name])
+
+
+def run(words):
+    """Does what the words say; gives the status."""
+    names = {"serve": ["--listen", "--epoch", "--workers", "--connections"],
+             "call": ["--connect", "--client", "--incarnation", "--tries", "--speak"],
+             "audit": []}.get(words[0] if words else "")
+    demand(names is not None and sorted(words[1::2]) == sorted(names) and len(words) == 1 + 2 * len(names))
+    given = dict(zip(words[1::2], words[2::2]))
+    if words[0] == "audit":
+        return audit()
+    if words[0] == "call":
+        hello = Hello(*(option(given, name, 1, MAX_IDENTIFIER) for name in ("--client", "--incarnation")),
+                      option(given, "--speak", 1, 2))
+        return call(given["--connect"], hello, option(given, "--tries", 0, 2**32 - 1))
+    serve(given["--listen"], option(given, "--epoch", 1, MAX_IDENTIFIER), option(given, "--workers", 1, 64),
+          option(given, "--connections", 0, 2**32 - 1))
+    return 0
+
+
+class RunFault(Exception):
+    """An input that can't be read, or an output that can't be written, by its number."""
+
+
+def printed(text):
+    """Prints and flushes."""
+    try:
+        sys.stdout.write(text)
+        sys.stdout.flush()
+    except OSError as fault:
+        sys.stdout = open(os.devnull, "w")
+        raise RunFault(2) from fault
+
+
+def main():
+    try:
+        sys.exit(run(sys.argv[1:]))
+    except RunFault as fault:
+        print(f"run fault {fault}", file=sys.stderr)
+        sys.exit(1)
+    except NoThread:
+        print("serve fault 1", file=sys.stderr)
+        sys.exit(1)
+    except NoReading:
+        print("command fault 1", file=sys.stderr)
+        sys.exit(2)
+    except AddressFault:
+        print("address fault", file=sys.stderr)
+        sys.exit(1)
+
+
+main()

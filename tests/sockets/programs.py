@@ -1,0 +1,246 @@
+"""The program's processes: a server on a port of this machine, and a caller. None is left running."""
+import contextlib
+import os
+import pathlib
+import random
+import re
+import socket
+import subprocess
+import threading
+import time
+
+from tests.sockets.accounts import account_fault, read_account
+from tests.sockets.wire import PATIENCE, Peer, Wrong, demand, members_of, until, welcome, hello
+
+PORTS = range(20_000, 32_000)
+# How often another free port is tried, where somebody takes the one that was free.
+TRIES = 5
+# Whoever does nothing for so many seconds, and is not kept from it, rests.
+REST = 0.05
+
+
+def free_port():
+    """A port that nobody listens at. Below those that the machine gives to clients, so that no client gets it."""
+    while True:
+        port = random.choice(PORTS)
+        with socket.socket() as probe:
+            try:
+                probe.bind(("127.0.0.1", port))
+            except OSError:
+                continue
+        return port
+
+
+@contextlib.contextmanager
+def taken_port():
+    """A port at which nobody listens, nor can until the end of the block."""
+    with socket.socket() as holder:
+        holder.bind(("127.0.0.1", 0))
+        yield holder.getsockname()[1]
+
+
+def listens_at(pid, port):
+    """Whether a process has a listening TCP socket at a port of this machine: known without a fixed wait, so that a
+    slow machine cannot have it missed."""
+    try:
+        own = {os.readlink(path) for path in pathlib.Path(f"/proc/{pid}/fd").glob("*")}
+    except OSError:
+        return False
+    for name in ("tcp", "tcp6"):
+        try:
+            rows = pathlib.Path(f"/proc/net/{name}").read_text().splitlines()[1:]
+        except OSError:
+            continue
+        for row in rows:
+            cells = row.split()
+            if cells[3] == "0A" and int(cells[1].rpartition(":")[2], 16) == port and f"socket:[{cells[9]}]" in own:
+                return True
+    return False
+
+
+class Process:
+    """A process of the program. At the end of its block it is killed where it still runs."""
+
+    def __init__(self, words, **more):
+        self.words = words
+        pipes = {name: subprocess.PIPE for name in ("stdin", "stdout", "stderr")}
+        self.process = subprocess.Popen(words, **{**pipes, **more})
+        self.printed, self.said = b"", b""
+        self.readers = [threading.Thread(target=read, daemon=True) for read in (self.read_printed, self.read_said)]
+        for reader in self.readers:
+            reader.start()
+
+    def read_printed(self):
+        while self.process.stdout and (piece := self.process.stdout.read1(65_536)):
+            self.printed += piece
+
+    def read_said(self):
+        while piece := self.process.stderr.read1(65_536):
+            self.said += piece
+
+    def __enter__(self):
+        return self
+
+    def __exit__(self, *_):
+        self.kill()
+
+    def kill(self):
+        """Ends the process, if it runs."""
+        if self.process.poll() is None:
+            self.process.kill()
+        self.process.wait()
+        for reader in self.readers:
+            reader.join(PATIENCE)
+        for stream in (self.process.stdin, self.process.stdout, self.process.stderr):
+            try:
+                if stream:
+                    stream.close()
+            except OSError:
+                pass
+
+    def runs(self):
+        """Whether the process has not ended."""
+        return self.process.poll() is None
+
+    def status(self, patience=PATIENCE):
+        """The exit status; all that was printed and said is there then."""
+        try:
+            status = self.process.wait(patience)
+        except subprocess.TimeoutExpired:
+            raise Wrong(f"{self.words[1]} did not end within {patience} seconds") from None
+        for reader in self.readers:
+            reader.join(PATIENCE)
+        return status
+
+
+class Server(Process):
+    """A server, on a port that was free. A client that comes before it listens tries again."""
+
+    # A client's end of a connection.
+    peer = Peer
+
+    def __init__(self, program, workers, connections, epoch=1, **more):
+        self.program, self.epoch, self.connections, self.listens = program, epoch, connections, False
+        self.made, self.lock = 0, threading.Lock()
+        for _ in range(TRIES):
+            self.port = free_port()
+            super().__init__([program, "serve", "--listen", f"127.0.0.1:{self.port}", "--epoch", str(epoch),
+                              "--workers", str(workers), "--connections", str(connections)], **more)
+            if not self.taken():
+                return
+            self.kill()
+        raise Wrong("no port is free")
+
+    def taken(self):
+        """Whether somebody took the port before the server did: it has not begun to listen, and soon ends."""
+        until("the server listens, or ends", lambda: listens_at(self.process.pid, self.port) or not self.runs())
+        return not self.runs() and self.status() == 1 and self.said == b"address fault\n"
+
+    def connect(self, receive=None):
+        """A connection to the server; `receive` is how many bytes the system is to keep for the client, at least."""
+        ends = time.monotonic() + PATIENCE
+        while True:
+            connection = socket.socket()
+            if receive:
+                connection.setsockopt(socket.SOL_SOCKET, socket.SO_RCVBUF, receive)
+            connection.settimeout(PATIENCE)
+            listened = self.listens
+            try:
+                connection.connect(("127.0.0.1", self.port))
+            except ConnectionRefusedError:
+                connection.close()
+                if listened or not self.runs() or time.monotonic() > ends:
+                    raise
+                time.sleep(0.005)
+                continue
+            self.listens = True
+            with self.lock:
+                self.made += 1
+            return self.peer(connection)
+
+    def greeted(self, client, incarnation=1, version=1):
+        """A connection whose client was welcomed."""
+        peer = self.connect()
+        peer.expect(hello(client, incarnation, version), welcome(client, self.epoch, incarnation, version))
+        return peer
+
+    def waits(self):
+        """How often each of its threads waited so far, where all of them do so now."""
+        told = [path.read_text() for path in pathlib.Path(f"/proc/{self.process.pid}/task").glob("*/status")]
+        asleep = all(re.search(r"^State:\tS", text, re.MULTILINE) for text in told)
+        return [re.findall(r"ctxt_switches:\t(\d+)", text) for text in told] if asleep else None
+
+    def rests(self):
+        """Whether each of its threads waits, and went on waiting for a moment: it does nothing until something comes. That a
+        slow machine lets a thread not run is no rest."""
+        before = self.waits()
+        time.sleep(REST)
+        return before is not None and before == self.waits()
+
+    def accepted(self):
+        """How many connections it has accepted that are open; it listens."""
+        opened = pathlib.Path(f"/proc/{self.process.pid}/fd").glob("*")
+        return sum(os.readlink(path).startswith("socket:") for path in opened) - 1
+
+    def use_up(self):
+        """Makes the connections that are left, one by one, so that the server ends: it must serve these and no more."""
+        ends, served = time.monotonic() + 4 * PATIENCE, self.made
+        while True:
+            demand(time.monotonic() < ends, f"{self.connections - served} connections are left and not served")
+            try:
+                with self.connect() as peer:
+                    peer.end()
+                    demand(not peer.more(), f"a connection that asked nothing was answered {peer.got!r}")
+            except ConnectionError:
+                break
+            served += 1
+        demand(served == self.connections, f"{served} connections were served, not {self.connections}")
+
+    def ended(self, patience=PATIENCE):
+        """The account that the server printed at its end, which must be a good one."""
+        status = self.status(patience)
+        demand((status, self.said) == (0, b""), f"serve ended with status {status} and said {self.said!r}")
+        account = read_account(self.printed)
+        demand(account.epoch == self.epoch and account.opened == 0, "the account's first line is another")
+        return account
+
+    def judged(self, asked, told, patience=PATIENCE):
+        """Ends with an account in which all that was told stands; `asked` has each key's call."""
+        account = self.ended(patience)
+        fault = account_fault(account, asked, told)
+        demand(not fault, f"the account: {fault}")
+        self.audited()
+        return account
+
+    def audited(self):
+        """The program's own audit must find the account legal."""
+        ran = subprocess.run([self.program, "audit"], input=self.printed, capture_output=True, timeout=4 * PATIENCE)
+        told = (ran.stdout, ran.stderr, ran.returncode)
+        demand(told == (b"legal\n", b"", 0), f"rv audit says {told} of the account")
+
+
+class Caller(Process):
+    """A caller, with these lines for its input."""
+
+    def __init__(self, program, port, client, lines, incarnation=1, tries=2 * PATIENCE, speak=1, **more):
+        super().__init__([program, "call", "--connect", f"127.0.0.1:{port}", "--client", str(client),
+                          "--incarnation", str(incarnation), "--tries", str(tries), "--speak", str(speak)], **more)
+        try:
+            self.process.stdin.write(lines)
+            self.process.stdin.close()
+        except BrokenPipeError:
+            pass
+
+    def lines(self):
+        """The whole lines that were printed so far."""
+        return self.printed.split(b"\n")[:-1]
+
+    def judge(self, printed, status=0, said=b""):
+        """It must end so."""
+        ended = self.status()
+        got = (self.printed, ended, self.said)
+        demand(got == (printed, status, said), f"call printed, ended with and said {got}, not {(printed, status, said)}")
+
+    def replies(self):
+        """The members of the answers that were printed."""
+        return [members_of(line) for line in self.lines()]

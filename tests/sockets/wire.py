@@ -1,0 +1,223 @@
+"""Messages and answers on a socket: frames, and a client's end of a connection. Everything has a time-out."""
+import errno
+import os
+import socket
+import struct
+import sys
+import threading
+import time
+
+from tests.model.account import Key
+from tests.model.texts import KEY, members_of_version, read_json, written
+
+# How long a client waits for bytes, for room, or for a server that is to end, in seconds: long, for a slow machine, but
+# where servers are tried that never answer.
+PATIENCE = int(os.environ.get("RV_PATIENCE", "120"))
+MAX_FRAME = 65_535
+BAD_TEXT = b'{"code":1,"kind":"refused"}'
+
+
+class Wrong(Exception):
+    """What a test found."""
+
+
+def demand(condition, what):
+    """Ends the test unless the condition holds."""
+    if not condition:
+        raise Wrong(what)
+
+
+def frame(body):
+    """A body behind its length."""
+    return struct.pack(">H", len(body)) + body
+
+
+def hello(client, incarnation=1, version=1):
+    """The body of a hello."""
+    members = {"kind": "hello", "client": client, "incarnation": incarnation}
+    return written({**members, **members_of_version(version)}).encode()
+
+
+def request(key, call):
+    """The body of a request; `call` has the members of its call."""
+    return written({"kind": "request", **vars(key), **call}).encode()
+
+
+def cancel(key):
+    """The body of a cancel."""
+    return written({"kind": "cancel", **vars(key)}).encode()
+
+
+def give(word, item, wait=None, queue=3):
+    """The members of a put or a transfer."""
+    return {"call": word, "queue": queue, "item": item, **({"wait": wait} if word == "transfer" else {})}
+
+
+def take(wait, queue=3):
+    """The members of a take."""
+    return {"call": "take", "queue": queue, "wait": wait}
+
+
+def drain(most, queue=3):
+    """The members of a drain."""
+    return {"call": "drain", "queue": queue, "max": most}
+
+
+def swap(item, wait, exchanger=5):
+    """The members of a swap."""
+    return {"call": "swap", "exchanger": exchanger, "item": item, "wait": wait}
+
+
+def welcome(client, epoch=1, incarnation=1, version=1):
+    """The body of a welcome."""
+    members = {"kind": "welcome", "client": client, "epoch": epoch, "incarnation": incarnation}
+    return written({**members, **members_of_version(version)}).encode()
+
+
+def refused(code, **detail):
+    """The body of a refusal."""
+    return written({"kind": "refused", "code": code, **detail}).encode()
+
+
+def replied(key, **reply):
+    """The body of a reply."""
+    return written({"kind": "reply", **vars(key), **reply}).encode()
+
+
+def waits(key):
+    """The body that says that a request waits."""
+    return written({"kind": "waiting", **vars(key)}).encode()
+
+
+def key_of(answer):
+    """The key that an answer's members name."""
+    return Key(*(answer[name] for name in KEY))
+
+
+def reply_of(answer):
+    """The members of an answer's reply."""
+    return {name: value for name, value in answer.items() if name not in ("kind", *KEY)}
+
+
+class Peer:
+    """A client's end of a connection."""
+
+    def __init__(self, connection):
+        self.socket = connection
+        self.socket.settimeout(PATIENCE)
+        self.socket.setsockopt(socket.IPPROTO_TCP, socket.TCP_NODELAY, 1)
+        self.got = b""
+
+    def __enter__(self):
+        return self
+
+    def __exit__(self, *_):
+        self.close()
+
+    def close(self):
+        self.socket.close()
+
+    def reset(self):
+        """Closes so that the server's reads and writes fail."""
+        self.socket.setsockopt(socket.SOL_SOCKET, socket.SO_LINGER, struct.pack("ii", 1, 0))
+        self.socket.close()
+
+    def end(self):
+        """Sends nothing more; answers may still come. Where the server has reset the connection this is a ConnectionError, as a
+        read would be, and not the plain OSError that Python makes of it."""
+        try:
+            self.socket.shutdown(socket.SHUT_WR)
+        except OSError as fault:
+            if fault.errno == errno.ENOTCONN:
+                raise ConnectionResetError(fault.errno, "the connection was reset") from None
+            raise
+
+    def acknowledge_late(self):
+        """What comes next is acknowledged with what is sent behind it, or after a while: a packet that waits for its like then
+        waits for so long, each time."""
+        self.socket.setsockopt(socket.IPPROTO_TCP, socket.TCP_QUICKACK, 0)
+
+    def send(self, data):
+        self.socket.sendall(data)
+
+    def more(self):
+        """Reads a piece; whether one came before the end."""
+        piece = self.socket.recv(65_536)
+        self.got += piece
+        return bool(piece)
+
+    def hear(self):
+        """The body of the next frame; None where the connection ends between two frames."""
+        while len(self.got) < 2 or len(self.got) < 2 + int.from_bytes(self.got[:2]):
+            if not self.more():
+                demand(not self.got, f"the connection ends within a frame: {self.got[:60]!r}")
+                return None
+        end = 2 + int.from_bytes(self.got[:2])
+        demand(2 < end, "a frame of no bytes")
+        body, self.got = self.got[2:end], self.got[end:]
+        return body
+
+    def ask(self, body):
+        """Sends a frame and reads one, which must come."""
+        self.send(frame(body))
+        answer = self.hear()
+        demand(answer is not None, f"the connection ends in place of an answer to {body[:200]!r}")
+        return answer
+
+    def told(self, body):
+        """The members of the answer to a frame."""
+        return members_of(self.ask(body))
+
+    def expect(self, body, wanted):
+        """A frame must be answered so."""
+        got = self.ask(body)
+        demand(got == wanted, f"{body[:300]!r} was answered {got!r}, not {wanted!r}")
+
+    def expect_end(self):
+        """No further answer may come, and the connection must end."""
+        try:
+            body = self.hear()
+        except ConnectionError:
+            return
+        demand(body is None, f"a further answer: {body!r}")
+
+
+def members_of(body):
+    """The members of an answer, which must be written as answers are."""
+    members = read_json(body)
+    demand(isinstance(members, dict) and written(members).encode() == body, f"no answer's text: {body!r}")
+    return members
+
+
+def together(*parts, limit=10 * PATIENCE):
+    """Runs parts at once, each in a thread, and gives what they gave. Tells the first that went wrong."""
+    given, faults = [None] * len(parts), []
+
+    def run(number, part):
+        try:
+            given[number] = part()
+        except Exception as fault:
+            faults.append(fault)
+
+    threads = [threading.Thread(target=run, args=pair, daemon=True) for pair in enumerate(parts)]
+    ends = time.monotonic() + limit
+    for thread in threads:
+        thread.start()
+    for thread in threads:
+        thread.join(max(0, ends - time.monotonic()))
+    if faults:
+        raise faults[0]
+    demand(not any(thread.is_alive() for thread in threads), f"a client was not done within {limit} seconds")
+    return given
+
+
+def until(what, holds, patience=PATIENCE):
+    """Waits until something holds."""
+    ends = time.monotonic() + patience
+    while not holds():
+        demand(time.monotonic() < ends, f"within {patience} seconds: {what}")
+        time.sleep(0.005)
+
+
+if sys.version_info < (3, 11):
+    sys.exit("python3 is too old: 3.11 or later is needed")

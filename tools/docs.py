@@ -1,0 +1,448 @@
+#!/usr/bin/env python3
+"""Checks what a machine can of the documents: words, names, files, laws, edits, printed lists, public functions, links, limits, rows
+of commands, lengths and the logic of the kit; and that no source makes want of memory of nothing.
+
+usage: tools/docs.py
+"""
+import collections
+import pathlib
+import re
+import shutil
+import subprocess
+import sys
+
+ROOT = pathlib.Path(__file__).resolve().parents[1]
+sys.dont_write_bytecode, sys.path[0] = True, str(ROOT)
+from tools.edit_files import Edit, public_functions  # noqa: E402
+from tools.outside import OF_TESTS, OUTSIDE  # noqa: E402
+
+MODEL = ROOT / "docs/MODEL.md"
+FORMATS = ROOT / "docs/FORMATS.md"
+ARCHITECTURE = ROOT / "docs/ARCHITECTURE.md"
+TESTS_PAGE = ROOT / "docs/TESTS.md"
+
+# The rows of the tables of limits in FORMATS, by their first cell without marks, and the constant in the code that
+# the greatest number of the second cell is.
+LIMITS = {
+    "client, epoch, incarnation, number": "MAX_IDENTIFIER",
+    "by_client, by_incarnation, by_number": "MAX_IDENTIFIER",
+    "version": "Version::number",
+    "queue, exchanger": "MAX_QUEUE",
+    "item": "MAX_ITEM_BYTES",
+    "texts": "MAX_DRAIN",
+    "max": "MAX_DRAIN",
+    "wait": "MAX_WAIT",
+    "items, consumers": "MAX_COUNTED",
+    "code": "Refusal::code",
+    "current, open": "MAX_IDENTIFIER",
+    "current of code 12": "Version::number",
+    "last": "MAX_IDENTIFIER",
+    "a body": "MAX_BODY_BYTES",
+    "a moment": "MAX_MOMENT",
+    "clients in an epoch": "MAX_CLIENTS",
+    "entries in an epoch": "MAX_ENTRIES",
+    "input of a run over lines": "MAX_INPUT_BYTES",
+    "frames on a connection": "MAX_FRAMES",
+    "workers": "MAX_WORKERS",
+    "pauses for one waiting request": "MAX_PAUSES",
+}
+# Constants that say a number of the table over again.
+SAME = {"MAX_EXCHANGER": "MAX_QUEUE"}
+# The folders of edits: those that the gate tries, all others that the prover must refuse, and those that a test must see.
+KINDS = ("must-fail", "edits", "test-edits")
+# Crates of tests and measurements, files of laws and of devices for tests, and what has no other body than its own.
+TESTS = ("rv_wire_tests", "rv_tests", "rv_server_tests", "rv_bench")
+BESIDE = ("src/laws.rt", "src/testing.rt")
+NO_WRONG_BODY = (r"\w+::swap::Swap\w*::new", r"\w+::shared::Shared\w*::lock", r"\w+::account::Account\w*::allocator")
+# Names of types and definitions that two crates declare: in each they mean the same. Of `Item` one crate has what a producer
+# hands over, the other what a frame was answered by.
+SHARED = ("Item", "NoMemory", "Place", "Stamp")
+# How many lines and words the first page may have.
+README_LINES, README_WORDS = 80, 700
+# How many columns a line of the sources and of the definitions may have.
+COLUMNS = 110
+# Texts that make want of memory of nothing, and texts that do not.
+GROWTHS = [
+    (True, "Err(LineFault::NoMemory) => Err(AllocError),"),
+    (True, "return Err(std::alloc::AllocError);"),
+    (True, "let refused = AllocError;"),
+    (True, "{ AllocError }"),
+    (True, "f(1 < 2, AllocError)"),
+    (True, "Err((text, AllocError))"),
+    (True, "Err(NoMemory {})"),
+    (True, "found.ok_or(AllocError {})?"),
+    (True, "found.ok_or(AllocError)?"),
+    (False, "use std::alloc::{AllocError, Global};"),
+    (False, "pub type NoMemory = AllocError;"),
+    (False, "impl From<AllocError> for RunFault { fn from(_error: AllocError) -> RunFault { RunFault::NoMemory } }"),
+    (False, "fn room(alloc: Global) -> Result<Vec<u8>, AllocError> {"),
+    (False, "fn refuse() -> AllocError"),
+    (False, "found.map_err(AllocError::from)"),
+    (False, "match found { Err(AllocError) => None, Ok(x) => Some(x) }"),
+    (False, "if let Err(AllocError) = found {"),
+    (False, "pub enum Fault { Bad, NoMemory(AllocError), Of { refused: AllocError } }"),
+    (False, "// Err(AllocError)\nlet text = \"Err(AllocError)\";"),
+]
+counts = collections.Counter()
+
+
+def check(holds, what):
+    """Counts a check, and tells one that fails."""
+    counts[bool(holds)] += 1
+    if not holds:
+        print(f"FAILED: {what}")
+
+
+def documents():
+    """The Markdown files of the repository."""
+    words = ["git", "ls-files", "-co", "--exclude-standard", "*.md"]
+    listed = subprocess.run(words, cwd=ROOT, capture_output=True, text=True, check=True)
+    return [ROOT / name for name in listed.stdout.split("\n") if name and (ROOT / name).exists()]
+
+
+def prose(path):
+    """A document's lines without its blocks of code."""
+    lines, in_code = [], False
+    for line in path.read_text().split("\n"):
+        in_code ^= line.lstrip().startswith("```")
+        lines.append("" if in_code or line.startswith("    ") else line)
+    return lines
+
+
+def tables(path):
+    """The tables of a document, each as its header cells and its rows of cells."""
+    found, rows = [], []
+    for line in [*prose(path), ""]:
+        if line.startswith("|"):
+            rows.append([cell.strip() for cell in re.split(r"(?<!\\)\|", line.strip())[1:-1]])
+        elif rows:
+            found.append((rows[0], rows[2:]))
+            rows = []
+    return found
+
+
+def quoted(cell):
+    """The words of a cell between backticks."""
+    return re.findall(r"`([^`]+)`", cell)
+
+
+def words():
+    """Each word that MODEL says stands in the specifications is declared there, in the crate that it says."""
+    for header, rows in tables(MODEL):
+        for row in rows if "Word" in header else []:
+            crate = row[header.index("Crate")] if "Crate" in header else "*"
+            for word in quoted(row[header.index("Word")]):
+                check(declared(word, crate), f"MODEL: no word {word} in crates/{crate}/specs")
+
+
+def declared(word, crate):
+    """Whether a crate's specifications declare a word, or are a module of that name."""
+    form = re.compile(rf"^ *((abbrev|record|data|pub|unfoldable)\s+)+{re.escape(word)}(?![\w-])", re.M)
+    paths = list(ROOT.glob(f"crates/{crate}/specs/**/*.antt"))
+    return any(path.stem == word or form.search(path.read_text()) for path in paths)
+
+
+def names():
+    """A name of a type or a definition is declared in one crate, but for those that are shared, and in its specs once."""
+    form = (r"^ *(?:pub(?:\([a-z]+\))? )?(?:struct|enum|trait|type|abbrev|record|data|unfoldable) +"
+            r"(?:(?:pub|abbrev|record) +)*([\w'-]+)")
+    crates, files = collections.defaultdict(set), collections.defaultdict(list)
+    for folder in ("src/**/*.rt", "specs/**/*.antt"):
+        for path in sorted(ROOT.glob(f"crates/*/{folder}")):
+            crate = path.relative_to(ROOT).parts[1]
+            for name in re.findall(form, path.read_text(encoding="utf-8"), re.M) if crate not in TESTS else []:
+                crates[name].add(crate)
+                files[crate, name] += [path.stem] if path.suffix == ".antt" else []
+    for name, found in sorted(crates.items()):
+        check(len(found) == 1 or name in SHARED, f"{name} is declared in {', '.join(sorted(found))}")
+    for (crate, name), found in sorted(files.items()):
+        check(len(found) < 2, f"{name} is declared twice in {crate}/specs, in {', '.join(found)}")
+
+
+def files():
+    """Each file that a document names as `specs/..`, `proofs/..` or `src/..` is in some crate."""
+    for path in documents():
+        for name in re.findall(r"`((?:specs|proofs|src)/[\w/.]+)`", path.read_text(encoding="utf-8")):
+            there = any(next(ROOT.glob(f"crates/*/{name}{kind}"), None) for kind in ("", ".antt", ".rt"))
+            check(there, f"{path.relative_to(ROOT)}: no crate has {name}")
+
+
+def places():
+    """Each function and definition that a document's table names behind a file's link stands in that file."""
+    for path in documents():
+        for header, rows in tables(path):
+            for column in {"Function", "Definition"} & set(header):
+                for row in rows:
+                    for at, names in re.findall(r"\]\(\.\./crates/([^)]+)\) ((?:`\w+`(?:, )?)+)", row[header.index(column)]):
+                        for name in quoted(names):
+                            check(stands(ROOT / "crates" / at, name), f"{path.name}: there is no {name} in {at}")
+
+
+def stands(path, name):
+    """Whether a file has a function or a definition of this name."""
+    words = "fn" if path.suffix == ".rt" else "abbrev|record|data|unfoldable"
+    form = rf"^ *(?:[\w()]+ +)*?(?:{words}) +(?:pub +)?{re.escape(name)}(?![\w-])"
+    return path.is_file() and re.search(form, path.read_text(encoding="utf-8"), re.M) is not None
+
+
+def refusals():
+    """ARCHITECTURE tells of each refusal of FORMATS where it is decided, under the same number and name."""
+    formats = [row[:2] for header, rows in tables(FORMATS) if header[:2] == ["`code`", "Name"] for row in rows]
+    decided = [row[:2] for header, rows in tables(ARCHITECTURE) if header[:2] == ["Number", "Refusal"] for row in rows]
+    check(formats == decided != [], "ARCHITECTURE: the refusals are not those of FORMATS")
+
+
+def laws():
+    """MODEL names each law of the code, and no other."""
+    rows = [row for header, rows in tables(MODEL) if "Statement" in header and header[-1] == "Crate" for row in rows]
+    named = {law for row in rows for law in quoted(row[-1])}
+    texts = [path.read_text() for path in ROOT.glob("crates/*/src/laws.rt")]
+    standing = {law for text in texts for law in re.findall(r"^pub fn (\w+)", text, re.M)}
+    for law in sorted(named | standing):
+        check(law in named, f"MODEL: the law {law} is not named")
+        check(law in standing, f"MODEL: there is no law {law}")
+
+
+def promises():
+    """Each function that MODEL names beside a promise stands in the sources of the crate that it says."""
+    for header, rows in tables(MODEL):
+        for row in rows if header[-1] == "Function" else []:
+            for piece in row[-1].split(";") if row[-1] != "all" else []:
+                crate, *_ = re.findall(r"\brv_\w+", piece)
+                sources = "\n".join(path.read_text(encoding="utf-8") for path in ROOT.glob(f"crates/{crate}/src/**/*.rt"))
+                for name in quoted(piece):
+                    check(re.search(rf"\bfn {name}\b", sources), f"MODEL: there is no function {name} in {crate}")
+
+
+def edits():
+    """Each edit that MODEL names is there; each that is there says in its first line what it does."""
+    found = [path for kind in KINDS for path in ROOT.glob(f"crates/*/{kind}/*.edit")]
+    paths = {path: (path.parts[-3], path.stem) for path in found}
+    there = set(paths.values())
+    for header, rows in tables(MODEL):
+        for row in rows if header[-1] == "Edit" else []:
+            crates = re.findall(r"\brv_\w+", f"{row[-1]} {row[0]}")
+            for word in quoted(row[-1]):
+                check((crates[0], word) in there, f"MODEL: there is no edit {word} of {crates[0]}")
+    for path in sorted(paths):
+        check(path.read_text().startswith("# "), f"{path.relative_to(ROOT)} does not begin by a line '# ..' that says what it does")
+    check(len(there) == len(paths), f"an edit stands in two of {KINDS}")
+    gate = {paths[path] for path in paths if path.parts[-2] in ("must-fail", "test-edits")}
+    for header, rows in tables(MODEL):
+        for row in rows if header == ["Wrong body", "Edit"] else []:
+            crates, words = re.findall(r"\brv_\w+", row[-1]), quoted(row[-1])
+            stands = any((crate, word) in gate for crate in crates for word in words)
+            check(stands or not words, f"MODEL: {row[0]}: no edit of the gate, nor one that a test must see")
+
+
+def made():
+    """The lists that are printed have a row for each crate that has edits, and words of the specifications."""
+    for name, wanted in (("edits", len({path.parent.parent for path in ROOT.glob("crates/*/edits/*.edit")})), ("words", 1)):
+        ran = subprocess.run([ROOT / "tools/tables.py", name], capture_output=True, text=True)
+        check(ran.returncode == 0 and ran.stdout.count("\n") >= 2 + wanted, f"tools/tables.py {name}: {ran.stderr.strip()}")
+
+
+def functions():
+    """Each edit applies, and the test that must see it is there; each public function has an edit in its code.
+
+    Laws have no code to edit.
+    """
+    for folder in sorted(ROOT.glob("crates/*")):
+        edits = {kind: [Edit(path, folder) for path in (folder / kind).glob("*.edit")] for kind in KINDS}
+        for edit in sum(edits.values(), []):
+            check(not edit.wrong, f"{folder.name}, {edit.name}: {edit.wrong}")
+        for edit in edits["test-edits"]:
+            check(edit.test_stands(), f"{folder.name}, {edit.name}: there is no test {edit.test}")
+        proved = edits["must-fail"] + edits["edits"]
+        changed = {pattern.pattern for edit in proved if not edit.wrong for pattern in edit.functions() if pattern}
+        for at, pattern in public_functions(folder).items():
+            name = f"{folder.name}, {at}"
+            if folder.name not in TESTS and not at.startswith(BESIDE) and pattern.pattern not in NO_WRONG_BODY:
+                check(pattern.pattern in changed, f"{name}: no edit is in this public function")
+
+
+def slug(heading):
+    """The anchor of a heading."""
+    text = re.sub(r"\[([^\]]*)\]\([^)]*\)", r"\1", heading).replace("`", "").strip().lower()
+    return re.sub(r"[^\w\- ]", "", text).replace(" ", "-")
+
+
+def anchors(path):
+    """The anchors of a document."""
+    found = collections.Counter()
+    names = set()
+    for line in prose(path):
+        heading = re.match(r"#+ +(.*)", line)
+        if heading:
+            name = slug(heading[1])
+            names.add(f"{name}-{found[name]}" if found[name] else name)
+            found[name] += 1
+    return names
+
+
+def links():
+    """Each relative link leads to a file, and to a heading of it where it names one."""
+    for path in documents():
+        for target in re.findall(r"\]\(([^)\s]+)\)", "\n".join(prose(path))):
+            if re.match(r"[a-z]+:", target):
+                continue
+            name, _, anchor = target.partition("#")
+            aim = (path.parent / name).resolve() if name else path
+            good = aim.exists() and (not anchor or aim.suffix == ".md" and anchor in anchors(aim))
+            check(good, f"{path.relative_to(ROOT)}: {target} leads nowhere")
+
+
+def constants():
+    """The constants of the code that are whole numbers, by name, and the greatest numbers of a refusal and of a version."""
+    values = collections.defaultdict(set)
+    for path in ROOT.glob("crates/*/src/**/*.rt"):
+        for name, value in re.findall(r"\bconst (\w+): \w+ = ([\d_]+);", path.read_text()):
+            values[name].add(int(value))
+    for name, form, file in [("Refusal::code", r"\bRefusal::\w+(?:\(_\))? => (\d+),", "answer.rt"),
+                             ("Version::number", r"\bVersion::\w+ => (\d+),", "version.rt")]:
+        numbers = re.findall(form, (ROOT / "crates/rv_text/src" / file).read_text())
+        values[name].add(max(map(int, numbers)))
+    return values
+
+
+def greatest(cell):
+    """The greatest number of a cell."""
+    return max((int(number.replace(",", "")) for number in re.findall(r"\d[\d,]*", cell)), default=None)
+
+
+def limits():
+    """Each number of a limit in FORMATS is the constant in the code."""
+    values, seen = constants(), set()
+    for header, rows in tables(FORMATS):
+        for row in rows if header[-1] == "Limit" else []:
+            name = row[0].replace("`", "")
+            seen.add(name)
+            check(name in LIMITS, f"FORMATS: tools/docs.py does not know the limit of {name}")
+            constant, number = LIMITS.get(name), greatest(row[-1])
+            check(number is not None, f"FORMATS: the limit of {name} has no number")
+            if constant is not None:
+                check(values[constant] == {number}, f"FORMATS: {name}: {number}, but {constant} is {values[constant]}")
+    check(seen == set(LIMITS), f"FORMATS lacks limits: {sorted(set(LIMITS) - seen)}")
+    for name, constant in SAME.items():
+        check(values[name] == values[constant] != set(), f"{name} is not {constant}")
+
+
+def standing():
+    """No page says what is to come, and each command that a page names is there."""
+    targets = set(re.findall(r"^(\w+):", (ROOT / "Makefile").read_text(), re.M))
+    source = (ROOT / "crates/rv_command/src/command.rt").read_text()
+    runs = set(re.findall(r"^ +/// `rv (\w+)", source, re.M))
+    for path in documents():
+        text = path.read_text()
+        check("to come" not in text.lower(), f"{path.name} says what is to come")
+        for word in re.findall(r"(?:`|^ {4})make (\w+)", text, re.M):
+            check(word in targets, f"{path.name}: there is no make {word}")
+        for word in re.findall(r"(?:`|^ {4,})rv (\w+)", text, re.M):
+            check(word in runs, f"{path.name}: there is no rv {word}")
+        for name in re.findall(r"`((?:tests|tools)/[\w./]+)", text):
+            check((ROOT / name).exists(), f"{path.name}: there is no {name}")
+
+
+def commands():
+    """Each command that the gate runs from outside, or on the tests in Rattle, has a row in TESTS."""
+    told = {word for _, rows in tables(TESTS_PAGE) for row in rows for word in quoted(row[0])}
+    for name in sorted({words[0] for words in OUTSIDE + OF_TESTS}):
+        check(name in told, f"TESTS: no row for {name}, which tools/gate.py runs")
+
+
+def sizes():
+    """ARCHITECTURE has a row for each crate, with the crates that crates.txt builds it on, and how many lines it may have: none
+    has more."""
+    wanted = ["Crate", "Stands on", "Lines at most"]
+    rows = [dict(zip(header, row)) for header, rows in tables(ARCHITECTURE) if set(wanted) <= set(header) for row in rows]
+    named = sorted(re.sub(r"\([^)]*\)|[\[\]]", "", row["Crate"]) for row in rows)
+    crates = sorted(path.name for path in ROOT.glob("crates/rv_*"))
+    check(named == crates, f"ARCHITECTURE: the rows are of {named}, and not of {crates}")
+    listed = re.findall(r"^(rv_\w+)[^:\n]*:(.*)", (ROOT / "crates.txt").read_text(), re.M)
+    below = {crate: sorted(re.findall(r"\brv_\w+", text)) for crate, text in listed}
+    for row in rows:
+        crate = re.sub(r"\([^)]*\)|[\[\]]", "", row["Crate"])
+        stands_on = sorted(re.findall(r"\brv_\w+", row["Stands on"]))
+        check(stands_on == below.get(crate), f"ARCHITECTURE: {crate} stands on {stands_on}, in crates.txt on {below.get(crate)}")
+        lines = sum(len(path.read_text().split("\n")) - 1 for path in ROOT.glob(f"crates/{crate}/src/**/*.rt"))
+        check(lines <= (greatest(row["Lines at most"]) or 0), f"{crate} has {lines} lines, and may have {row['Lines at most']}")
+
+
+def widths():
+    """No line of the sources and of the definitions is wider than it may be."""
+    for form in ("src/**/*.rt", "specs/**/*.antt"):
+        for path in sorted(ROOT.glob(f"crates/*/{form}")):
+            wide = [number for number, line in enumerate(path.read_text().split("\n"), 1) if len(line) > COLUMNS]
+            check(not wide, f"{path.relative_to(ROOT)} has over {COLUMNS} columns in lines {wide}")
+
+
+def plain(text):
+    """Rust's text without its comments, texts, imports, and what its types declare; all else stands where it stood."""
+    pieces = (r"//[^\n]*", r'"(?:\\.|[^"\\])*"', r"\b(?:ghost )?use [^;]*;", r"\btype \w+ = [^;]*;",
+              r"\b(?:enum|struct) \w+[^{;]*(?:\{(?:[^{}]|\{[^{}]*\})*\}|;)")
+    return re.sub("|".join(pieces), lambda piece: re.sub(r"[^\n]", " ", piece[0]), text)
+
+
+def opened_by(text, at):
+    """The bracket that is open at a place; `<` is one where no space stands before it."""
+    depth = 0
+    for before in range(at - 1, -1, -1):
+        tight = text[before] in "<>" and text[before - 1] not in " -="
+        depth += (text[before] in ")]}" or tight and text[before] == ">") - (text[before] in "([{" or tight and text[before] == "<")
+        if depth < 0:
+            return text[before]
+    return ""
+
+
+def is_value(text, found):
+    """Whether a name of want of memory is a value there, and no type, path or pattern."""
+    before, after = text[:found.start()].rstrip(), text[found.end():].lstrip()
+    if after.startswith("::") or before.endswith((":", "->", "+", "for", "impl", "dyn", "as")):
+        return False
+    if opened_by(text, found.start()) == "<":
+        return False
+    return not re.match(r"[)\s]*(?:=>|=(?!=)|\||if\b)", after)
+
+
+def refused_growths(text):
+    """Where a text makes want of memory of nothing: it writes the value that only a refused growth gives."""
+    text = plain(text)
+    names = re.finditer(r"(?<![\w:])(?:\w+::)*AllocError\b(?!\s*::)|(?<![\w:])NoMemory\b(?=\s*\{\s*\})", text)
+    return [text.count("\n", 0, found.start()) + 1 for found in names if is_value(text, found)]
+
+
+def growths():
+    """No source writes the value of a refused growth: each that is answered came from one."""
+    for is_one, text in GROWTHS:
+        check(bool(refused_growths(text)) == is_one, f"{text!r} makes{'' if is_one else ' no'} want of memory of nothing")
+    for path in sorted(ROOT.glob("crates/*/src/**/*.rt")):
+        made_up = refused_growths(path.read_text())
+        check(not made_up, f"{path.relative_to(ROOT)} makes want of memory of nothing in lines {made_up}")
+
+
+def lengths():
+    """The first page is short."""
+    page = (ROOT / "README.md").read_text()
+    for count, most, what in ((len(page.split("\n")) - 1, README_LINES, "lines"), (len(page.split()), README_WORDS, "words")):
+        check(count <= most, f"README.md has {count} {what}, and may have {most}")
+
+
+def kit():
+    """The first page names the logic of the kit that is on the PATH, if one is. A kit of the same logic that is not among
+    those on which the gate has passed is told, and is no failure."""
+    if not shutil.which("rt"):
+        return
+    version = subprocess.run(["rt", "version"], capture_output=True, text=True, check=True).stdout.strip()
+    name, _, logic = version.partition(" ")
+    page = (ROOT / "README.md").read_text()
+    check(f"`{logic}`" in page, f"README.md does not name the kit's {logic}")
+    if f"`{name}`" not in page:
+        print(f"README.md does not name {name} among the kits on which the gate has passed")
+
+
+PARTS = [words, names, places, files, refusals, laws, promises, edits, made, functions, links, limits, standing, commands, sizes, widths,
+         growths, lengths, kit]
+for part in PARTS:
+    part()
+print(f"{counts[True]} passed, {counts[False]} failed")
+sys.exit(counts[False] > 0)

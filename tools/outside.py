@@ -1,0 +1,107 @@
+"""The commands that run the program from outside, how each of them is run and counted, and what is told of all."""
+import os
+import re
+import shutil
+import subprocess
+import sys
+import threading
+
+PROGRAM = "crates/rv_app/out/rv_app"
+# What stands for the seed in the commands below, and the seed where there is no commit.
+SEED, NO_COMMIT = "SEED", 1
+OUTSIDE = [
+    ["tests/commands/book.py", PROGRAM],
+    ["tests/commands/play.py", PROGRAM],
+    ["tests/commands/calls.py", PROGRAM],
+    ["tests/commands/bodies.py", PROGRAM],
+    ["tests/commands/rows.py", PROGRAM],
+    ["tests/commands/audits.py", PROGRAM],
+    ["tests/commands/fill.py", PROGRAM],
+    ["tests/commands/waits.py", PROGRAM],
+    ["tests/model/compare.py", "--selftest"],
+    ["tests/model/compare.py", "--seed", SEED, "--lines", "10000", "--program", PROGRAM],
+    ["tests/model/compare.py", "--play", "--seed", SEED, "--lines", "5000", "--program", PROGRAM],
+    ["tests/model/compare.py", "--audit", "--seed", SEED, "--accounts", "2000", "--program", PROGRAM],
+    ["tests/sockets/serve.py", "--seed", SEED, PROGRAM],
+    ["tests/sockets/serve.py", "--selftest"],
+    ["tests/faults/devices.py", PROGRAM],
+    ["tests/faults/growths.py", PROGRAM],
+    ["tests/faults/torture.py", "--seed", SEED, PROGRAM],
+    ["tests/faults/torture.py", "--selftest"],
+    ["tests/clients/run.py", "--seed", SEED, PROGRAM],
+    ["tests/clients/run.py", "--selftest"],
+]
+# The same of the tests in Rattle, as rt ci has built them.
+OF_TESTS = [
+    ["tests/faults/refusals.py", "--built"],
+]
+
+
+class Bar:
+    """A line at the bottom of a terminal, which the next line takes away."""
+
+    def __init__(self):
+        self.shows = sys.stdout.isatty()
+        self.lock = threading.Lock()
+
+    def write(self, words):
+        """Writes it in place of the last one."""
+        with self.lock:
+            print(f"\r\033[K{words[:shutil.get_terminal_size().columns - 1]}", end="", flush=True)
+
+    def pass_on(self, line):
+        """Prints a line above it."""
+        with self.lock:
+            print(("\r\033[K" if self.shows else "") + line, end="", flush=True)
+
+
+BAR = Bar()
+
+
+def run(words):
+    """Runs a command, shows what it prints, and gives the numbers of its last line that counts, its status, and what it
+    says of how much it did and how much was kept, where it says that."""
+    print(f"== {' '.join(words)}", flush=True)
+    counted = share = None
+    with subprocess.Popen(words, stdout=subprocess.PIPE, stderr=subprocess.STDOUT, text=True, errors="replace") as ran:
+        for line in ran.stdout:
+            BAR.pass_on(line)
+            counted = re.fullmatch(r"(\d+) passed, (\d+) failed\n", line) or counted
+            share = re.fullmatch(r"rt: ok; .*; ((?:done in this run:|every proof) .*)\n", line) or share
+    return counted and [int(number) for number in counted.groups()], ran.returncode, share and share[1]
+
+
+def count(words):
+    """What a command counted."""
+    return outcome(words)[0]
+
+
+def outcome(words):
+    """What a command counted, and what it says of how much it did. One that counts nothing, or ends badly and counts no
+    failure, has failed itself."""
+    counted, status, share = run(words)
+    if counted is None:
+        print(f"{words[0]} did not come to its end")
+        return [0, 1], share
+    passed, failed = counted
+    return [passed, failed or int(status != 0)], share
+
+
+def outside(seed):
+    """What the runs of the program from outside count, where there is one, and the documents."""
+    runs = OUTSIDE if os.path.exists(PROGRAM) else []
+    seeded = [[str(seed) if word == SEED else word for word in words] for words in runs]
+    return [count(words) for words in [*seeded, ["tools/docs.py"]]]
+
+
+def seed_of_commit():
+    """The seed of random tests: a number that the commit names."""
+    ran = subprocess.run(["git", "rev-parse", "HEAD"], capture_output=True, text=True)
+    return int(ran.stdout[:5], 16) if ran.returncode == 0 else NO_COMMIT
+
+
+def finish(counts):
+    """Tells all that was counted, and ends."""
+    passed, failed = map(sum, zip(*counts))
+    print(f"{passed} passed, {failed} failed")
+    sys.exit(failed > 0)
