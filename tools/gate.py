@@ -21,10 +21,8 @@ import argparse
 import collections
 import os
 import pathlib
-import re
 import resource
 import shutil
-import subprocess
 import sys
 import threading
 import time

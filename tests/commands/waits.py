@@ -24,7 +24,6 @@ usage: tests/commands/waits.py [PROGRAM]
 """
 import os
 import pathlib
-import shutil
 import subprocess
 import sys
 import tempfile
@@ -32,6 +31,7 @@ import tempfile
 ROOT = pathlib.Path(__file__).resolve().parents[2]
 sys.dont_write_bytecode, sys.path[0] = True, str(ROOT)
 from tests.commands.filling import CLIENTS, EPOCH, QUEUES, Fill, is_good, text  # noqa: E402
+from tests.faults.preload import built, switches  # noqa: E402
 
 ALL = range(1, CLIENTS + 1)
 EXCHANGERS = 64
@@ -212,8 +212,7 @@ class Growths:
 
     def __init__(self, program, folder):
         self.program, self.folder = program, pathlib.Path(folder)
-        library = ["-shared", "-fPIC", "-o", self.folder / "refuse.so", ROOT / "tests/faults/refuse.c", "-ldl"]
-        subprocess.run(["cc", "-O1", *library], check=True)
+        built()
 
     def run(self, lines, refuse=0, refusals=0):
         """What the program answers to these lines, and how many growths it makes. They are read from a file: how many
@@ -221,10 +220,9 @@ class Growths:
         said, counted = self.folder / "lines", self.folder / "counted"
         said.write_text("".join(f"{line}\n" for line in lines))
         counted.unlink(missing_ok=True)
-        room = {"LD_PRELOAD": str(self.folder / "refuse.so"), "COUNTED": str(counted)}
+        room = {**os.environ, **switches(growth=refuse, growths=refusals, counted=counted)}
         with said.open("rb") as given:
-            ran = subprocess.run([self.program, "book", "--epoch", str(EPOCH)], stdin=given, capture_output=True,
-                                 env={**os.environ, **room, "REFUSE": str(refuse), "REFUSALS": str(refusals)})
+            ran = subprocess.run([self.program, "book", "--epoch", str(EPOCH)], stdin=given, capture_output=True, env=room)
         if ran.returncode or ran.stderr:
             print(f"FAILED: status {ran.returncode}, standard error {ran.stderr!r}")
         return ran.stdout.decode(errors="replace").split("\n")[:-1], int.from_bytes(counted.read_bytes(), sys.byteorder)
@@ -321,8 +319,6 @@ def cancel_line(fill, client):
 
 def main():
     program = os.path.abspath(sys.argv[1] if len(sys.argv) > 1 else "crates/rv_app/out/rv_app")
-    if not shutil.which("cc"):
-        sys.exit("cc is missing: it builds what counts the program's growths")
     good = [is_good(program, make()) for make in (all_ways, takers_wait, givers_wait, givers_drained, all_again)]
     with tempfile.TemporaryDirectory(prefix="waits-") as folder:
         growths = Growths(program, folder)

@@ -6,13 +6,13 @@ usage: tests/faults/devices.py PROGRAM
 import errno
 import os
 import pathlib
-import shutil
 import subprocess
 import sys
 import tempfile
 
 ROOT = pathlib.Path(__file__).resolve().parents[2]
 sys.dont_write_bytecode, sys.path[0] = True, str(ROOT)
+from tests.faults.preload import built, switches  # noqa: E402
 from tests.faults.turns import PRINTED, TEXT, Listener  # noqa: E402
 
 PROGRAM = os.path.abspath(sys.argv[1])
@@ -52,10 +52,9 @@ def run(folder, text, words=BOOK, **devices):
     given, calls = folder / "input", folder / "calls"
     given.write_bytes(text)
     calls.write_bytes(b"")
-    room = {**os.environ, "LD_PRELOAD": str(folder / "devices.so"), "CALLS": str(calls)}
-    room.update((name.upper(), str(value)) for name, value in devices.items())
     with given.open("rb") as source:
-        ran = subprocess.run([PROGRAM, *words], stdin=source, capture_output=True, env=room)
+        ran = subprocess.run([PROGRAM, *words], stdin=source, capture_output=True,
+                             env={**os.environ, **switches(calls=calls, **devices)})
     return ran.stdout, ran.stderr, ran.returncode, calls.read_text()
 
 
@@ -140,12 +139,9 @@ def own_devices(folder):
 
 
 def main():
-    if not shutil.which("cc"):
-        sys.exit("cc is missing: it builds what stands between the program and its devices")
+    built()
     with LISTENER, tempfile.TemporaryDirectory(prefix="devices-") as name:
         folder = pathlib.Path(name)
-        library = ["-shared", "-fPIC", "-o", folder / "devices.so", ROOT / "tests/faults/devices.c"]
-        subprocess.run(["cc", "-O1", *library], check=True)
         for part in [pieces, failed_reads, failed_writes, accounts, long_outputs, own_devices]:
             part(folder)
     print(f"{counts[True]} passed, {counts[False]} failed")

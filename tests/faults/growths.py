@@ -16,13 +16,13 @@ usage: tests/faults/growths.py PROGRAM
 import os
 import pathlib
 import re
-import shutil
 import subprocess
 import sys
 import tempfile
 
 ROOT = pathlib.Path(__file__).resolve().parents[2]
 sys.dont_write_bytecode, sys.path[0] = True, str(ROOT)
+from tests.faults.preload import built, switches  # noqa: E402
 from tests.model.account import Account  # noqa: E402
 from tests.model.rows import ANEW, DRAINED, DRAIN_ROW, ROWS, drain_texts, pairs_of, play_pairs  # noqa: E402
 from tests.model.steps import refused, ticked, told  # noqa: E402
@@ -149,10 +149,9 @@ def run(folder, words, text, growth, refusals=1):
     given, reached = folder / "input", folder / "refused"
     given.write_bytes(text)
     reached.unlink(missing_ok=True)
-    room = {**os.environ, "LD_PRELOAD": str(folder / "refuse.so"), "REFUSED": str(reached)}
+    room = {**os.environ, **switches(growth=growth, growths=refusals, refused=reached)}
     with given.open("rb") as source:
-        ran = subprocess.run([PROGRAM, *words], stdin=source, capture_output=True,
-                             env={**room, "REFUSE": str(growth), "REFUSALS": str(refusals)})
+        ran = subprocess.run([PROGRAM, *words], stdin=source, capture_output=True, env=room)
     printed = ran.stdout.decode(errors="replace").split("\n")[:-1]
     return printed, (ran.returncode, ran.stderr.decode(errors="replace")), reached.exists()
 
@@ -307,16 +306,13 @@ def refuse_behind(folder, name, before, line, later, untaken):
 
 
 def main():
-    if not shutil.which("cc"):
-        sys.exit("cc is missing: it builds what refuses the program's growths")
+    built()
     books = [book_row(*row) for row in [*ROWS, *VERSION_ROWS] if row[0] in REFUSED_IN]
     plays = [play_row("the worked play", list(play_pairs())), play_row("a client that starts anew", list(play_pairs(ANEW))),
              play_row("a drain over a link", list(play_pairs(DRAINED))),
              play_row("a receipt of version 2 over a link", list(play_pairs(NAMED_PLAY)))]
     with tempfile.TemporaryDirectory(prefix="growths-") as name:
         folder = pathlib.Path(name)
-        library = ["-shared", "-fPIC", "-o", folder / "refuse.so", ROOT / "tests/faults/refuse.c", "-ldl"]
-        subprocess.run(["cc", "-O1", *library], check=True)
         counts = [refuse_each(folder, *row) for row in [*books, *plays, *audit_rows(), serve_row()]]
         counts += [refuse_from(folder, *row[:4]) for row in [*books, *plays] if row[0] in ALL_REFUSED_IN]
         counts += [refuse_behind(folder, *case) for case in TAKE_NO_MEMORY]

@@ -21,6 +21,9 @@ import sys
 import tempfile
 
 ROOT = pathlib.Path(__file__).resolve().parents[2]
+sys.dont_write_bytecode, sys.path[0] = True, str(ROOT)
+from tests.faults.preload import built, switches  # noqa: E402
+
 # By crate, the tests that hold whichever growth is refused.
 HOLD = {
     "rv_wire_tests": [
@@ -50,7 +53,7 @@ LIMIT = 60
 
 
 class Tests:
-    """The tests of a crate, and the library that refuses growths of one that runs."""
+    """The tests of a crate, and a folder for what is told of their runs."""
 
     def __init__(self, crate, folder):
         self.crate, self.folder = crate, folder
@@ -66,10 +69,9 @@ class Tests:
         growths it asked for, and whether one was refused."""
         room = self.folder / f"{self.crate}-{name.replace('::', '-')}-{growth}"
         room.mkdir()
-        told = {"LD_PRELOAD": self.folder / "refuse.so", "REFUSE": growth, "COUNTED": room / "counted", "REFUSED": room / "refused"}
+        told = switches(growth=growth, counted=room / "counted", refused=room / "refused")
         try:
-            ran = subprocess.run([self.program, name], capture_output=True, cwd=room, timeout=LIMIT,
-                                 env={word: str(value) for word, value in told.items()})
+            ran = subprocess.run([self.program, name], capture_output=True, cwd=room, timeout=LIMIT, env=told)
             passed, said = ran.returncode == 0, ran.stderr.decode(errors="replace").strip()
         except subprocess.TimeoutExpired:
             passed, said = False, f"it had not ended after {LIMIT} seconds"
@@ -116,18 +118,14 @@ def main():
     parser.add_argument("--built", action="store_true")
     parser.add_argument("--asked", action="store_true")
     options = parser.parse_args()
-    if not shutil.which("cc"):
-        sys.exit("cc is missing: it builds what refuses the tests' growths")
+    built()
     counts = []
     with tempfile.TemporaryDirectory(prefix="refusals-") as name, concurrent.futures.ThreadPoolExecutor(
             len(os.sched_getaffinity(0))) as pool:
-        folder = pathlib.Path(name)
-        library = ["-shared", "-fPIC", "-o", folder / "refuse.so", ROOT / "tests/faults/refuse.c", "-ldl"]
-        subprocess.run(["cc", "-O1", *library], check=True)
         for crate, held in HOLD.items():
             if not options.built:
                 build(crate)
-            tests = Tests(crate, folder)
+            tests = Tests(crate, pathlib.Path(name))
             if not tests.program.exists():
                 sys.exit(f"{crate} has no built tests: rt ci makes them, and rt test")
             if options.asked:

@@ -3,14 +3,12 @@ import contextlib
 import mmap
 import os
 import struct
-import subprocess
 import tempfile
 
-from tests import ROOT
+from tests.faults import preload
 from tests.sockets.programs import Server
 from tests.sockets.wire import Peer
 
-SOURCE = ROOT / "tests/faults/hostile.c"
 # What happens by odds, and the other numbers, in the order of the page; then how often each of the odds happened, and how
 # many reads and writes of sockets were asked for.
 ODDS = ("growth", "cut_read", "failed_read", "cut_write", "failed_write", "accept", "thread", "clock", "sleep")
@@ -32,7 +30,7 @@ class System:
         os.truncate(file, PAGE.size)
         self.page = mmap.mmap(file, PAGE.size)
         os.close(file)
-        self.env = {**os.environ, "LD_PRELOAD": f"{System.folder}/hostile.so", "HOSTILE": name, "SEED": str(seed)}
+        self.env = {**os.environ, **preload.switches(page=name, seed=seed)}
 
     def be(self, **numbers):
         """Sets these numbers, and all others to 0."""
@@ -53,11 +51,10 @@ class System:
 
 
 @contextlib.contextmanager
-def built():
-    """Builds what is loaded before the program; systems can be made within."""
+def systems():
+    """Builds what is loaded before the program; systems can be made within, whose pages lie in a folder of their own."""
+    preload.built()
     with tempfile.TemporaryDirectory(prefix="torture-") as folder:
-        library = ["-shared", "-fPIC", "-o", f"{folder}/hostile.so", SOURCE, "-ldl"]
-        subprocess.run(["cc", "-O1", *library], check=True)
         System.folder = folder
         yield
 

@@ -14,7 +14,6 @@ import multiprocessing
 import os
 import pathlib
 import random
-import shutil
 import sys
 import time
 
@@ -23,9 +22,8 @@ if "--selftest" in sys.argv:
 ROOT = pathlib.Path(__file__).resolve().parents[2]
 sys.dont_write_bytecode, sys.path[0] = True, str(ROOT)
 from tests.faults import callers, crowds, exchanges, limits, memory, mutants, silence, turns  # noqa: E402
-from tests.faults.system import built  # noqa: E402
+from tests.faults.system import systems  # noqa: E402
 from tests.sockets.wire import PATIENCE, Wrong  # noqa: E402
-
 
 DOUBLE = str(ROOT / "tests/sockets/double.py")
 # The cases that are as they are; those of them that mostly wait; those that are random, and those that have so many spoilt
@@ -154,11 +152,9 @@ def main():
     parser.add_argument("--selftest", action="store_true", help="test the cases themselves, on servers that are wrong")
     parser.add_argument("--verbose", action="store_true", help="tell also what passed, with its seconds")
     asked = parser.parse_args()
-    if not shutil.which("cc"):
-        sys.exit("cc is missing: it builds what stands between the program and its system")
     count = Count(asked)
     print(f"seed {asked.seed}", flush=True)
-    with built():
+    with systems():
         if asked.selftest:
             selftest(count)
         else:

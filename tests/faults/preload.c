@@ -1,15 +1,25 @@
-/* Loaded before a program, lets the system be hostile to it: growths are refused, what is read from and written to
-   sockets is cut short or fails, connections can't be accepted, threads can't be started, the clock can't be read, a
-   sleep ends at once, and the time-outs of sockets are shorter.
+/* Loaded before a program, lets memory, devices and the system fail it. Each behaviour has a switch in the environment, and
+   none of them happens unless its switch is set.
 
-   How often stands in the file HOSTILE, a row of 32-bit numbers that who started the program may change at any time.
-   Of the odds, 0 is never, and n is once in n at random, with the seed SEED; so 1 is always. A read and a write fail once
-   in so many bytes. Behind them stand how many times each of these was done, and how many reads and writes of sockets were
-   asked for. */
+   Memory. FAULT_GROWTH is the growth that is refused, counted from 1, and FAULT_GROWTHS how many are from that on, 1 unless it
+   is set. The file FAULT_REFUSED is made where one is. The file FAULT_COUNTED keeps how many growths there were so far.
+
+   Devices, which are standard input and standard output. FAULT_MOST is the most bytes that a read gives or a write takes.
+   FAULT_READ is the read that fails, counted from 1. FAULT_ROOM is how many bytes the output takes before a write stops.
+   FAULT_ERROR is the error of either; a write with error 0 takes nothing. Each fails once alone. The file FAULT_CALLS gets
+   one letter for each call, r or w.
+
+   The system. Growths are refused, what is read from and written to sockets is cut short or fails, connections can't be
+   accepted, threads can't be started, the clock can't be read, a sleep ends at once, and the time-outs of sockets are
+   shorter. How often stands in the file FAULT_PAGE, a row of 32-bit numbers that may be changed at any time from outside.
+   Of the odds, 0 is never, and n is once in n at random, with the seed FAULT_SEED; so 1 is always. A read and a write fail
+   once in so many bytes. Behind them stand how many times each of these was done, and how many reads and writes of sockets
+   were asked for. */
 #define _GNU_SOURCE
 #include <dlfcn.h>
 #include <errno.h>
 #include <fcntl.h>
+#include <limits.h>
 #include <pthread.h>
 #include <stdint.h>
 #include <stdlib.h>
@@ -21,6 +31,26 @@
 #include <sys/time.h>
 #include <time.h>
 #include <unistd.h>
+
+static long number(const char *name, long otherwise) {
+    const char *digits = getenv(name);
+    return digits ? atol(digits) : otherwise;
+}
+
+static size_t least(size_t count, size_t most) { return count < most ? count : most; }
+
+/* The bytes of a file, so many, that others see and may change; NULL where there is no such file. */
+static void *mapped(const char *switch_name, int flags, size_t size) {
+    const char *name = getenv(switch_name);
+    int file = name ? open(name, O_RDWR | flags, 0600) : -1;
+    if (file < 0 || (flags && ftruncate(file, size)))
+        return NULL;
+    void *found = mmap(NULL, size, PROT_READ | PROT_WRITE, MAP_SHARED, file, 0);
+    close(file);
+    return found == MAP_FAILED ? NULL : found;
+}
+
+/* ---- the system, as its page has it */
 
 enum { GROWTH, CUT_READ, FAILED_READ, CUT_WRITE, FAILED_WRITE, ACCEPT, THREAD, CLOCK, SLEEP, ODDS };
 enum { READS, WRITES, WAYS };
@@ -36,17 +66,6 @@ struct page {
 
 static volatile struct page *page;
 static uint32_t seed;
-
-__attribute__((constructor)) static void open_page(void) {
-    const char *name = getenv("HOSTILE"), *digits = getenv("SEED");
-    int file = name ? open(name, O_RDWR) : -1;
-    seed = digits ? (uint32_t)atol(digits) : 1;
-    if (file < 0)
-        return;
-    void *found = mmap(NULL, sizeof(struct page), PROT_READ | PROT_WRITE, MAP_SHARED, file, 0);
-    close(file);
-    page = found == MAP_FAILED ? NULL : found;
-}
 
 static uint32_t chance(void) {
     static uint32_t threads;
@@ -74,7 +93,32 @@ static uint32_t counted_down(volatile uint32_t *number) {
     return was;
 }
 
-static int is_refused(void) {
+static int any_of(const int *errors, int count) {
+    errno = errors[chance() % count];
+    return -1;
+}
+
+/* ---- memory */
+
+static long first = -1, refusals, first_growths, *growths = &first_growths;
+
+/* Whether it is one of those that are refused by their number. Threads grow side by side: each growth has a number of its
+   own. A growth may come before the library is set up. */
+static int is_refused_by_number(void) {
+    long growth = __atomic_add_fetch(growths, 1, __ATOMIC_SEQ_CST);
+    if (first < 0) {
+        refusals = number("FAULT_GROWTHS", 1);
+        first = number("FAULT_GROWTH", 0);
+    }
+    if (first == 0 || growth < first || growth - first >= refusals)
+        return 0;
+    const char *name = getenv("FAULT_REFUSED");
+    if (name)
+        close(open(name, O_CREAT | O_WRONLY, 0600));
+    return 1;
+}
+
+static int is_refused_by_page(void) {
     if (page && counted_down(&page->growth_at) == 1) {
         __sync_fetch_and_add(&page->made[GROWTH], 1);
         return 1;
@@ -84,14 +128,63 @@ static int is_refused(void) {
     return happens(GROWTH);
 }
 
+static int is_refused(void) { return is_refused_by_number() || is_refused_by_page(); }
+
+void *malloc(size_t size) {
+    static void *(*next)(size_t);
+    if (!next)
+        next = (void *(*)(size_t))dlsym(RTLD_NEXT, "malloc");
+    return is_refused() ? NULL : next(size);
+}
+
+void *realloc(void *old, size_t size) {
+    static void *(*next)(void *, size_t);
+    if (!next)
+        next = (void *(*)(void *, size_t))dlsym(RTLD_NEXT, "realloc");
+    return is_refused() ? NULL : next(old, size);
+}
+
+/* ---- standard input and standard output */
+
+static long most = LONG_MAX, failing_read, output_room = LONG_MAX, error;
+static int calls = -1;
+
+static void note(char letter) {
+    if (calls >= 0)
+        syscall(SYS_write, calls, &letter, 1);
+}
+
+static ssize_t fault(void) {
+    errno = error;
+    return error ? -1 : 0;
+}
+
+static ssize_t read_input(void *bytes, size_t count) {
+    static long reads;
+    note('r');
+    if (++reads == failing_read)
+        return fault();
+    return syscall(SYS_read, STDIN_FILENO, bytes, least(count, most));
+}
+
+static ssize_t write_output(const void *bytes, size_t count) {
+    static long taken, has_stopped;
+    note('w');
+    long room = has_stopped ? LONG_MAX : output_room - taken;
+    if (room == 0) {
+        has_stopped = 1;
+        return fault();
+    }
+    ssize_t went_out = syscall(SYS_write, STDOUT_FILENO, bytes, least(least(count, room), most));
+    taken += went_out > 0 ? went_out : 0;
+    return went_out;
+}
+
+/* ---- sockets */
+
 static int is_socket(int device) {
     struct stat about;
     return page && !fstat(device, &about) && S_ISSOCK(about.st_mode);
-}
-
-static int any_of(const int *errors, int count) {
-    errno = errors[chance() % count];
-    return -1;
 }
 
 /* A read that fails, with whatever error. */
@@ -122,8 +215,6 @@ static int is_failed(int way, int failed) {
     __sync_fetch_and_add(&page->made[failed], 1);
     return 1;
 }
-
-static size_t least(size_t count, size_t most) { return count < most ? count : most; }
 
 /* How many bytes of a read or write go through; none where it fails. */
 static size_t passes(int way, int cut, int failed, size_t count) {
@@ -159,6 +250,8 @@ static ssize_t went(int way, ssize_t count) {
 }
 
 ssize_t read(int device, void *bytes, size_t count) {
+    if (device == STDIN_FILENO)
+        return read_input(bytes, count);
     if (count && is_socket(device) && !(count = readable(count)))
         return no_read();
     return went(READS, syscall(SYS_read, device, bytes, count));
@@ -171,6 +264,8 @@ ssize_t recv(int device, void *bytes, size_t count, int flags) {
 }
 
 ssize_t write(int device, const void *bytes, size_t count) {
+    if (device == STDOUT_FILENO)
+        return write_output(bytes, count);
     if (count && is_socket(device) && !(count = writable(count)))
         return no_write();
     return went(WRITES, syscall(SYS_write, device, bytes, count));
@@ -196,17 +291,6 @@ int accept4(int listener, struct sockaddr *address, socklen_t *length, int flags
 
 int accept(int listener, struct sockaddr *address, socklen_t *length) { return accept4(listener, address, length, 0); }
 
-int pthread_create(pthread_t *thread, const pthread_attr_t *how, void *(*run)(void *), void *with) {
-    static int (*next)(pthread_t *, const pthread_attr_t *, void *(*)(void *), void *);
-    if (!next)
-        next = (int (*)(pthread_t *, const pthread_attr_t *, void *(*)(void *), void *))dlsym(RTLD_NEXT, "pthread_create");
-    if (page && counted_down(&page->thread_at) == 1) {
-        __sync_fetch_and_add(&page->made[THREAD], 1);
-        return EAGAIN;
-    }
-    return happens(THREAD) ? EAGAIN : next(thread, how, run, with);
-}
-
 int setsockopt(int device, int level, int name, const void *value, socklen_t size) {
     struct timeval shorter;
     int is_limit = level == SOL_SOCKET && (name == SO_RCVTIMEO || name == SO_SNDTIMEO) && size == sizeof shorter;
@@ -218,6 +302,19 @@ int setsockopt(int device, int level, int name, const void *value, socklen_t siz
         value = &shorter;
     }
     return syscall(SYS_setsockopt, device, level, name, value, size);
+}
+
+/* ---- threads and time */
+
+int pthread_create(pthread_t *thread, const pthread_attr_t *how, void *(*run)(void *), void *with) {
+    static int (*next)(pthread_t *, const pthread_attr_t *, void *(*)(void *), void *);
+    if (!next)
+        next = (int (*)(pthread_t *, const pthread_attr_t *, void *(*)(void *), void *))dlsym(RTLD_NEXT, "pthread_create");
+    if (page && counted_down(&page->thread_at) == 1) {
+        __sync_fetch_and_add(&page->made[THREAD], 1);
+        return EAGAIN;
+    }
+    return happens(THREAD) ? EAGAIN : next(thread, how, run, with);
 }
 
 int clock_gettime(clockid_t clock, struct timespec *now) {
@@ -234,4 +331,20 @@ int clock_nanosleep(clockid_t clock, int flags, const struct timespec *wanted, s
     return happens(SLEEP) || syscall(SYS_clock_nanosleep, clock, flags, wanted, rest) == 0 ? 0 : errno;
 }
 
-#include "refusing.h"
+/* ---- the switches that are read once */
+
+__attribute__((constructor)) static void set_up(void) {
+    most = number("FAULT_MOST", LONG_MAX);
+    failing_read = number("FAULT_READ", 0);
+    output_room = number("FAULT_ROOM", LONG_MAX);
+    error = number("FAULT_ERROR", 0);
+    const char *name = getenv("FAULT_CALLS");
+    calls = name ? open(name, O_CREAT | O_WRONLY | O_APPEND, 0600) : -1;
+    seed = number("FAULT_SEED", 1);
+    page = mapped("FAULT_PAGE", 0, sizeof *page);
+    long *counted = mapped("FAULT_COUNTED", O_CREAT, sizeof *counted);
+    if (counted) {
+        *counted = first_growths;
+        growths = counted;
+    }
+}

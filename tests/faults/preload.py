@@ -1,0 +1,38 @@
+#!/usr/bin/env python3
+"""Builds the library that is loaded before a program, so that memory, devices or the system fail it. Its source,
+tests/faults/preload.c, tells its switches.
+
+usage: tests/faults/preload.py     builds out/preload.so
+"""
+import os
+import pathlib
+import shutil
+import subprocess
+import sys
+import tempfile
+
+SOURCE = pathlib.Path(__file__).resolve().with_suffix(".c")
+LIBRARY = SOURCE.parents[2] / "out/preload.so"
+
+
+def built():
+    """Builds the library, unless it is newer than its source."""
+    if LIBRARY.exists() and LIBRARY.stat().st_mtime > SOURCE.stat().st_mtime:
+        return
+    if not shutil.which("cc"):
+        sys.exit("cc is missing: it builds what lets memory, devices and the system fail a program")
+    LIBRARY.parent.mkdir(exist_ok=True)
+    # Others may load it meanwhile, so it comes to its place whole.
+    with tempfile.TemporaryDirectory(dir=LIBRARY.parent) as folder:
+        made = pathlib.Path(folder) / LIBRARY.name
+        subprocess.run(["cc", "-O1", "-shared", "-fPIC", "-o", made, SOURCE, "-ldl"], check=True)
+        os.replace(made, LIBRARY)
+
+
+def switches(**given):
+    """The variables that load the library before a program, with these switches."""
+    return {"LD_PRELOAD": str(LIBRARY), **{f"FAULT_{name.upper()}": str(value) for name, value in given.items()}}
+
+
+if __name__ == "__main__":
+    built()
