@@ -1,14 +1,10 @@
 """A crowd of Python processes under fire, on a live server: their calls are interrupted at any time by SIGINT, SIGTERM and an
 alarm, and some of them are killed and started anew. What each was told is compared with the server's account.
 
-Run alone it is the long form: it goes on over several epochs until so many calls were interrupted.
-
-usage: tests/clients/interrupted.py [PROGRAM] [--interrupts COUNT] [--seed SEED]
+The long form goes on over several epochs until so many calls were interrupted.
 """
-import argparse
 import collections
 import json
-import os
 import pathlib
 import random
 import signal
@@ -17,13 +13,11 @@ import sys
 import tempfile
 import time
 
-ROOT = pathlib.Path(__file__).resolve().parents[2]
-sys.dont_write_bytecode, sys.path[0] = True, str(ROOT)
-from tests.clients.interrupted_judged import LIMIT, Book, calls_of, faults_of, the_judge_finds_lies  # noqa: E402
-from tests.model.account import Request, reply  # noqa: E402
-from tests.model.tables import table_audit  # noqa: E402
-from tests.sockets.programs import Server  # noqa: E402
-from tests.sockets.wire import demand, together  # noqa: E402
+from tests.clients.interrupted_judged import LIMIT, Book, calls_of, faults_of, the_judge_finds_lies
+from tests.model.account import Request, reply
+from tests.model.tables import table_audit
+from tests.sockets.programs import Server
+from tests.sockets.wire import demand, together
 
 PROCESSES, WORKERS = 8, 64
 # A process gets a signal from outside each so many seconds, and one of them is killed each so many.
@@ -260,22 +254,3 @@ def under_fire(program, seed):
 
 
 CASES = [under_fire]
-
-
-def main():
-    raw = argparse.RawDescriptionHelpFormatter
-    parser = argparse.ArgumentParser(description=__doc__, formatter_class=raw)
-    parser.add_argument("program", nargs="?", default=str(ROOT / "crates/rv_app/out/rv_app"))
-    parser.add_argument("--interrupts", type=int, default=100_000, help="how many calls are to be interrupted")
-    parser.add_argument("--seed", type=int, default=random.randrange(10**6), help="default: any")
-    parser.add_argument("--short", action="store_true", help="the gate's short form")
-    asked = parser.parse_args()
-    program = os.path.abspath(asked.program)
-    if asked.short:
-        print(under_fire(program, asked.seed))
-    else:
-        interrupted_calls(program, asked.seed, asked.interrupts)
-
-
-if __name__ == "__main__":
-    main()

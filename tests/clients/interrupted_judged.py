@@ -6,9 +6,9 @@ The rules themselves are tried on a record that is written down, with one lie in
 import copy
 from typing import NamedTuple
 
-from tests.clients.crowds import Replies
 from tests.model.account import Account, Call, Cancel, Entry, Hello, Key, Request
 from tests.sockets.accounts import call_members
+from tests.sockets.standing import Replies
 from tests.sockets.wire import demand
 
 # A call that takes longer hangs, in seconds.

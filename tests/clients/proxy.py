@@ -22,9 +22,9 @@ class Proxy(Listening):
         self.calm, self.met = False, dict.fromkeys(FATES, 0)
         self.ends, self.copies = [], []
 
-    def __exit__(self, *_):
+    def close(self):
         """Behind the end no connection to the server is made, and each late copy has come there."""
-        super().__exit__()
+        super().close()
         for copy in list(self.copies):
             copy.join(PATIENCE)
         for end in self.ends:

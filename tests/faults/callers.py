@@ -9,10 +9,10 @@ from tests.model.account import Hello, Key
 from tests.model.answers import CODES, LEAST, MOST, REPLIES, read_answer
 from tests.model.texts import KEY, MAX_DRAIN, MAX_IDENTIFIER, TAKER, NoReading, members_of_version, written
 from tests.model.world import is_own
-from tests.sockets.accounts import account_fault
+from tests.sockets.driver import Ledger, drive
 from tests.sockets.listening import Listening
 from tests.sockets.wire import (
-    MAX_FRAME, PATIENCE, demand, drain, frame, give, key_of, members_of, reply_of, swap, take, together)
+    MAX_FRAME, PATIENCE, demand, drain, frame, give, key_of, members_of, reply_of, swap, take)
 
 CALLERS, RUNS, LINES = 8, 12, 5
 # What a caller ends with where it prints no line more, with its words on standard error.
@@ -36,7 +36,7 @@ def any_call(chance, item):
 
 def hostile_callers(program, seed):
     """Each reply that a caller printed stands in the account, in the order of its lines, and nothing else was asked."""
-    chance, asked, told = random.Random(f"callers {seed}"), {}, []
+    chance, ledger = random.Random(f"callers {seed}"), Ledger()
     system = System(chance.randrange(2**31))
     with HostileServer(program, system, workers=CALLERS + 1) as server:
         server.connect().close()
@@ -46,18 +46,14 @@ def hostile_callers(program, seed):
             for client in range(first, first + RUNS):
                 calls = [any_call(chance, f"{client}#{number}") for number in range(1, LINES + 1)]
                 keys = [Key(1, client, 1, number) for number in range(1, LINES + 1)]
-                asked.update(zip(keys, calls))
-                told.extend(zip(keys, one_caller(program, server, client, calls, chance)))
+                for key, call in zip(keys, calls):
+                    ledger.ask(key, call)
+                for key, reply in zip(keys, one_caller(program, server, client, calls, chance)):
+                    ledger.tell(key, reply)
 
-        together(*(lambda first=first, own=random.Random(chance.random()): run(first, own)
-                   for first in range(1, CALLERS * RUNS, RUNS)))
-        system.be()
-        server.no_more()
-        account = server.ended()
-        fault = account_fault(account, asked, told)
-        demand(not fault, f"the account: {fault}")
-        server.audited()
-    demand(len(told) > CALLERS * RUNS, f"{len(told)} replies in all")
+        drive(server, ledger, [lambda first=first, own=random.Random(chance.random()): run(first, own)
+                               for first in range(1, CALLERS * RUNS, RUNS)], calm=system.be, end=server.no_more)
+    demand(len(ledger.told) > CALLERS * RUNS, f"{len(ledger.told)} replies in all")
 
 
 def one_caller(program, server, client, calls, chance):

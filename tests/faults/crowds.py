@@ -2,13 +2,13 @@
 import os
 import random
 import signal
-import threading
 import time
 
 from tests.faults.system import HostileServer, System
 from tests.sockets import crowds
-from tests.sockets.crowds import Ledger, crowd_fault, take_the_rest
-from tests.sockets.wire import demand, hello, members_of, together
+from tests.sockets.crowds import take_the_rest
+from tests.sockets.driver import Ledger, drive
+from tests.sockets.wire import demand, hello, members_of
 
 NO_MEMORY = {"code": 11, "kind": "refused"}
 # Tries until a request has its reply, at most.
@@ -65,25 +65,14 @@ def crowd_after_crowd(program, words, size, beside=None, **odds):
 def one_crowd(program, chance, size, beside=None, **odds):
     """A crowd while the system is hostile so, and what must hold behind it. `beside` is done with the server meanwhile,
     until an event is set. It gives the system."""
-    system, ledger, done = System(chance.randrange(2**31)), Ledger(), threading.Event()
+    system, ledger = System(chance.randrange(2**31)), Ledger()
     with HostileServer(program, system, size + 1, epoch=chance.choice([1, 7, 2**53 - 1])) as server:
         server.connect().close()
         clients = [Stubborn(server, ledger, number, random.Random(chance.random())) for number in range(1, size + 1)]
         system.be(**odds)
-
-        def all_clients():
-            try:
-                together(*(client.run for client in clients))
-            finally:
-                done.set()
-
-        together(all_clients, *([lambda: beside(chance, server, done)] if beside else []))
-        system.be()
-        left = take_the_rest(server, ledger, size + 1)
-        server.no_more()
-        fault = crowd_fault(ledger, left)
-        demand(not fault, f"of {size}: {fault}")
-        server.judged(ledger.asked, list(ledger.told.items()))
+        drive(server, ledger, [client.run for client in clients], calm=system.be, end=server.no_more,
+              beside=[lambda done: beside(chance, server, done)] if beside else [],
+              rest=lambda: take_the_rest(server, ledger, size + 1))
     return system
 
 

@@ -5,9 +5,10 @@ import threading
 import time
 
 from tests.model.account import Hello, Key
+from tests.sockets.driver import Ledger, drive
 from tests.sockets.programs import Server
 from tests.sockets.wire import (
-    BAD_TEXT, demand, frame, give, hello, replied, request, take, together, welcome)
+    BAD_TEXT, demand, frame, give, hello, replied, request, take, welcome)
 
 CONNECTIONS, WORKERS = 1_000, 8
 # The clients that say hello over hostile connections, each from a thread of its own.
@@ -110,11 +111,12 @@ class Left:
             return self.count >= 0
 
 
-def never_reads(server, client):
-    """A peer that asks and asks for a long answer and reads none, until the server's write waits; then it goes. It
-    gives what it asked."""
+def never_reads(server, ledger, client):
+    """A peer that asks and asks for a long answer and reads none, until the server's write waits; then it goes."""
     put, peek = Key(server.epoch, client, 1, 1), Key(server.epoch, client, 1, 2)
     asked = {put: give("put", "\x01" * 512, queue=7), peek: {"call": "peek", "queue": 7}}
+    for key, call in asked.items():
+        ledger.ask(key, call)
     peer = server.connect(receive=KEPT)
     peer.socket.settimeout(0.5)
     try:
@@ -124,24 +126,24 @@ def never_reads(server, client):
         pass
     time.sleep(0.5)
     peer.close()
-    return asked
 
 
 class Good:
     """A client that puts and takes, whose each answer is known; until the others are done, and for a while at least."""
 
-    def __init__(self, server):
-        self.server, self.number, self.done, self.asked = server, 0, threading.Event(), {}
+    def __init__(self, server, ledger):
+        self.server, self.ledger, self.number = server, ledger, 0
 
     def ask(self, peer, call, **reply):
         self.number += 1
         key = Key(self.server.epoch, 1, 1, self.number)
-        self.asked[key] = call
+        self.ledger.ask(key, call)
         peer.expect(request(key, call), replied(key, **reply))
+        self.ledger.tell(key, reply)
 
-    def run(self):
+    def run(self, done):
         with self.server.greeted(1) as peer:
-            while self.number < 200 or not self.done.is_set():
+            while self.number < 200 or not done.is_set():
                 item = f"item {self.number}"
                 self.ask(peer, give("put", item), reply="done")
                 self.ask(peer, take("forever"), reply="item", item=item)
@@ -153,19 +155,10 @@ def a_thousand_hostile_connections(program, seed):
     """They are of many kinds, some at once, and none of them hurts the good client nor the server."""
     chance = random.Random(f"hostile {seed}")
     with Server(program, workers=WORKERS, connections=CONNECTIONS + 10) as server:
-        good, left = Good(server), Left(CONNECTIONS)
+        ledger, left = Ledger(), Left(CONNECTIONS)
         hostile = [Hostile(server, random.Random(chance.random()), client) for client in HOSTILE]
-
-        def bad():
-            try:
-                threads = [lambda one=one: one.run(left) for one in hostile]
-                good.asked |= together(lambda: never_reads(server, NEVER_READS), *threads)[0]
-            finally:
-                good.done.set()
-
-        together(good.run, bad)
-        server.use_up()
-        account = server.judged(good.asked, [])
+        bad = [lambda: never_reads(server, ledger, NEVER_READS), *(lambda one=one: one.run(left) for one in hostile)]
+        account = drive(server, ledger, bad, beside=[Good(server, ledger).run], end=server.use_up)
         clients = {entry.act.client for entry in account.entries if isinstance(entry.act, Hello)}
         demand(clients <= {1, *HOSTILE, NEVER_READS}, f"the account has hellos of {clients}")
 

@@ -1,6 +1,7 @@
 """The judge of crowds on ledgers that are written down: a right one, and one with each lie, which it must find."""
 from tests.model.account import Key
-from tests.sockets.crowds import Ledger, crowd_fault
+from tests.sockets.driver import Ledger
+from tests.sockets.judge import crowd_fault
 from tests.sockets.wire import demand, drain, give, swap, take
 
 

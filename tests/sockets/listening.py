@@ -20,9 +20,14 @@ class Listening:
         return self
 
     def __exit__(self, *_):
-        self.listener.shutdown(socket.SHUT_RDWR)
-        self.accepting.join(PATIENCE)
-        self.listener.close()
+        self.close()
+
+    def close(self):
+        """Ends it, if it has not ended."""
+        if self.listener.fileno() >= 0:
+            self.listener.shutdown(socket.SHUT_RDWR)
+            self.accepting.join(PATIENCE)
+            self.listener.close()
 
     def accept(self):
         """Takes connections until the listener is closed."""

@@ -1,0 +1,103 @@
+"""The replies that stand in an account, in one walk, for accounts that are too long for the model's definition."""
+from collections import OrderedDict
+
+from tests.model.account import Cancel, Hello, Tick, stays
+
+
+class Replies:
+    """The reply of each key in a legal account, in one walk."""
+
+    def __init__(self, account):
+        self.entries, self.open, self.made, self.waits, self.versions = account.entries, {}, {}, {}, {}
+        for place, entry in enumerate(self.entries):
+            self.walk(place, entry)
+
+    def walk(self, place, entry):
+        """What an entry settles."""
+        act = entry.act
+        if isinstance(act, Tick):
+            for r in [r for r in self.waits.values() if self.is_due(r, entry.moment)]:
+                self.stop(r, "timedout")
+        elif isinstance(act, Hello):
+            self.stop(self.waits.get(act.client), "cancelled")
+            self.versions[act.client] = act.version
+        elif isinstance(act, Cancel):
+            waits = self.waits.get(act.key.client)
+            self.stop(waits, "cancelled")
+            if waits is None:
+                self.made[act.key] = {"reply": "cancelled"}
+        else:
+            self.arrive(place, act, entry.partners)
+
+    def is_due(self, r, moment):
+        """Whether the request at a place has a limit at or below a moment."""
+        wait = self.entries[r].act.call.wait
+        return isinstance(wait, int) and self.entries[r].moment + wait <= moment
+
+    def stop(self, r, word):
+        """The request at a place waits no more."""
+        if r is not None:
+            self.leave(r)
+            self.made[self.entries[r].act.key] = {"reply": word}
+
+    def leave(self, r):
+        """A place is open no more."""
+        act = self.entries[r].act
+        self.open[act.call.side, act.call.at].pop(r)
+        self.waits.pop(act.key.client, None) if act.call.word != "put" else None
+
+    def there(self, side, at):
+        """The open places of a side, oldest first."""
+        return self.open.setdefault((side, at), OrderedDict())
+
+    def arrive(self, place, act, partners):
+        """A request is settled, or its place is open."""
+        call = act.call
+        if partners or call.word == "drain":
+            self.meet_all(act, partners)
+        elif call.side == "looking":
+            self.made[act.key] = self.look(call)
+        elif call.word == "put":
+            self.made[act.key] = {"reply": "done"}
+            self.there(call.side, call.at)[place] = True
+        elif stays(call):
+            self.there(call.side, call.at)[place] = True
+            self.waits[act.key.client] = place
+        else:
+            word = {"transfer": "nobody",
+                    "take": "empty"}.get(call.word) if call.wait == "now" else "timedout"
+            self.made[act.key] = {"reply": word}
+
+    def meet_all(self, act, partners):
+        """A request meets its partners, of which a drain may have none."""
+        others = [self.entries[partner].act for partner in partners]
+        for partner, other in zip(partners, others):
+            self.leave(partner)
+            self.meet(other, [act])
+        self.meet(act, others)
+
+    def meet(self, act, others):
+        """What a request is told that met others."""
+        items, word = [other.call.item for other in others], act.call.word
+        if word == "drain":
+            self.made[act.key] = {"reply": "drained", "texts": items}
+        elif word == "transfer":
+            self.made[act.key] = {"reply": "received", **self.named(act.key.client, others[0].key)}
+        elif word == "put":
+            self.made[act.key] = {"reply": "done"}
+        else:
+            self.made[act.key] = {"reply": "item" if word == "take" else "swapped", "item": items[0]}
+
+    def named(self, client, taker):
+        """The consumer's key, as a client's session is told it."""
+        members = {f"by_{name}": value for name, value in vars(taker).items() if name != "epoch"}
+        return members if self.versions[client] == 2 else {}
+
+    def look(self, call):
+        """What a count or a peek is told."""
+        items = self.there("giving", call.at)
+        if call.word == "count":
+            return {"reply": "counted", "items": len(items), "consumers": len(self.there("taking", call.at))}
+        if not items:
+            return {"reply": "empty"}
+        return {"reply": "peeked", "item": self.entries[next(iter(items))].act.call.item}
