@@ -1,6 +1,7 @@
 #!/usr/bin/env python3
-"""Runs one test of the gate again and again, alone or beside twice as many busy loops as there are cores, and tells what
-flickered: what failed in some of the runs and not in all.
+"""Runs one test of the gate again and again, alone or beside twice as many busy loops as it has cores, and tells what
+flickered: what failed in some of the runs and not in all. It has the cores that it may run on: where it is started by
+`taskset -c 0`, say, the test and two busy loops share that one.
 
 What came of each run is appended to a file. What stands there of the same test, of the same files and the same program, is
 not run again: a run that was ended is taken up where it was.
@@ -23,28 +24,27 @@ from collections.abc import Iterator
 from dataclasses import asdict, dataclass
 
 ROOT = pathlib.Path(__file__).resolve().parents[1]
-sys.dont_write_bytecode = True
 PROGRAM = ROOT / "crates/rv_app/out/rv_app"
 # What a test may read, beside the program.
-FOLDERS = ("tests", "clients", "examples", "docs")
-# Busy loops for each core.
+FOLDERS = ("tests", "tools", "clients", "examples", "docs")
+# Busy loops for each core that it may run on.
 LOOPS = 2
 BUSY = "while True: pass"
 
 
 @dataclass(frozen=True)
 class Run:
-    """What came of a run: of which test, of which files, and whether beside busy loops; and what failed in it."""
+    """What came of a run: of which test, of which files, and beside how many busy loops; and what failed in it."""
 
     test: str
     of: str
-    busy: bool
+    loops: int
     failed: list[str]
     seconds: float
 
     def is_like(self, other: "Run") -> bool:
         """Whether both are runs of the same."""
-        return (self.test, self.of, self.busy) == (other.test, other.of, other.busy)
+        return (self.test, self.of, self.loops) == (other.test, other.of, other.loops)
 
 
 def digest(words: list[str]) -> str:
@@ -100,9 +100,9 @@ def failed_in(words: list[str], limit: float) -> list[str]:
 def run_once(like: Run, limit: float) -> Run:
     """Runs a test once, as this run was."""
     began = time.monotonic()
-    with loops(LOOPS * (os.cpu_count() or 1) if like.busy else 0):
+    with loops(like.loops):
         failed = failed_in(shlex.split(like.test), limit)
-    return Run(like.test, like.of, like.busy, failed, round(time.monotonic() - began, 1))
+    return Run(like.test, like.of, like.loops, failed, round(time.monotonic() - began, 1))
 
 
 def told(runs: list[Run]) -> Iterator[str]:
@@ -118,13 +118,14 @@ def main() -> None:
     parser = argparse.ArgumentParser(description=__doc__, formatter_class=raw)
     parser.add_argument("test", help="the words of a test, with the seed of one that is random")
     parser.add_argument("times", type=int, help="how many runs there are to be, with those that the file has")
-    parser.add_argument("--busy", action="store_true", help=f"beside {LOOPS} busy loops for each core")
+    parser.add_argument("--busy", action="store_true", help=f"beside {LOOPS} busy loops for each core that it may run on")
     parser.add_argument("--into", type=pathlib.Path, default=ROOT / "out/again.jsonl", help="default: out/again.jsonl")
     parser.add_argument("--limit", type=float, default=7_200, help="seconds behind which a run hangs; default: 7200")
     asked = parser.parse_args()
     # Who is ended leaves no loops behind.
     signal.signal(signal.SIGTERM, lambda *_: sys.exit(1))
-    like = Run(asked.test, digest(shlex.split(asked.test)), asked.busy, [], 0)
+    count = LOOPS * len(os.sched_getaffinity(0)) if asked.busy else 0
+    like = Run(asked.test, digest(shlex.split(asked.test)), count, [], 0)
     runs = [run for run in kept(asked.into) if run.is_like(like)][: asked.times]
     asked.into.parent.mkdir(parents=True, exist_ok=True)
     while len(runs) < asked.times:
