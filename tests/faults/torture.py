@@ -10,7 +10,6 @@ with its seed. The last line counts the cases.
 """
 import argparse
 import concurrent.futures
-import multiprocessing
 import os
 import pathlib
 import random
@@ -23,9 +22,8 @@ ROOT = pathlib.Path(__file__).resolve().parents[2]
 sys.dont_write_bytecode, sys.path[0] = True, str(ROOT)
 from tests.faults import callers, crowds, exchanges, limits, memory, mutants, silence, turns  # noqa: E402
 from tests.faults.system import systems  # noqa: E402
-from tests.sockets.wire import PATIENCE, Wrong  # noqa: E402
+from tests.sockets.cases import Count, came_of, came_of_double  # noqa: E402
 
-DOUBLE = str(ROOT / "tests/sockets/double.py")
 # The cases that are as they are; those of them that mostly wait; those that are random, and those that have so many spoilt
 # bodies.
 ONCE = [*turns.CASES, *limits.CASES, *exchanges.CASES]
@@ -52,43 +50,6 @@ WRONGS = [
 ]
 # The seed of what is random there, and how many spoilt bodies it has.
 FIXED, FEW = 1, 500
-# How many doubles are tried at once: most of them wait.
-AT_ONCE = 8
-
-
-def came_of(case, *given):
-    """What is wrong in a case, if something is; what it gave, and the seconds that it took."""
-    began, fault, gave = time.monotonic(), None, None
-    try:
-        gave = case(*given)
-    except TimeoutError:
-        fault = f"nothing came for {PATIENCE} seconds"
-    except Wrong as wrong:
-        fault = str(wrong)
-    except Exception as other:
-        fault = f"{type(other).__name__}: {other}"
-    return fault, gave, time.monotonic() - began
-
-
-class Count:
-    """What passed and what failed."""
-
-    def __init__(self, asked):
-        self.asked, self.passed, self.failed = asked, 0, 0
-
-    def run(self, name, case, *given):
-        """Runs a case, if it is asked for."""
-        if self.asked.only in name:
-            self.judge(name, *came_of(case, *given))
-
-    def judge(self, name, fault, gave=None, seconds=0):
-        """Tells what came of a case."""
-        self.passed, self.failed = self.passed + (not fault), self.failed + bool(fault)
-        if fault:
-            print(f"FAILED: {name}: {fault}", flush=True)
-        elif self.asked.verbose or gave:
-            many = f"{gave}, " if gave else ""
-            print(f"ok: {name}: {many}{seconds:.1f} seconds", flush=True)
 
 
 def name_of(case):
@@ -114,7 +75,7 @@ def run(program, asked, count):
 
 def run_waiting(program, count):
     """Runs the cases that mostly wait, side by side."""
-    cases = [case for case in WAITING if count.asked.only in name_of(case)]
+    cases = [case for case in WAITING if count.wants(name_of(case))]
     with concurrent.futures.ThreadPoolExecutor(len(WAITING)) as pool:
         tried = [(name_of(case), pool.submit(came_of, case, program)) for case in cases]
         for name, one in tried:
@@ -122,24 +83,9 @@ def run_waiting(program, count):
 
 
 def of_double(wrong, name):
-    """What is wrong in a case where the double does this wrong, or nothing, if something is; what it gave, and the seconds."""
-    os.environ["RV_WRONG"] = wrong
+    """What came of a case where the double does this wrong, or nothing."""
     case = {name_of(case): case for case in [*ONCE, *WAITING, *RANDOM, *SPOILT]}[name]
-    return came_of(case, DOUBLE, *([FIXED] if case in RANDOM + SPOILT else []), *([FEW] if case in SPOILT else []))
-
-
-def selftest(count):
-    """The double must pass; each wrong double must fail its case."""
-    tried = [pair for pair in [*WRONGS, *(("", name) for name in dict.fromkeys(name for _, name in WRONGS))]
-             if count.asked.only in pair[1]]
-    with concurrent.futures.ProcessPoolExecutor(AT_ONCE, multiprocessing.get_context("fork")) as pool:
-        for (wrong, name), (fault, _, seconds) in zip(tried, pool.map(of_double, *zip(*tried))):
-            if not wrong:
-                count.judge(f"the double, {name}", fault, seconds=seconds)
-                continue
-            count.judge(f"a server that {wrong}, {name}", None if fault else "it passes", seconds=seconds)
-            if fault and count.asked.verbose:
-                print(f"    {fault[:200]}")
+    return came_of_double(wrong, case, *([FIXED] if case in RANDOM + SPOILT else []), *([FEW] if case in SPOILT else []))
 
 
 def main():
@@ -152,15 +98,14 @@ def main():
     parser.add_argument("--selftest", action="store_true", help="test the cases themselves, on servers that are wrong")
     parser.add_argument("--verbose", action="store_true", help="tell also what passed, with its seconds")
     asked = parser.parse_args()
-    count = Count(asked)
+    count = Count(asked.only, asked.verbose)
     print(f"seed {asked.seed}", flush=True)
     with systems():
         if asked.selftest:
-            selftest(count)
+            count.try_doubles(WRONGS, of_double)
         else:
             run(os.path.abspath(asked.program), asked, count)
-    print(f"{count.passed} passed, {count.failed} failed")
-    sys.exit(count.failed > 0)
+    count.end()
 
 
 main()

@@ -9,8 +9,6 @@ The last line counts the cases. A case that fails is told with its seed. With --
 with further seeds for so long.
 """
 import argparse
-import concurrent.futures
-import multiprocessing
 import os
 import pathlib
 import random
@@ -22,14 +20,11 @@ if "--selftest" in sys.argv:
 ROOT = pathlib.Path(__file__).resolve().parents[2]
 sys.dont_write_bytecode, sys.path[0] = True, str(ROOT)
 from tests.sockets import calls, crowds, hostile, ledgers, pieces, plain, times  # noqa: E402
-from tests.sockets.wire import PATIENCE, Wrong  # noqa: E402
+from tests.sockets.cases import Count, came_of_double  # noqa: E402
 
-DOUBLE = str(ROOT / "tests/sockets/double.py")
 # The cases that are as they are, and those that are random.
 ONCE = [*plain.CASES, *times.CASES, *calls.CASES]
 RANDOM = [*pieces.CASES, *crowds.CASES, *hostile.CASES]
-# How many doubles are tried at once: most of them wait.
-AT_ONCE = 8
 # What the double can do wrong, and the case that must see it. None of these cases hangs on who is first: a crowd sees for sure
 # what is wrong at its end alone, and its judge is tested on ledgers that are written down.
 WRONGS = [
@@ -76,75 +71,29 @@ WRONGS = [
 FIXED = 1
 
 
-def fault_of(case, *given):
-    """What is wrong in a case, if something is, and the seconds that it took."""
-    began = time.monotonic()
-    try:
-        case(*given)
-        fault = None
-    except TimeoutError:
-        fault = f"nothing came for {PATIENCE} seconds"
-    except Wrong as wrong:
-        fault = str(wrong)
-    except Exception as other:
-        fault = f"{type(other).__name__}: {other}"
-    return fault, time.monotonic() - began
-
-
 def name_of(case):
     """The words for a case."""
     return f"{case.__module__.rpartition('.')[2]}, {case.__name__.replace('_', ' ')}"
-
-
-class Count:
-    """What passed and what failed."""
-
-    def __init__(self, verbose):
-        self.verbose, self.passed, self.failed = verbose, 0, 0
-
-    def judge(self, name, fault, seconds):
-        self.passed, self.failed = self.passed + (not fault), self.failed + bool(fault)
-        if fault:
-            print(f"FAILED: {name}: {fault}", flush=True)
-        elif self.verbose:
-            print(f"ok: {name}, {seconds:.1f} seconds", flush=True)
 
 
 def run(program, asked, count):
     """Runs all cases once, and the random ones again for as long as is asked."""
     ends = time.monotonic() + asked.seconds
     for case in ONCE:
-        if asked.only in name_of(case):
-            count.judge(name_of(case), *fault_of(case, program))
+        count.run(name_of(case), case, program)
     seed = asked.seed
     while True:
         for case in RANDOM:
-            if asked.only in name_of(case):
-                count.judge(f"{name_of(case)}, seed {seed}", *fault_of(case, program, seed))
+            count.run(f"{name_of(case)}, seed {seed}", case, program, seed)
         seed += 1
         if time.monotonic() >= ends:
             return
 
 
 def of_double(wrong, name):
-    """What is wrong in a case where the double does this wrong, or nothing, if something is, and the seconds that it took."""
-    os.environ["RV_WRONG"] = wrong
+    """What came of a case where the double does this wrong, or nothing."""
     case = {name_of(case): case for case in [*ONCE, *RANDOM]}[name]
-    return fault_of(case, DOUBLE, *([FIXED] if case in RANDOM else []))
-
-
-def selftest(count):
-    """The judge of crowds finds each lie; the double must pass; each wrong double must fail its case."""
-    count.judge(name_of(ledgers.the_judge_of_crowds), *fault_of(ledgers.the_judge_of_crowds))
-    tried = [*WRONGS, *(("", name) for name in dict.fromkeys(name for _, name in WRONGS))]
-    with concurrent.futures.ProcessPoolExecutor(AT_ONCE, multiprocessing.get_context("fork")) as pool:
-        for (wrong, name), (fault, seconds) in zip(tried, pool.map(of_double, *zip(*tried))):
-            if not wrong:
-                count.judge(f"the double, {name}", fault, seconds)
-                continue
-            count.judge(f"a server that {wrong}, {name}", None if fault else "it passes", seconds)
-            if fault and count.verbose:
-                print(f"    {fault[:200]}")
+    return came_of_double(wrong, case, *([FIXED] if case in RANDOM else []))
 
 
 def main():
@@ -156,13 +105,13 @@ def main():
     parser.add_argument("--verbose", action="store_true", help="tell also what passed, with its seconds")
     parser.add_argument("--selftest", action="store_true", help="test the cases themselves, on servers that are wrong")
     asked = parser.parse_args()
-    count = Count(asked.verbose)
+    count = Count(asked.only, asked.verbose)
     if asked.selftest:
-        selftest(count)
+        count.run(name_of(ledgers.the_judge_of_crowds), ledgers.the_judge_of_crowds)
+        count.try_doubles(WRONGS, of_double)
     else:
         run(os.path.abspath(asked.program), asked, count)
-    print(f"{count.passed} passed, {count.failed} failed")
-    sys.exit(count.failed > 0)
+    count.end()
 
 
 main()

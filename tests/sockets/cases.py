@@ -1,0 +1,77 @@
+"""Cases that are run, told where they fail, and counted; and the double of the program, on which they are tested themselves."""
+import concurrent.futures
+import multiprocessing
+import os
+import sys
+import time
+
+from tests import ROOT
+from tests.sockets.wire import PATIENCE, Wrong
+
+DOUBLE = str(ROOT / "tests/sockets/double.py")
+# How many doubles are tried at once: most of them wait.
+AT_ONCE = 8
+
+
+def came_of(case, *given):
+    """What is wrong in a case, if something is; what it gave, and the seconds that it took."""
+    began, fault, gave = time.monotonic(), None, None
+    try:
+        gave = case(*given)
+    except TimeoutError:
+        fault = f"nothing came for {PATIENCE} seconds"
+    except Wrong as wrong:
+        fault = str(wrong)
+    except Exception as other:
+        fault = f"{type(other).__name__}: {other}"
+    return fault, gave, time.monotonic() - began
+
+
+def came_of_double(wrong, case, *given):
+    """The same where the program is the double, and does this wrong, or nothing."""
+    os.environ["RV_WRONG"] = wrong
+    return came_of(case, DOUBLE, *given)
+
+
+class Count:
+    """What passed and what failed, of the cases with some words in their name."""
+
+    def __init__(self, only, verbose):
+        self.only, self.verbose, self.passed, self.failed = only, verbose, 0, 0
+
+    def wants(self, name):
+        """Whether a case of this name is asked for."""
+        return self.only in name
+
+    def run(self, name, case, *given):
+        """Runs a case, if it is asked for."""
+        if self.wants(name):
+            self.judge(name, *came_of(case, *given))
+
+    def judge(self, name, fault, gave=None, seconds=0):
+        """Counts a case, and tells what came of it."""
+        self.passed, self.failed = self.passed + (not fault), self.failed + bool(fault)
+        if fault:
+            print(f"FAILED: {name}: {fault}", flush=True)
+        elif self.verbose or gave:
+            many = f"{gave}, " if gave else ""
+            print(f"ok: {name}: {many}{seconds:.1f} seconds", flush=True)
+
+    def try_doubles(self, wrongs, came_of_name):
+        """Each double that does a thing wrong must fail the case that is named beside it, and the one that does none must
+        pass all of these. `came_of_name` gives what came of a wrong and a name."""
+        named = [*wrongs, *(("", name) for name in dict.fromkeys(name for _, name in wrongs))]
+        tried = [pair for pair in named if self.wants(pair[1])]
+        with concurrent.futures.ProcessPoolExecutor(AT_ONCE, multiprocessing.get_context("fork")) as pool:
+            for (wrong, name), (fault, _, seconds) in zip(tried, pool.map(came_of_name, *zip(*tried))):
+                if not wrong:
+                    self.judge(f"the double, {name}", fault, seconds=seconds)
+                    continue
+                self.judge(f"a server that {wrong}, {name}", None if fault else "it passes", seconds=seconds)
+                if fault and self.verbose:
+                    print(f"    {fault[:200]}")
+
+    def end(self):
+        """Tells how many passed and failed, and ends."""
+        print(f"{self.passed} passed, {self.failed} failed")
+        sys.exit(self.failed > 0)
