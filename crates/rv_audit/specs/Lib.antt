@@ -6,3 +6,4 @@ pub mod Marks
 pub mod Lines
 pub mod Sessions
 pub mod Passed
+pub mod Words

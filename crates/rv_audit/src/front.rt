@@ -1,23 +1,14 @@
 //! What an audit keeps of the entries that it has read so far.
 ghost use Rattle.std.specs.Prelude.{◌≡◌, ◌↔◌, ◌<◌, ◌^◌, ℕ, Some, None, true, false};
 ghost use Rattle.std.specs.Prelude.{option_and_then, length, IfNone, IfSome, IsTrue, OnOk};
-ghost use Rattle.rv_text.specs.declared.call.Side.{Side};
-ghost use Rattle.rv_text.specs.declared.version.Version.{Version};
-ghost use Rattle.rv_account.specs.declared.entry.Act.TheVariants.{Hello};
-ghost use Rattle.rv_account.specs.Account.{Among};
-ghost use Rattle.rv_book.specs.Legal.{HasWaiting, MayFollow, SomethingDue, WaitsUnder};
-ghost use Rattle.rv_book.specs.Steps.{own_moment};
-ghost use Rattle.rv_book.specs.Waiting.{Met, OpenAt, SideAt, Waiting, limit_at};
-ghost use Rattle.rv_audit.specs.Breaking.{IsNotNext, StartsNoNewer};
-ghost use Rattle.rv_audit.specs.Marks.{NoneUntil, count_of};
-ghost use Rattle.rv_audit.specs.Sessions.{session_in};
-ghost use Rattle.rv_audit.specs.Passed.{AreTables, AreWithin, ArrivesWith, Flags, HasOlder, HasOne};
-ghost use Rattle.rv_audit.specs.Passed.{HasPassed, IsArrivalOf, IsArrived, IsFitting, IsFront, IsOfSessionOf};
-ghost use Rattle.rv_audit.specs.Passed.{IsLookedUp, IsOldestBeside, IsReadyFor, IsTakingOut, IsUnderway};
-ghost use Rattle.rv_audit.specs.Passed.{MayPass, SameRest};
-ghost use Rattle.rv_audit.specs.Passed.{SetsFlags, TakesEach, TakesOutPlace, TakesTouched};
-ghost use Rattle.rv_audit.specs.Passed.{WaitsOf, WaitsWith, gone_at, passed_account};
-ghost use Rattle.rv_audit.specs.declared.front.Front.{Front as FrontOf};
+ghost use Rattle.rv_audit.specs.Words.{Among, AreTables, AreWithin, ArrivesWith, Flags, FrontOf, HasOlder};
+ghost use Rattle.rv_audit.specs.Words.{HasOne, HasPassed, HasWaiting, Hello, IsArrivalOf, IsArrived};
+ghost use Rattle.rv_audit.specs.Words.{IsFitting, IsFront, IsLookedUp, IsNotNext, IsOfSessionOf};
+ghost use Rattle.rv_audit.specs.Words.{IsOldestBeside, IsReadyFor, IsTakingOut, IsUnderway, MayFollow};
+ghost use Rattle.rv_audit.specs.Words.{MayPass, Met, NoneUntil, OpenAt, SameRest, SetsFlags, Side, SideAt};
+ghost use Rattle.rv_audit.specs.Words.{SomethingDue, StartsNoNewer, TakesEach, TakesOutPlace, TakesTouched};
+ghost use Rattle.rv_audit.specs.Words.{Version, Waiting, WaitsOf, WaitsUnder, WaitsWith, count_of, gone_at};
+ghost use Rattle.rv_audit.specs.Words.{limit_at, own_moment, passed_account, session_in};
 
 use crate::brings::{limit_of, opening, session_after, waiting_until};
 use crate::lines::{OpenLines, close_line, open_line};

@@ -1,20 +1,13 @@
 //! Whether an entry breaks a rule, behind the entries that an audit has read so far.
 ghost use Rattle.std.specs.Prelude.{◌≡◌, ◌↔◌, IfNone, IfSome, IsTrue, Some, option_map};
 ghost use Rattle.std.specs.List.Sorted.{IsStrictlyIncreasing};
-ghost use Rattle.rv_text.specs.declared.message.Key.{Key};
-ghost use Rattle.rv_text.specs.declared.call.Call.{Call};
-ghost use Rattle.rv_text.specs.declared.call.Side.{Side};
-ghost use Rattle.rv_account.specs.Account.{call_in};
-ghost use Rattle.rv_account.specs.Calls.{may_name, opposite};
-ghost use Rattle.rv_book.specs.Legal.{IsOpenOpposite};
-ghost use Rattle.rv_audit.specs.Breaking.{ArrivesAs, ArrivesToMeet, BreaksBehind, IsOutOfOrder, IsPaired};
-ghost use Rattle.rv_audit.specs.Breaking.{IsSwapped};
-ghost use Rattle.rv_audit.specs.Breaking.{FallsBack, IsNoFreePlace, IsOfNoSession, PassesLimit};
-ghost use Rattle.rv_audit.specs.Breaking.{BreaksCount, MeetsWrongly, MissesPartner, NamesTaken, NamesTooMany};
-ghost use Rattle.rv_audit.specs.Breaking.{NamesWrongly, PassesOver, StartsNoNewer, TicksForNothing};
-ghost use Rattle.rv_audit.specs.Passed.{FindsOne, HasAmong, IsFront, IsLookedUp, IsOf, IsPassedBy};
-ghost use Rattle.rv_audit.specs.Passed.{LeavesPartner, Misses};
-ghost use Rattle.rv_audit.specs.Passed.{passed_account};
+ghost use Rattle.rv_audit.specs.Words.{ArrivesAs, ArrivesToMeet, BreaksBehind, BreaksCount, Call, FallsBack};
+ghost use Rattle.rv_audit.specs.Words.{FindsOne, HasAmong, IsFront, IsLookedUp, IsNoFreePlace, IsOf};
+ghost use Rattle.rv_audit.specs.Words.{IsOfNoSession, IsOpenOpposite, IsOutOfOrder, IsPaired, IsPassedBy};
+ghost use Rattle.rv_audit.specs.Words.{IsSwapped, Key, LeavesPartner, MeetsWrongly, Misses, MissesPartner};
+ghost use Rattle.rv_audit.specs.Words.{NamesTaken, NamesTooMany, NamesWrongly, PassesLimit, PassesOver};
+ghost use Rattle.rv_audit.specs.Words.{Side, StartsNoNewer, TicksForNothing, call_in, may_name, opposite};
+ghost use Rattle.rv_audit.specs.Words.{passed_account};
 
 use crate::front::{Front, Looked};
 use crate::rule::Rule;

@@ -1,0 +1,25 @@
+-- The words that the clauses of longer files cite, in one place: each is defined where its line says.
+pub use Rattle.rv_text.specs.declared.call.Side.{Side}
+pub use Rattle.rv_text.specs.declared.version.Version.{Version}
+pub use Rattle.rv_account.specs.declared.entry.Act.TheVariants.{Hello}
+pub use Rattle.rv_account.specs.Account.{Among, call_in}
+pub use Rattle.rv_book.specs.Legal.{HasWaiting, IsOpenOpposite, MayFollow, SomethingDue, WaitsUnder}
+pub use Rattle.rv_book.specs.Steps.{own_moment}
+pub use Rattle.rv_book.specs.Waiting.{Met, OpenAt, SideAt, Waiting, limit_at}
+pub use Rattle.rv_audit.specs.Breaking.{ArrivesAs, ArrivesToMeet, BreaksBehind, BreaksCount, FallsBack}
+pub use Rattle.rv_audit.specs.Breaking.{IsNoFreePlace, IsNotNext, IsOfNoSession, IsOutOfOrder, IsPaired}
+pub use Rattle.rv_audit.specs.Breaking.{IsSwapped, MeetsWrongly, MissesPartner, NamesTaken, NamesTooMany}
+pub use Rattle.rv_audit.specs.Breaking.{NamesWrongly, PassesLimit, PassesOver, StartsNoNewer}
+pub use Rattle.rv_audit.specs.Breaking.{TicksForNothing}
+pub use Rattle.rv_audit.specs.Marks.{NoneUntil, count_of}
+pub use Rattle.rv_audit.specs.Sessions.{session_in}
+pub use Rattle.rv_audit.specs.Passed.{AreTables, AreWithin, ArrivesWith, FindsOne, Flags, HasAmong, HasOlder}
+pub use Rattle.rv_audit.specs.Passed.{HasOne, HasPassed, IsArrivalOf, IsArrived, IsFitting, IsFront}
+pub use Rattle.rv_audit.specs.Passed.{IsLookedUp, IsOf, IsOfSessionOf, IsOldestBeside, IsPassedBy}
+pub use Rattle.rv_audit.specs.Passed.{IsReadyFor, IsTakingOut, IsUnderway, LeavesPartner, MayPass, Misses}
+pub use Rattle.rv_audit.specs.Passed.{SameRest, SetsFlags, TakesEach, TakesOutPlace, TakesTouched, WaitsOf}
+pub use Rattle.rv_audit.specs.Passed.{WaitsWith, gone_at, passed_account}
+pub use Rattle.rv_audit.specs.declared.front.Front.{Front as FrontOf}
+pub use Rattle.rv_text.specs.declared.message.Key.{Key}
+pub use Rattle.rv_text.specs.declared.call.Call.{Call}
+pub use Rattle.rv_account.specs.Calls.{may_name, opposite}
