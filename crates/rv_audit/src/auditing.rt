@@ -27,7 +27,7 @@ fn first_of(front: &Front<'_>, rules: &[Rule], entry: &Entry) -> Option<Rule>
     None
 }
 
-// The first rule that the entry breaks, in the order in which they are asked at one place.
+// The first rule that the entry breaks, in the order of the rules.
 fn first_broken(front: &Front<'_>, entry: &Entry) -> Option<Rule>
     requires { IsFront front.now }
     ensures some { IfSome result (BreaksFirst (passed_account front.now) entry.now) }
@@ -50,13 +50,14 @@ fn first_broken(front: &Front<'_>, entry: &Entry) -> Option<Rule>
     first_of(front, &rules, entry)
 }
 
-/// Audits an account, which may be any: tells that it is legal; or else the first place at which a rule is
-/// broken, and of the rules that are broken there the first in their order. It fails only where memory was
-/// refused. The account stays as it is.
+/// Audits any account. It tells that the account is legal, or else the first place at which a rule is broken,
+/// and the first rule that is broken there, in the order of the rules. Fails only if memory was refused. The
+/// account stays as it is.
 ///
 /// An entry takes time logarithmic in the number of entries before it: for itself, for each of its partners,
-/// and for each request whose wait it ends. Whether an open one is left beside its partners is a merge of two
-/// lists that rise, once for P3 and once for P4: behind P1 and P2 the partners rise and are of one side.
+/// and for each request whose wait it ends. To see whether an open arrival is left beside its partners, two
+/// rising lists are merged, once for P3 and once for P4. By then P1 and P2 hold, so that the partners rise
+/// and are of one side.
 pub fn audit(alloc: Global, account: &Account) -> Result<Audit, NoMemory>
     ensures told { IfOk result (IsToldOf account.now.account) }
     ensures legal { IfOk result (λ told. (told ≡ tells.Legal) ↔ Legal account.now.account) }

@@ -398,7 +398,7 @@ impl<'a> Front<'a> {
         Ok(())
     }
 
-    // Passes the next entry, which breaks no rule. Where memory is refused the front is of no more use.
+    // Passes the next entry, which breaks no rule. If memory is refused the front is of no more use.
     pub(crate) fn pass(&mut self, entry: &Entry) -> Result<(), NoMemory>
         requires front { IsFront self.old }
         requires may { MayPass self.old entry.now }

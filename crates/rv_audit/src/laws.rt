@@ -6,7 +6,7 @@ pub fn legal_by_rules()
     ensures { LegalByRules }
 {}
 
-/// Of each account an audit tells one thing: that it is legal, or one place and one rule.
+/// An audit has one result for each account: that it is legal, or one place and one rule.
 pub fn one_audit()
     ensures { OneAudit }
 {}

@@ -1,7 +1,7 @@
-//! The auditor: it tells of any account whether it is legal, and else the first place and the rule that is
-//! broken there. It asks of each entry what it may be behind those before it. For that it keeps who is open
-//! at each queue and exchanger, the limits of those that wait, and each client's session: in tables of its
-//! own, that share nothing with the book's.
+//! The auditor: it tells whether an account is legal, and else the first place at which a rule is broken, and
+//! the rule. It compares each entry with those before it. For that it keeps the open arrivals of each queue
+//! and exchanger, the limits of those that wait, and each client's session, in tables of its own that share
+//! nothing with the book's.
 #![tactic(auto)]
 
 mod auditing;

@@ -1,4 +1,4 @@
-//! Who is open on each side: the places of their arrivals.
+//! The places of the open arrivals of each side.
 ghost use Rattle.std.specs.Prelude.{◌≡◌, ℕ, false, IfNone, IfSome, OnOk};
 ghost use Rattle.rv_text.specs.declared.call.Side.{Side};
 ghost use Rattle.rv_audit.specs.Lines.{ClosesIf, OpensIf};
@@ -55,7 +55,7 @@ impl OpenLines {
         }
     }
 
-    // The place opens on its side; who looks never does.
+    // The place opens on its side. A call that looks opens nowhere.
     pub(crate) fn open(&mut self, side: Side, place: Place) -> Result<(), NoMemory>
         ensures { OnOk result (Opens self.old self.new side place) }
     {

@@ -35,7 +35,7 @@ impl Marks {
         self.marks.contains(&(number, place))
     }
 
-    // Marks the place under the number. Where memory is refused nothing changes.
+    // Marks the place under the number. If memory is refused nothing changes.
     pub(crate) fn add(&mut self, number: u64, place: Place) -> Result<(), NoMemory>
         ensures ok { OnOk result (Gains self.old self.new number place) }
         ensures err { OnErr result (SameMarks self.old self.new) }

@@ -1,44 +1,47 @@
-//! The rules of an account, and what an audit tells.
+//! The rules of an account, and the result of an audit.
 ghost use Rattle.std.specs.Prelude.{◌≡◌};
 ghost use Rattle.rv_audit.specs.Breaking.{name_of};
 
 use rv_book::Place;
 
-/// A rule of accounts, which the entry at a place keeps or breaks by itself and by those before it. The order
-/// is that in which an audit asks them at one place.
+/// A rule of accounts. An entry keeps or breaks it by itself and by the entries before it. At one place an
+/// audit asks the rules in this order.
 #[derive(Clone, Copy, Debug, PartialEq, Eq)]
 pub enum Rule {
     /// Time never falls: an entry's moment is at least that of the entry before it, and the first entry's at
     /// least the opening moment.
     M1,
-    /// Nothing waits past its limit: where the limit of a request that waits has come, only a tick may stand.
+    /// Nothing waits past its limit: once the limit of a waiting request has come, only a tick may be next.
     M2,
-    /// A tick has a cause: a request waits whose limit has come.
+    /// A tick has a cause: the limit of a waiting request has come.
     M3,
-    /// A client starts again in greater incarnations alone.
+    /// A client starts again only in a greater incarnation.
     N1,
-    /// A request or a cancel is of the account's epoch, and of the incarnation of its client's last hello.
+    /// A request or a cancel has the account's epoch, and the incarnation of its client's last hello.
     N2,
-    /// A session counts its requests up by one, with one waiting at most; a cancel is of that one, or of the
-    /// next.
+    /// A session numbers its requests one by one, and at most one of them waits. A cancel is of that one, or
+    /// of the next.
     N3,
-    /// Only who gives, takes or exchanges has partners: earlier places that were not named and name none,
-    /// which rise, and of which there are no more than its call may name.
+    /// Only an arrival that gives, takes or exchanges has partners. They are earlier places that were not
+    /// named and name none, they rise, and they are no more than its call may name.
     P1,
-    /// Who gives is paired with who takes of that queue, and the other way round, while that one is open.
+    /// An arrival that gives is paired with one that takes of the same queue, or the other way round, while
+    /// the partner is open.
     P2,
-    /// The oldest is paired first: who is open on a partner's side before that partner is a partner too.
+    /// The oldest is paired first: an arrival that is open on a partner's side, and came before that partner,
+    /// is a partner too.
     P3,
-    /// Who gives or takes, and names fewer partners than it may, names all of the other side that are open.
+    /// An arrival that gives or takes, and names fewer partners than it may, names all that are open on the
+    /// other side.
     P4,
-    /// Who exchanges swaps with who exchanges there, while the partner is open.
+    /// An arrival that exchanges swaps with one at the same exchanger, while the partner is open.
     S1,
-    /// Who exchanges, and names nobody, finds nobody open at its exchanger.
+    /// An arrival that exchanges, and names nobody, finds nobody open at its exchanger.
     S2,
 }
 
 impl Rule {
-    /// Its name, as an audit prints it.
+    /// The rule's name, as an audit prints it.
     pub fn name(self) -> &'static str
         ensures { result.now ≡ name_of self }
     {
@@ -59,16 +62,16 @@ impl Rule {
     }
 }
 
-/// What an audit tells of an account.
+/// The result of an audit.
 #[derive(Clone, Copy, Debug, PartialEq, Eq)]
 pub enum Audit {
     /// No rule is broken at any place.
     Legal,
     /// A rule is broken.
     Fault {
-        /// The first place at which one is.
+        /// The first place at which a rule is broken.
         place: Place,
-        /// Of those that are broken there the first in their order.
+        /// The first rule that is broken there, in the order of the rules.
         rule: Rule,
     },
 }

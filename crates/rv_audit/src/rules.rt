@@ -141,7 +141,7 @@ fn opposite(side: Side) -> Option<Side>
     }
 }
 
-// The same, and of who meets nobody its own.
+// The same, or the side itself if its arrivals meet nobody.
 fn met_by(side: Side) -> Side
     ensures { (met : Side) → opposite side ≡ Some met → result ≡ met }
 {
@@ -285,8 +285,8 @@ fn leaves(front: &Front<'_>, call: &Call, partners: &[Place]) -> bool
     partners.len() < may_name(call) && finds_one(front, call, partners)
 }
 
-// Whether before the place of one that gives or takes an open arrival of its side stands that is none of
-// these partners.
+// Whether the arrival at the place gives or takes, and an open arrival of its side that is none of these
+// partners stands before it.
 fn is_passed_by(front: &Front<'_>, looked: Looked, partners: &[Place], place: Place) -> bool
     requires front { IsFront front.now }
     requires looked { IsLookedUp (passed_account front.now).entries partners.now looked }
