@@ -1,4 +1,4 @@
-//! A call: its request is asked again until something final is heard.
+//! A call: its request is sent again until a final answer comes.
 ghost use Rattle.std.specs.Prelude.{◌≡◌, IfErr, IfOk, IfSome, IsSome};
 ghost use Rattle.rv_text.specs.Limits.{FitsCall, FitsKey};
 ghost use Rattle.rv_client.specs.Calls.{Calls, Decides, EndsBy};
@@ -13,23 +13,23 @@ use rv_text::{Answer, Call, Key, Reply};
 use std::alloc::Global;
 use std::io::{Read, Write};
 
-/// What came of a call.
+/// The result of a call.
 pub enum CallOutcome {
     /// The request has this reply, and the client is idle at the next number.
     Settled(Idle, Reply),
-    /// Nothing final was heard: the last try met this fault, or all tries were made, and there is none.
+    /// No final answer came. The last try met this fault, or all tries were made without one.
     Unsettled(Outstanding, Option<LinkFault>),
-    /// The request of this key ended without a reply: a later epoch, which is given, is there.
+    /// The request of this key ended without a reply: the server has a later epoch, which is given.
     EpochEnded(Key, u64),
     /// The request of this key ended without a reply: its client has a later incarnation, which is given.
     Replaced(Key, u64),
 }
 
-/// Begins a call, and asks its one request until an answer says something final about it, a fault comes, or
-/// `tries` answers have said nothing final. Frames of this request go out, and nothing else; after each one
-/// frame is read. With 0 tries nothing is written.
+/// Begins a call, and sends its request until an answer is final for it, a fault comes, or `tries` answers
+/// were not final. Only frames of this one request go out, and one frame is read after each of them. With 0
+/// tries nothing is written or read.
 ///
-/// It is asked only where there is a next key, which keeps its limits as the call does.
+/// The client must have a next key, and that key and the call must keep their limits.
 pub fn call<R: Read, W: Write>(
     alloc: Global,
     idle: Idle,
@@ -54,7 +54,7 @@ pub fn call<R: Read, W: Write>(
     CallOutcome::Unsettled(outstanding, None)
 }
 
-// Asks the request once. The request comes back where the answer says nothing final about it.
+// Sends the request once. It comes back if the answer is not final for it.
 fn try_once<R: Read, W: Write>(
     alloc: Global,
     outstanding: Outstanding,
@@ -80,7 +80,7 @@ fn try_once<R: Read, W: Write>(
     }
 }
 
-// The answer to one asking of the request.
+// The answer to the request, which is sent once.
 fn ask_for<R: Read, W: Write>(
     alloc: Global,
     outstanding: &Outstanding,

@@ -1,4 +1,4 @@
-//! Why a request got no answer.
+//! The faults of a link: why a request got no answer.
 ghost use Rattle.std.specs.Prelude.{◌≡◌};
 ghost use Rattle.rv_client.specs.Faults.{text_fault};
 ghost use Rattle.rv_client.specs.declared.fault.LinkFault.TheVariants.{NoMemory, ReadFault, WriteFault};
@@ -7,25 +7,25 @@ use rv_text::TextFault;
 use std::alloc::AllocError;
 use thiserror::Error;
 
-/// Why a request got no answer over its link. What stands then is told by [`ask`](crate::ask).
+/// Why a request got no answer over its link. [`ask`](crate::ask) says how the link is left.
 #[derive(Clone, Copy, Debug, PartialEq, Eq, Error)]
 pub enum LinkFault {
     /// 1: a read of the source failed before the answer's frame was whole. The whole request went out.
     #[error("a read of the link failed")]
     ReadFault,
-    /// 2: a write of the sink failed, after this many bytes of the request's frame. Nothing was read.
+    /// 2: a write to the sink failed, after this many bytes of the request's frame. Nothing was read.
     #[error("a write to the link failed after {0} bytes")]
     WriteFault(usize),
     /// 3: the source ended before the answer's frame was whole. The whole request went out.
     #[error("the link ended before the answer was whole")]
     Closed,
-    /// 4: the two bytes that were read are no length of a frame. The whole request went out.
+    /// 4: the two bytes that were read are not the length of a frame. The whole request went out.
     #[error("the answer has a bad length")]
     BadFrame,
-    /// 5: one frame came, and what it holds is no answer. The whole request went out.
+    /// 5: one whole frame came, and its body is not an answer. The whole request went out.
     #[error("the body is not an answer")]
     BadBody,
-    /// 6: a growth of memory was refused, before a byte went out or after the whole answer was read.
+    /// 6: memory was refused, before a byte went out or after the whole answer was read.
     #[error("out of memory")]
     NoMemory,
 }

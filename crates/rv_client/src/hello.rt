@@ -6,10 +6,10 @@ use crate::request::Idle;
 use rv_text::{Answer, Message, Refusal, Version};
 use std::marker::Model;
 
-/// A client that started in an incarnation, with a version, and has not been welcomed yet. Contracts see
-/// all three.
+/// A client that has started in an incarnation and asks for a version, and is not welcome yet. Contracts see
+/// its number, its incarnation and its version.
 ///
-/// It says its [`message`](New::message), the hello, and hears the answers that come to its client with
+/// It sends its [`message`](New::message), the hello, and hears the answers that come to it by
 /// [`welcome`](New::welcome).
 #[derive(Debug, Drop)]
 pub struct New {
@@ -26,14 +26,14 @@ impl Model for New {
     ghost view = { λ n. record { client = n.client; incarnation = n.incarnation; version = n.version } };
 }
 
-/// What an answer is to a client that has not been welcomed.
+/// The result of an answer to a client that is not welcome yet.
 #[derive(Debug, Drop)]
 pub enum WelcomeOutcome {
-    /// It is welcome, and idle.
+    /// The client is welcome, and idle.
     Idle(Idle),
-    /// The answer says nothing to it.
+    /// The answer is neither its welcome nor a refusal. The client is as before.
     Again(New),
-    /// Its client was refused, for this reason; a later welcome is still heard.
+    /// The client was refused, for this reason. It is as before, and may still be welcomed.
     Refused(New, Refusal),
 }
 
@@ -41,8 +41,8 @@ impl New {
     ghost use Rattle.rv_client.specs.Process as process;
     ghost use Rattle.rv_client.specs.Outcomes.{greeted_as};
 
-    /// The client starts, in an incarnation that no process of it had before, and asks for this version. Both
-    /// numbers are 1 to 2^53 - 1.
+    /// Starts a client, which asks for this version, in an incarnation that none of its processes had before.
+    /// Both numbers are from 1 to 2^53 - 1.
     pub fn start(client: u64, incarnation: u64, version: Version) -> New
         requires client { FitsIdentifier client }
         requires incarnation { FitsIdentifier incarnation }
@@ -55,7 +55,7 @@ impl New {
         }
     }
 
-    /// Its hello.
+    /// The hello that it sends.
     pub fn message(&self) -> Message
         ensures { result ≡ process.hello_of self.now }
     {
@@ -67,8 +67,8 @@ impl New {
     }
 
     /// Hears an answer. A welcome of its client, incarnation and version makes it idle, at number 1 in the
-    /// welcome's epoch. A refusal turns it away, also one of an earlier request of its client; it stays as it
-    /// is. All else it passes by.
+    /// welcome's epoch. A refusal is told, even one of an earlier request of the client. After a refusal and
+    /// after any other answer the client is as before.
     pub fn welcome(self, answer: &Answer) -> WelcomeOutcome
         ensures { process.Hears (process.New self) answer.now (greeted_as result) }
     {

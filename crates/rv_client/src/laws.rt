@@ -1,12 +1,12 @@
-//! What holds of the process: each contract is a law, and no body does anything.
+//! Laws of the client's process: each function is its contract, and its body is empty.
 ghost use Rattle.rv_client.specs.Laws.{FirstKeyFits, NextKeyFits, OneOutcome};
 
-/// What becomes of a process by an answer is one thing.
+/// An answer has at most one outcome for a process.
 pub fn one_outcome()
     ensures { OneOutcome }
 {}
 
-/// The keys that a client's requests have keep their limits, from the first to the greatest number.
+/// The keys of a client's requests keep their limits, from the first number to the greatest.
 pub fn keys_fit()
     ensures first { FirstKeyFits }
     ensures next { NextKeyFits }

@@ -1,5 +1,5 @@
-//! The typed client: what a process may say next is a type. And its link: one request and one answer over a
-//! source and a sink.
+//! The typed client: its types let a process do only what comes next. And its link, which carries one request
+//! and one answer over a source and a sink.
 #![tactic(auto)]
 
 mod calling;

@@ -38,7 +38,7 @@ fn length_of(head: &[u8; 2]) -> u16
     256 * head[0] as u16 + head[1] as u16
 }
 
-// Fills a body that is empty yet, and has the room, with so many of the source's next bytes.
+// Fills a body, which is empty and has the room, with this many of the source's next bytes.
 fn fill_body<R: Read>(
     source: &mut Source<R>,
     body: &mut Vec<u8>,
@@ -71,12 +71,13 @@ fn read_frame<R: Read>(source: &mut Source<R>, body: &mut Vec<u8>) -> Result<(),
     fill_body(source, body, length)
 }
 
-/// Sends the frame of a message that keeps its limits, and reads the frame of its answer: exactly the
-/// bytes of one frame, in at most 65,537 reads. Room for the longest answer is made before a byte goes out.
+/// Sends a message, which must keep its limits, as one frame, and reads the frame of its answer. It reads
+/// exactly the bytes of that frame, in at most 65,537 reads. Memory for the longest answer is taken before a
+/// byte goes out.
 ///
-/// Each [`LinkFault`] says what went out and what was read. A read or write fault comes only where the
-/// source or the sink has failed. What the source gives after a read fault, a closed link or a bad
-/// frame need not begin a frame.
+/// Each [`LinkFault`] says how much went out and was read. A read fault comes only if the source has failed,
+/// and a write fault only if the sink has. After a read fault, a closed link or a bad frame the next bytes of
+/// the source need not begin a frame.
 pub fn ask<R: Read, W: Write>(
     alloc: Global,
     source: &mut Source<R>,

@@ -5,8 +5,8 @@ use rv_text::{Answer, Call, Key, MAX_IDENTIFIER, Message, NoMemory, Refusal, Rep
 use std::alloc::Global;
 use std::marker::Model;
 
-/// A client that was welcomed and waits for no answer. Contracts see the key that its next request will
-/// have; none follows the greatest number.
+/// A client that was welcomed and waits for no answer. Contracts see the key of its next request, or none
+/// once the greatest number was used.
 #[derive(Debug, Drop)]
 pub struct Idle {
     next: Option<Key>,
@@ -21,13 +21,12 @@ impl Model for Idle {
     ghost view = { λ i. i.next };
 }
 
-/// A client with a request that it has begun. It can be neither copied nor dropped: only
-/// [`Idle::begin`] makes one, a final answer ends it, and [`abandon`](Outstanding::abandon) gives it up. It
-/// is laid aside by [`park`](Outstanding::park), until [`Resting::wake`]. Contracts see the request's key and
-/// call.
+/// A client with a request that it has begun. It can be neither copied nor dropped: only [`Idle::begin`]
+/// makes one, a final answer or [`abandon`](Outstanding::abandon) ends it, and [`park`](Outstanding::park)
+/// lays it aside until [`Resting::wake`]. Contracts see the request's key and call.
 ///
-/// It says its [`message`](Outstanding::message) as often as it likes, which is always the same request, or
-/// its [`cancel_message`](Outstanding::cancel_message).
+/// It may send its [`message`](Outstanding::message), which is always the same request, and its
+/// [`cancel_message`](Outstanding::cancel_message), as often as it likes.
 pub struct Outstanding {
     key: Key,
     call: Call,
@@ -41,9 +40,9 @@ impl Model for Outstanding {
     ghost view = { λ o. record { key = o.key; call = o.call } };
 }
 
-/// A request that was begun and is laid aside, as plain data in a list or a table, until it is woken. Only
-/// [`Outstanding::park`] makes one; it can't be copied, and whoever drops one gives the request up. Contracts
-/// see the request's key and call.
+/// A request that was begun and is laid aside until it is woken: plain data, which a list or a table can
+/// hold. Only [`Outstanding::park`] makes one. It can't be copied, and dropping it gives the request up.
+/// Contracts see the request's key and call.
 #[derive(Debug, Drop)]
 pub struct Resting {
     key: Key,
@@ -58,13 +57,13 @@ impl Model for Resting {
     ghost view = { λ r. record { key = r.key; call = r.call } };
 }
 
-/// What an answer is to a request that was begun.
+/// The result of an answer to a request that was begun.
 pub enum HearOutcome {
     /// The request has this reply, and the client is idle at the next number.
     Settled(Idle, Reply),
-    /// The answer says nothing final about it.
+    /// The answer is not final for the request.
     Still(Outstanding),
-    /// The request of this key ended without a reply: a later epoch, which is given, is there.
+    /// The request of this key ended without a reply: the server has a later epoch, which is given.
     EpochEnded(Key, u64),
     /// The request of this key ended without a reply: its client has a later incarnation, which is given.
     Replaced(Key, u64),
@@ -105,14 +104,14 @@ impl Idle {
         }
     }
 
-    /// The key that its next request will have; none where the greatest number was used up.
+    /// The key of its next request, or none once the greatest number was used.
     pub fn next_key(&self) -> Option<Key>
         ensures { result ≡ self.now }
     {
         self.next
     }
 
-    /// Begins a call, with the next key. It is asked only where there is one.
+    /// Begins a call with the next key, which must be there.
     pub fn begin(self, call: Call) -> Outstanding
         requires { IsSome self }
         ensures key { self ≡ Some result.key }
@@ -136,7 +135,7 @@ impl Outstanding {
         self.key
     }
 
-    /// The request. It fails only where memory for a copy of its call was refused.
+    /// The request, with a copy of its call. Fails only if memory for that copy was refused.
     pub fn message(&self, alloc: Global) -> Result<Message, NoMemory>
         ensures { IfOk result (λ message. message ≡ process.request_of self.now) }
     {
@@ -154,9 +153,9 @@ impl Outstanding {
         Message::Cancel { key: self.key }
     }
 
-    /// Hears an answer. A reply of its own key settles it. It ends by the refusal *other epoch* with an
-    /// epoch above its key's, and by *old incarnation* with an incarnation above its key's. All else it
-    /// ignores: a reply of another number, a stale refusal, an answer to another client.
+    /// Hears an answer. A reply to its own key settles the request. The refusal *other epoch* ends it if that
+    /// epoch is above its key's, and *old incarnation* if that incarnation is. Any other answer is ignored,
+    /// as a reply to another key, a stale refusal or a welcome.
     pub fn hear(self, answer: Answer) -> HearOutcome
         ensures { process.Hears (process.Outstanding self) answer (heard_as result) }
     {
@@ -173,6 +172,7 @@ impl Outstanding {
         }
     }
 
+    // Hears a refusal.
     fn hear_refusal(self, refusal: Refusal) -> HearOutcome
         ensures { process.Hears (process.Outstanding self) (Answer.Refused refusal) (heard_as result) }
     {
@@ -195,7 +195,7 @@ impl Outstanding {
         }
     }
 
-    /// Gives the request up, whatever becomes of it, and tells its key.
+    /// Gives the request up, and returns its key. The server may still carry it out.
     pub fn abandon(self) -> Key
         ensures { result ≡ self.key }
     {
@@ -203,7 +203,7 @@ impl Outstanding {
         key
     }
 
-    /// Lays the request aside, with its key and its call. It takes no memory.
+    /// Lays the request aside, with its key and its call. Takes no memory.
     pub fn park(self) -> Resting
         ensures { result ≡ self }
     {
@@ -213,7 +213,7 @@ impl Outstanding {
 }
 
 impl Resting {
-    /// The request again, of the same key and call. It takes no memory.
+    /// The request again, with the same key and call. Takes no memory.
     pub fn wake(self) -> Outstanding
         ensures { result ≡ self }
     {
