@@ -1,5 +1,5 @@
 -- The messages that were sent tell who was started, and the table the greatest incarnations of these.
-use Rattle.std.proofs.Common.{◌≡◌, ◌≢◌, ◌<◌, inl, inr, ℕ, nat_eq, List, [], ◌∷◌, ◌++◌, Option, Some, None, sym, ap, subst, ◌∙◌, arith}
+use Rattle.std.proofs.Common.{◌≡◌, ◌≢◌, ◌<◌, inl, inr, ℕ, nat_eq, List, [], ◌∷◌, ◌++◌, Option, Some, None, refl, sym, ap, subst, ◌∙◌, arith}
 use Rattle.std.specs.List.{Contains, filter_map}
 use Rattle.std.specs.Map.{lookup}
 use Rattle.std.proofs.lemmas.Bool.{cases_eq}
@@ -7,7 +7,13 @@ use Rattle.std.proofs.lemmas.List.{append-nil}
 use Rattle.std.proofs.lemmas.List.Elements.{filter_map-append, Contains-push, Contains-push_cases, Contains-append_left}
 use Rattle.std.proofs.lemmas.Option.{same_Some, none-some}
 use Rattle.rv_text.specs.declared.message.Message.{Message}
-use Rattle.rv_client.specs.Process.{Process}
+use Rattle.rv_client.specs.Process.{Process, Asking}
+use Rattle.rv_world.specs.declared.process.Saying.{Saying}
+use Rattle.rv_world.specs.declared.process.Saying.TheVariants as saying
+use Rattle.rv_world.specs.declared.seen.Seen.{Seen}
+use Rattle.rv_world.specs.World.{World}
+use Rattle.rv_world.specs.Events.{ProcessSays, Steps}
+use Rattle.rv_world.specs.Processes.{event_saying, said_by}
 use Rattle.rv_world.specs.Parts.{hello_in, started_by}
 use Rattle.rv_world.specs.Table.{ClientTable, EntersClient, AreNewest, IsGreatest}
 
@@ -23,6 +29,15 @@ pub sent_hello : (messages : List Message) (said : Message) (start : ℕ × ℕ)
 sent_hello messages said start is =
     filter_map-append hello_in messages (said ∷ [])
     ∙ ap (λ (o : Option (ℕ × ℕ)). started_by messages ++ filter_map (λ (x : Unit {0}). o) (tt ∷ [])) is
+
+-- what an outstanding process says is no hello, and its event is that in which it says so
+pub saying_quiet : (saying : Saying) (asking : Asking) → hello_in (said_by saying asking) ≡ None
+saying_quiet saying.Request asking = refl
+saying_quiet saying.Cancel asking = refl
+
+pub saying_steps : (saying : Saying) {w v : World} {client : ℕ} {shows : Seen} → ProcessSays w client (said_by saying) v shows → Steps w (event_saying saying client) v shows
+saying_steps saying.Request is = is
+saying_steps saying.Cancel is = is
 
 -- what was sent, told of the list before there was room for it
 pub sent_after : (X : Type 0) (old room sent : List X) (said says : X) → sent ≡ room ++ said ∷ [] → room ≡ old → said ≡ says → sent ≡ old ++ says ∷ []

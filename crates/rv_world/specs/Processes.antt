@@ -1,6 +1,7 @@
 -- What a process that is kept between events makes of an answer.
-use Rattle.std.specs.Prelude.{◌≡◌, Option, Some, None, option_map}
+use Rattle.std.specs.Prelude.{◌≡◌, ℕ, Option, Some, None, option_map}
 use Rattle.rv_text.specs.declared.message.Key.{Key}
+use Rattle.rv_text.specs.declared.message.Message.{Message}
 use Rattle.rv_text.specs.declared.answer.Answer.{Answer}
 use Rattle.rv_text.specs.declared.answer.Reply.{Reply}
 use Rattle.rv_text.specs.declared.call.Call.{Call}
@@ -10,6 +11,10 @@ use Rattle.rv_client.specs.Process as process
 use Rattle.rv_world.specs.declared.process.Running.{Running}
 use Rattle.rv_world.specs.declared.process.Running.TheVariants as running
 use Rattle.rv_world.specs.declared.process.HeardAnswer.{HeardAnswer}
+use Rattle.rv_world.specs.declared.process.Saying.{Saying}
+use Rattle.rv_world.specs.declared.process.Saying.TheVariants as saying
+use Rattle.rv_world.specs.declared.event.Event.{Event}
+use Rattle.rv_world.specs.declared.event.Event.TheVariants as event
 use Rattle.rv_world.specs.declared.seen.Seen.{Seen}
 use Rattle.rv_world.specs.declared.seen.Seen.TheVariants as sees
 
@@ -22,6 +27,15 @@ process_in (running.Outstanding asking) = process.Outstanding asking
 -- the request of a call under a key
 abbrev pub request_under : Key → Call → process.Asking
 request_under key call = record { key = key; call = call }
+
+-- the message in which an outstanding process says this, and the event in which its client does
+abbrev pub said_by : Saying → process.Asking → Message
+said_by saying.Request asking = process.request_of asking
+said_by saying.Cancel asking = process.cancel_of asking
+
+abbrev pub event_saying : Saying → ℕ → Event
+event_saying saying.Request client = event.Resend client
+event_saying saying.Cancel client = event.CancelSent client
 
 abbrev pub IsIdle : Process → Type 0
 IsIdle process = (next : Option Key) × (process ≡ Idle next)

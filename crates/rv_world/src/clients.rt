@@ -4,7 +4,7 @@ ghost use Rattle.rv_text.specs.declared.message.Key.{Key};
 ghost use Rattle.rv_client.specs.Process as process;
 ghost use Rattle.rv_world.specs.Processes.{process_in};
 
-use crate::process::Running;
+use crate::process::{Running, Saying, said_by};
 use indexmap::IndexMap;
 use rv_client::Outstanding;
 use rv_text::{Call, Message, NoMemory};
@@ -39,8 +39,7 @@ impl Model for Clients {
 impl Clients {
     ghost use Rattle.rv_world.specs.Table.{EntersClient, StandsInTable, newest_of, running_of, with_process};
     ghost use Rattle.rv_world.specs.Table.{IsAskingIn, IsReadyIn, SaysIn};
-    ghost use Rattle.rv_client.specs.Process.{cancel_of, request_of};
-    ghost use Rattle.rv_world.specs.Processes.{request_under};
+    ghost use Rattle.rv_world.specs.Processes.{request_under, said_by};
 
     // The table with no client. It takes no memory yet.
     pub(crate) fn empty(alloc: Global) -> Clients
@@ -65,8 +64,8 @@ impl Clients {
         self.clients.get(&client)?.process.as_ref()
     }
 
-    // Starts a client in an incarnation; its process, if one ran, ends. Where memory is refused, which is so
-    // of a new client alone, the table stays.
+    // Starts a client in an incarnation. Its process, if one ran, ends. If memory is refused, which may be so
+    // only for a new client, the table stays.
     pub(crate) fn enter(
         &mut self,
         client: u64,
@@ -119,28 +118,21 @@ impl Clients {
         self.replace_process(client, Some(Running::Outstanding(outstanding.park())));
     }
 
-    // The message of the request that a client has begun. It fails only where memory was refused.
-    pub(crate) fn request(&mut self, alloc: Global, client: u64) -> Result<Message, NoMemory>
+    // The message about its request that a client sends. Fails only if memory for a request was refused.
+    pub(crate) fn say(
+        &mut self,
+        alloc: Global,
+        client: u64,
+        saying: Saying,
+    ) -> Result<Message, NoMemory>
         requires { IsAskingIn self.old client }
-        ensures says { IfOk result (SaysIn self.old client request_of) }
+        ensures says { IfOk result (SaysIn self.old client (said_by saying)) }
         ensures stays { self.new ≡ self.old }
     {
         let outstanding = self.wake(client);
-        let request = outstanding.message(alloc);
+        let said = said_by(alloc, &outstanding, saying);
         self.rest(client, outstanding);
-        request
-    }
-
-    // The cancel of the request that a client has begun.
-    pub(crate) fn cancel(&mut self, client: u64) -> Message
-        requires { IsAskingIn self.old client }
-        ensures says { SaysIn self.old client cancel_of result }
-        ensures stays { self.new ≡ self.old }
-    {
-        let outstanding = self.wake(client);
-        let cancel = outstanding.cancel_message();
-        self.rest(client, outstanding);
-        cancel
+        said
     }
 
     // Begins a call with the next key of a client whose process is idle.

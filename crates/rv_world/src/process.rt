@@ -1,11 +1,12 @@
-//! A process as it is kept between events, and what it makes of an answer.
-ghost use Rattle.std.specs.Prelude.{◌≡◌};
+//! A process as it is kept between events, its messages about a request, and the results of answers for it.
+ghost use Rattle.std.specs.Prelude.{◌≡◌, IfOk};
 ghost use Rattle.rv_client.specs.Process as process;
-ghost use Rattle.rv_world.specs.Processes.{HearsAs};
+ghost use Rattle.rv_world.specs.Processes.{HearsAs, said_by};
 
 use crate::seen::Seen;
 use rv_client::{HearOutcome, Idle, New, Outstanding, Resting, WelcomeOutcome};
-use rv_text::{Answer, Key, Reply};
+use rv_text::{Answer, Key, Message, NoMemory, Reply};
+use std::alloc::Global;
 
 /// A process that runs, as it is kept between events.
 #[derive(Debug, Drop)]
@@ -15,7 +16,14 @@ pub(crate) enum Running {
     Outstanding(Resting),
 }
 
-/// What a process makes of an answer.
+/// A message about the request that a process has begun.
+#[derive(Clone, Copy)]
+pub(crate) enum Saying {
+    Request,
+    Cancel,
+}
+
+/// The result of an answer for a process.
 #[derive(Drop)]
 pub(crate) struct HeardAnswer {
     // The process that then runs, if it has not ended.
@@ -68,7 +76,7 @@ impl Running {
 impl HeardAnswer {
     ghost use Rattle.std.specs.Prelude.{None};
 
-    // What holds no reply.
+    // The same, with no reply that is held.
     fn of(process: Option<Running>, seen: Seen) -> HeardAnswer
         ensures { result ≡ record { process = process; held = None; seen = seen } }
     {
@@ -81,7 +89,7 @@ impl HeardAnswer {
     }
 }
 
-// What a new process makes of an answer.
+// The result of an answer for a new process.
 fn welcome(new: New, answer: &Answer) -> HeardAnswer
     ensures { HearsAs (process.New new) answer.now result }
 {
@@ -94,7 +102,7 @@ fn welcome(new: New, answer: &Answer) -> HeardAnswer
     }
 }
 
-// What an outstanding process makes of an answer.
+// The result of an answer for an outstanding process.
 fn settle(outstanding: Outstanding, answer: Answer) -> HeardAnswer
     ensures { HearsAs (process.Outstanding outstanding) answer result }
 {
@@ -110,5 +118,19 @@ fn settle(outstanding: Outstanding, answer: Answer) -> HeardAnswer
         }
         HearOutcome::EpochEnded(_, current) => HeardAnswer::of(None, Seen::Ended(current)),
         HearOutcome::Replaced(_, current) => HeardAnswer::of(None, Seen::Replaced(current)),
+    }
+}
+
+// The message that an outstanding process sends. Fails only if memory for a request was refused.
+pub(crate) fn said_by(
+    alloc: Global,
+    outstanding: &Outstanding,
+    saying: Saying,
+) -> Result<Message, NoMemory>
+    ensures { IfOk result (λ message. message ≡ said_by saying outstanding.now) }
+{
+    match saying {
+        Saying::Request => outstanding.message(alloc),
+        Saying::Cancel => Ok(outstanding.cancel_message()),
     }
 }

@@ -1,4 +1,4 @@
-//! The parts of a world, and what each event does to them. What can fail comes before the first change.
+//! The parts of a world, and the work of each event on them. What can fail comes before the first change.
 ghost use Rattle.std.specs.Prelude.{◌≡◌, ◌<◌, ◌++◌, ◌∷◌, [], IfErr, IfOk, Some, length, vec_len};
 ghost use Rattle.std.specs.Vec.{vec_capacity};
 ghost use Rattle.rv_world.specs.declared.seen.Seen.TheVariants as sees;
@@ -6,7 +6,7 @@ ghost use Rattle.rv_world.specs.declared.seen.Seen.TheVariants as sees;
 use crate::clients::Clients;
 use crate::event::Event;
 use crate::packet::{Packet, copy_answer, copy_message, sender};
-use crate::process::{HeardAnswer, Running};
+use crate::process::{HeardAnswer, Running, Saying};
 use crate::seen::{Seen, WorldRefusal};
 use rv_book::Book;
 use rv_client::New;
@@ -55,14 +55,13 @@ impl WorldState {
     ghost use Rattle.rv_world.specs.Limits.{FitsEvent};
     ghost use Rattle.rv_world.specs.World.{first_world, process_of};
     ghost use Rattle.rv_world.specs.Events.{EventComesTo, IsAsking, IsHeard, IsNewest, IsReady, RunsBut};
-    ghost use Rattle.rv_world.specs.Events.{RunsNone};
-    ghost use Rattle.rv_world.specs.Events.{WasStarted};
-    ghost use Rattle.rv_world.specs.Processes.{process_in};
+    ghost use Rattle.rv_world.specs.Events.{RunsNone, WasStarted};
+    ghost use Rattle.rv_world.specs.Processes.{event_saying, process_in};
     ghost use Rattle.rv_world.specs.Parts.{IsSoundState, KnowsNewest, world_of};
     ghost use Rattle.rv_world.specs.declared.event.Event.TheVariants as event;
     ghost use Rattle.rv_world.specs.declared.seen.WorldRefusal.TheVariants as refuses;
 
-    // The state of a world that begins in an epoch. It fails only where memory was refused.
+    // The state of a world that begins in an epoch. Fails only if memory was refused.
     pub(crate) fn open(alloc: Global, epoch: u64) -> Result<WorldState, NoMemory>
         requires { FitsIdentifier epoch }
         ensures world { IfOk result (λ state. world_of state ≡ first_world epoch) }
@@ -97,8 +96,8 @@ impl WorldState {
                 self.start(*client, *incarnation, *version)
             }
             Event::Begin(client, call) => self.begin(alloc, *client, call),
-            Event::Resend(client) => self.resend(alloc, *client),
-            Event::CancelSent(client) => self.send_cancel(*client),
+            Event::Resend(client) => self.say(alloc, *client, Saying::Request),
+            Event::CancelSent(client) => self.say(alloc, *client, Saying::Cancel),
             Event::Crash(client) => self.crash(*client),
             Event::ToServer(packet, moment) => self.deliver_message(alloc, *packet, *moment),
             Event::ToClient(packet) => self.deliver_answer(alloc, *packet),
@@ -128,7 +127,7 @@ impl WorldState {
         Ok(send(&mut self.to_server, hello))
     }
 
-    // Whether a client was started only in lower incarnations: else why it can't start in this one.
+    // Fails if a client was started in this incarnation or a greater one.
     fn must_be_newest(&self, client: u64, incarnation: u64) -> Result<(), WorldRefusal>
         requires { KnowsNewest self.now }
         ensures ok { OnOk result (IsNewest (world_of self.now) client incarnation) }
@@ -165,7 +164,7 @@ impl WorldState {
         }
     }
 
-    // Whether a process of a client is outstanding: else why it can say nothing.
+    // Fails if no process of a client is outstanding.
     fn must_be_asking(&self, client: u64) -> Result<(), WorldRefusal>
         ensures ok { OnOk result ((asking : process.Asking)
             × (process_of (world_of self.now) client ≡ Some (process.Outstanding asking))) }
@@ -197,29 +196,17 @@ impl WorldState {
         Ok(send(&mut self.to_server, Message::Request { key, call }))
     }
 
-    // A client sends its request again.
-    fn resend(&mut self, alloc: Global, client: u64) -> Result<Seen, WorldRefusal>
+    // A client sends its request again, or its cancel.
+    fn say(&mut self, alloc: Global, client: u64, saying: Saying) -> Result<Seen, WorldRefusal>
         requires sound { IsSoundState self.old }
-        ensures comes { EventComesTo (world_of self.old) (event.Resend client) (world_of self.new) result }
-        ensures newest { KnowsNewest self.new }
-    {
-        self.must_be_asking(client)?;
-        self.to_server.reserve(1)?;
-        let request = self.clients.request(alloc, client)?;
-        Ok(send(&mut self.to_server, request))
-    }
-
-    // A client sends the cancel of its request.
-    fn send_cancel(&mut self, client: u64) -> Result<Seen, WorldRefusal>
-        requires sound { IsSoundState self.old }
-        ensures comes { EventComesTo (world_of self.old) (event.CancelSent client)
+        ensures comes { EventComesTo (world_of self.old) (event_saying saying client)
             (world_of self.new) result }
         ensures newest { KnowsNewest self.new }
     {
         self.must_be_asking(client)?;
         self.to_server.reserve(1)?;
-        let cancel = self.clients.cancel(client);
-        Ok(send(&mut self.to_server, cancel))
+        let said = self.clients.say(alloc, client, saying)?;
+        Ok(send(&mut self.to_server, said))
     }
 
     // A client's process ends.
@@ -277,7 +264,7 @@ impl WorldState {
         Ok(self.hear(client, answer))
     }
 
-    // The running process of a client hears an answer; there is room for what it takes as final.
+    // The running process of a client hears an answer. There is room for a reply that it takes as final.
     fn hear(&mut self, client: u64, answer: Answer) -> Seen
         requires runs { IsSome (process_of (world_of self.old) client) }
         requires room { vec_len self.old.held < vec_capacity self.old.held }

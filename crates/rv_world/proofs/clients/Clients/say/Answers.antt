@@ -1,6 +1,6 @@
 -- What is taken out is put back.
 use Rattle.rv_world.proofs.TableWrites.{put_back, taken_stands}
-use Rattle.rv_world.proofs.clients.Clients.cancel.Goals as goal
+use Rattle.rv_world.proofs.clients.Clients.say.Goals as goal
 
 pub rest-requires : goal.rest-requires
 rest-requires c = taken_stands c.args.self.now c.args.client c.wake-outstanding.ensures.request c.wake-outstanding.ensures.after
