@@ -1,5 +1,5 @@
 -- A table in which one client's process is another: what runs there, and what is put back.
-use Rattle.std.proofs.Common.{◌≡◌, ◌≢◌, ℕ, Bool, true, false, cond, nat_eq, List, [], ◌∷◌, Option, Some, None, IsSome, refl, sym, ap, subst, ◌∙◌, arith}
+use Rattle.std.proofs.Common.{◌≡◌, ◌≢◌, ℕ, Bool, true, false, cond, nat_eq, List, [], ◌∷◌, Option, Some, None, IsSome, option_map, refl, sym, ap, subst, ◌∙◌, arith}
 use Rattle.std.specs.Prelude.{option_and_then}
 use Rattle.std.specs.Map.{lookup, set_value}
 use Rattle.std.proofs.lemmas.Bool.{false≢true}
@@ -9,7 +9,8 @@ use Rattle.std.proofs.lemmas.Map.Steps.{set_value_same}
 use Rattle.rv_text.specs.declared.message.Key.{Key}
 use Rattle.rv_text.specs.declared.call.Call.{Call}
 use Rattle.rv_client.specs.Process.{Process, Asking}
-use Rattle.rv_world.specs.Processes.{request_under}
+use Rattle.rv_world.specs.declared.process.Running.{Running}
+use Rattle.rv_world.specs.Processes.{process_in, request_under}
 use Rattle.rv_world.specs.World.{World}
 use Rattle.rv_world.specs.Events.{OnlyChangesProcess}
 use Rattle.rv_world.specs.Table.{ClientTable, running_of, with_process, StandsInTable}
@@ -95,6 +96,17 @@ pub turned_back : (table : ClientTable) (client : ℕ) (process : Process) → r
 turned_back table client process runs =
     ap (λ (l : List (ℕ × Option Process)). record table { processes = l })
     (set_value_same (nat_eq client) table.processes (Some process) (runs_there table client process runs))
+
+some_mapped : (taken : Option Running) → IsSome (option_map process_in taken) → IsSome taken
+some_mapped None some = some
+some_mapped (Some running) some = refl
+
+-- of a client whose process runs one is taken out, and it is that
+pub taken_is : (taken : Option Running) {runs : Option Process} → option_map process_in taken ≡ runs → IsSome runs → IsSome taken
+taken_is taken is some = some_mapped taken (subst (λ (o : Option Process). IsSome o) (sym is) some)
+
+pub taken_out : {taken : Option Running} {running : Running} {runs : Option Process} → taken ≡ Some running → option_map process_in taken ≡ runs → Some (process_in running) ≡ runs
+taken_out found is = sym (ap (λ (o : Option Running). option_map process_in o) found) ∙ is
 
 -- who was taken out has a place to be put back to
 pub taken_stands : (table : ClientTable) (client : ℕ) {taken : ClientTable} {process : Process} → running_of table client ≡ Some process → taken ≡ with_process table client None → StandsInTable taken client

@@ -274,10 +274,8 @@ impl WorldState {
         ensures newest { self.new.clients.newest ≡ self.old.clients.newest }
         ensures sent { self.new.to_server ≡ self.old.to_server }
     {
-        let told = match self.clients.replace_process(client, None) {
-            Some(running) => running.hear(answer),
-            None => unreachable!(),
-        };
+        let running = self.clients.replace_process(client, None).unwrap();
+        let told = running.hear(answer);
         let HeardAnswer {
             process,
             held,
