@@ -1,5 +1,5 @@
-//! What an entry brings, where it breaks no rule: the side on which it opens, the limit until which it waits,
-//! and what it makes of its client's session.
+//! The effects of an entry that breaks no rule: the side on which it opens, the limit until which it waits,
+//! and its client's session.
 ghost use Rattle.std.specs.Prelude.{◌≡◌, ◌↔◌, IfNone, IfSome, IsTrue};
 ghost use Rattle.rv_text.specs.Calls.{side_of};
 ghost use Rattle.rv_account.specs.Calls.{Lasts, MayMeet, Stays};
@@ -23,7 +23,7 @@ pub(crate) fn limit_of(entry: &Entry) -> Option<u64>
     }
 }
 
-// Whether a wait goes on past the moment of arrival; what never waits lies there.
+// Whether a wait goes on past the moment of arrival. A call that has no wait stays.
 fn lasts(wait: Option<Wait>) -> bool
     ensures { IsTrue result ↔ Lasts wait }
 {
@@ -80,7 +80,7 @@ pub(crate) fn waiting_until(entry: &Entry) -> Option<u64>
     }
 }
 
-// What an act makes of its client's session.
+// The session that an act gives its client, if it changes that.
 pub(crate) fn session_after(act: &Act, place: Place) -> Option<(u64, AuditSession)>
     ensures { result ≡ session_after act.now place }
 {

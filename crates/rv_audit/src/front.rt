@@ -1,4 +1,4 @@
-//! What an audit keeps of the entries that it has read so far.
+//! The tables in which an audit keeps the entries that it has read so far.
 ghost use Rattle.std.specs.Prelude.{◌≡◌, ◌↔◌, ◌<◌, ◌^◌, ℕ, Some, None, true, false};
 ghost use Rattle.std.specs.Prelude.{option_and_then, length, IfNone, IfSome, IsTrue, OnOk};
 ghost use Rattle.rv_audit.specs.Words.{Among, AreTables, AreWithin, ArrivesWith, Flags, FrontOf, HasOlder};
@@ -32,7 +32,7 @@ pub(crate) struct Front<'a> {
     sessions: AuditSessions,
 }
 
-// What was found on one side: its oldest open arrival that is none of some places.
+// The result of a look at one side: its oldest open arrival that is none of some places.
 #[derive(Clone, Copy)]
 pub(crate) struct Looked {
     side: Side,

@@ -1,4 +1,4 @@
-//! What each session has come to: a client's incarnation, its last number, and its request that may wait.
+//! The state of each session: a client's incarnation, its last number, and its request that may wait.
 ghost use Rattle.std.specs.Prelude.{◌≡◌, ℕ, None, OnOk};
 ghost use Rattle.rv_audit.specs.Sessions.{EntersIf};
 
@@ -13,7 +13,7 @@ pub(crate) struct AuditSession {
     pub(crate) incarnation: u64,
     // The greatest number of the incarnation, or 0 where it has none.
     pub(crate) last: u64,
-    // Where its last request arrived; none where it was cancelled.
+    // The place of its last request, or none if that was cancelled.
     pub(crate) request: Option<Place>,
 }
 

@@ -1,11 +1,11 @@
-//! What may happen in the world.
+//! The events of the world.
 ghost use Rattle.std.specs.Prelude.{◌↔◌, IsTrue};
 ghost use Rattle.rv_world.specs.Limits.{FitsEvent};
 
 use rv_text::{Call, Version, fits_identifier};
 
-/// One event. Packets of each direction are numbered from 0, and may be delivered never, once, or again and
-/// again, in any order.
+/// One event. The packets of each direction are numbered from 0. Each may be delivered never, once or many
+/// times, in any order.
 #[derive(Debug, PartialEq, Eq, Drop)]
 pub enum Event {
     /// A client starts in an incarnation, and asks for a version. Its running process, if it has one, ends.

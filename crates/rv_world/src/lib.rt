@@ -1,5 +1,5 @@
-//! The network world: servers, clients and a link that loses, repeats and reorders, which take one event at
-//! a time. The servers are the book, and the clients are those of the typed client.
+//! The network world: servers, clients and a link that loses, repeats and reorders. It takes one event at a
+//! time. Its servers are books, and its clients are typed clients.
 #![tactic(auto)]
 
 mod clients;

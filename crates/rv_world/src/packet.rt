@@ -1,4 +1,4 @@
-//! Packets: what was sent to a client, and copies of what is delivered.
+//! Packets to clients, and copies of messages and answers for their delivery.
 ghost use Rattle.std.specs.Prelude.{◌≡◌, IfOk};
 ghost use Rattle.rv_world.specs.Events.{sender};
 
@@ -25,7 +25,7 @@ pub(crate) fn sender(message: &Message) -> u64
     }
 }
 
-// A copy of a message. It fails only where memory for its item was refused.
+// A copy of a message. Fails only if memory for its item was refused.
 pub(crate) fn copy_message(alloc: Global, message: &Message) -> Result<Message, NoMemory>
     ensures { IfOk result (λ copy. copy ≡ message.now) }
 {
@@ -47,7 +47,7 @@ pub(crate) fn copy_message(alloc: Global, message: &Message) -> Result<Message, 
     }
 }
 
-// A copy of a reply. It fails only where memory for its items was refused.
+// A copy of a reply. Fails only if memory for its items was refused.
 fn copy_reply(alloc: Global, reply: &Reply) -> Result<Reply, NoMemory>
     ensures { IfOk result (λ copy. copy ≡ reply.now) }
 {
@@ -70,7 +70,7 @@ fn copy_reply(alloc: Global, reply: &Reply) -> Result<Reply, NoMemory>
     }
 }
 
-// A copy of an answer. It fails only where memory for its items was refused.
+// A copy of an answer. Fails only if memory for its items was refused.
 pub(crate) fn copy_answer(alloc: Global, answer: &Answer) -> Result<Answer, NoMemory>
     ensures { IfOk result (λ copy. copy ≡ answer.now) }
 {

@@ -11,7 +11,7 @@ use crate::seen::WorldRefusal;
 use crate::world::World;
 use std::alloc::Global;
 
-// Gives a world each of these events; or tells the number of the first that is refused, and its refusal.
+// Gives a world each of these events. The first that is refused ends it, with its number and its refusal.
 fn take_each(world: &mut World, events: &[Event]) -> Result<(), (usize, WorldRefusal)>
     requires { All FitsEvent events.now }
     ensures runs { OnOk result (Runs world.old events.now world.new) }
@@ -25,9 +25,9 @@ fn take_each(world: &mut World, events: &[Event]) -> Result<(), (usize, WorldRef
     Ok(())
 }
 
-/// The world after a list of events, each of which keeps its limits, from epoch 1. Where an event is refused,
-/// the first such ends the list, and the error is its number, from 0, with its refusal. Where memory for the
-/// world itself was refused, before any event, the error is `(0, NoMemory)` too, also of an empty list.
+/// The world after a list of events, each of which must keep its limits, from epoch 1. The first event that
+/// is refused ends the list, and the error is its number, from 0, with its refusal. If memory for the world
+/// itself was refused, before any event, the error is `(0, NoMemory)`, even for an empty list.
 pub fn run(alloc: Global, events: &[Event]) -> Result<World, (usize, WorldRefusal)>
     requires { All FitsEvent events.now }
     ensures runs { IfOk result (Runs (first_world 1) events.now) }

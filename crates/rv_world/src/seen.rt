@@ -1,13 +1,13 @@
-//! What is seen of an event, and for what one is refused.
+//! The visible results of events, and their refusals.
 use rv_text::{Key, NoMemory, Refusal};
 use thiserror::Error;
 
-/// What is seen of an event.
+/// The visible result of an event.
 #[derive(Clone, Copy, Debug, PartialEq, Eq)]
 pub enum Seen {
-    /// A client sent a message, which is packet of this number.
+    /// A client sent a message: the packet of this number.
     Sent(usize),
-    /// The server sent an answer, which is packet of this number.
+    /// The server sent an answer: the packet of this number.
     Answered(usize),
     /// A new client is welcome, and idle.
     Welcomed,
@@ -17,9 +17,9 @@ pub enum Seen {
     Settled(Key),
     /// The answer says nothing to its client, or no process of the client runs.
     Ignored,
-    /// A client's request ended: this later epoch is there.
+    /// A client's request ended, since the server has this later epoch.
     Ended(u64),
-    /// A client's request ended: its client has this later incarnation.
+    /// A client's request ended, since the client has this later incarnation.
     Replaced(u64),
     /// A client's process ended.
     Crashed,
@@ -27,7 +27,7 @@ pub enum Seen {
     Opened(u64),
 }
 
-/// Why an event was refused. It then changed nothing.
+/// Why an event was refused. A refused event changed nothing.
 #[derive(Clone, Copy, Debug, PartialEq, Eq, Error)]
 pub enum WorldRefusal {
     /// 1: no packet of this number was ever sent.
@@ -48,7 +48,7 @@ pub enum WorldRefusal {
     /// 6: no process of the client runs.
     #[error("there is no such client")]
     NoSuchClient,
-    /// 7: a growth of memory was refused.
+    /// 7: memory was refused.
     #[error("out of memory")]
     NoMemory,
 }

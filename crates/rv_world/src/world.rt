@@ -15,10 +15,10 @@ use std::marker::Model;
 /// Servers, clients, and a link that loses, repeats and reorders what was sent.
 ///
 /// An event looks a client up at most three times. A delivery to the server also copies the message, and
-/// costs what the book's step and its answer cost; one to a client copies the answer; a call that is begun is
-/// copied three times, and once each time that it is sent again; a new epoch opens a book, with 64 queues and
-/// 64 exchangers. What was sent, asked, held or started is never forgotten, nor is a book; of a process that
-/// ended nothing else is kept.
+/// costs as much as the book's step and its answer. A delivery to a client copies the answer. A call is
+/// copied three times when it is begun, and once each time that it is sent again. A new epoch opens a book,
+/// with 64 queues and 64 exchangers. All that was sent, asked, held or started is kept, and so are all books.
+/// Of a process that ended nothing else is.
 #[derive(Drop)]
 pub struct World {
     state: WorldState,
@@ -50,8 +50,8 @@ impl World {
     ghost use Rattle.rv_world.specs.Events.{EventComesTo};
     ghost use Rattle.rv_world.specs.Headline.{Headline, OnlyGrows};
 
-    /// The world that begins in an epoch, 1 to 2^53 - 1: a server with an empty account, opened at moment 0,
-    /// and nothing else. It fails only where memory was refused.
+    /// The world that begins in an epoch, from 1 to 2^53 - 1: a server with an empty account, opened at
+    /// moment 0, and nothing else. Fails only if memory was refused.
     pub fn open(alloc: Global, epoch: u64) -> Result<World, NoMemory>
         requires { FitsIdentifier epoch }
         ensures { IfOk result (λ world. world ≡ first_world epoch) }
@@ -60,9 +60,9 @@ impl World {
         Ok(World { state })
     }
 
-    /// Takes one event, which keeps its limits, and tells what is seen of it. A refused event changes
-    /// nothing. Want of memory is told only where no other refusal is due, and never of a crash, nor of an
-    /// answer whose client has no process. Where the server itself lacks memory the event is not refused: the
+    /// Takes one event, which must keep its limits, and tells what is seen of it. A refused event changes
+    /// nothing. `NoMemory` comes only if no other refusal is due, and never for a crash or for an answer
+    /// whose client has no process. If the server itself lacks memory the event is not refused, and the
     /// answer that is sent says so.
     pub fn step(&mut self, event: &Event) -> Result<Seen, WorldRefusal>
         requires { FitsEvent event.now }
@@ -87,8 +87,8 @@ impl World {
         &self.state.asked
     }
 
-    /// The account of an epoch, if it was opened. Where it isn't the present one, it is looked for among all
-    /// earlier books, from the first on.
+    /// The account of an epoch, if that was opened. One before the present is looked for among all earlier
+    /// books, from the first on.
     pub fn account(&self, epoch: u64) -> Option<&Account>
         ensures found { IfSome result (λ account. IsAccountOf self.now epoch account.now.account) }
         ensures none { IfNone result ((a : _) → ¬ IsAccountOf self.now epoch a) }
@@ -101,7 +101,7 @@ impl World {
         Some(self.state.earlier[index].account())
     }
 
-    /// The answer of a packet, if one of this number was sent.
+    /// The answer that was sent as the packet of this number, if there is one.
     pub fn answer_packet(&self, packet: usize) -> Option<&Answer>
         ensures told { option_map (λ answer. answer.now) result
             ≡ option_map (λ packet. packet.answer) (slice_get self.now.to_client packet) }
