@@ -12,10 +12,10 @@ use std::marker::Model;
 /// The most bytes of UTF-8 that an item has.
 pub const MAX_ITEM_BYTES: usize = 512;
 
-/// What a producer hands over: a text, which contracts see as the list of its bytes.
+/// The text that a producer hands over. Contracts see it as the list of its bytes.
 ///
-/// An item that is read from a body has at most 512 bytes. One that a program makes may be longer,
-/// and then [`Item::fits`] tells.
+/// An item that is read from a body has at most 512 bytes. One that a program makes may be longer;
+/// [`Item::fits`] tells.
 #[derive(Debug, Drop)]
 pub struct Item {
     text: String,
@@ -54,7 +54,7 @@ impl Item {
         text
     }
 
-    /// A copy of the item. It fails only where memory was refused.
+    /// A copy of the item. Fails only if memory was refused.
     pub fn copy(&self, alloc: Global) -> Result<Item, NoMemory>
         ensures same { IfOk result (λ i. i ≡ self.now) }
     {

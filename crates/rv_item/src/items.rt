@@ -12,9 +12,9 @@ use std::marker::Model;
 /// The most items that a drain takes; the least that it asks for is 1.
 pub const MAX_DRAIN: u64 = 16;
 
-/// What a drain took: items in the order of their places, which contracts see as the list of their texts.
+/// The items that a drain took, in the order of their places. Contracts see the list of their texts.
 ///
-/// Those that are read from a body are at most 16. A program may make more, and then [`Items::fits`] tells.
+/// At most 16 are read from a body. A program may make more; [`Items::fits`] tells.
 #[derive(Debug, Drop)]
 pub struct Items {
     items: Vec<Item>,
@@ -60,8 +60,8 @@ impl Items {
         }
     }
 
-    /// Puts a further item behind the others. It fails only where memory was refused, and then the items stay
-    /// as they were.
+    /// Puts a further item behind the others. Fails only if memory was refused, and then the items stay as
+    /// they were.
     pub fn push(&mut self, item: Item) -> Result<(), NoMemory>
         ensures pushed { OnOk result (self.new ≡ self.old ++ item ∷ []) }
         ensures kept { OnErr result (self.new ≡ self.old) }
@@ -69,7 +69,7 @@ impl Items {
         Ok(self.items.push(item)?)
     }
 
-    /// A copy of the items. It fails only where memory was refused.
+    /// A copy of the items. Fails only if memory was refused.
     pub fn copy(&self, alloc: Global) -> Result<Items, NoMemory>
         ensures same { IfOk result (λ items. items ≡ self.now) }
     {

@@ -27,7 +27,7 @@ WritesBetween least most text n = WritesNumber text n × (least ≤ n) × (n ≤
 abbrev pub WritesIdentifier : List ℕ → ℕ → Type 0
 WritesIdentifier text n = WritesNumber text n × FitsIdentifier n
 
--- the text is the number's digits, and a zero (48) begins it only where it stands alone
+-- the text is the number's digits, and a zero (48) begins it only if it stands alone
 pub record WritesPlainly (text : List ℕ) (n : ℕ) : Type 0 where
   pub writes : WritesNumber text n
   pub no_leading_zero : (rest : List ℕ) → text ≡ 48 ∷ rest → rest ≡ []

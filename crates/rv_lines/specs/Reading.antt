@@ -47,7 +47,7 @@ SaysMessage field (Some m) = IsMessageBody field m
 abbrev pub SaysAct : List ℕ → Act → Type 0
 SaysAct field act = SaysMessage field (message_in act)
 
--- the line is a moment, one space (32), a field with no space, one space and this last field, whatever it is
+-- the line is a moment, one space (32), a field with no space, one space and this last field, of any bytes
 pub record CutsFields (line : List ℕ) (moment : ℕ) (partners_field last_field : List ℕ) : Type 0 where
   pub moment_field : List ℕ
   pub parts : line ≡ moment_field ++ 32 ∷ partners_field ++ 32 ∷ last_field

@@ -3,7 +3,7 @@ ghost use Rattle.std.specs.Prelude.{◌≡◌, ◌≢◌, ◌<◌, ◌∷◌, �
 ghost use Rattle.std.specs.List.{All};
 ghost use Rattle.rv_lines.specs.Lines.{BeginsWithLine, lines};
 
-/// The first line and the bytes after it, or `None` where there are no bytes. A line ends before
+/// The first line and the bytes after it, or `None` if there are no bytes. A line ends before
 /// an LF, which is dropped, or with the bytes.
 pub fn first_line(bytes: &[u8]) -> Option<(&[u8], &[u8])>
     ensures some { IfSome result (λ p. lines bytes.now ≡ p.0.now ∷ lines p.1.now) }
@@ -20,7 +20,7 @@ pub fn first_line(bytes: &[u8]) -> Option<(&[u8], &[u8])>
     }
 }
 
-/// The bytes before the first one that is `byte`, and those after it; `None` where no byte is.
+/// The bytes before the first one that is `byte`, and those after it; `None` if no byte is.
 pub fn cut_at(byte: u8, bytes: &[u8]) -> Option<(&[u8], &[u8])>
     ensures parts { IfSome result (λ p. bytes.now ≡ p.0.now ++ byte ∷ p.1.now) }
     ensures first { IfSome result (λ p. All (λ b. b ≢ byte) p.0.now) }

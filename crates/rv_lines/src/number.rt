@@ -35,7 +35,7 @@ pub fn read_identifier(text: &[u8]) -> Option<u64>
     read_between(text, 1, MAX_IDENTIFIER)
 }
 
-/// The number that `text` writes, where it is at least `least` and at most `most`.
+/// The number that `text` writes, if it is at least `least` and at most `most`.
 pub fn read_between(text: &[u8], least: u64, most: u64) -> Option<u64>
     ensures some { IfSome result (WritesBetween least most text.now) }
     ensures none { result ≡ None → (n : ℕ) → ¬ WritesBetween least most text.now n }
@@ -48,7 +48,7 @@ pub fn read_between(text: &[u8], least: u64, most: u64) -> Option<u64>
     }
 }
 
-/// The number that `text` writes with no leading zero, where it is at most `most`; `0` alone is a number too.
+/// The number that `text` writes with no leading zero, if it is at most `most`. `0` alone is a number too.
 pub(crate) fn read_plain(text: &[u8], most: u64) -> Option<u64>
     ensures some { IfSome result (WritesUpTo most text.now) }
     ensures none { result ≡ None → (n : ℕ) → ¬ WritesUpTo most text.now n }

@@ -10,8 +10,8 @@ use rv_book::{Act, Entry, Partners, Place};
 use rv_text::{Message, NoMemory, encode_message};
 use std::alloc::Global;
 
-/// The first line of an account, with no LF: `epoch E opened T`. It is short, of less than 65,727 bytes. It
-/// fails only where memory was refused.
+/// The first line of an account, with no LF: `epoch E opened T`. It is short, of less than 65,727 bytes.
+/// Fails only if memory was refused.
 pub fn head_line(alloc: Global, epoch: u64, opened: u64) -> Result<String, NoMemory>
     ensures text { IfOk result (λ s. string_bytes s ≡ head_text epoch opened) }
     ensures short { IfOk result (λ s. IsShort (string_bytes s)) }
@@ -21,8 +21,8 @@ pub fn head_line(alloc: Global, epoch: u64, opened: u64) -> Result<String, NoMem
 
 /// The line of an entry, with no LF: three fields, which one space parts. They are the moment, the places of
 /// the partners with commas between, or `-`, and the written body of the message or the word `tick`. It is
-/// short, of less than 65,727 bytes, where the act is within its limits, and names at most 16 partners, at
-/// places up to 99,999. It fails only where memory was refused.
+/// short, of less than 65,727 bytes, if the act is within its limits, and names at most 16 partners, at
+/// places up to 99,999. Fails only if memory was refused.
 pub fn entry_line(alloc: Global, entry: &Entry) -> Result<String, NoMemory>
     ensures text { IfOk result (λ s. string_bytes s ≡ entry_text entry.now) }
     ensures short { FitsAct entry.now.act → FitPartners entry.now

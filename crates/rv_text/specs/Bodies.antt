@@ -45,7 +45,7 @@ IsCallBody bytes call = IsBody call_row FitsCall bytes call
 -- what a decoder answers for bytes
 pub record Decodes (A : Type 0) (IsBodyOf : List ℕ → A → Type 0)
     (bytes : List ℕ) (result : Result A TextFault) : Type 0 where
-  -- with both: a value comes exactly where the bytes are its body, unless memory ran out
+  -- with both: a value comes exactly if the bytes are its body, unless memory ran out
   pub found : IfOk result (IsBodyOf bytes)
   pub only : (x : A) → IsBodyOf bytes x → (result ≡ Ok x) ⊎ (result ≡ Err fault.NoMemory)
   pub length_first : ¬ HasBodyLength bytes → result ≡ Err fault.NotMessage

@@ -11,11 +11,11 @@ use Rattle.rv_text.specs.declared.call.Call.TheVariants as call
 pub record Nature : Type 0 where
   -- the word that names it in a body
   pub word : List ℕ
-  -- where it acts, and on which side
+  -- the queue or exchanger at which it acts, and its side of it
   pub side : Side
   -- how long it may wait: none for a put, a count and a peek, and now for a drain
   pub wait : Option Wait
-  -- how many items it takes at most in one step; none where it meets one partner at most
+  -- how many items it takes at most in one step; none if it meets one partner at most
   pub drains : Option ℕ
   -- what it hands over
   pub item : Option (List ℕ)
@@ -84,7 +84,7 @@ side_of call = (nature_of call).side
 abbrev pub wait_of : Call → Option Wait
 wait_of call = (nature_of call).wait
 
--- which waits a side has: who exchanges, waits at least 0 milliseconds
+-- which waits a side may have: a call that exchanges waits at least 0 milliseconds
 abbrev pub MayWait : Side → Option Wait → Type 0
 MayWait (side.Exchanges exchanger) (Some wait.Now) = ⊥
 MayWait _ _ = Unit {0}

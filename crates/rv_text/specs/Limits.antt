@@ -1,4 +1,4 @@
--- When the numbers and items of a value are within their limits: where the members of its row are.
+-- When the numbers and items of a value are within their limits: if the members of its row are.
 use Rattle.std.specs.Prelude.{◌≡◌, ℕ}
 use Rattle.rv_text.specs.declared.message.Key.{Key}
 use Rattle.rv_text.specs.declared.message.Message.{Message}

@@ -27,7 +27,7 @@ max_identifier = 9007199254740991
 abbrev pub identifiers : Limit
 identifiers = from_one_to max_identifier
 
--- a session's last number: 0 where it has none yet
+-- a session's last number: 0 if it has none yet
 abbrev pub last_numbers : Limit
 last_numbers = up_to max_identifier
 

@@ -41,7 +41,7 @@ Map = BTreeMap (String Global) Value
 
 -- ---- what a reader answers
 
--- the fault that a reader answers where this is to be found
+-- the fault that a reader answers if this is to be found
 abbrev pub Fails : {A : Type 0} → TextFault → Option A → Type 0
 Fails fault.NotJson found = ⊥
 Fails fault.NotMessage found = found ≡ None
@@ -85,7 +85,7 @@ None >>= next = None
 abbrev pub ReaderLine : Type 0 → Type 0 → Type 0
 ReaderLine K A = K × (Members → Option A)
 
--- by the first line whose word or number is the same as this
+-- by the first line that has the same word or number as this
 abbrev pub under : {K A : Type 0} → (K → K → Bool) → K → List (ReaderLine K A) → Members → Option A
 under same key [] object = None
 under same key (line ∷ lines) object =
@@ -109,7 +109,7 @@ queue_among = whole_among (codes "queue")
 abbrev pub item_among : Members → Option (List ℕ)
 item_among = text_among (codes "item")
 
--- the texts of a list, where each of its values is one
+-- the texts of a list, if each of its values is one
 abbrev pub texts_of : Items → Option (List (List ℕ))
 texts_of json.no_items = Some []
 texts_of (json.item value values) = do
@@ -117,7 +117,7 @@ texts_of (json.item value values) = do
   texts ← texts_of values
   Some (text ∷ texts)
 
--- the values of a list, where they are as many as a drain takes at most
+-- the values of a list, if they are no more than a drain takes at most
 abbrev pub few_of : Items → Option Items
 few_of values = if nat_le (items_len values) 16 then Some values else None
 
@@ -186,7 +186,7 @@ call_lines =
 abbrev pub call_among : Members → Option Call
 call_among members = among (codes "call") call_lines members
 
--- version 2 where its member says so, and else version 1: of another value the member is one too many
+-- version 2 if its member says so, and else version 1: of another value the member is one too many
 abbrev pub version_told : Option ℕ → Version
 version_told None = One
 version_told (Some n) = if n == 2 then Two else One
@@ -232,7 +232,7 @@ taker_among epoch client members = do
   Some (reply.ReceivedBy
       (record { epoch = epoch; client = client; incarnation = incarnation; number = number }))
 
--- who received it, where a member names the client, and else that it was received
+-- the consumer that received it, if a member names the client, and else that it was received
 abbrev pub received_by : ℕ → Option ℕ → Members → Option Reply
 received_by epoch None _ = Some reply.Received
 received_by epoch (Some client) members = taker_among epoch client members
@@ -332,7 +332,7 @@ answer_among members = among (codes "kind") answer_lines members
 
 -- what a body may be read as: how it is found, its members and its limits
 pub record Shape (A : Type 0) : Type 1 where
-  -- whatever other members stand beside, and whatever the limits, but that a list has 16 texts at most
+  -- with any other members beside, and no limit looked at, but that a list has 16 texts at most
   pub found : Members → Option A
   pub row : A → List Member
   pub Fits : A → Type 0
@@ -352,7 +352,7 @@ pub record IsAlone (A : Type 0) (shape : Shape A) (members : Members) (x : A) : 
   pub whole : members_len members ≡ length (shape.row x)
   pub fits : shape.Fits x
 
--- a reader answers that value exactly where there is one, unless memory ran out
+-- a reader answers that value exactly if there is one, unless memory ran out
 abbrev pub FindsAlone : {A : Type 0} → Shape A → Result A TextFault → Members → Type 0
 FindsAlone {A} shape (Ok x) object = IsAlone A shape object x
 FindsAlone shape (Err fault.NotJson) object = ⊥

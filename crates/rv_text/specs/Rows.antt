@@ -95,7 +95,7 @@ message_row (message.Cancel key) = word (codes "kind") (codes "cancel") ∷ key_
 abbrev pub texts_row : List (List ℕ) → List Member
 texts_row items = item_texts (codes "texts") items ∷ []
 
--- the key of a consumer, whose epoch is the answer's
+-- the key of a consumer; its epoch is that of the answer
 abbrev pub taker_row : Key → List Member
 taker_row taker =
     identifier (codes "by_client") taker.client ∷

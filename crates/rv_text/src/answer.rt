@@ -10,7 +10,7 @@ use thiserror::Error;
 /// The greatest number that a count tells: as many items or consumers as an epoch can have.
 pub const MAX_COUNTED: u64 = 100_000;
 
-/// What became of a request. Once given, it stays the request's reply.
+/// The outcome of a request. Once given, it stays the request's reply.
 #[derive(Debug, PartialEq, Eq, Drop)]
 pub enum Reply {
     /// A put was accepted.
@@ -88,8 +88,8 @@ impl Reply {
     ghost use Rattle.rv_text.specs.Rows.{reply_row};
     ghost use Rattle.rv_text.specs.Limits.{FitsReply, IsOfEpoch};
 
-    // How many members the reply has in a body: its word, and its item, its items, its numbers or what is
-    // told of a consumer's key.
+    // How many members the reply has in a body: its word, and its item, its items, its numbers or those of a
+    // consumer's key.
     pub(crate) fn member_count(&self) -> usize
         ensures { result ≡ length (reply_row self.now) }
     {
@@ -189,7 +189,7 @@ pub enum Answer {
     Welcome {
         /// The server's epoch.
         epoch: u64,
-        /// Whose session it is.
+        /// The session's client.
         client: u64,
         /// The session's incarnation.
         incarnation: u64,
@@ -200,10 +200,10 @@ pub enum Answer {
     Replied {
         /// The request that has the reply.
         key: Key,
-        /// What became of it.
+        /// Its outcome.
         reply: Reply,
     },
-    /// The request of this key waits; what becomes of it is told when the message is sent again.
+    /// The request of this key waits. Its outcome is told when the message is sent again.
     Waiting {
         /// The request that waits.
         key: Key,

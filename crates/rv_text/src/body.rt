@@ -18,7 +18,8 @@ pub const MAX_BODY_BYTES: usize = 65_535;
 pub(crate) trait Body: Drop {
     ghost shape: { Shape Self };
 
-    /// Reads it, whatever else stands beside, and whatever the limits but 16 texts. Items are taken out last.
+    /// Reads it. Other members may stand beside, and no limit is looked at, but that of 16 texts. Items are
+    /// taken out last.
     fn read(alloc: Global, members: &mut Members) -> Result<Self, TextFault>
         ensures { FindsAmong members.old result shape.found };
 
@@ -40,7 +41,7 @@ pub(crate) fn decode<B: Body>(alloc: Global, bytes: &[u8]) -> Result<B, TextFaul
     read_alone(alloc, members)
 }
 
-// The value that is found among the members, where they are no more than its own and within its limits.
+// The value that is found among the members, if they are no more than its own and within its limits.
 #[tactic(auto, using(crate::proofs::Steps::members_counted))]
 fn read_alone<B: Body>(alloc: Global, members: &mut Members) -> Result<B, TextFault>
     ensures alone { FindsAlone B.shape result (members_view members.old.entries) }

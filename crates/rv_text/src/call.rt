@@ -81,16 +81,16 @@ pub enum Call {
     },
 }
 
-/// Where a call acts, and on which side of it: whom it may meet.
+/// The queue or exchanger of a call, and the call's side of it, which decides what calls it may meet.
 #[derive(Clone, Copy, Debug, PartialEq, Eq)]
 pub enum Side {
-    /// It gives an item to this queue, and meets who takes from it.
+    /// It gives an item to this queue, and meets calls that take from it.
     Gives(u64),
-    /// It takes an item from this queue, and meets who gives to it.
+    /// It takes an item from this queue, and meets calls that give to it.
     Takes(u64),
-    /// It looks at this queue, and meets nobody.
+    /// It looks at this queue, and meets no call.
     Looks(u64),
-    /// It swaps items at this exchanger, and meets who swaps there too.
+    /// It swaps items at this exchanger, and meets calls that swap there too.
     Exchanges(u64),
 }
 
@@ -176,7 +176,7 @@ impl Call {
         }
     }
 
-    /// How many items the call takes at most in one step; none where it meets one partner at most.
+    /// How many items the call takes at most in one step; none if it meets one partner at most.
     pub fn drains(&self) -> Option<u64>
         ensures { result ≡ drains_of self.now }
     {
@@ -204,7 +204,7 @@ impl Call {
         self == other
     }
 
-    /// A copy of the call. It fails only where memory for its item was refused.
+    /// A copy of the call. Fails only if memory for its item was refused.
     pub fn copy(&self, alloc: Global) -> Result<Call, NoMemory>
         ensures same { IfOk result (λ call. call ≡ self.now) }
     {

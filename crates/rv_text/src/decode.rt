@@ -21,7 +21,7 @@ use std::alloc::Global;
 /// The length is looked at first, without memory. Bytes of a body's length that are no JSON give
 /// [`TextFault::NotJson`], and all other bytes that are no message's body give
 /// [`TextFault::NotMessage`]. A name that stands twice counts with its last value.
-/// [`TextFault::NoMemory`] comes only where a growth was refused.
+/// [`TextFault::NoMemory`] comes only if a growth was refused.
 pub fn decode_message(alloc: Global, bytes: &[u8]) -> Result<Message, TextFault>
     ensures { Decodes Message IsMessageBody bytes.now result }
 {
@@ -35,8 +35,8 @@ pub fn decode_answer(alloc: Global, bytes: &[u8]) -> Result<Answer, TextFault>
     decode::<Answer>(alloc, bytes)
 }
 
-/// The call whose text the bytes are, as [`decode_message`] reads a message: the members are the call's
-/// alone, without a key.
+/// The call whose text the bytes are, as [`decode_message`] reads a message. The members are those of the
+/// call, without a key.
 pub fn decode_call(alloc: Global, bytes: &[u8]) -> Result<Call, TextFault>
     ensures { Decodes Call IsCallBody bytes.now result }
 {

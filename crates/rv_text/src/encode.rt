@@ -46,9 +46,8 @@ pub fn no_memory_body() -> &'static [u8]
     NO_MEMORY_BODY.as_bytes()
 }
 
-/// The body that is written for an answer: JSON with no white space, its members in byte order of
-/// their names. An answer within its limits has a body shorter than 65,535 bytes. It fails only where
-/// memory was refused.
+/// The body that is written for an answer: JSON with no white space, its members in byte order of their
+/// names. An answer within its limits has a body shorter than 65,535 bytes. Fails only if memory was refused.
 pub fn encode_answer(alloc: Global, answer: &Answer) -> Result<String, NoMemory>
     ensures text { IfOk result (λ s. string_bytes s ≡ answer_text answer.now) }
     ensures short { FitsAnswer answer.now → IfOk result (λ s. HasBodyLength (string_bytes s)) }
@@ -59,9 +58,8 @@ pub fn encode_answer(alloc: Global, answer: &Answer) -> Result<String, NoMemory>
     Value::Object(members).to_string(alloc)
 }
 
-/// The body that is written for a message: JSON with no white space, its members in byte order of
-/// their names. A message within its limits has a body shorter than 65,535 bytes. It fails only where
-/// memory was refused.
+/// The body that is written for a message, as [`encode_answer`] writes an answer. Fails only if memory was
+/// refused.
 pub fn encode_message(alloc: Global, message: &Message) -> Result<String, NoMemory>
     ensures text { IfOk result (λ s. string_bytes s ≡ message_text message.now) }
     ensures short { FitsMessage message.now → IfOk result (λ s. HasBodyLength (string_bytes s)) }
@@ -239,7 +237,7 @@ fn put_reply(members: &mut Members, alloc: Global, reply: &Reply) -> Result<(), 
     }
 }
 
-// The key of a consumer, whose epoch is the answer's.
+// The key of a consumer. Its epoch is that of the answer.
 fn put_taker(members: &mut Members, alloc: Global, taker: &Key) -> Result<(), NoMemory>
     ensures { OnOk result (PutsRow (taker_row taker.now) members.old members.new) }
 {

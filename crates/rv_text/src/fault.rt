@@ -5,15 +5,15 @@ use thiserror::Error;
 /// A growth of memory was refused.
 pub type NoMemory = AllocError;
 
-/// Why bytes are not read as a message; or not as an answer or a call where that is wanted.
+/// The reason why bytes are not read as a message, or not as an answer or a call if that is wanted.
 #[derive(Clone, Copy, Debug, PartialEq, Eq, Error)]
 pub enum TextFault {
-    /// Fault 1: the bytes have the length of a body, and `serde_json` has no reading of them: they are
-    /// no JSON text (RFC 8259), or one that it does not take, as one that is nested over 127 deep.
+    /// Fault 1: the bytes have the length of a body, and `serde_json` cannot read them. They are no JSON
+    /// text (RFC 8259), or one that it does not take, such as one that is nested over 127 deep.
     #[error("the body is not JSON")]
     NotJson,
-    /// Fault 2: the length is outside 1 to 65,535 bytes, or the JSON has other members, kinds or
-    /// values than a message has; where an answer or a call is wanted, than that has.
+    /// Fault 2: the length is outside 1 to 65,535 bytes, or the JSON has other members, kinds or values
+    /// than a message has (or an answer, or a call, if that is wanted).
     #[error("the body is not a message")]
     NotMessage,
     /// Fault 3: a growth of memory was refused.

@@ -1,4 +1,4 @@
-//! What stands in a JSON object, member by member: what a member may be, and not yet its limits.
+//! Reads what stands in a JSON object, member by member. Limits are not looked at yet.
 ghost use Rattle.std.specs.Prelude.{◌≡◌, option_map};
 ghost use Rattle.serde_json.specs.Find.{get_member, as_str};
 ghost use Rattle.serde_json.specs.View.{view, items_view, members_view};
@@ -100,7 +100,7 @@ fn take_each_text(alloc: Global, values: Vec<Value>) -> Result<Items, TextFault>
     Ok(items)
 }
 
-// The item whose text the value is, which it takes over.
+// The item whose text the value is. It takes the text over.
 fn item_of(value: Value) -> Result<Item, TextFault>
     ensures { Finds (λ item. item) result (as_str (view value)) }
 {
@@ -180,7 +180,8 @@ pub(crate) fn read_version(members: &Members) -> Version
     }
 }
 
-// That a transfer was received, and by whom, where that is told; the consumer is of this epoch.
+// The reply to a transfer that was received, with the consumer's key if it is told. The consumer is of this
+// epoch.
 fn read_received(members: &Members, epoch: u64) -> Result<Reply, TextFault>
     ensures { FindsAmong members.now result (received_among epoch) }
 {

@@ -22,13 +22,13 @@ pub struct Key {
     pub number: u64,
 }
 
-/// What a client sends.
+/// A message from a client.
 #[derive(Debug, PartialEq, Eq, Drop)]
 pub enum Message {
     /// Opens a session of this version, and ends the client's session of a lower incarnation, if it has one.
     /// Said again it is welcomed again.
     Hello {
-        /// Who says hello.
+        /// The client that says hello.
         client: u64,
         /// Which of the client's lives, greater than all before it.
         incarnation: u64,
@@ -37,14 +37,14 @@ pub enum Message {
     },
     /// Asks for a call; the same key with the same call is a repeat.
     Request {
-        /// What names the request.
+        /// The request's key.
         key: Key,
-        /// What it asks for.
+        /// The call that it asks for.
         call: Call,
     },
-    /// Ends the request of this key where it waits; it may also come before its request.
+    /// Ends the request of this key if it waits. A cancel may also come before its request.
     Cancel {
-        /// What names the request that is to end.
+        /// The key of the request that is to end.
         key: Key,
     },
 }

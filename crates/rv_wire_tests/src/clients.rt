@@ -1,4 +1,4 @@
-//! Requests over devices in memory: what is heard, what goes out, and what is read.
+//! Requests over devices in memory: the bytes that go out and those that are read.
 ghost use Rattle.std.specs.Prelude.{◌≡◌, IfOk, Some};
 ghost use Rattle.rv_text.specs.Limits.{FitsCall, FitsMessage};
 
@@ -429,7 +429,7 @@ fn a_conversation(rt: HostRuntime) -> Result<(), Fail> {
     Ok(())
 }
 
-// Passes too where any one growth is refused.
+// Passes too if any one growth is refused.
 #[test]
 fn a_refused_growth_leaves_what_it_says(rt: HostRuntime) -> Result<(), Fail> {
     let settled = settles(&rt, rt.alloc())? || settles(&rt, rt.alloc())?;
@@ -437,7 +437,7 @@ fn a_refused_growth_leaves_what_it_says(rt: HostRuntime) -> Result<(), Fail> {
     Ok(())
 }
 
-// The put of "a" into queue 3; once more, where memory is refused.
+// The put of "a" into queue 3; once more, if memory is refused.
 fn put(alloc: Global) -> Result<Call, AllocError> {
     let text = match String::from_str(alloc, "a") {
         Ok(text) => text,
@@ -447,7 +447,7 @@ fn put(alloc: Global) -> Result<Call, AllocError> {
     Ok(Call::Put { queue: 3, item })
 }
 
-// Passes too where any one growth is refused.
+// Passes too if any one growth is refused.
 #[test]
 fn a_request_is_the_same_each_time(rt: HostRuntime) -> Result<(), Fail> {
     let alloc = rt.alloc();

@@ -126,7 +126,7 @@ fn next_again(frames: &mut Frames) -> Result<Option<Vec<u8>>, NoMemory> {
     }
 }
 
-// Passes too where any one growth is refused.
+// Passes too if any one growth is refused.
 #[test]
 fn a_refused_growth_changes_nothing(rt: HostRuntime) {
     let mut frames = Frames::new(rt.alloc());

@@ -1,4 +1,4 @@
-//! A caller that is proved from the clauses alone: what a crate above can say of a whole stream.
+//! A caller that is proved from the clauses alone, as a crate above would be: frames of a whole stream.
 ghost use Rattle.std.specs.Prelude.{◌<◌, IfOk};
 ghost use Rattle.rv_frame.specs.Cut.{Cut};
 
