@@ -71,6 +71,14 @@ impl Item {
     }
 }
 
+impl Clone for Item {
+    ghost is_clone = { λ item copy. copy ≡ item };
+
+    fn clone(&self) -> Result<Item, NoMemory> {
+        self.copy(*self.text.allocator())
+    }
+}
+
 impl PartialEq for Item {
     ghost eq = { λ a b. pointwise nat_eq a b };
 

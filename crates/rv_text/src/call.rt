@@ -2,6 +2,7 @@
 ghost use Rattle.std.specs.Prelude.{◌≡◌, ◌↔◌, IfOk, IsTrue, option_map};
 ghost use Rattle.rv_text.specs.Limits.{FitsMax};
 
+use self::Side::{Exchanges, Gives, Looks, Takes};
 use crate::fault::NoMemory;
 use rv_item::{Item, MAX_DRAIN};
 use std::alloc::Global;
@@ -26,60 +27,57 @@ pub enum Wait {
     Forever,
 }
 
-/// What a request asks of a queue or of an exchanger.
-#[derive(Debug, PartialEq, Eq, Drop)]
+/// What a request asks of a queue or of an exchanger, each 0 to 63. A call has the item that it hands over,
+/// if it does, and tells how long it waits for a partner, if it may.
+#[derive(Clone, Debug, PartialEq, Eq, Drop)]
 pub enum Call {
     /// Appends the item at the queue's tail and never waits (Java's `TransferQueue.put`).
     Put {
-        /// The queue, 0 to 63.
         queue: u64,
-        /// What it hands over.
         item: Item,
     },
     /// Hands the item over to a consumer, and may wait for one (Java's `transfer` and `tryTransfer`).
     Transfer {
-        /// The queue, 0 to 63.
         queue: u64,
-        /// What it hands over.
         item: Item,
-        /// How long it waits for a partner.
         wait: Wait,
     },
     /// Takes the queue's oldest item, and may wait for one (Java's `take` and `poll`).
     Take {
-        /// The queue, 0 to 63.
         queue: u64,
-        /// How long it waits for a partner.
         wait: Wait,
     },
     /// Swaps the item for that of another request, and waits for one at least 0 milliseconds: `Now` is no
     /// wait of a swap (Java's `Exchanger.exchange`).
     Swap {
-        /// The exchanger, 0 to 63.
         exchanger: u64,
-        /// What it hands over.
         item: Item,
-        /// How long it waits for a partner.
         wait: Wait,
     },
     /// Counts the items and the consumers that are there.
     Count {
-        /// The queue, 0 to 63.
         queue: u64,
     },
     /// Shows the oldest item and removes nothing.
     Peek {
-        /// The queue, 0 to 63.
         queue: u64,
     },
     /// Takes up to `max` of the oldest items in one step, 1 to 16, and never waits (Java's `drainTo`).
     Drain {
-        /// The queue, 0 to 63.
         queue: u64,
-        /// How many items it takes at most.
         max: u64,
     },
 }
+
+// What a call is: its word in a body, its side, its wait, how many items it drains, and its item.
+#[derive(Clone, Copy)]
+pub(crate) struct Nature<'a>(
+    pub(crate) &'static str,
+    pub(crate) Side,
+    pub(crate) Option<Wait>,
+    pub(crate) Option<u64>,
+    pub(crate) Option<&'a Item>,
+);
 
 /// The queue or exchanger of a call, and the call's side of it, which decides what calls it may meet.
 #[derive(Clone, Copy, Debug, PartialEq, Eq)]
@@ -137,18 +135,30 @@ impl Call {
     ghost use Rattle.rv_text.specs.Calls.{nature_of, side_of, wait_of, drains_of, item_of};
     ghost use Rattle.rv_text.specs.Limits.{FitsCall};
 
-    // The word that names the call in a body.
-    pub(crate) fn word(&self) -> &'static str
-        ensures { result.now ≡ (nature_of self.now).word }
+    // What the call is, one row a call.
+    pub(crate) fn nature(&self) -> Nature<'_>
+        ensures word { result.0.now ≡ (nature_of self.now).word }
+        ensures side { result.1 ≡ side_of self.now }
+        ensures wait { result.2 ≡ wait_of self.now }
+        ensures drains { result.3 ≡ drains_of self.now }
+        ensures item { option_map (λ i. i.now) result.4 ≡ item_of self.now }
     {
         match self {
-            Call::Put { .. } => "put",
-            Call::Transfer { .. } => "transfer",
-            Call::Take { .. } => "take",
-            Call::Swap { .. } => "swap",
-            Call::Count { .. } => "count",
-            Call::Peek { .. } => "peek",
-            Call::Drain { .. } => "drain",
+            Call::Put { queue, item } => Nature("put", Gives(*queue), None, None, Some(item)),
+            Call::Transfer { queue, item, wait } => {
+                Nature("transfer", Gives(*queue), Some(*wait), None, Some(item))
+            }
+            Call::Take { queue, wait } => Nature("take", Takes(*queue), Some(*wait), None, None),
+            Call::Swap {
+                exchanger,
+                item,
+                wait,
+            } => Nature("swap", Exchanges(*exchanger), Some(*wait), None, Some(item)),
+            Call::Count { queue } => Nature("count", Looks(*queue), None, None, None),
+            Call::Peek { queue } => Nature("peek", Looks(*queue), None, None, None),
+            Call::Drain { queue, max } => {
+                Nature("drain", Takes(*queue), Some(Wait::Now), Some(*max), None)
+            }
         }
     }
 
@@ -156,45 +166,28 @@ impl Call {
     pub fn side(&self) -> Side
         ensures { result ≡ side_of self.now }
     {
-        match self {
-            Call::Put { queue, .. } | Call::Transfer { queue, .. } => Side::Gives(*queue),
-            Call::Take { queue, .. } | Call::Drain { queue, .. } => Side::Takes(*queue),
-            Call::Swap { exchanger, .. } => Side::Exchanges(*exchanger),
-            Call::Count { queue } | Call::Peek { queue } => Side::Looks(*queue),
-        }
+        self.nature().1
     }
 
     /// How long the call may wait: none for a put, a count and a peek, and now for a drain.
     pub fn wait(&self) -> Option<Wait>
         ensures { result ≡ wait_of self.now }
     {
-        match self {
-            Call::Transfer { wait, .. } | Call::Take { wait, .. } => Some(*wait),
-            Call::Swap { wait, .. } => Some(*wait),
-            Call::Drain { .. } => Some(Wait::Now),
-            _ => None,
-        }
+        self.nature().2
     }
 
     /// How many items the call takes at most in one step; none if it meets one partner at most.
     pub fn drains(&self) -> Option<u64>
         ensures { result ≡ drains_of self.now }
     {
-        match self {
-            Call::Drain { max, .. } => Some(*max),
-            _ => None,
-        }
+        self.nature().3
     }
 
     /// The item that the call hands over, if it does.
     pub fn item(&self) -> Option<&Item>
         ensures { option_map (λ i. i.now) result ≡ item_of self.now }
     {
-        match self {
-            Call::Put { item, .. } | Call::Transfer { item, .. } => Some(item),
-            Call::Swap { item, .. } => Some(item),
-            _ => None,
-        }
+        self.nature().4
     }
 
     /// Whether the calls are of one kind and have the same members.
@@ -205,39 +198,10 @@ impl Call {
     }
 
     /// A copy of the call. Fails only if memory for its item was refused.
-    pub fn copy(&self, alloc: Global) -> Result<Call, NoMemory>
+    pub fn copy(&self, _alloc: Global) -> Result<Call, NoMemory>
         ensures same { IfOk result (λ call. call ≡ self.now) }
     {
-        match self {
-            Call::Put { queue, item } => Ok(Call::Put {
-                queue: *queue,
-                item: item.copy(alloc)?,
-            }),
-            Call::Transfer { queue, item, wait } => Ok(Call::Transfer {
-                queue: *queue,
-                item: item.copy(alloc)?,
-                wait: *wait,
-            }),
-            Call::Take { queue, wait } => Ok(Call::Take {
-                queue: *queue,
-                wait: *wait,
-            }),
-            Call::Swap {
-                exchanger,
-                item,
-                wait,
-            } => Ok(Call::Swap {
-                exchanger: *exchanger,
-                item: item.copy(alloc)?,
-                wait: *wait,
-            }),
-            Call::Count { queue } => Ok(Call::Count { queue: *queue }),
-            Call::Peek { queue } => Ok(Call::Peek { queue: *queue }),
-            Call::Drain { queue, max } => Ok(Call::Drain {
-                queue: *queue,
-                max: *max,
-            }),
-        }
+        self.clone()
     }
 
     /// Whether the queue or exchanger is 0 to 63, the wait at most 86,400,000 milliseconds and, of a swap,

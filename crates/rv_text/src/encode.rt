@@ -6,13 +6,12 @@ ghost use Rattle.rv_text.specs.Members.{texts_value};
 ghost use Rattle.rv_text.specs.Rows.{key_row, side_row, wait_row, max_or_wait_row, item_row, call_row};
 ghost use Rattle.rv_text.specs.Rows.{version_row, taker_row};
 ghost use Rattle.rv_text.specs.Rows.{message_row, texts_row, reply_row, detail_row, answer_row};
-ghost use Rattle.rv_text.specs.Calls.{drains_of, wait_of};
 ghost use Rattle.rv_text.specs.Reading.{Puts, PutsRow};
 ghost use Rattle.rv_text.specs.Bodies.{HasBodyLength, message_text, answer_text, refused_text};
 ghost use Rattle.rv_text.specs.Limits.{FitsMessage, FitsAnswer};
 
 use crate::answer::{Answer, Refusal, Reply};
-use crate::call::{Call, Side, Wait};
+use crate::call::{Call, Nature, Side, Wait};
 use crate::fault::NoMemory;
 use crate::laws::body_constants;
 use crate::members::Members;
@@ -109,10 +108,11 @@ fn put_version(members: &mut Members, alloc: Global, version: Version) -> Result
 fn put_call(members: &mut Members, alloc: Global, call: &Call) -> Result<(), NoMemory>
     ensures { OnOk result (PutsRow (call_row call.now) members.old members.new) }
 {
-    put_text(members, alloc, "call", call.word())?;
-    put_side(members, alloc, call.side())?;
-    put_max_or_wait(members, alloc, call)?;
-    match call.item() {
+    let Nature(word, side, wait, drains, item) = call.nature();
+    put_text(members, alloc, "call", word)?;
+    put_side(members, alloc, side)?;
+    put_max_or_wait(members, alloc, drains, wait)?;
+    match item {
         Some(item) => put_item(members, alloc, item),
         None => Ok(()),
     }
@@ -130,13 +130,17 @@ fn put_side(members: &mut Members, alloc: Global, side: Side) -> Result<(), NoMe
 }
 
 // How many items it drains, or else its wait.
-fn put_max_or_wait(members: &mut Members, alloc: Global, call: &Call) -> Result<(), NoMemory>
-    ensures { OnOk result
-        (PutsRow (max_or_wait_row (drains_of call.now) (wait_of call.now)) members.old members.new) }
+fn put_max_or_wait(
+    members: &mut Members,
+    alloc: Global,
+    drains: Option<u64>,
+    wait: Option<Wait>,
+) -> Result<(), NoMemory>
+    ensures { OnOk result (PutsRow (max_or_wait_row drains wait) members.old members.new) }
 {
-    match call.drains() {
+    match drains {
         Some(max) => put_whole(members, alloc, "max", max),
-        None => put_wait(members, alloc, call.wait()),
+        None => put_wait(members, alloc, wait),
     }
 }
 
