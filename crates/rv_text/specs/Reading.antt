@@ -2,8 +2,9 @@
 -- the encoder puts there.
 use Rattle.std.specs.Prelude.{◌≡◌, ◌==◌, ℕ, Bool, List, [], ◌∷◌, length, map, codes, if◌then◌else◌}
 use Rattle.std.specs.Prelude.{Option, Some, None, option_and_then, nat_eq, nat_le, Result, Ok, Err}
-use Rattle.std.specs.Prelude.{String, string_cmp}
+use Rattle.std.specs.Prelude.{String, string_bytes, string_cmp, IfOk}
 use Rattle.std.specs.declared.alloc.Global.{Global}
+use Rattle.std.specs.declared.alloc.AllocError.{AllocError}
 use Rattle.std.specs.BTreeMap.{BTreeMap, IsOrdered}
 use Rattle.std.specs.Str.{bytes_eq}
 use Rattle.serde_json.specs.Data.{Data, Items, Members}
@@ -12,6 +13,7 @@ use Rattle.serde_json.specs.Events.{items_len, members_len}
 use Rattle.serde_json.specs.View.{members_view}
 use Rattle.serde_json.specs.declared.value.Value.{Value}
 use Rattle.serde_json.specs.Find.{get_member, as_number, as_u64, as_str, as_array}
+use Rattle.serde_json.specs.Written.{compact_text}
 use Rattle.rv_text.specs.declared.fault.TextFault.{TextFault}
 use Rattle.rv_text.specs.declared.fault.TextFault.TheVariants as fault
 use Rattle.rv_text.specs.declared.version.Version.{Version}
@@ -30,7 +32,7 @@ use Rattle.rv_text.specs.declared.answer.Refusal.TheVariants as refusal
 use Rattle.rv_text.specs.declared.answer.Answer.{Answer}
 use Rattle.rv_text.specs.declared.answer.Answer.TheVariants as answer
 use Rattle.rv_text.specs.Versions.{version_of}
-use Rattle.rv_text.specs.Members.{Member, Field, field_of, with_fields}
+use Rattle.rv_text.specs.Members.{Member, Field, field_of, with_fields, members_of, object_of}
 use Rattle.rv_text.specs.Bodies.{HasBodyLength, Reads, IsNotJson}
 use Rattle.rv_text.specs.Rows.{message_row, answer_row, call_row}
 use Rattle.rv_text.specs.Limits.{FitsMessage, FitsAnswer, FitsCall}
@@ -387,3 +389,9 @@ Puts fields old new = members_view new.entries ≡ with_fields fields (members_v
 
 abbrev pub PutsRow : List Member → Map → Map → Type 0
 PutsRow row old new = Puts (map field_of row) old new
+
+-- the text is that of each row whose members the map has
+abbrev pub WritesRows : Map → Result (String Global) AllocError → Type 0
+WritesRows object result =
+    (row : List Member) → members_view object.entries ≡ members_of row
+    → IfOk result (λ s. string_bytes s ≡ compact_text (object_of row))

@@ -6,7 +6,7 @@ ghost use Rattle.rv_text.specs.Members.{texts_value};
 ghost use Rattle.rv_text.specs.Rows.{key_row, side_row, wait_row, max_or_wait_row, item_row, call_row};
 ghost use Rattle.rv_text.specs.Rows.{version_row, taker_row};
 ghost use Rattle.rv_text.specs.Rows.{message_row, texts_row, reply_row, detail_row, answer_row};
-ghost use Rattle.rv_text.specs.Reading.{Puts, PutsRow};
+ghost use Rattle.rv_text.specs.Reading.{Puts, PutsRow, WritesRows};
 ghost use Rattle.rv_text.specs.Bodies.{HasBodyLength, message_text, answer_text, refused_text};
 ghost use Rattle.rv_text.specs.Limits.{FitsMessage, FitsAnswer};
 
@@ -54,7 +54,7 @@ pub fn encode_answer(alloc: Global, answer: &Answer) -> Result<String, NoMemory>
 {
     let mut members = Map::new(alloc);
     put_answer(&mut members, alloc, answer)?;
-    Value::Object(members).to_string(alloc)
+    object_text(alloc, members)
 }
 
 /// The body that is written for a message, as [`encode_answer`] writes an answer. Fails only if memory was
@@ -66,6 +66,13 @@ pub fn encode_message(alloc: Global, message: &Message) -> Result<String, NoMemo
 {
     let mut members = Map::new(alloc);
     put_message(&mut members, alloc, message)?;
+    object_text(alloc, members)
+}
+
+// The one text of an object with these members.
+fn object_text(alloc: Global, members: Members) -> Result<String, NoMemory>
+    ensures { WritesRows members result }
+{
     Value::Object(members).to_string(alloc)
 }
 
