@@ -19,7 +19,7 @@ from tools.outside import OF_TESTS, OUTSIDE  # noqa: E402
 MODEL = ROOT / "docs/MODEL.md"
 FORMATS = ROOT / "docs/FORMATS.md"
 ARCHITECTURE = ROOT / "docs/ARCHITECTURE.md"
-TESTS_PAGE = ROOT / "docs/TESTS.md"
+TESTS_PAGE = ROOT / "tests/README.md"
 
 # The rows of the tables of limits in FORMATS, by their first cell without marks, and the constant in the code that
 # the greatest number of the second cell is.
@@ -344,10 +344,10 @@ def standing():
 
 
 def commands():
-    """Each command that the gate runs from outside, or on the tests in Rattle, has a row in TESTS."""
+    """Each command that the gate runs from outside, or on the tests in Rattle, has a row in tests/README.md."""
     told = {word for _, rows in tables(TESTS_PAGE) for row in rows for word in quoted(row[0])}
     for name in sorted({words[0] for words in OUTSIDE + OF_TESTS}):
-        check(name in told, f"TESTS: no row for {name}, which tools/gate.py runs")
+        check(name in told, f"tests/README.md: no row for {name}, which tools/gate.py runs")
 
 
 def sizes():

@@ -14,7 +14,7 @@ PROGRAMS = ("rv_app", "rv_bench")
 # How much memory the proof of a crate may take.
 PROOF_BYTES = 3 << 30
 # What a crate's folder holds that no program is made of.
-BESIDE = ("out", "must-fail", "edits", "test-edits")
+BESIDE = ("README.md", "out", "must-fail", "edits", "test-edits")
 
 
 def at_once():
