@@ -1,4 +1,4 @@
-//! What holds of plays as such: each contract is a law, and no body does anything.
+//! Laws of plays: each function is its contract, over the definitions alone.
 ghost use Rattle.rv_play.specs.Laws.{HeadlineOfPlays, OneEvent, OneLineEach, PlayIsRun, TextsStay};
 
 /// A line says one event at most.
@@ -20,13 +20,13 @@ pub fn headline_of_plays()
     rv_world::laws::headline_holds();
 }
 
-/// What a play prints is cut into one line for each turn: the turn's text.
+/// The output of a play, cut at its line ends, is one line for each turn: the turn's text.
 pub fn one_line_each()
     ensures { OneLineEach }
 {}
 
-/// What was printed of a turn is true of the world behind the play as well: the answer that it tells was
-/// sent, and the reply that it tells is held.
+/// The text of a turn stays true until the end of the play: the answer that it tells was sent, and the reply
+/// that it tells is held.
 pub fn texts_stay()
     ensures { TextsStay }
 {

@@ -13,13 +13,14 @@ use rv_world::World;
 use std::alloc::Global;
 use std::io::{Read, Write};
 
-/// Opens a world in epoch 1, hands it the events that the source's lines say, and writes one result and LF
-/// to the sink for each line. A line that says no event is told as a bad one, an event that is refused by the
-/// refusal's number, and the run goes on. Lines end by LF, which the last one may lack.
+/// Opens a world in epoch 1, gives it the events that the source's lines say, and writes one result and LF to
+/// the sink for each line. The result of a line that says no event is *bad line*, that of a refused event the
+/// refusal's number, and the run goes on. Lines end with LF, which the last one may lack.
 ///
-/// The whole input is read before the first line is looked at, and read faults, too long an input and want of
-/// memory up to there are found before anything is written. Where a line's reading or a result's text finds
-/// no memory, the run ends behind the results of the lines before it. Write faults may come at any line.
+/// The whole input is read before the first line is taken, so that a read fault, too long an input and want
+/// of memory up to there come before anything is written. If memory for reading a line or for the text of a
+/// result is refused, the run ends behind the results of the lines before it. A write fault may come at any
+/// line.
 pub fn play_run<R: Read, W: Write>(
     alloc: Global,
     source: &mut Source<R>,

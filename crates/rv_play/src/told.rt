@@ -1,4 +1,4 @@
-//! The line that tells what came of a line of a play.
+//! The result that a play prints for one line of its input.
 ghost use Rattle.std.specs.Prelude.{◌≡◌, IfOk, Ok};
 ghost use Rattle.rv_text.specs.declared.message.Key as keys;
 ghost use Rattle.rv_world.specs.declared.seen.Seen.TheVariants as sees;
@@ -14,8 +14,8 @@ use rv_text::{NoMemory, encode_answer};
 use rv_world::{Event, Seen, World, WorldRefusal};
 use std::alloc::Global;
 
-/// Gives the world the event that a line says, and tells what came of it. It fails only where memory for the
-/// line's reading or for the text was refused.
+/// Gives the world the event that a line says, and tells its result. Fails only if memory for reading the
+/// line or for the text was refused.
 pub(crate) fn play_line(alloc: Global, world: &mut World, line: &[u8]) -> Result<String, RunFault>
     ensures { IfOk result (PlaysLine world.old line.now world.new) }
 {
@@ -26,7 +26,7 @@ pub(crate) fn play_line(alloc: Global, world: &mut World, line: &[u8]) -> Result
     }
 }
 
-// Gives the world an event, and tells what came of it.
+// Gives the world an event, and tells its result.
 fn play_event(alloc: Global, world: &mut World, event: &Event) -> Result<String, NoMemory>
     requires { FitsEvent event.now }
     ensures { IfOk result (PlaysEvent world.old event.now world.new) }
@@ -37,7 +37,7 @@ fn play_event(alloc: Global, world: &mut World, event: &Event) -> Result<String,
     }
 }
 
-// What was seen of an event that was just taken.
+// The text of what was seen of an event that was just taken.
 fn seen_text(alloc: Global, world: &World, event: &Event, seen: Seen) -> Result<String, NoMemory>
     requires { CanTell world.now event.now seen }
     ensures { IfOk result (IsResult world.now (Ok seen)) }
@@ -56,7 +56,7 @@ fn seen_text(alloc: Global, world: &World, event: &Event, seen: Seen) -> Result<
     }
 }
 
-// That the server sent this packet.
+// The text of an answer that the server sent as this packet.
 fn answered_text(alloc: Global, world: &World, packet: usize) -> Result<String, NoMemory>
     requires { WasSent world.now packet }
     ensures { IfOk result (IsResult world.now (Ok (sees.Answered packet))) }
@@ -65,7 +65,7 @@ fn answered_text(alloc: Global, world: &World, packet: usize) -> Result<String, 
     format!(in alloc; "answered {packet} {body}")
 }
 
-// That a request has the reply which came to its client.
+// The text of a reply that came to its client and settled a request.
 fn settled_text(alloc: Global, world: &World, event: &Event) -> Result<String, NoMemory>
     requires { SettlesOne world.now event.now }
     ensures { (key : keys.Key) → SettlesBy world.now event.now key
@@ -83,10 +83,8 @@ fn packet_body(alloc: Global, world: &World, packet: usize) -> Result<String, No
     requires { WasSent world.now packet }
     ensures { IfOk result (IsBodyOf world.now packet) }
 {
-    match world.answer_packet(packet) {
-        Some(answer) => encode_answer(alloc, answer),
-        None => unreachable!(),
-    }
+    let answer = world.answer_packet(packet).unwrap();
+    encode_answer(alloc, answer)
 }
 
 // The number of a refusal, as a play prints it.
