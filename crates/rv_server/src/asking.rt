@@ -4,12 +4,12 @@ ghost use Rattle.rv_frame.specs.Sink.{SinkTakes, sink_failed};
 ghost use Rattle.rv_server.specs.Asking.{GetsTold, StopsAsking, Waits};
 ghost use Rattle.rv_server.specs.Stamps.{shown_stamps};
 
+use crate::context::WorkerContext;
 use crate::desk::{Clock, Desk, Gate};
 use crate::fault::WorkFault;
-use crate::shared::{Seat, Shared};
+use crate::shared::Seat;
 use rv_frame::Sink;
 use rv_text::{Answer, NoMemory, TextFault, decode_message};
-use std::alloc::Global;
 use std::io::Write;
 use std::sync::Wait;
 use std::sync::ledger::Ledger;
@@ -37,17 +37,7 @@ impl FrameAnswer {
     }
 }
 
-// Where a worker stands: the server, its clock and its gate.
-#[derive(Drop)]
-pub(crate) struct Post<'a, T, D: Desk, L: Ledger, C, G> {
-    pub(crate) rt: &'a T,
-    pub(crate) alloc: Global,
-    pub(crate) shared: &'a Shared<D, L>,
-    pub(crate) clock: &'a C,
-    pub(crate) gate: &'a G,
-}
-
-impl<'a, T: Wait, D: Desk, L: Ledger, C: Clock, G: Gate> Post<'a, T, D, L, C, G> {
+impl<'a, T: Wait, D: Desk, L: Ledger, C: Clock, G: Gate> WorkerContext<'a, T, D, L, C, G> {
     // Asks for the frame once. Room for the stamp is made before the desk is asked.
     fn ask_once(
         &self,

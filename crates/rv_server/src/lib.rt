@@ -3,6 +3,7 @@
 
 mod asking;
 mod book;
+mod context;
 mod desk;
 mod fault;
 mod inlet;

@@ -6,7 +6,7 @@ ghost use Rattle.rv_frame.specs.Sink.{sink_contents};
 ghost use Rattle.rv_server.specs.Sending.{IsFirstFault, WorksThrough, held_behind};
 ghost use Rattle.rv_server.specs.Works.{listing_of};
 
-use crate::asking::Post;
+use crate::context::WorkerContext;
 use crate::desk::{Clock, Desk, Gate};
 use crate::fault::WorkFault;
 use crate::served::Served;
@@ -86,7 +86,7 @@ fn told(fault: Option<WorkFault>, held: &[u8]) -> Option<WorkFault>
     }
 }
 
-impl<'a, T: Wait, D: Desk, L: Ledger, C: Clock, G: Gate> Post<'a, T, D, L, C, G> {
+impl<'a, T: Wait, D: Desk, L: Ledger, C: Clock, G: Gate> WorkerContext<'a, T, D, L, C, G> {
     // Answers the frames of a connection as `work` does, over a writer behind at most 16,384 bytes of answers
     // that are held back. They go to the writer before each read, before each pause, and at the end.
     pub(crate) fn answer_through<R: Read, W: Write + Drop>(

@@ -3,7 +3,7 @@ ghost use Rattle.std.specs.Prelude.{◌≡◌, ◌<◌, ◌≤◌, ◌+◌, leng
 ghost use Rattle.std.specs.Vec.{vec_capacity};
 ghost use Rattle.rv_server.specs.declared.sockets.ServeFault.TheVariants.{NoMemory, NoWorker};
 
-use crate::asking::Post;
+use crate::context::WorkerContext;
 use crate::desk::{Clock, Desk, Gate};
 use crate::shared::{Seat, Shared};
 use crossbeam_channel::{Receiver, Sender};
@@ -108,7 +108,7 @@ fn limit(stream: &TcpStream) -> io::Result<()> {
     stream.set_write_timeout(Some(Duration::from_secs(WRITE_SECONDS)))
 }
 
-impl<'a, T: Wait, D: Desk, L: Ledger, C: Clock, G: Gate> Post<'a, T, D, L, C, G> {
+impl<'a, T: Wait, D: Desk, L: Ledger, C: Clock, G: Gate> WorkerContext<'a, T, D, L, C, G> {
     // Accepts so many connections, and hands each to the next worker that is free. Then no more can come: the
     // listener goes, so that who comes late is refused, and so does the way to the workers.
     fn accept_all(&self, listener: TcpListener, to: Sender<TcpStream>, connections: u32) {
@@ -150,7 +150,7 @@ impl<'a, T: Wait, D: Desk, L: Ledger, C: Clock, G: Gate> Post<'a, T, D, L, C, G>
     }
 }
 
-impl<'a, T, D, L, C, G> Post<'a, T, D, L, C, G>
+impl<'a, T, D, L, C, G> WorkerContext<'a, T, D, L, C, G>
 where
     T: Threads + Wait + Sync,
     D: Desk + Send,
@@ -254,7 +254,7 @@ where
     ensures none_failed { IfErr result (λ stopped. stopped.0.faults ≡ 0) }
     ensures no_seat { vec_len seats ≡ 0 → IfErr result (λ stopped. stopped.1 ≡ NoWorker) }
 {
-    let post = Post {
+    let context = WorkerContext {
         rt,
         alloc,
         shared,
@@ -262,7 +262,7 @@ where
         gate,
     };
     let mut seats = seats;
-    match post.serve_all(&mut seats, listener, connections) {
+    match context.serve_all(&mut seats, listener, connections) {
         Ok(ended) => {
             // no more than were accepted came to their end
             let served = ended.min(connections);

@@ -7,7 +7,8 @@ ghost use Rattle.rv_server.specs.Works.{Works, connection, listing_of, nothing};
 ghost use Rattle.rv_server.specs.Writing.{FitsTold, WritesAnswer, WritesPart};
 ghost use Rattle.rv_server.specs.Progress.{AnswersFrame, StopsAtFrame, out};
 
-use crate::asking::{FrameAnswer, Post};
+use crate::asking::FrameAnswer;
+use crate::context::WorkerContext;
 use crate::desk::{Clock, Desk, Gate};
 use crate::fault::WorkFault;
 use crate::inlet::Inlet;
@@ -57,7 +58,7 @@ fn write_told<W: Write>(
     }
 }
 
-impl<'a, T: Wait, D: Desk, L: Ledger, C: Clock, G: Gate> Post<'a, T, D, L, C, G> {
+impl<'a, T: Wait, D: Desk, L: Ledger, C: Clock, G: Gate> WorkerContext<'a, T, D, L, C, G> {
     // Answers one frame. Room for its item is made first.
     fn serve_frame<W: Write>(
         &self,
@@ -141,7 +142,7 @@ pub fn work<T: Wait, D: Desk, L: Ledger, C: Clock, G: Gate, R: Read, W: Write>(
         (connection source.old sink.old seat.old) (connection source.new sink.new seat.new)
         (listing_of D.stamped stopped.0) (Some stopped.1)) }
 {
-    let post = Post {
+    let context = WorkerContext {
         rt,
         alloc,
         shared,
@@ -149,7 +150,7 @@ pub fn work<T: Wait, D: Desk, L: Ledger, C: Clock, G: Gate, R: Read, W: Write>(
         gate,
     };
     let mut served = Served::nothing(alloc);
-    match post.serve_frames(seat, source, sink, &mut served) {
+    match context.serve_frames(seat, source, sink, &mut served) {
         Ok(()) => Ok(served),
         Err(fault) => Err((served, fault)),
     }

@@ -5,7 +5,7 @@ use Rattle.rv_frame.specs.Sink.{sink_over}
 use Rattle.rv_server.specs.Sending.{WorksThrough, passing, passing_contents}
 use Rattle.rv_server.specs.Works.{Listed, listing_of}
 use Rattle.rv_server.proofs.Passing.{begins_empty, told_along}
-use Rattle.rv_server.proofs.asking.Post.answer_through.Goals as goal
+use Rattle.rv_server.proofs.context.WorkerContext.answer_through.Goals as goal
 
 pub returns-in-Ok-clause-worked : goal.returns-in-Ok-clause-worked
 returns-in-Ok-clause-worked g c =

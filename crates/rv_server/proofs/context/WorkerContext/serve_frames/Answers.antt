@@ -3,7 +3,7 @@ use Rattle.std.proofs.Common.{◌≡◌, ◌∷◌, [], ℕ, List, Ok, Some, ari
 use Rattle.rv_server.specs.Reading.{ReadsOn, TakesFrame}
 use Rattle.rv_server.proofs.Advancing.{advance, begin, ends, flushed, stopped_frame, stopped_reading, too_long}
 use Rattle.rv_server.proofs.Answering.{fault_gives}
-use Rattle.rv_server.proofs.asking.Post.serve_frames.Goals as goal
+use Rattle.rv_server.proofs.context.WorkerContext.serve_frames.Goals as goal
 
 pub loop-number-init : goal.loop-number-init
 loop-number-init g c =

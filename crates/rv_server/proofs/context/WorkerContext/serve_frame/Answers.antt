@@ -3,7 +3,7 @@ use Rattle.std.proofs.Common.{◌≡◌, ◌∙◌, ◌++◌, ◌∷◌, [], Lis
 use Rattle.rv_server.specs.declared.fault.WorkFault.TheVariants.{NoMemory, WriteFault}
 use Rattle.rv_server.specs.declared.served.Item.{Item}
 use Rattle.rv_server.proofs.Answering.{answers_frame, breaks_frame, fault_gives, lacks_room, stopped_asking}
-use Rattle.rv_server.proofs.asking.Post.serve_frame.Goals as goal
+use Rattle.rv_server.proofs.context.WorkerContext.serve_frame.Goals as goal
 
 pub returns-in_err-reserve-clause-fault : goal.returns-in_err-reserve-clause-fault
 returns-in_err-reserve-clause-fault g c =

@@ -5,7 +5,7 @@ use Rattle.rv_server.specs.Stamps.{shown_stamps}
 use Rattle.rv_server.specs.declared.fault.WorkFault.TheVariants.{NoMemory, WriteFault}
 use Rattle.rv_server.proofs.Answering.{fault_gives}
 use Rattle.rv_server.proofs.Getting.{lacks_behind, none_waited, told_behind, unsent_behind, waiting_behind}
-use Rattle.rv_server.proofs.asking.Post.ask.Goals as goal
+use Rattle.rv_server.proofs.context.WorkerContext.ask.Goals as goal
 
 pub loop-paused-init : goal.loop-paused-init
 loop-paused-init g c = record { waited = none_waited _ _ _ _; none_written = Appends-nil _ }

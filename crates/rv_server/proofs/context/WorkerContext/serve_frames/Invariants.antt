@@ -1,7 +1,7 @@
 -- So far as many frames were answered as the next one's number says.
 use Rattle.rv_server.specs.Progress.{Progress}
 use Rattle.rv_server.specs.Works.{connection, listing_of}
-use Rattle.rv_server.proofs.asking.Post.serve_frames.Given as goal
+use Rattle.rv_server.proofs.context.WorkerContext.serve_frames.Given as goal
 
 abbrev pub invariant-loop-number : goal.invariant-loop-number
 invariant-loop-number g l =
