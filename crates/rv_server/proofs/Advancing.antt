@@ -13,7 +13,7 @@ use Rattle.rv_server.specs.Asking.{Cover, GetsStamps}
 use Rattle.rv_server.specs.Progress.{AnswersFrame, Out, Progress, StopsAtFrame, out}
 use Rattle.rv_server.specs.Reading.{FailsAtSink, ReadsOn, ReadsOut, TakesFrame}
 use Rattle.rv_server.specs.Stamps.{Numbered, added_entries}
-use Rattle.rv_server.specs.AnsweredFrames.{AnsweredFrame, AreAnsweredFrames, AreFor, IsAnsweredFrame, IsFor, IsWaiting, stamps_of}
+use Rattle.rv_server.specs.AnsweredFrames.{AnsweredFrame, AreAnsweredFrames, AreFor, IsAnsweredFrame, IsFor, stamps_of}
 use Rattle.rv_server.specs.Works.{AreForNext, Connection, Listed, StopsBetween, Worked, Works, connection, max_frames, nothing}
 use Rattle.rv_server.specs.declared.fault.WorkFault.{WorkFault}
 use Rattle.rv_server.specs.declared.fault.WorkFault.TheVariants.{BadLength, CutFrame, NoMemory, ReadFault, TooLong, WriteFault}
@@ -179,18 +179,17 @@ module _ {R W : Type 0} (remaining : R → Option (List ℕ)) (contents : W → 
     few = inl refl;
     worked = worked_to before mid listed old took.0 number source [] took.0.frames so_far few took.1 refl;
   }
-  stops_reading before mid listed old new number source (WriteFault sent) so_far few took failed = inr (record {
-    none = took.0;
-    stops = record {
+  stops_reading before mid listed old new number source (WriteFault sent) so_far few took failed = record {
+    none = λ _. record {
       more = [];
       end = new.end;
       pending = [];
       few = inl refl;
       worked = worked_out before mid listed old new number source _ so_far few took.1;
     };
-    waited = All-nil (λ (stamp : Numbered). IsWaiting stamp.1.said);
+    some = λ some. absurd (omega (arith, some, took.0));
     failed = failed;
-  })
+  }
   stops_reading before mid listed old new number source TooLong so_far few took failed = absurd took
 
   pub too_long : (before mid : Connection R W) (listed : Listed) (old new : Stream) (number : ℕ) (source : Source R) (body : List ℕ)
@@ -251,24 +250,27 @@ module _ {R W : Type 0} (remaining : R → Option (List ℕ)) (contents : W → 
       → Progress remaining contents before mid listed old number → number < max_frames → ReadsOn remaining mid.source source old new (body ∷ [])
       → StopsAtFrame contents number body (out mid.sink mid.share) after listed listed' fault
       → Works remaining contents before (connection source after.sink after.share) listed' (Some fault)
-  stops_frame before mid listed listed' old new number body source after (WriteFault sent) so_far few reads (inl broke) = inl (record {
-    frame = broke.frame;
-    is = subst (λ (n : ℕ). IsAnsweredFrame n broke.frame) (sym (as_many before mid listed listed' old number so_far broke.items)) broke.is;
-    few = subst (λ (n : ℕ). n < max_frames) (sym (as_many before mid listed listed' old number so_far broke.items)) few;
-    later = new.frames;
-    end = new.end;
-    part = broke.part;
-    worked =
-        subst (λ (b : List ℕ). Worked remaining contents before (connection source after.sink after.share) listed' (b ∷ new.frames) new.end broke.frame.stamps (take sent (frame_bytes broke.frame.answer))) (sym broke.of)
-        (stopped_at before mid listed listed' old new number body source after broke.frame.stamps _ so_far (omega (arith, few)) reads broke.items broke.stamps broke.written);
+  stops_frame before mid listed listed' old new number body source after (WriteFault sent) so_far few reads (inl broke) = record {
+    none = λ is. between before mid listed listed' old new number body source after broke.frame.stamps so_far few reads broke.items broke.stamps
+        (subst (λ (n : ℕ). SinkTakes contents mid.sink after.sink (take n (frame_bytes broke.frame.answer))) is broke.written);
+    some = λ _. record {
+      frame = broke.frame;
+      is = subst (λ (n : ℕ). IsAnsweredFrame n broke.frame) (sym (as_many before mid listed listed' old number so_far broke.items)) broke.is;
+      few = subst (λ (n : ℕ). n < max_frames) (sym (as_many before mid listed listed' old number so_far broke.items)) few;
+      later = new.frames;
+      end = new.end;
+      part = broke.part;
+      worked =
+          subst (λ (b : List ℕ). Worked remaining contents before (connection source after.sink after.share) listed' (b ∷ new.frames) new.end broke.frame.stamps (take sent (frame_bytes broke.frame.answer))) (sym broke.of)
+          (stopped_at before mid listed listed' old new number body source after broke.frame.stamps _ so_far (omega (arith, few)) reads broke.items broke.stamps broke.written);
+    };
     failed = broke.failed;
-  })
-  stops_frame before mid listed listed' old new number body source after (WriteFault sent) so_far few reads (inr fails) = inr (record {
-    none = fails.none;
-    stops = between before mid listed listed' old new number body source after fails.waited.got so_far few reads fails.items fails.waited.gets fails.none_written;
-    waited = fails.waited.waited;
+  }
+  stops_frame before mid listed listed' old new number body source after (WriteFault sent) so_far few reads (inr fails) = record {
+    none = λ _. between before mid listed listed' old new number body source after fails.waited.got so_far few reads fails.items fails.waited.gets fails.none_written;
+    some = λ some. absurd (omega (arith, some, fails.none));
     failed = fails.failed;
-  })
+  }
   stops_frame before mid listed listed' old new number body source after NoMemory so_far few reads lacks =
       between before mid listed listed' old new number body source after lacks.got so_far few reads lacks.items lacks.stamps lacks.none_written
   stops_frame before mid listed listed' old new number body source after ReadFault so_far few reads none = absurd none

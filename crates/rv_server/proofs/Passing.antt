@@ -1,18 +1,16 @@
 -- What is said of a sink holds of another one whose contents are the same, up to what it was given up with.
-use Rattle.std.proofs.Common.{inl, inr, ◌≡◌, ◌∙◌, [], ℕ, List, None, Option, Some, ap, refl, subst, sym, true}
+use Rattle.std.proofs.Common.{inl, ◌≡◌, ◌∙◌, [], ℕ, List, None, Option, Some, ap, arith, refl, subst, sym, true}
 use Rattle.std.specs.Io.Buffered.{writer_buffer, writer_contents, writer_inner}
 use Rattle.std.specs.Io.KnownBytes.{Appends, Keeps}
 use Rattle.std.specs.declared.io.buffered.BufWriter.{BufWriter}
 use Rattle.std.proofs.KnownBytes.{Appends-kept}
-use Rattle.std.proofs.lemmas.List.Elements.{All-nil}
 use Rattle.rv_frame.specs.Cut.{End, Open}
 use Rattle.rv_frame.specs.Sink.{SinkTakes, sink_contents, sink_device, sink_failed}
 use Rattle.rv_frame.specs.declared.sink.Sink.{Sink}
 use Rattle.rv_frame.specs.declared.source.Source.{Source}
-use Rattle.rv_server.specs.AnsweredFrames.{IsWaiting}
 use Rattle.rv_server.specs.Sending.{IsFirstFault, held_behind}
 use Rattle.rv_server.specs.Stamps.{Numbered}
-use Rattle.rv_server.specs.Works.{AnswerBreaksOff, Listed, SendingFails, StopsBetween, Worked, Works, connection}
+use Rattle.rv_server.specs.Works.{AnswerBreaksOff, Listed, StopsBetween, Worked, Works, connection}
 use Rattle.rv_server.specs.declared.fault.WorkFault.{WorkFault}
 use Rattle.rv_server.specs.declared.fault.WorkFault.TheVariants.{BadLength, CutFrame, NoMemory, ReadFault, TooLong, WriteFault}
 
@@ -50,11 +48,9 @@ module _ {R V W : Type 0} (remaining : R → Option (List ℕ)) (contents : V �
     worked = worked_along _ _ _ _ stops.worked;
   }
 
-  works_along : (fault : Option WorkFault) → Works remaining contents (connection source old share) (connection source' new share') list fault
-      → Works remaining contents' (connection source old' share) (connection source' new' share') list fault
-  works_along None works = (worked_along _ _ _ _ works.0, works.1)
-  works_along (Some ReadFault) works = (works.0, worked_along _ _ _ _ works.1, works.2)
-  works_along (Some (WriteFault sent)) (inl breaks) = inl (record {
+  breaks_along : (sent : ℕ) → AnswerBreaksOff remaining contents (connection source old share) (connection source' new share') list sent
+      → AnswerBreaksOff remaining contents' (connection source old' share) (connection source' new' share') list sent
+  breaks_along sent breaks = record {
     frame = breaks.frame;
     is = breaks.is;
     few = breaks.few;
@@ -62,14 +58,17 @@ module _ {R V W : Type 0} (remaining : R → Option (List ℕ)) (contents : V �
     end = breaks.end;
     part = breaks.part;
     worked = worked_along _ _ _ _ breaks.worked;
+  }
+
+  works_along : (fault : Option WorkFault) → Works remaining contents (connection source old share) (connection source' new share') list fault
+      → Works remaining contents' (connection source old' share) (connection source' new' share') list fault
+  works_along None works = (worked_along _ _ _ _ works.0, works.1)
+  works_along (Some ReadFault) works = (works.0, worked_along _ _ _ _ works.1, works.2)
+  works_along (Some (WriteFault sent)) fails = record {
+    none = λ is. between_along (fails.none is);
+    some = λ some. breaks_along sent (fails.some some);
     failed = failed;
-  })
-  works_along (Some (WriteFault sent)) (inr fails) = inr (record {
-    none = fails.none;
-    stops = between_along fails.stops;
-    waited = fails.waited;
-    failed = failed;
-  })
+  }
   works_along (Some CutFrame) works = (works.0, worked_along _ _ _ _ works.1, works.2, works.3)
   works_along (Some (BadLength n)) works = worked_along _ _ _ _ works
   works_along (Some NoMemory) works = between_along works
@@ -78,18 +77,17 @@ module _ {R V W : Type 0} (remaining : R → Option (List ℕ)) (contents : V �
   -- all was answered, and not all was sent
   unsent : Works remaining contents (connection source old share) (connection source' new share') list None
       → Works remaining contents' (connection source old' share) (connection source' new' share') list (Some (WriteFault 0))
-  unsent works = inr (record {
-    none = refl;
-    stops = record {
+  unsent works = record {
+    none = λ _. record {
       more = [];
       end = Open [];
       pending = [];
       few = inl refl;
       worked = worked_along _ _ _ _ works.0;
     };
-    waited = All-nil (λ (stamp : Numbered). IsWaiting stamp.1.said);
+    some = λ some. absurd (omega (arith, some));
     failed = failed;
-  })
+  }
 
   -- with the fault that is told of it
   pub told_along : (fault told : Option WorkFault) (held : List ℕ) → IsFirstFault fault told held → Works remaining contents (connection source old share) (connection source' new share') list fault

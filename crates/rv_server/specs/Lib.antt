@@ -3,6 +3,7 @@ pub mod Stamps
 pub mod AnsweredFrames
 pub mod Works
 pub mod Serving
+pub mod Books
 -- What only private clauses and proofs cite.
 pub mod Reading
 pub mod Asking

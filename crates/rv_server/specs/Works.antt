@@ -1,7 +1,6 @@
 -- What stands after a worker read a connection to its end, or stopped.
 use Rattle.std.specs.Prelude.{ℕ, ◌≡◌, ◌≢◌, ◌⊎◌, ◌+◌, ◌<◌, ◌≤◌, ◌∷◌, ◌++◌, [], List, Option, None, Some}
 use Rattle.std.specs.Prelude.{map, length, take, true}
-use Rattle.std.specs.List.{All}
 use Rattle.rv_frame.specs.Cut.{Bad, Cut, End, Open, frame_bytes, row_bytes}
 use Rattle.rv_frame.specs.Sink.{SinkTakes, sink_failed}
 use Rattle.rv_frame.specs.Source.{SourceGives, SourceHasEnded, source_failed}
@@ -14,7 +13,7 @@ use Rattle.rv_server.specs.declared.served.Item.{Item}
 use Rattle.rv_server.specs.declared.served.Served.{Served}
 use Rattle.rv_server.specs.Stamps.{Covers, Numbered, Stamped, added_entries, shown_stamps}
 use Rattle.rv_server.specs.AnsweredFrames.{AnsweredFrame, AreAnsweredFrames, AreFor, IsAnsweredFrame}
-use Rattle.rv_server.specs.AnsweredFrames.{IsWaiting, stamps_of}
+use Rattle.rv_server.specs.AnsweredFrames.{stamps_of}
 
 -- the most frames of a connection
 abbrev pub max_frames : ℕ
@@ -85,7 +84,6 @@ module _ {R W : Type 0} (remaining : R → Option (List ℕ)) (contents : W → 
     pub part : sent < length (frame_bytes frame.answer)
     pub worked : Worked before after list (frame.body ∷ later) end frame.stamps
         (take sent (frame_bytes frame.answer))
-    pub failed : sink_failed after.sink ≡ true
 
   -- of the next frame's answer nothing was written; stamps were got for it, or none
   pub record StopsBetween (before after : Connection R W) (list : Listed) : Type 0 where
@@ -95,11 +93,10 @@ module _ {R W : Type 0} (remaining : R → Option (List ℕ)) (contents : W → 
     pub few : (pending ≡ []) ⊎ (length list.items < max_frames)
     pub worked : Worked before after list more end pending []
 
-  -- a flush failed, before a read or before a pause: what was got for the next frame says that it waits
+  -- sending failed: of the next frame's answer so many bytes were written, and not all
   pub record SendingFails (before after : Connection R W) (list : Listed) (sent : ℕ) : Type 0 where
-    pub none : sent ≡ 0
-    pub stops : StopsBetween before after list
-    pub waited : All (λ (stamp : Numbered). IsWaiting stamp.1.said) stops.pending
+    pub none : sent ≡ 0 → StopsBetween before after list
+    pub some : 0 < sent → AnswerBreaksOff before after list sent
     pub failed : sink_failed after.sink ≡ true
 
   -- what stands by the fault, if there is one
@@ -107,8 +104,7 @@ module _ {R W : Type 0} (remaining : R → Option (List ℕ)) (contents : W → 
   Works before after list None = WorkedOut before after list (Open []) × SourceHasEnded remaining after.source
   Works before after list (Some ReadFault) =
       (end : End) × WorkedOut before after list end × (source_failed after.source ≡ true)
-  Works before after list (Some (WriteFault sent)) =
-      AnswerBreaksOff before after list sent ⊎ SendingFails before after list sent
+  Works before after list (Some (WriteFault sent)) = SendingFails before after list sent
   Works before after list (Some CutFrame) =
       (end : End) × WorkedOut before after list end × IsCut end × SourceHasEnded remaining after.source
   Works before after list (Some (BadLength n)) = WorkedOut before after list (Bad n)

@@ -1,5 +1,5 @@
 //! Asks the desk for one frame, until its answer is one that doesn't wait.
-ghost use Rattle.std.specs.Prelude.{◌≡◌, [], IfErr, IfOk, IsTrue, OnErr};
+ghost use Rattle.std.specs.Prelude.{◌≡◌, [], false, true, IfErr, IfOk, IsTrue, OnErr};
 ghost use Rattle.rv_frame.specs.Sink.{SinkTakes, sink_failed};
 ghost use Rattle.rv_server.specs.Asking.{GetsTold, StopsAsking, Waits};
 ghost use Rattle.rv_server.specs.Stamps.{shown_stamps};
@@ -8,7 +8,7 @@ use crate::context::WorkerContext;
 use crate::desk::{Clock, Desk, Gate};
 use crate::fault::WorkFault;
 use crate::shared::Seat;
-use rv_frame::Sink;
+use rv_frame::{Sink, WriteFault};
 use rv_text::{Answer, NoMemory, TextFault, decode_message};
 use std::io::Write;
 use std::sync::Wait;
@@ -17,7 +17,7 @@ use std::sync::ledger::Ledger;
 /// The most pauses for one frame whose request waits.
 pub(crate) const MAX_PAUSES: usize = 200;
 
-// What a frame is to be answered by.
+// The answer to a frame, before it is written.
 #[derive(Drop)]
 pub(crate) enum FrameAnswer {
     BadText,
@@ -66,8 +66,26 @@ impl<'a, T: Wait, D: Desk, L: Ledger, C: Clock, G: Gate> WorkerContext<'a, T, D,
         }
     }
 
-    /// Asks for the frame of this number and body. Where its request waits it flushes the sink, pauses, and
-    /// asks again: at most 200 pauses, and then the last answer stands. Where the flush fails it ends.
+    // Pauses. Over a sink that has failed it never does.
+    fn pause<W>(&self, _sink: &Sink<W>)
+        requires { sink_failed _sink.now ≡ false }
+    {
+        self.gate.pause();
+    }
+
+    // Flushes the sink, so that no answer is held back, and then pauses.
+    fn flush_and_pause<W: Write>(&self, sink: &mut Sink<W>) -> Result<(), WriteFault>
+        ensures bytes { SinkTakes W.contents sink.old sink.new [] }
+        ensures none { IfErr result (λ fault. fault.sent ≡ 0) }
+        ensures fault { OnErr result (sink_failed sink.new ≡ true) }
+    {
+        sink.flush()?;
+        self.pause(sink);
+        Ok(())
+    }
+
+    /// Asks for the frame of this number and body. While its request waits it flushes the sink, pauses, and
+    /// asks again: at most 200 pauses, and then the last answer stands. A flush that fails ends it.
     pub(crate) fn ask<W: Write>(
         &self,
         seat: &mut Seat<L>,
@@ -88,8 +106,7 @@ impl<'a, T: Wait, D: Desk, L: Ledger, C: Clock, G: Gate> WorkerContext<'a, T, D,
             if !told.waits() {
                 return Ok(told);
             }
-            sink.flush()?;
-            self.gate.pause();
+            self.flush_and_pause(sink)?;
         }
         Ok(self.ask_once(seat, stamps, number, body)?)
     }

@@ -1,7 +1,6 @@
 //! The book is a desk: its stamps are verdicts.
-ghost use Rattle.std.specs.Prelude.{length};
-ghost use Rattle.rv_book.specs.Steps.{Next};
 ghost use Rattle.rv_book.specs.Verdicts.{WasGiven};
+ghost use Rattle.rv_server.specs.Books.{IsStep, entry_count, shown_by};
 
 use crate::desk::Desk;
 use rv_book::{Book, Verdict};
@@ -11,16 +10,11 @@ use std::alloc::Global;
 impl Desk for Book {
     type Stamp = Verdict;
 
-    ghost stamped = { λ verdict. record {
-      asked = verdict.asked;
-      said = verdict.said;
-      before = verdict.before;
-      length = verdict.length;
-    } };
+    ghost stamped = { shown_by };
 
-    ghost count = { λ account. length account.entries };
+    ghost count = { entry_count };
 
-    ghost steps = { λ old now message new verdict. Next old now message new verdict.said };
+    ghost steps = { IsStep };
 
     ghost gave = { WasGiven };
 

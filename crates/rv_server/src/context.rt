@@ -1,10 +1,10 @@
-//! The context of a server's workers, which all of them share.
+//! The parts that all workers of a server share.
 use crate::desk::Desk;
 use crate::shared::Shared;
 use std::alloc::Global;
 use std::sync::ledger::Ledger;
 
-/// What a worker works with: the server with its desk, a clock, and a gate for requests that wait.
+/// The context of a server's workers: the desk behind its lock, a clock, and a gate for pauses.
 #[derive(Drop)]
 pub(crate) struct WorkerContext<'a, T, D: Desk, L: Ledger, C, G> {
     pub(crate) rt: &'a T,

@@ -1,4 +1,4 @@
-//! What a server stands on: a desk that handles messages, a clock, and a gate for those who wait.
+//! The parts that a server is given: a desk that handles messages, a clock, and a gate for pauses.
 ghost use Rattle.std.specs.Prelude.{◌≡◌, ◌≤◌, ℕ, IfOk};
 ghost use Rattle.rv_text.specs.declared.message.Message.{Message};
 ghost use Rattle.rv_text.specs.Limits.{FitsAnswer, FitsMessage};
@@ -7,13 +7,13 @@ ghost use Rattle.rv_server.specs.Stamps.{Stamped};
 use rv_text::{Answer, Message, NoMemory};
 use std::alloc::Global;
 
-/// What handles messages, one at a time, and keeps entries. `rv_book`'s `Book` is one.
+/// A desk handles messages, one at a time, and keeps entries. `rv_book`'s `Book` is one.
 pub trait Desk: Drop {
-    /// What `handle` gives, and nothing else makes. It shows contracts the message that was handled, the
-    /// answer, and the number of entries before and after.
+    /// The result of `handle`, which nothing else makes. Contracts see in it the message that was handled,
+    /// the answer, and the number of entries before and after.
     type Stamp: Drop;
 
-    // What a stamp shows.
+    // The stamp as contracts see it.
     ghost stamped: { Self.Stamp → Stamped };
 
     // How many entries the desk has.
@@ -37,12 +37,12 @@ pub trait Desk: Drop {
         ensures length { (stamped result).length ≡ count self.new }
         ensures never_lower { count self.old ≤ count self.new };
 
-    /// The answer of a stamp that this desk gave. It fails only where memory for a text was refused.
+    /// The answer of a stamp that this desk gave. It fails only if memory for a text was refused.
     fn answer(&self, alloc: Global, stamp: &Self::Stamp) -> Result<Answer, NoMemory>
         requires { gave self.now stamp.now }
         ensures { IfOk result (λ answer. answer ≡ (stamped stamp.now).said) };
 
-    /// How many entries the desk has.
+    /// The number of the desk's entries.
     fn entries(&self) -> u64
         ensures { result ≡ count self.now };
 }
@@ -53,7 +53,7 @@ pub trait Clock {
     fn now(&self) -> u64;
 }
 
-/// What a worker does while the request that it asked for waits.
+/// A worker's pause while the request that it asked for waits.
 pub trait Gate {
     /// Returns after some time. It is called with the lock free.
     fn pause(&self);

@@ -1,20 +1,20 @@
-//! Why a worker stops before its input ended.
+//! The faults that stop a worker before its input ends.
 ghost use Rattle.std.specs.Prelude.{◌≡◌};
 
 use rv_frame::{ReadFault, WriteFault};
 use std::alloc::AllocError;
 use thiserror::Error;
 
-/// Why [`work`](crate::work) stopped. All frames before the fault were answered; where memory was refused,
-/// some that were read may not have been. Behind the frame of a write fault, or one too many, more may have
-/// been read.
+/// The reason why [`work`](crate::work) stopped. All frames before the fault were answered, but if memory was
+/// refused, some that were read may not have been. More may have been read behind the frame of a write fault
+/// and behind a frame too many.
 #[derive(Clone, Copy, Debug, PartialEq, Eq, Error)]
 pub enum WorkFault {
     /// 1: a read failed, at this call or at an earlier one. The source has failed.
     #[error("a read of the connection failed")]
     ReadFault,
-    /// 2: a write failed, at this call or at an earlier one, after so many bytes of one answer's frame; or a
-    /// flush did, and then it is 0. The sink has failed.
+    /// 2: sending failed, at this call or at an earlier one: a write, after so many bytes of an answer's
+    /// frame, or a flush, which counts 0. The sink has failed.
     #[error("a write to the connection failed after {0} bytes of a frame")]
     WriteFault(usize),
     /// 3: the input ended in the middle of a frame.

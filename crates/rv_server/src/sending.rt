@@ -22,7 +22,7 @@ use std::sync::ledger::Ledger;
 // The most bytes of answers that are held back.
 const HELD_BYTES: usize = 16_384;
 
-// What came of a connection: what is told of its frames, the fault that ended it, if one did, and its writer,
+// The outcome of a connection: the report on its frames, the fault that ended it, if one did, and its writer,
 // with the bytes of answers that it did not take.
 #[derive(Drop)]
 pub(crate) struct Passed<D: Desk, W> {
@@ -32,8 +32,8 @@ pub(crate) struct Passed<D: Desk, W> {
     pub(crate) held: Vec<u8>,
 }
 
-// The sink's writer, to which all that was held back is written, and what it did not take. A sink that has
-// failed gives it nothing more.
+// The sink's writer, to which all that was held back is written, and the bytes that it did not take. A sink
+// that has failed gives it nothing more.
 fn parted<W: Write + Drop>(alloc: Global, sink: Sink<BufWriter<W>>) -> (W, Vec<u8>)
     ensures { Keeps (sink_contents (writer_contents W.contents) sink)
         (held_behind (W.contents result.0) result.1.items) }
@@ -49,8 +49,7 @@ fn parted<W: Write + Drop>(alloc: Global, sink: Sink<BufWriter<W>>) -> (W, Vec<u
     }
 }
 
-// Sends what is held back, behind all that a worker did. What can't be sent is a fault, where there is no
-// other.
+// Sends the bytes that a worker left held back. If not all can be sent, that is a fault, unless there is one.
 fn closed<D: Desk, W: Write + Drop>(
     alloc: Global,
     served: Served<D>,
@@ -95,7 +94,7 @@ impl<'a, T: Wait, D: Desk, L: Ledger, C: Clock, G: Gate> WorkerContext<'a, T, D,
         source: &mut Source<R>,
         writer: W,
     ) -> io::Result<Passed<D, W>>
-        // What `work` says stands of what the writer took, followed by what it did not.
+        // The promise of `work` holds for the bytes that the writer took, followed by those that it did not.
         ensures worked { IfOk result (λ passed. WorksThrough R.remaining W.contents
             source.old source.new writer passed.writer passed.held.items seat.old seat.new
             (listing_of D.stamped passed.served) passed.fault) }

@@ -1,20 +1,20 @@
-//! What a worker tells of the frames of a connection.
+//! A worker's report on the frames of a connection.
 use crate::desk::Desk;
 use std::alloc::Global;
 
-/// What a frame was answered by.
+/// The kind of body that answered a frame.
 #[derive(Clone, Copy, Debug, PartialEq, Eq)]
 pub enum Item {
-    /// The body of refusal 1: its own body is no message's.
+    /// That of refusal 1: the frame's own body is no message's.
     BadText,
-    /// The body of refusal 11: memory was refused to the reading of its body or to the answer's text.
+    /// That of refusal 11: memory was refused for reading the frame's body or for the answer's text.
     NoMemory,
-    /// The body of the answer of its last stamp.
+    /// That of the answer which the frame's last stamp stands for.
     Said,
 }
 
-/// What a worker tells of the frames of a connection: one item for each frame that was answered whole, and
-/// the stamps that it got, with the numbers of their frames, from 0, in the order in which it got them.
+/// A worker's report on the frames of a connection: one item for each frame that was answered whole, and all
+/// stamps in the order in which they came. Frames are numbered from 0.
 #[derive(Drop)]
 pub struct Served<D: Desk> {
     /// One for each frame that was answered whole.

@@ -15,8 +15,8 @@ use thiserror::Error;
 /// The most workers of a server.
 pub const MAX_WORKERS: usize = 64;
 
-/// What the lock guards: the desk, and the total of its entries, which contracts see as the desk. The total
-/// is always the number of the desk's entries.
+/// The desk that the lock guards, with the total of its entries. Contracts see it as the desk, and the
+/// total is always the number of the desk's entries.
 #[derive(Drop)]
 pub struct Locked<D: Desk, L: Ledger> {
     desk: D,
@@ -33,8 +33,8 @@ impl<D: Desk, L: Ledger> Model for Locked<D, L> {
     ghost invariant = { λ locked. D.count locked.desk ≡ locked.total.total };
 }
 
-/// One worker's share in the number of entries, which contracts see as that number: those that its own
-/// messages added.
+/// One worker's share in the number of entries: those that its own messages added. Contracts see it as that
+/// number.
 #[derive(Drop)]
 pub struct Seat<L: Ledger> {
     share: Share<L>,
@@ -50,8 +50,8 @@ impl<L: Ledger> Model for Seat<L> {
     ghost invariant = { λ seat. seat.share.parts ≡ 1 };
 }
 
-/// A desk behind its lock, which contracts see as the number of seats that were made for it. What the desk is
-/// when the lock is taken is known by its type alone: other workers may have had it.
+/// A desk behind its lock. Contracts see it as the number of seats that were made for it. Of the desk that
+/// the lock gives only its type is known, since other workers may have used it.
 #[derive(Drop)]
 pub struct Shared<D: Desk, L: Ledger> {
     locked: Mutex<Locked<D, L>>,
@@ -68,8 +68,8 @@ impl<D: Desk, L: Ledger> Model for Shared<D, L> {
     ghost invariant = { λ shared. (1 ≤ shared.seats) × (shared.seats ≡ L.parts) };
 }
 
-/// Has the desk handle one message that keeps its limits, under the lock. The entries that this added are
-/// counted in the total and in the seat.
+/// Hands one message that keeps its limits to the desk, under the lock. The entries that it added count in
+/// the total and in the seat.
 pub fn serve_message<D: Desk, L: Ledger>(
     locked: &mut Locked<D, L>,
     seat: &mut Seat<L>,
@@ -113,7 +113,7 @@ impl<D: Desk, L: Ledger> Locked<D, L> {
     }
 }
 
-/// What a server leaves: its desk, and the number of the desk's entries.
+/// The end of a server: its desk, and the number of the desk's entries.
 #[derive(Drop)]
 pub struct Closing<D: Desk> {
     /// The desk, as the last message left it.
@@ -131,8 +131,8 @@ impl<D: Desk, L: Ledger> Shared<D, L> {
     ghost use Rattle.std.specs.Prelude.{All};
     ghost use Rattle.rv_server.specs.declared.shared.TheConstants.{MAX_WORKERS};
 
-    /// A desk with no entries behind a lock, and one seat with the share 0 for each of 1 to 64 workers. The
-    /// blank ledger has one part for each. Where memory is refused the desk is dropped.
+    /// Puts a desk with no entries behind a lock, and makes one seat with the share 0 for each of 1 to 64
+    /// workers. The blank ledger has one part for each. If memory is refused, the desk is dropped.
     pub fn open(
         alloc: Global,
         blank: Blank,
@@ -164,7 +164,7 @@ impl<D: Desk, L: Ledger> Shared<D, L> {
         Ok((shared, seats))
     }
 
-    /// The desk, for as long as it is held. It waits while another holds it.
+    /// Takes the lock, and holds the desk as long as the guard lives. It waits while another holds it.
     pub fn lock<T: Wait>(&self, rt: &T) -> MutexGuard<'_, Locked<D, L>> {
         self.locked.lock(rt)
     }
@@ -200,10 +200,10 @@ fn merged<L: Ledger>(seats: Vec<Seat<L>>) -> Share<L>
     all
 }
 
-/// Takes the desk out again, where all seats are handed in. The total is the number of its entries, and the
-/// sum of the seats' shares: each entry was added by a message that was counted in one of these seats. With
-/// another number of seats all is handed back. That the seats are those of this server is said by the
-/// ledger's type. It takes no memory.
+/// Takes the desk out again, once all seats are handed in. The total is the number of the desk's entries
+/// and the sum of the seats' shares: each entry was added by a message that was counted in one of these
+/// seats. With another number of seats all is handed back. The ledger's type says that the seats are those
+/// of this server. It takes no memory.
 pub fn finish<D: Desk, L: Ledger>(
     shared: Shared<D, L>,
     seats: Vec<Seat<L>>,

@@ -17,23 +17,23 @@ use std::time::Duration;
 use std::{io, thread};
 use thiserror::Error;
 
-/// What came of the connections of a listener, and the seats of those who served them.
+/// The outcome of serving a listener's connections, with the seats of the workers.
 #[derive(Drop)]
 pub struct Report<L: Ledger> {
     /// All the seats that were handed in.
     pub seats: Vec<Seat<L>>,
-    /// How many connections were answered to their end, with all answers sent.
+    /// The number of connections that were answered to their end, with all answers sent.
     pub served: u32,
-    /// How many were not: their worker stopped by a [`WorkFault`](crate::WorkFault), an answer could not be
-    /// sent, accepting them or limiting their time failed, or they found no memory.
+    /// The number of all others: a worker stopped by a [`WorkFault`](crate::WorkFault), an answer could not
+    /// be sent, a connection was not accepted, its time could not be limited, or memory was refused.
     pub faults: u32,
 }
 
-/// Why no connection was accepted. Whoever had connected finds the connection closed.
+/// The reason why no connection was accepted. A peer that had connected finds its connection closed.
 #[derive(Clone, Copy, Debug, PartialEq, Eq, Error)]
 #[error("serve fault {}", self.number())]
 pub enum ServeFault {
-    /// 1: there was no seat, or not one thread would start.
+    /// 1: there was no seat, or no thread could be started.
     NoWorker,
     /// 2: a growth of memory was refused, before the first thread was started.
     NoMemory,
@@ -68,7 +68,7 @@ struct Worker<L: Ledger> {
     served: u32,
 }
 
-// Gives each seat to a worker. Where memory is refused the seats stay.
+// Gives each seat to a worker. If memory is refused, the seats stay.
 fn seated<L: Ledger>(alloc: Global, seats: &mut Vec<Seat<L>>) -> Result<Vec<Worker<L>>, AllocError>
     ensures all { IfOk result (λ workers. vec_len workers ≡ vec_len seats.old) }
     ensures taken { OnOk result (vec_len seats.new ≡ 0) }
@@ -82,7 +82,7 @@ fn seated<L: Ledger>(alloc: Global, seats: &mut Vec<Seat<L>>) -> Result<Vec<Work
     Ok(workers)
 }
 
-// Takes the seats back, and tells how many connections came to their end.
+// Takes the seats back, and counts the connections that came to their end.
 fn unseated<L: Ledger>(workers: Vec<Worker<L>>, seats: &mut Vec<Seat<L>>) -> u32
     requires { vec_len seats.old + vec_len workers ≤ vec_capacity seats.old }
     ensures { vec_len seats.new ≡ vec_len seats.old + vec_len workers }
@@ -109,13 +109,13 @@ fn limit(stream: &TcpStream) -> io::Result<()> {
 }
 
 impl<'a, T: Wait, D: Desk, L: Ledger, C: Clock, G: Gate> WorkerContext<'a, T, D, L, C, G> {
-    // Accepts so many connections, and hands each to the next worker that is free. Then no more can come: the
-    // listener goes, so that who comes late is refused, and so does the way to the workers.
+    // Accepts so many connections, and hands each to the next worker that is free. Then the listener is
+    // closed, so that later peers are refused, and the workers are told that no more will come.
     fn accept_all(&self, listener: TcpListener, to: Sender<TcpStream>, connections: u32) {
         for _ in 0..connections {
             match listener.accept() {
                 Ok((stream, _)) => {
-                    // Where this finds no memory the connection is closed.
+                    // If this finds no memory, the connection is closed.
                     let _ = to.send(self.rt, stream);
                 }
                 Err(_) => self.gate.pause(),
@@ -160,7 +160,7 @@ where
     G: Gate + Sync,
 {
     // Starts a thread for each worker, accepts so many connections, and returns when all of them were served.
-    // False where no thread could be started: then none is accepted.
+    // It is false if no thread could be started: then none is accepted.
     fn run(
         &self,
         workers: &mut [Worker<L>],
@@ -184,8 +184,7 @@ where
         })
     }
 
-    // Serves so many connections, and tells how many came to their end. The seats come back, whatever
-    // happens.
+    // Serves so many connections, and counts those that came to their end. The seats come back in each case.
     fn serve_all(
         &self,
         seats: &mut Vec<Seat<L>>,
@@ -210,24 +209,24 @@ where
     }
 }
 
-/// Serves so many connections of the listener, by one thread for each seat, and ends when all of them were
-/// served. A worker answers a connection as [`work`] does, until it ends, and then takes the next. It sends
-/// its answers before each read of the connection, before each pause and at the end, all that there are at
-/// once, and earlier where they have more than 16,384 bytes. An accepted connection waits while all workers
-/// are busy. While as many as there are workers wait so, one more is accepted and waits too, and then no
-/// further one.
+/// Serves so many connections of the listener, with one thread for each seat, and ends when all of them
+/// were served. A worker answers a connection as [`work`] does until it ends, and then takes the next one.
+/// It sends its answers before each read of the connection, before each pause and at the end, all that
+/// there are at once, and earlier if they have more than 16,384 bytes. While all workers are busy an
+/// accepted connection waits. Once as many wait as there are workers, one more is accepted and waits too,
+/// and then no further one.
 ///
-/// A connection whose peer says nothing for 10 minutes while its worker reads ends by a read fault, and one
-/// whose peer takes nothing for 60 seconds by a write fault. A failed send ends a connection at once: no
-/// further frame of it is asked for, and what was not sent is lost.
+/// A connection ends by a read fault if its peer says nothing for 10 minutes while the worker reads, and by a
+/// write fault if its peer takes nothing for 60 seconds. A failed send ends a connection at once: no further
+/// frame of it is asked for, and answers that were not sent are lost.
 ///
-/// A thread that can't be started is left out, and its seat stays. An accept that fails counts as a
-/// connection, and the gate's pause comes before the next one. After the last one was accepted the listener
-/// is closed, so that whoever comes late is refused.
+/// A thread that can't be started is left out, and its seat stays. A failed accept counts as a connection,
+/// and the gate's pause comes before the next one. After the last accept the listener is closed, so that
+/// later peers are refused.
 ///
-/// The report has as many seats as were handed in, on a fault too. Each connection counts once: as served,
-/// where its frames were answered to its end and all answers were sent, or as a fault. A [`ServeFault`]
-/// comes before the first accept alone. It waits for connections, for their bytes, for the lock and for the
+/// The report has as many seats as were handed in, on a fault too. Each connection counts once: as served
+/// if its frames were answered to its end and all answers were sent, else as a fault. A [`ServeFault`]
+/// comes only before the first accept. It waits for connections, for their bytes, for the lock and for the
 /// gate.
 pub fn serve<T, D, L, C, G>(
     rt: &T,

@@ -110,21 +110,21 @@ impl<'a, T: Wait, D: Desk, L: Ledger, C: Clock, G: Gate> WorkerContext<'a, T, D,
 }
 
 /// Answers the frames of a connection, in order, one frame for each, until its source ends or a fault comes.
-/// It reads pieces of up to 4,096 bytes, and a further one only where all frames that it read are answered.
+/// It reads pieces of up to 4,096 bytes, and a further one only when all frames that it read are answered.
 /// The sink is flushed before each read and before each pause, so that no answer is held back while the
-/// worker waits for its peer or for others. What was written since is left to the caller.
+/// worker waits for its peer or for others. A last flush is left to the caller.
 ///
 /// A frame's body that is no message's is answered by [`BAD_TEXT_BODY`]. Else the desk is asked for its
-/// message, under the lock. Where the answer waits, the worker pauses with the lock free, decodes the body
-/// anew and asks again. It pauses at most 200 times, and then the last answer stands. Where
-/// memory was refused to the message or to the answer's text, [`NO_MEMORY_BODY`] is the answer.
+/// message, under the lock. If the answer waits, the worker pauses with the lock free, decodes the body
+/// anew and asks again. It pauses at most 200 times, and then the last answer stands. If memory was refused
+/// for the message or for the answer's text, [`NO_MEMORY_BODY`] is the answer.
 ///
 /// At most 65,536 frames are answered. The seat's share rises by what the messages of the stamps added. A
-/// [`WorkFault`] comes with what was done before it; after a write fault each answer before it was written
-/// whole, and so many bytes of one more as the fault counts: none where it was a flush that failed. Behind a
-/// failed write or flush nothing more is asked.
+/// [`WorkFault`] comes with the report on all that was done before it. After a write fault each earlier
+/// answer was written whole, and of one more as many bytes as the fault counts: none if a flush failed.
+/// After a failed write or flush nothing more is asked.
 ///
-/// It waits for the lock, for the gate, and for what the source and the sink wait for.
+/// It waits for the lock and the gate, and wherever the source or the sink does.
 pub fn work<T: Wait, D: Desk, L: Ledger, C: Clock, G: Gate, R: Read, W: Write>(
     rt: &T,
     alloc: Global,

@@ -19,16 +19,16 @@ returns-in_err-told-clause-stopped g c =
     fault_gives c.from_residual.result (λ fault. fault ≡ NoMemory) _ c.from_residual.ensures.1
     (λ fault is. lacks_behind _ _ _ _ _ _ _ _ _ fault is c.loop-paused.invariant.waited refused.0 (ap (shown_stamps g.D.Desk.stamped) refused.1))
 
-pub returns-in_err-flush-clause-stopped : goal.returns-in_err-flush-clause-stopped
-returns-in_err-flush-clause-stopped g c =
-    fault_gives c.from_residual-in_err-flush.result (λ fault. fault ≡ WriteFault c.in_err-flush.field-0.0.sent) _ c.from_residual-in_err-flush.ensures.1
-    (λ fault is. unsent_behind _ _ _ _ _ _ _ _ fault is c.in_err-flush.ensures.none
-    (waiting_behind _ _ _ _ _ _ _ _ _ c.loop-paused.invariant.waited (c.waits.ensures c.if-not-waits.false) c.in_ok-told.ensures.told) c.in_err-flush.ensures.fault)
+pub returns-in_err-flush_and_pause-clause-stopped : goal.returns-in_err-flush_and_pause-clause-stopped
+returns-in_err-flush_and_pause-clause-stopped g c =
+    fault_gives c.from_residual-in_err-flush_and_pause.result (λ fault. fault ≡ WriteFault c.in_err-flush_and_pause.field-0.0.sent) _ c.from_residual-in_err-flush_and_pause.ensures.1
+    (λ fault is. unsent_behind _ _ _ _ _ _ _ _ fault is c.in_err-flush_and_pause.ensures.none
+    (waiting_behind _ _ _ _ _ _ _ _ _ c.loop-paused.invariant.waited (c.waits.ensures c.if-not-waits.false) c.in_ok-told.ensures.told) c.in_err-flush_and_pause.ensures.fault)
 
 pub loop-paused-preserved : goal.loop-paused-preserved
 loop-paused-preserved g c = record {
   waited = waiting_behind _ _ _ _ _ _ _ _ _ c.loop-paused.invariant.waited (c.waits.ensures c.if-not-waits.false) c.in_ok-told.ensures.told;
-  none_written = Appends-trans _ _ _ _ _ c.loop-paused.invariant.none_written c.in_ok-flush.ensures.bytes;
+  none_written = Appends-trans _ _ _ _ _ c.loop-paused.invariant.none_written c.in_ok-flush_and_pause.ensures.bytes;
 }
 
 pub returns-in_err-ask_once-clause-stopped : goal.returns-in_err-ask_once-clause-stopped
