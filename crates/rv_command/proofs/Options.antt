@@ -1,10 +1,16 @@
 -- From what a getter of clap gives to the rows that the specs speak of, and what a subcommand's name tells.
-use Rattle.std.proofs.Common.{◌≡◌, ◌∙◌, ap, arith, Bor, codes, get_or, List, option_map, Option, None, Some, subst, ℕ}
+use Rattle.std.proofs.Common.{◌≡◌, ◌∙◌, ap, arith, Bor, Box, codes, get_or, List, option_map, Option, None, Some, subst, sym, ℕ}
+use Rattle.std.proofs.lemmas.Option.{same_Some}
+use Rattle.std.specs.Box.{box_value}
+use Rattle.std.specs.Option.{IsSomeAnd}
 use Rattle.clap.proofs.WalkLemmas.{first_value-rows}
+use Rattle.clap.specs.Simple.{subcommand_rows}
 use Rattle.clap.specs.Words.{Row, Text, first_of, first_value, rows_of}
+use Rattle.clap.specs.declared.parser.matches.SubCommand.{SubCommand}
+use Rattle.clap.specs.declared.parser.matches.ArgMatches.TheViews.{out-SubCommand}
 use Rattle.clap.specs.declared.parser.matches.Found.{Found}
 use Rattle.rv_text.specs.declared.version.Version.{Version}
-use Rattle.rv_command.specs.Command.{GivesIdentifier, SaysCall, SaysCommand, SaysServe}
+use Rattle.rv_command.specs.Command.{SaysCall, SaysCommand, SaysServe}
 use Rattle.rv_command.specs.declared.command.Command.{Command}
 use Rattle.rv_command.specs.declared.command.Command.TheVariants.{Audit, Book, Call, Play, Serve}
 
@@ -12,14 +18,6 @@ use Rattle.rv_command.specs.declared.command.Command.TheVariants.{Audit, Book, C
 pub value_in_rows : (f : Found) (name : Text) (value : Option (Bor Text)) → option_map (λ v. v.now) value ≡ first_value f name
     → option_map (λ v. v.now) value ≡ first_of name (rows_of f)
 value_in_rows f name value got = got ∙ first_value-rows f name
-
-abbrev IsNothing : Option Text → Type 0
-IsNothing None = Unit {0}
-IsNothing (Some text) = ⊥
-
--- a value that is not there is no text
-pub not_there : (value : Option Text) (text : Text) → None ≡ value → value ≡ Some text → ⊥
-not_there value text none some = subst IsNothing (none ∙ some) tt
 
 -- the first letter of a command's word: no two have the same
 abbrev pub letter_of : Command → ℕ
@@ -36,13 +34,16 @@ first_letter name options Audit said = ap (λ (letters : List ℕ). get_or lette
 first_letter name options (Serve listen epoch workers connections) said = ap (λ (letters : List ℕ). get_or letters 0 0) said.0
 first_letter name options (Call connect client incarnation tries speak) said = ap (λ (letters : List ℕ). get_or letters 0 0) said.0
 
--- the subcommand `book` is no other command
-pub book_alone : (options : List Row) (command : Command) → SaysCommand (codes "book", options) command
-    → (epoch : ℕ) × GivesIdentifier (first_of (codes "epoch") options) epoch
-book_alone options (Book epoch) said = (epoch, said.1)
-book_alone options command said = let same : 98 ≡ letter_of command = first_letter (codes "book") options command said in absurd (omega (arith, same))
+-- the subcommand that clap entered, by the name and the options that it gives
+pub says_entered : {Z : Type 0} (entered : Option (Box SubCommand Z)) (name : Text) (options : List Row) → Some name ≡ option_map (λ (b : Box SubCommand Z). (out-SubCommand (box_value b)).name.now) entered
+    → Some options ≡ option_map (λ (s : Text × List Row). s.1) (subcommand_rows entered) → (command : Command) → IsSomeAnd (subcommand_rows entered) (λ s. SaysCommand s command)
+    → SaysCommand (name, options) command
+says_entered None name options named rowed command said = absurd said
+says_entered (Some b) name options named rowed command said =
+    let text = (out-SubCommand (box_value b)).name.now in
+    subst (λ (n : Text). SaysCommand (n, options) command) (sym (same_Some _ _ named)) (subst (λ (r : List Row). SaysCommand (text, r) command) (sym (same_Some _ _ rowed)) said)
 
--- nor is `serve`
+-- the subcommand `serve` is no other command
 pub serve_alone : (options : List Row) (command : Command) → SaysCommand (codes "serve", options) command
     → (listen : Text) × (epoch : ℕ) × (workers : ℕ) × (connections : ℕ) × SaysServe options listen epoch workers connections
 serve_alone options (Serve listen epoch workers connections) said = (listen.now, epoch, workers, connections, said.1)

@@ -2,12 +2,12 @@
 ghost use Rattle.std.specs.Prelude.{IfOk, IfSome, IsErrOf, None, codes, false, option_map};
 ghost use Rattle.std.specs.Prelude.{ℕ, ◌≡◌, []};
 ghost use Rattle.std.specs.Option.{IsSomeAnd};
-ghost use Rattle.clap.specs.Words.{app_of, fault_of, first_of, found_of, kind_of, rows_of, rule_of};
+ghost use Rattle.clap.specs.Words.{Text, app_of, fault_of, first_of, found_of, kind_of, rows_of, rule_of};
 ghost use Rattle.clap.specs.Words.{shape_of, subcommand_of, subcommand_rows_of};
 ghost use Rattle.clap.specs.declared.Command.TheViews.{out-Command};
 ghost use Rattle.clap.specs.Walk.{texts};
 ghost use Rattle.rv_command.specs.Command.{FitsCommand, GivesBetween, GivesIdentifier, GivesVersion};
-ghost use Rattle.rv_command.specs.Command.{NamesCommand, NamesNone};
+ghost use Rattle.rv_command.specs.Command.{NamesCommand, NamesNone, SaysCall, SaysServe, max_count};
 ghost use Rattle.rv_command.specs.Command.{SaysCommand, audit_app, book_app, call_app, caller_app, local_app};
 ghost use Rattle.rv_command.specs.Command.{play_app, required_option, rv_app, serve_app};
 ghost use Rattle.rv_command.specs.declared.command.CommandFault.TheVariants.{Bad, NoMemory};
@@ -23,10 +23,10 @@ use thiserror::Error;
 // The most workers of a server. That rv_server takes so many is proved where a server is started.
 const MAX_WORKERS: u64 = 64;
 
-// The most of what is only counted: connections and tries.
+// The greatest count, of connections or tries.
 const MAX_COUNT: u64 = 4_294_967_295;
 
-/// What the program is asked to do.
+/// A command of the program.
 #[derive(Clone, Copy, Debug, PartialEq, Eq)]
 pub enum Command<'a> {
     /// `rv book --epoch E`: run the book of this epoch, 1 to 9,007,199,254,740,991, over the lines
@@ -42,9 +42,9 @@ pub enum Command<'a> {
         listen: &'a str,
         /// The epoch, 1 to 9,007,199,254,740,991.
         epoch: u64,
-        /// How many workers there are, 1 to 64.
+        /// The number of workers, 1 to 64.
         workers: usize,
-        /// How many connections are accepted before the server ends.
+        /// The number of connections that are accepted before the server ends.
         connections: u32,
     },
     /// `rv call --connect ADDR --client C --incarnation I --tries T --speak V`: make the calls of standard
@@ -63,7 +63,7 @@ pub enum Command<'a> {
     },
 }
 
-/// Why the words of a command line give no command.
+/// The reason why the words of a command line give no command.
 #[derive(Clone, Copy, Debug, PartialEq, Eq, Error)]
 pub enum CommandFault {
     /// The words name no command, and a call for help is none: `clap` refuses them, or a number is
@@ -127,8 +127,8 @@ fn command_of<'a>(matches: &ArgMatches<'a>) -> Option<Command<'a>>
 // The command `book` with these options.
 fn book_of<'a>(options: &ArgMatches<'a>) -> Option<Command<'a>>
     ensures some { IfSome result (SaysCommand (codes "book", rows_of (found_of options.now))) }
-    ensures none { result ≡ None → (command : Command)
-        → ¬ SaysCommand (codes "book", rows_of (found_of options.now)) command }
+    ensures none { result ≡ None → (epoch : ℕ)
+        → ¬ GivesIdentifier (first_of (codes "epoch") (rows_of (found_of options.now))) epoch }
 {
     let epoch = identifier_of(options, "epoch")?;
     Some(Command::Book(epoch))
@@ -137,37 +137,37 @@ fn book_of<'a>(options: &ArgMatches<'a>) -> Option<Command<'a>>
 // The command `serve` with these options.
 fn serve_of<'a>(options: &ArgMatches<'a>) -> Option<Command<'a>>
     ensures some { IfSome result (SaysCommand (codes "serve", rows_of (found_of options.now))) }
-    ensures none { result ≡ None → (command : Command)
-        → ¬ SaysCommand (codes "serve", rows_of (found_of options.now)) command }
+    ensures none { result ≡ None → (listen : Text) (epoch workers connections : ℕ)
+        → ¬ SaysServe (rows_of (found_of options.now)) listen epoch workers connections }
 {
     let listen = text_of(options, "listen")?;
     let epoch = identifier_of(options, "epoch")?;
     let workers = number_of(options, "workers", 1, MAX_WORKERS)?;
-    let connections = number_of(options, "connections", 0, MAX_COUNT)?;
+    let connections = count_of(options, "connections")?;
     Some(Command::Serve {
         listen,
         epoch,
         workers: workers as usize,
-        connections: connections as u32,
+        connections,
     })
 }
 
 // The command `call` with these options.
 fn call_of<'a>(options: &ArgMatches<'a>) -> Option<Command<'a>>
     ensures some { IfSome result (SaysCommand (codes "call", rows_of (found_of options.now))) }
-    ensures none { result ≡ None → (command : Command)
-        → ¬ SaysCommand (codes "call", rows_of (found_of options.now)) command }
+    ensures none { result ≡ None → (connect : Text) (client incarnation tries : ℕ) (speak : Version)
+        → ¬ SaysCall (rows_of (found_of options.now)) connect client incarnation tries speak }
 {
     let connect = text_of(options, "connect")?;
     let client = identifier_of(options, "client")?;
     let incarnation = identifier_of(options, "incarnation")?;
-    let tries = number_of(options, "tries", 0, MAX_COUNT)?;
+    let tries = count_of(options, "tries")?;
     let speak = version_of(options, "speak")?;
     Some(Command::Call {
         connect,
         client,
         incarnation,
-        tries: tries as u32,
+        tries,
         speak,
     })
 }
@@ -192,6 +192,16 @@ fn version_of(options: &ArgMatches, name: &str) -> Option<Version>
     Version::of_number(number_of(options, name, 1, 2)?)
 }
 
+// The count that an option's value writes.
+fn count_of(options: &ArgMatches, name: &str) -> Option<u32>
+    ensures some { IfSome result
+        (GivesBetween 0 max_count (first_of name.now (rows_of (found_of options.now)))) }
+    ensures none { result ≡ None → (n : ℕ)
+        → ¬ GivesBetween 0 max_count (first_of name.now (rows_of (found_of options.now))) n }
+{
+    Some(number_of(options, name, 0, MAX_COUNT)? as u32)
+}
+
 // The number from `least` to `most` that an option's value writes.
 fn number_of(options: &ArgMatches, name: &str, least: u64, most: u64) -> Option<u64>
     ensures some { IfSome result
@@ -209,7 +219,7 @@ fn text_of<'a>(options: &ArgMatches<'a>, name: &str) -> Option<&'a str>
     options.get_str(name)
 }
 
-// What clap makes of the words.
+// The words as clap reads them.
 fn matches_of<'a>(alloc: Global, words: &'a [&'a str]) -> Result<ArgMatches<'a>, CommandFault>
     ensures taken { IfOk result (λ _. fault_of rv_app (texts words.entry.now) ≡ []) }
     ensures found { IfOk result (λ m.
@@ -285,7 +295,7 @@ fn call_words<'a>(alloc: Global) -> Result<clap::Command<'a>, AllocError>
         .arg(required_option(alloc, "speak"))
 }
 
-// Those of its options that say who calls, and where.
+// Those of its options that name the caller and the server.
 fn caller_words<'a>(alloc: Global) -> Result<clap::Command<'a>, AllocError>
     ensures shape { IfOk result (λ c. shape_of c ≡ caller_app.top) }
     ensures local { IfOk result (λ c. (out-Command c).has_globals ≡ false) }

@@ -1,4 +1,4 @@
-//! What holds of the words of a command line as such: each contract is a law, and no body does anything.
+//! Laws of the words of a command line: each contract is one, and no body does anything.
 ghost use Rattle.rv_command.specs.Laws.{BookOneIsNamed, OneCommand};
 
 /// Words name at most one command.
