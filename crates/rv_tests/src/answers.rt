@@ -1,9 +1,9 @@
-//! A short way to write by hand what messages are answered, as constants.
+//! A short way to write answers by hand, as constants.
 use crate::line::{item, key};
 use rv_text::{Answer, Items, Key, NoMemory, Refusal, Reply, Version};
 use std::alloc::Global;
 
-/// What a message is answered.
+/// The answer to a message.
 #[derive(Clone, Copy)]
 pub(crate) enum Told {
     Welcome(Version),

@@ -1,6 +1,6 @@
-//! What no clause says of the crates below the program: what a book answers and the entries that it has after
-//! worked scripts, a world after a worked play, also where growths of memory are refused; and once, with
-//! ample memory, each call that the program doesn't make.
+//! Tests of the crates below the program, of what no clause says: the answers and the entries of a book in
+//! worked scripts, and the world after a worked play, also if growths of memory are refused. Each call that
+//! the program doesn't make is called once with ample memory.
 #![tactic(auto)]
 
 #[cfg(test)]

@@ -3,7 +3,7 @@ use rv_book::{Act, Entry, Partners, Place};
 use rv_text::{Call, Item, Key, Message, NoMemory, Version, Wait};
 use std::alloc::Global;
 
-/// What a request asks for: a call, its queue or exchanger first.
+/// The call of a request, with its queue or exchanger first.
 #[derive(Clone, Copy)]
 pub(crate) enum Asked {
     Put(u64, &'static str),
@@ -15,7 +15,7 @@ pub(crate) enum Asked {
     Peek(u64),
 }
 
-/// What a message says: its client, its incarnation, and where it has one its number stand first.
+/// A message: its client and incarnation stand first, and its number, if it has one.
 #[derive(Clone, Copy)]
 pub(crate) enum Says {
     Hello(u64, u64, Version),
@@ -23,7 +23,7 @@ pub(crate) enum Says {
     Cancels(u64, u64, u64),
 }
 
-/// An entry: its moment, and but for a tick what its message said and the places of its partners.
+/// An entry: its moment, and unless it is a tick its message and the places of its partners.
 #[derive(Clone, Copy)]
 pub(crate) enum Recorded {
     Ticks(u64),
@@ -71,7 +71,7 @@ impl Asked {
 }
 
 impl Says {
-    /// The message's key; that of a hello has number 0.
+    /// The message's key. That of a hello has number 0.
     pub(crate) fn key(self) -> Key {
         match self {
             Says::Hello(client, incarnation, _) => key(client, incarnation, 0),

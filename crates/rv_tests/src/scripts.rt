@@ -1,6 +1,5 @@
-//! Worked scripts: messages in the order in which they are given, what each is answered where memory is
-//! ample, and the entries that the account has then. All of it is written by hand, by the rules that MODEL
-//! states.
+//! Worked scripts: messages in the order in which they are given, the answer to each with ample memory, and
+//! the entries that the account has then. All of it is written by hand, by the rules of MODEL.
 use crate::answers::Got::{
     Cancelled, Counted, Done, Drained, Empty, Nobody, Peeked, Received, ReceivedBy, Swapped, Text,
     TimedOut,
@@ -13,11 +12,11 @@ use rv_text::Refusal::{Busy, Gap, NoSession, OldIncarnation, OldNumber, OtherCal
 use rv_text::Version::{One, Two};
 use rv_text::Wait::{Forever, Millis, Now};
 
-/// A message, its moment before it and its answer behind it.
+/// A message, with its moment before it and its answer behind it.
 pub(crate) type Given = (u64, Says, Told);
 
-/// Behind so many of the [`HELLOS`]: messages, and the entries behind those of the hellos. But for
-/// [`MOMENTS`] each is for a book that is opened at moment 0.
+/// Messages that are given after so many of the [`HELLOS`], and the entries behind those of the hellos. Each
+/// script but [`MOMENTS`] is for a book that is opened at moment 0.
 #[derive(Clone, Copy)]
 pub(crate) struct Script {
     pub(crate) name: &'static str,
@@ -26,7 +25,7 @@ pub(crate) struct Script {
     pub(crate) entries: &'static [Recorded],
 }
 
-/// What scripts begin with.
+/// The messages with which scripts begin.
 pub(crate) const HELLOS: &[Given] = &[
     (0, Hello(1, 1, One), Welcome(One)),
     (0, Hello(2, 1, One), Welcome(One)),
@@ -496,7 +495,7 @@ pub(crate) const MOMENTS: Script = Script {
     ],
 };
 
-/// What stands before [`FREE`].
+/// The script before [`FREE`].
 pub(crate) const BEFORE_FREE: Script = Script {
     name: "two that wait, a put that was taken, and a drain that found nothing",
     hellos: 3,
@@ -514,9 +513,9 @@ pub(crate) const BEFORE_FREE: Script = Script {
     ],
 };
 
-/// Messages that take no memory before the text of their answer: repeats, cancels of what waits and of what
-/// is settled, and what a tick comes before. The cancel and the tick add an entry each, and nothing else
-/// does.
+/// Messages that take no memory before the text of their answer: repeats, cancels of a request that waits and
+/// of one that is settled, and a message with a tick before it. The cancel and the tick add an entry each,
+/// and nothing else does.
 pub(crate) const FREE: &[Given] = &[
     (1, Asks(1, 1, 1, Transfer(3, "a", Millis(10))), Waiting),
     (1, Asks(3, 1, 2, Drain(5, 2)), Gets(Drained(&["b"]))),

@@ -1,4 +1,4 @@
-//! A list of events, which no program runs as a whole: what is left of it in the world that it leads to.
+//! A list of events, which no program runs as a whole, and the world that it leads to.
 use crate::expect::{holds, same};
 use rv_book::Account;
 use rv_text::{Answer, Call, Item, Key, NoMemory, Refusal, Reply, Version, Wait};
