@@ -1,5 +1,6 @@
 //! The account of an epoch: what came to the book, in order, and who met whom.
-ghost use Rattle.std.specs.Prelude.{◌≡◌, ◌↔◌, ◌<◌, ◌≤◌, ◌+◌, ◌==◌, [], Some, IfOk, IsSome, IsTrue, OnOk};
+ghost use Rattle.std.specs.Prelude.{◌≡◌, ◌↔◌, ◌<◌, ◌≤◌, ◌+◌, ◌==◌, [], Some};
+ghost use Rattle.std.specs.Prelude.{IfOk, IsSome, IsTrue, OnErr, OnOk};
 ghost use Rattle.std.specs.Prelude.{length, option_map, slice_get};
 ghost use Rattle.std.specs.Option.{option_copied};
 ghost use Rattle.rv_account.specs.Account.{call_at, entry, item_at, key_at, items_at, limit_at, own_moment};
@@ -15,7 +16,7 @@ use std::alloc::Global;
 use std::marker::Model;
 
 /// All entries of an epoch, in the order in which they were recorded. Contracts see its epoch, its opening
-/// moment and the list of its entries; and beside that, for how many entries more it has room.
+/// moment and the list of its entries, and for how many entries more it has room.
 #[derive(Debug, Drop)]
 pub struct Account {
     epoch: u64,
@@ -88,8 +89,8 @@ impl Account {
         self.call(place).is_some_and(|other| other.is_same(call))
     }
 
-    /// The limit of the request that arrived at a place, in milliseconds, if it has one. It is asked only of
-    /// an account whose moments, numbers and items keep their limits.
+    /// The limit of the request that arrived at a place, in milliseconds, if it has one. The account's
+    /// moments, numbers and items must be within their limits.
     pub fn limit(&self, place: Place) -> Option<u64>
         requires { FitEntries self.now.account.entries }
         ensures { result ≡ limit_at self.now.account.entries place }
@@ -98,8 +99,8 @@ impl Account {
         limit_after(entry.moment, self.call(place)?.wait()?)
     }
 
-    /// The key that the entry at a place names: of the request that arrived there, or that is cancelled. It
-    /// is asked only where an arrival or a cancel stands.
+    /// The key that the entry at a place names: of the request that arrived there, or that is cancelled. The
+    /// entry must be an arrival or a cancel.
     pub fn key(&self, place: Place) -> Key
         requires { IsSome (key_at self.now.account.entries place) }
         ensures { key_at self.now.account.entries place ≡ Some result }
@@ -107,8 +108,7 @@ impl Account {
         self.entry(place).and_then(|entry| entry.act.key()).unwrap()
     }
 
-    /// The item that the arrival at a place hands over. It is asked only where one stands that hands an item
-    /// over.
+    /// The item that the arrival at a place hands over. There must be one.
     pub fn item(&self, place: Place) -> &Item
         requires { IsSome (item_at self.now.account.entries place) }
         ensures { item_at self.now.account.entries place ≡ Some result.now }
@@ -117,8 +117,7 @@ impl Account {
     }
 
     /// Copies of the items that the partners of the entry at a place hand over, in the order in which it
-    /// names them. It is asked only where an entry stands each of whose partners hands an item over. It fails
-    /// only where memory was refused.
+    /// names them. Each partner must hand an item over. Fails only if memory was refused.
     pub fn partners_items(&self, place: Place) -> Result<Items, NoMemory>
         requires { IsSome (partners_items self.now.account.entries place) }
         ensures { IfOk result (λ items. partners_items self.now.account.entries place ≡ Some items) }
@@ -140,7 +139,7 @@ impl Account {
         Ok(Items::from_vec(items))
     }
 
-    /// The last entry's moment; where there are no entries, the opening moment.
+    /// The last entry's moment, or the opening moment if there are no entries.
     pub fn own_moment(&self) -> u64
         ensures { result ≡ own_moment self.now.account }
     {
@@ -158,12 +157,13 @@ impl Account {
         Account::from_entries(epoch, opened, Vec::new(alloc))
     }
 
-    /// Makes room for so many entries more. Where that is refused the account stays, with the room that it
-    /// had or more.
+    /// Makes room for so many entries more. Fails only if there was less room than that and memory was
+    /// refused. Either way the entries stay, and so does the room that was there.
     pub fn reserve(&mut self, more: usize) -> Result<(), NoMemory>
         ensures same { self.new.account ≡ self.old.account }
         ensures kept { self.old.room ≤ self.new.room }
         ensures room { OnOk result (more ≤ self.new.room) }
+        ensures full { OnErr result (self.old.room < more) }
     {
         self.entries.reserve(more)
     }
@@ -173,7 +173,7 @@ impl Account {
         *self.entries.allocator()
     }
 
-    /// Records one entry more, which has its room.
+    /// Records one entry more, for which there must be room. It takes no memory.
     pub fn push(&mut self, moment: u64, act: Act, partners: Partners)
         requires { 0 < self.old.room }
         ensures entry { self.new.account ≡ with_entry self.old.account (entry moment act partners) }
@@ -187,7 +187,7 @@ impl Account {
         self.entries.push_reserved(entry);
     }
 
-    /// Records one entry more, which has its room, and names no partner.
+    /// Records one entry more that names no partner, for which there must be room. It takes no memory.
     pub fn push_alone(&mut self, moment: u64, act: Act)
         requires { 0 < self.old.room }
         ensures entry { self.new.account ≡ with_entry self.old.account (entry moment act []) }
@@ -209,7 +209,7 @@ impl Account {
         }
     }
 
-    /// A copy, legal or not, by the allocator that the account keeps. It fails only where memory was refused.
+    /// A copy, legal or not, by the allocator that the account keeps. Fails only if memory was refused.
     pub fn clone_out(&self) -> Result<Account, NoMemory>
         ensures { IfOk result (λ copy. copy.account ≡ self.now.account) }
     {

@@ -1,4 +1,4 @@
-//! Entries: what came to the book, and whom it met.
+//! Entries: hellos, requests, cancels and ticks as they are recorded.
 ghost use Rattle.std.specs.Prelude.{◌≡◌, IfOk};
 
 use crate::partners::Partners;
@@ -53,7 +53,7 @@ impl Act {
         }
     }
 
-    // A copy. It fails only where memory for the item of its call was refused.
+    // A copy. Fails only if memory for the item of its call was refused.
     fn copy(&self, alloc: Global) -> Result<Act, NoMemory>
         ensures { IfOk result (λ act. act ≡ self.now) }
     {
@@ -78,7 +78,7 @@ impl Act {
 }
 
 impl Entry {
-    // A copy. It fails only where memory was refused.
+    // A copy. Fails only if memory was refused.
     pub(crate) fn copy(&self, alloc: Global) -> Result<Entry, NoMemory>
         ensures { IfOk result (λ entry. entry ≡ self.now) }
     {

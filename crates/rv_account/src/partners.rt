@@ -1,4 +1,4 @@
-//! Whom an arrival met: the places of the earlier arrivals.
+//! The partners of an arrival: the places of the earlier arrivals that it met.
 ghost use Rattle.std.specs.Prelude.{◌≡◌, [], IfOk};
 ghost use Rattle.std.specs.Prelude.{nat_eq};
 ghost use Rattle.std.specs.Cmp.{partial_equiv_from_equiv};
@@ -46,7 +46,7 @@ impl Partners {
         &self.places
     }
 
-    /// A copy. It fails only where memory was refused.
+    /// A copy. Fails only if memory was refused.
     pub fn copy(&self, alloc: Global) -> Result<Partners, NoMemory>
         ensures { IfOk result (λ copy. copy ≡ self.now) }
     {
@@ -56,8 +56,7 @@ impl Partners {
     }
 }
 
-/// How many partners an arrival with this call may name: a drain as many as it takes at most, and any other
-/// call one.
+/// How many partners an arrival with this call may name: a drain as many as it may take, any other call one.
 pub fn may_name(call: &Call) -> usize
     ensures { result ≡ may_name call.now }
 {

@@ -1,4 +1,4 @@
-//! Waits: which go on past the moment of arrival, until when, and what room they take.
+//! Waits: whether they go on past the moment of arrival, their deadlines, and the room that they take.
 ghost use Rattle.std.specs.Prelude.{◌≡◌, ◌↔◌, ◌≤◌, IfSome, IsTrue, Some};
 ghost use Rattle.rv_text.specs.Limits.{FitsWait};
 ghost use Rattle.rv_account.specs.Calls.{Lasts, deadline_after, limit_after, need_of};
@@ -30,8 +30,8 @@ pub(crate) fn limit_after(moment: u64, wait: Wait) -> Option<u64>
     }
 }
 
-/// The deadline, in milliseconds, of a wait that begins at a moment of at most 2^62: its limit, if it has one
-/// and isn't over at once.
+/// The deadline, in milliseconds, of a wait that begins at a moment of at most 2^62. It is the wait's limit,
+/// if that isn't the moment itself. A wait with no limit has none.
 pub fn deadline_after(moment: u64, wait: Option<Wait>) -> Option<u64>
     requires moment { moment ≤ max_moment }
     requires wait { IfSome wait FitsWait }
@@ -44,7 +44,7 @@ pub fn deadline_after(moment: u64, wait: Option<Wait>) -> Option<u64>
     }
 }
 
-/// How many entries a call may come to need: its own, and one that ends its wait.
+/// How many entries a call may need: its own, and one that ends its wait.
 pub fn need_of(call: &Call) -> usize
     ensures exact { result ≡ need_of call.now }
     ensures small { result ≤ 2 }
