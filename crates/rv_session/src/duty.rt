@@ -4,8 +4,8 @@ ghost use Rattle.std.specs.Prelude.{◌≡◌};
 use crate::kept::Place;
 use std::marker::Model;
 
-/// The one right and duty to settle a request that waits. It can be neither copied nor dropped as it is: only
-/// [`Sessions::begin`](crate::Sessions::begin) makes one, which comes back where it was [`Parked`], and
+/// The one right and duty to settle a request that waits. It can be neither copied nor dropped. Only
+/// [`Sessions::begin`](crate::Sessions::begin) makes one, [`Parked`] lays it aside and gives it back, and
 /// [`Sessions::settle`](crate::Sessions::settle) spends it. Contracts see the place of the request and the
 /// client whose session waits there.
 pub struct Duty {
@@ -22,8 +22,8 @@ impl Model for Duty {
 }
 
 /// A duty that is laid aside, as plain data in a list or a table, until it is woken. Only a duty makes it,
-/// and it can't be copied. It can be dropped, and then its request is never settled: that none is lost is
-/// for whoever keeps it to promise.
+/// and it can't be copied. It can be dropped, and then its request is never settled: its keeper has to
+/// promise that none is lost.
 #[derive(Debug, Drop)]
 pub struct Parked {
     place: Place,

@@ -34,12 +34,13 @@ pub enum Kept {
     Counted { items: usize, consumers: usize },
     /// A peek saw the item that arrived at this place.
     Peeked(Place),
-    /// A drain took items in one step. The place is its own: whose items they are, its entry there says.
+    /// A drain took items in one step. The place is the drain's own: its entry names those that brought them.
     Drained(Place),
 }
 
 impl Kept {
-    /// What a session of this version is told of it: in the first, that an item was received, not by whom.
+    /// The reply that a session of this version is told: the first version isn't told which consumer received
+    /// an item.
     pub fn told_in(self, version: Version) -> Kept
         ensures { result ≡ told_in version self }
     {

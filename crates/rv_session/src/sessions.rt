@@ -75,13 +75,10 @@ impl Sessions {
         requires { IsSome (session_of self.old client) }
         ensures { OnlySets self.old self.new client session }
     {
-        match self.sessions.get_mut(&client) {
-            Some(own) => *own = session,
-            None => unreachable!(),
-        }
+        *self.sessions.get_mut(&client).unwrap() = session;
     }
 
-    // Gives a client without a session this one, where there is room for it.
+    // Gives a client without a session this one, if there is room for it.
     fn add(&mut self, client: u64, session: Session) -> Result<(), NoMemory>
         requires room { session_count self.old < max_clients }
         requires none { session_of self.old client ≡ None }
@@ -93,7 +90,7 @@ impl Sessions {
         Ok(())
     }
 
-    // Gives a client this session, where it has one or there is room for it. Only a new client takes memory.
+    // Gives a client this session, if it has one or there is room for it. Only a new client takes memory.
     fn put(&mut self, client: u64, session: Session) -> Result<(), NoMemory>
         requires { session_of self.old client ≡ None → session_count self.old < max_clients }
         ensures ok { OnOk result (OnlySets self.old self.new client session) }
@@ -124,10 +121,10 @@ impl Sessions {
         }
     }
 
-    /// Opens the session of an incarnation and a version of a client, in which nothing was asked yet. It is
-    /// asked where [`greet`](Sessions::greet) gives `Unknown` or `Newer` with nothing that waits. For a
-    /// client that has a session it takes no memory and succeeds, and so it does where there is room; else it
-    /// fails only where memory was refused, and then all sessions stay.
+    /// Opens the session of an incarnation and a version of a client, in which nothing was asked yet. The
+    /// client's [`greet`](Sessions::greet) must give `Unknown`, or `Newer` with nothing that waits. For a
+    /// client that has a session it takes no memory and succeeds, as it does if there is room for one more.
+    /// Otherwise it fails only if memory was refused, and then all sessions stay.
     pub fn enter(&mut self, client: u64, incarnation: u64, version: Version) -> Result<(), NoMemory>
         requires { MayEnter self.old client incarnation version }
         ensures ok { OnOk result (OnlySets self.old self.new client (fresh incarnation version)) }
@@ -138,8 +135,8 @@ impl Sessions {
         self.put(client, Session::fresh(incarnation, version))
     }
 
-    /// What stands of a key: why it is refused, what stands of its session's last number, or that it is
-    /// the next one.
+    /// What stands of a key: the reason why it is refused, what stands of its session's last number, or that
+    /// it is the next one.
     #[tactic(auto, using(crate::proofs::Meaning::standing_in_means))]
     pub fn look(&self, key: &Key) -> Standing
         ensures standing { result ≡ standing_of self.now key.now }
@@ -164,7 +161,7 @@ impl Sessions {
     }
 
     /// Makes the next number of a key's session its last, whose request arrived at a place and waits there,
-    /// and gives the duty to settle it. It is asked where [`look`](Sessions::look) gives `Next`.
+    /// and gives the duty to settle it. The key's [`look`](Sessions::look) must give `Next`.
     pub fn begin(&mut self, key: &Key, place: Place) -> Duty
         requires { standing_of self.old key.now ≡ Next }
         ensures duty { result ≡ record { place = place; client = key.now.client } }
@@ -174,7 +171,7 @@ impl Sessions {
         Duty::new(place, key.client)
     }
 
-    /// The version of the session that a duty is for, which waits at the duty's place.
+    /// The version of the session that a duty is for. The session must wait at the duty's place.
     pub fn version(&self, duty: &Duty) -> Version
         requires { waiting_of self.now duty.now.client ≡ Some duty.now.place }
         ensures { version_in self.now duty.now.client ≡ Some result }
@@ -182,8 +179,8 @@ impl Sessions {
         self.session_of(duty.client()).unwrap().version
     }
 
-    /// Settles the request that a duty is for: from now on the reply that is kept for it stands. It is
-    /// asked where the duty's session waits at the duty's place.
+    /// Settles the request that a duty is for: from now on the reply that is kept for it stands. The duty's
+    /// session must wait at the duty's place.
     pub fn settle(&mut self, duty: Duty, kept: Kept)
         requires { waiting_of self.old duty.client ≡ Some duty.place }
         ensures { OnlySettles self.old self.new duty.client duty.place kept }
@@ -194,7 +191,7 @@ impl Sessions {
     }
 
     /// Makes the next number of a key's session its last, and settles it as cancelled: no request arrived
-    /// with it. It is asked where [`look`](Sessions::look) gives `Next`.
+    /// with it. The key's [`look`](Sessions::look) must give `Next`.
     pub fn bury(&mut self, key: &Key)
         requires { standing_of self.old key.now ≡ Next }
         ensures { OnlyAdvances self.old self.new key.now (Settled None Cancelled) }
