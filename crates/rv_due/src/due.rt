@@ -15,8 +15,8 @@ pub type Place = usize;
 /// milliseconds, and the place of the request whose time is over then. Of two deadlines the one with the
 /// lower moment is less, and at one moment that with the lower place.
 ///
-/// Each call takes time logarithmic in their number, and `len` constant time; where none is due
-/// `pop_until` looks at the least alone.
+/// Each call takes time logarithmic in their number, and `len` constant time. If none is due `pop_until`
+/// looks at the least alone.
 #[derive(Drop)]
 pub struct Due {
     // In their order, with nothing at each.
@@ -48,8 +48,8 @@ impl Due {
         Due { deadlines }
     }
 
-    /// Adds a deadline. Where it is there already nothing changes, and no memory is taken; else it fails
-    /// only where memory was refused, and then nothing changes.
+    /// Adds a deadline. If it is there already nothing changes, and no memory is taken. Otherwise it fails
+    /// only if memory was refused, and then nothing changes.
     pub fn add(&mut self, moment: u64, place: Place) -> Result<(), NoMemory>
         ensures ok { OnOk result (self.new ≡ insert self.old (moment, place)) }
         ensures err { OnErr result (self.new ≡ self.old) }
@@ -67,8 +67,8 @@ impl Due {
         self.deadlines.remove(&(moment, place)).is_some()
     }
 
-    /// Takes the least deadline out, if its moment is at most `now`, and gives it. Where no deadline's
-    /// moment is, nothing changes.
+    /// Takes the least deadline out, if its moment is at most `now`, and gives it. If there is none so early
+    /// nothing changes.
     pub fn pop_until(&mut self, now: u64) -> Option<(u64, Place)>
         ensures least { IfSome result (IsLeastUntil self.old now) }
         ensures taken { IfSome result (λ deadline. self.new ≡ set.remove self.old deadline) }

@@ -22,7 +22,7 @@ impl Model for Swap {
     ghost view = { λ s. s.waiting };
 }
 
-/// What comes of a duty that waits where there is no partner.
+/// What becomes of a duty that waits if there is no partner.
 pub enum SwapOutcome {
     /// It met the duty that waited: the earlier one, and the one that arrived.
     Met(Duty, Duty),
@@ -30,7 +30,7 @@ pub enum SwapOutcome {
     Parked,
 }
 
-/// What comes of a duty that doesn't wait.
+/// What becomes of a duty that doesn't wait.
 pub enum SwapTry {
     /// It met the duty that waited: the earlier one, and the one that arrived.
     Met(Duty, Duty),
@@ -49,8 +49,7 @@ impl Swap {
         Swap { waiting: None }
     }
 
-    /// A duty arrives. It meets the one that waits, if there is one, and none waits any more; else it
-    /// waits itself.
+    /// A duty arrives. It meets the one that waits, which leaves. If none waits it waits itself.
     pub fn arrive(&mut self, duty: Duty) -> SwapOutcome
         ensures { ArrivesToSwap self.old duty self.new result }
     {
@@ -63,8 +62,8 @@ impl Swap {
         }
     }
 
-    /// A duty arrives that doesn't wait. It meets the one that waits, if there is one, and none waits any
-    /// more; else it is handed back, and none waits.
+    /// A duty arrives that doesn't wait. It meets the one that waits, which leaves. If none waits it is
+    /// handed back, and nothing changes.
     pub fn try_arrive(&mut self, duty: Duty) -> SwapTry
         ensures { TriesAt self.old duty self.new result }
     {
@@ -74,7 +73,7 @@ impl Swap {
         }
     }
 
-    /// Takes the duty of a place out, if it is the one that waits; else nothing changes.
+    /// Takes the duty of a place out, if it is the one that waits. Otherwise nothing changes.
     pub fn withdraw(&mut self, place: Place) -> Option<Duty>
         ensures taken { IfSome result (LeavesExchanger self.old place self.new) }
         ensures not_there { IfNone result (NotWaiting self.old place) }
