@@ -1,6 +1,6 @@
 -- After an arrival the deadlines are those of all that wait: with its own, if it waits for some time, and without that of the
 -- request that it met.
-use Rattle.std.proofs.Common.{◌≡◌, ◌⊎◌, inl, inr, ℕ, zero, suc, ◌<◌, List, [], ◌∷◌, ◌++◌, length, Option, Some, None, IsSome, is_some, option_and_then, refl, sym, ap, subst, ◌∙◌, arith}
+use Rattle.std.proofs.Common.{◌≡◌, ◌⊎◌, inl, inr, ℕ, zero, suc, List, [], ◌∷◌, ◌++◌, length, Option, Some, None, IsSome, is_some, option_and_then, refl, sym, ap, subst, ◌∙◌}
 use Rattle.std.proofs.lemmas.Option.{none-some, same_Some}
 use Rattle.rv_due.specs.Deadlines.{Deadlines}
 use Rattle.rv_text.specs.declared.call.Call.{Call}
@@ -21,7 +21,7 @@ use Rattle.rv_account.specs.declared.entry.Entry.{Entry}
 use Rattle.rv_book.proofs.DeadlineTable.{ButDuty, due_on, due_same, due_with, due_without_duty, limit_waits}
 use Rattle.rv_book.proofs.Lasting.{lasting_deadline}
 use Rattle.rv_book.proofs.Naming.{just_none, names_it, names_only}
-use Rattle.rv_book.proofs.Owing.{goes_not_on, goes_on, unowed_waits_not, waiting_inside}
+use Rattle.rv_book.proofs.Owing.{goes_on, unowed_waits_not}
 use Rattle.rv_book.proofs.Places.{get-append_end}
 use Rattle.rv_book.proofs.Sides.{ComesToWait, Waiting-back, Waiting-last, Waiting-on, arrival_stops_nobody, waiting_is_open}
 use Rattle.rv_book.proofs.WaitersBySide.{met_last}
@@ -35,11 +35,14 @@ deadline_is_limit moment (Some (Millis zero)) limit is = absurd (none-some limit
 deadline_is_limit moment (Some (Millis (suc n))) limit is = is
 deadline_is_limit moment (Some Forever) limit is = absurd (none-some limit is)
 
--- ---- a property but for a duty's place
-
 but_has : (P : ℕ → Type 0) (duty : Option OwedDuty) (r : ℕ) → ButDuty P duty r → P r
 but_has P None r but = but
 but_has P (Some d) r but = but.0
+
+-- a deadline that is there
+some_limit : (deadline : Option ℕ) → IsSome deadline → (limit : ℕ) × (deadline ≡ Some limit)
+some_limit None is = absurd (let no : ⊥ = cc in no)
+some_limit (Some limit) is = (limit, refl)
 
 module _ (a : Account) (e : Entry) (key : Key) (call : Call) (legal : Legal a) (free : NamesFreePartners a.entries e) (arrives : e.act ≡ Arrive key call)
     (deadline : Option ℕ) (own_deadline : (limit : ℕ) → deadline ≡ Some limit → deadline_of e.moment call ≡ Some limit) where
@@ -82,59 +85,40 @@ module _ (a : Account) (e : Entry) (key : Key) (call : Call) (legal : Legal a) (
       record { unmet = refl; stays = subst Stays same new.stays; no_put = subst (λ c. IsPut c → ⊥) same new.no_put }
   goes (Some p) new names waits = absurd (met_last a.entries e _ p free (names_it e p names) (waiting_is_open after place waits))
 
-  module _ (partner : Option ℕ) (duty : OwedDuty) (own other : Option OwedDuty) (names : e.partners ≡ just partner) (at : duty.place ≡ place) (own_is : OwnDuty (side_of call) (wait_of call) partner duty own)
-      (other_is : PartnersDuty a.entries partner other) (unmet_has : partner ≡ None → deadline ≡ deadline_of e.moment call) where
+  module _ (partner : Option ℕ) (duty : OwedDuty) (own other : Option OwedDuty) (names : e.partners ≡ just partner) (own_is : OwnDuty (side_of call) (wait_of call) partner duty own)
+      (other_is : PartnersDuty a.entries partner other) (unmet_has : partner ≡ None → deadline ≡ deadline_of e.moment call)
+      (waits_has : (limit : ℕ) → deadline ≡ Some limit → own ≡ None) where
     -- ---- who is left waits
 
-    new_waits : (mine : Option OwedDuty) → mine ≡ own → ButDuty (ButDuty Either other) mine place → Waiting after place
-    new_waits None same but =
-        let is = goes_on call partner duty own own_is (sym same) in
+    new_waits : IsSome deadline → Waiting after place
+    new_waits has =
+        let limit = some_limit deadline has in
+        let is = goes_on call partner duty own own_is (waits_has limit.0 limit.1) in
         Waiting-last a e legal (names ∙ ap just is.unmet) (record { call = call; arrives = ap call_in arrives; stays = is.stays; no_put = is.no_put })
-    new_waits (Some d) same but =
-        let mine : OwnDuty (side_of call) (wait_of call) partner duty (Some d) = subst (OwnDuty (side_of call) (wait_of call) partner duty) (sym same) own_is in
-        absurd (but.1 (sym at ∙ ap (λ (x : OwedDuty). x.place) (sym mine.0)))
 
-    left_waits : (r : ℕ) → ButDuty (ButDuty Either other) own r → Waiting after r
-    left_waits r but =
-        let left = but_has (ButDuty Either other) own r but in
-        elim (but_has Either other r left) [
-          | inl waits ↦ Waiting-on a.entries e r waits (unnamed partner other r names other_is left waits) (arrival_stops_nobody a.entries e key call r arrives)
-          | inr last ↦ subst (Waiting after) (sym last.0) (new_waits own refl (subst (ButDuty (ButDuty Either other) own) last.0 but))
-        ]
+    left_waits : (r : ℕ) → ButDuty Either other r → Waiting after r
+    left_waits r left = elim (but_has Either other r left) [
+      | inl waits ↦ Waiting-on a.entries e r waits (unnamed partner other r names other_is left waits) (arrival_stops_nobody a.entries e key call r arrives)
+      | inr last ↦ subst (Waiting after) (sym last.0) (new_waits last.1)
+    ]
 
     -- ---- and who waits is left
 
-    old_left : (mine : Option OwedDuty) (r : ℕ) → mine ≡ own → Waiting a.entries r → ButDuty Either other r → ButDuty (ButDuty Either other) mine r
-    old_left None r same waits left = left
-    old_left (Some d) r same waits left =
-        let mine : OwnDuty (side_of call) (wait_of call) partner duty (Some d) = subst (OwnDuty (side_of call) (wait_of call) partner duty) (sym same) own_is in (
-          left,
-          λ here.
-              let is : r ≡ place = here ∙ ap (λ (x : OwedDuty). x.place) mine.0 ∙ at in
-              let inside : r < place = waiting_inside a.entries r waits in
-              omega arith,
-        )
-
-    new_left : (mine : Option OwedDuty) → mine ≡ own → GoesOnWaiting call partner → ButDuty Either other place → ButDuty (ButDuty Either other) mine place
-    new_left None same on left = left
-    new_left (Some d) same on left = absurd (goes_not_on call partner duty d own own_is (sym same) on)
-
-    waits_left : (limit r : ℕ) → Waiting after r → limit_at after r ≡ Some limit → ButDuty (ButDuty Either other) own r
+    waits_left : (limit r : ℕ) → Waiting after r → limit_at after r ≡ Some limit → ButDuty Either other r
     waits_left limit r waits has = elim (Waiting-back a.entries e r free waits) [
-      | inl was ↦ old_left own r refl was.there (but_other partner other r names other_is (inl was.there) was.unnamed)
+      | inl was ↦ but_other partner other r names other_is (inl was.there) was.unnamed
       | inr new ↦
           let on = goes partner new.1 names (subst (Waiting after) new.0 waits) in
           let lasts : Lasts (wait_of call) = on.stays.1 in
           let is : deadline ≡ Some limit = unmet_has on.unmet ∙ lasting_deadline e.moment (wait_of call) lasts ∙ sym own_limit ∙ ap (limit_at after) (sym new.0) ∙ has in
           let nobody = just_none e place (names ∙ ap just on.unmet) in
-          subst (ButDuty (ButDuty Either other) own) (sym new.0) (new_left own refl on (but_other partner other place names other_is (inr (refl, ap is_some is)) nobody))
+          subst (ButDuty Either other) (sym new.0) (but_other partner other place names other_is (inr (refl, ap is_some is)) nobody)
     ]
 
     -- the deadlines after the arrival, from those before it
-    pub due_arrived : (due : Deadlines) → AreDeadlines a.entries due → AreDeadlines after (without_duty after own (without_duty after other (with_deadline deadline place due)))
+    pub due_arrived : (due : Deadlines) → AreDeadlines a.entries due → AreDeadlines after (without_duty after other (with_deadline deadline place due))
     due_arrived due are =
         let same = due_on a.entries (e ∷ []) (Waiting a.entries) due are (limit_waits a.entries (e ∷ [])) in
         let more = due_with after (Waiting a.entries) due place same deadline has_limit in
         let less = due_without_duty after Either (with_deadline deadline place due) other more in
-        let least = due_without_duty after (ButDuty Either other) (without_duty after other (with_deadline deadline place due)) own less in
-        due_same after (ButDuty (ButDuty Either other) own) (Waiting after) _ least left_waits waits_left
+        due_same after (ButDuty Either other) (Waiting after) _ less left_waits waits_left

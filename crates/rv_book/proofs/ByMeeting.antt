@@ -12,7 +12,7 @@ use Rattle.rv_account.specs.declared.entry.Act.TheVariants.{Arrive}
 use Rattle.rv_account.specs.declared.entry.Entry.{Entry}
 use Rattle.rv_account.specs.Account.{Account, call_at, with_entry}
 use Rattle.rv_book.specs.Arriving.{GoesOnWaiting, IsKept, WillReply, entry}
-use Rattle.rv_account.specs.Calls.{MayMeet, opposite}
+use Rattle.rv_account.specs.Calls.{Lasts, MayMeet, opposite}
 use Rattle.rv_book.specs.Legal.{Legal}
 use Rattle.rv_book.specs.Limits.{FitsAccount}
 use Rattle.rv_book.specs.Replies.{RepliesAt, RepliesUnmet}
@@ -24,7 +24,7 @@ use Rattle.rv_book.proofs.Deciding.{met_or_not}
 use Rattle.rv_book.proofs.Growing.{call_read, reads_within}
 use Rattle.rv_book.proofs.ReplyLaws.{FitsIn, ReplyLaws}
 use Rattle.rv_book.proofs.Sides.{last_unmet}
-use Rattle.rv_book.proofs.Unmet.{kept_told, one_unmet, passes_by, passing_told, same_at_once, still_unmet, told_at_once, unmet_exists, unmet_has, unmet_stays, unmet_waits_not}
+use Rattle.rv_book.proofs.Unmet.{kept_told, lasting_told, one_unmet, passes_by, passing_told, same_at_once, still_unmet, told_at_once, unmet_exists, unmet_has, unmet_stays, unmet_waits_not}
 
 -- a request is told this: by whom it met; or it met nobody, and is told by its wait
 abbrev pub ByMeeting : (List Entry → ℕ → Reply → Type 0) → Wait → Reply → List Entry → ℕ → Reply → Type 0
@@ -89,6 +89,7 @@ module _ (TellsMet : List Entry → ℕ → Reply → Type 0) (call : Call) (wai
     fits = λ a r told legal within arrived replies. fits_by a r told legal within (by.from a.entries r told replies);
     exists = exists_by;
     waits_not = λ a r told legal arrived w replies. waits_not_by a r told arrived w (by.from a.entries r told replies);
+    stopped = λ es r told stays no_put unmet stopped. by.back es r told (inr (unmet, lasting_told wait es r alone told (subst Lasts by.waits stays.1) stopped));
     met = λ b earlier later other v legal arrived also names opposes waits asked. kept b earlier later other v legal also names opposes asked;
   }
 

@@ -21,6 +21,7 @@ use Rattle.rv_book.proofs.Deciding.{find_waiting}
 use Rattle.rv_book.proofs.FrontPairs.{find_open}
 use Rattle.rv_book.proofs.Growing.{call_read, reads_within}
 use Rattle.rv_book.proofs.Looking.{looks_waits_not, same_before}
+use Rattle.rv_book.proofs.Opposites.{looks_alone}
 use Rattle.rv_book.proofs.ReplyLaws.{FitsIn, ReplyLaws}
 
 -- ---- what is kept
@@ -75,5 +76,6 @@ counts queue = record {
   fits = λ a r told legal within arrived. fits queue a r told within;
   exists = λ a r legal arrived. inl (exists_at queue a.entries r);
   waits_not = λ a r told legal arrived w replies. looks_waits_not a.entries r queue (Count queue) arrived refl w;
+  stopped = λ es r told stays no_put unmet stopped. absurd (looks_alone queue stays.0);
   met = λ b earlier later other version legal arrived also names opposes waits asked. absurd (let no : ⊥ = cc in no);
 }

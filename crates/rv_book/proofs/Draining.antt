@@ -1,5 +1,5 @@
 -- After a drain the account and its tables are sound, and who was taken out was told that the drain received it.
-use Rattle.std.proofs.Common.{◌≡◌, ℕ, ◌+◌, ◌≤◌, List, [], ◌∷◌, ◌++◌, length, take, Option, Some, None, IsSome, is_some, option_and_then, option_map, refl, sym, ap, subst, ◌∙◌, arith}
+use Rattle.std.proofs.Common.{◌≡◌, ℕ, ◌+◌, ◌≤◌, List, [], ◌∷◌, ◌++◌, length, take, Option, Some, None, IsSome, is_some, option_map, refl, sym, ap, subst, ◌∙◌, arith}
 use Rattle.std.proofs.lemmas.Option.{same_Some}
 use Rattle.rv_text.specs.declared.call.Call.{Call}
 use Rattle.rv_text.specs.declared.call.Side.{Side}
@@ -21,17 +21,16 @@ use Rattle.rv_session.specs.declared.session.Session.{Session}
 use Rattle.rv_session.specs.declared.session.RequestState.TheVariants.{Settled, Waits}
 use Rattle.rv_account.specs.declared.entry.Act.TheVariants.{Arrive}
 use Rattle.rv_account.specs.declared.entry.Entry.{Entry}
-use Rattle.rv_account.specs.Account.{Account, Names, Stored, call_at, entry, limit_at, limit_in, with_entry}
-use Rattle.rv_account.specs.Calls.{IsPut, Lasts, MayMeet, Stays, limit_after, may_name, need_by, need_of, opposite}
+use Rattle.rv_account.specs.Account.{Account, Names, Stored, call_at, entry, with_entry}
+use Rattle.rv_account.specs.Calls.{IsPut, Lasts, MayMeet, Stays, may_name, need_by, need_of, opposite}
 use Rattle.rv_book.specs.declared.state.BookState.{BookState}
 use Rattle.rv_book.specs.Arriving.{IsKept, IsRecorded, WillTell}
 use Rattle.rv_book.proofs.Parking.{none_beside}
 use Rattle.rv_book.proofs.NextKeys.{IsNext}
 use Rattle.rv_book.specs.Counting.{NumberOf}
-use Rattle.rv_book.specs.Draining.{IsDraining, MayDrain, items_in}
-use Rattle.rv_book.specs.Elapsing.{AreDeadlines, deadline_after, deadline_beside, with_deadline, without_deadline}
+use Rattle.rv_book.specs.Draining.{IsDraining, MayDrain, items_in, taken_by}
+use Rattle.rv_book.specs.Elapsing.{AreDeadlines, deadline_after, deadline_beside, with_deadline}
 use Rattle.rv_book.specs.Legal.{KeepsTime, Legal, MayFollow, NothingDue}
-use Rattle.rv_book.specs.Limits.{FitEntries}
 use Rattle.std.specs.Global.{Vec}
 use Rattle.rv_book.specs.Parked.{AreWaiters, IsLine}
 use Rattle.rv_book.specs.Operations.{Comes, IsPrepared, SettlesAs, partners_reply, told_to, with_due}
@@ -43,7 +42,7 @@ use Rattle.rv_book.proofs.Closing.{ClosesThose, names_closes, waits_on}
 use Rattle.rv_book.proofs.Counting.{number_at_most}
 use Rattle.rv_book.proofs.FewClients.{few_still}
 use Rattle.rv_book.proofs.Growing.{NamesAt-last, act_read, call_read, reads_on}
-use Rattle.rv_book.proofs.Keeping.{fit_with, sound_same, sound_with}
+use Rattle.rv_book.proofs.Keeping.{sound_same, sound_with}
 use Rattle.rv_book.proofs.Keys.{no_hello}
 use Rattle.rv_book.proofs.Legality.{Legal-with_entry}
 use Rattle.rv_book.proofs.NamingFront.{front_follows, named_open}
@@ -81,11 +80,7 @@ module _ (a : Account) (moment : ℕ) (key : Key) (call : Call) (side : Side) (p
 
 -- ---- the state
 
--- the entry is within the limits
-pub fit_drained : (old : BookState) (moment : ℕ) (key : Key) (call : Call) (partners : List ℕ) → Comes old moment (Arrive key call) → FitEntries ((account_of old).entries ++ entry moment (Arrive key call) partners ∷ [])
-fit_drained old moment key call partners comes = fit_with (account_of old).entries (entry moment (Arrive key call) partners) comes.sound.fits.entries (comes.moment_fits, comes.act_fits)
-
-module _ (old : BookState) (moment : ℕ) (key : Key) (call : Call) (queue max : ℕ) (room : Vec ℕ) (k : Kept) (may : MayDrain old moment key call queue max room k) where
+module _ (old : BookState) (moment : ℕ) (key : Key) (call : Call) (room : Vec ℕ) (may : MayDrain old moment key call room) where
   abbrev pub before : Account
   before = account_of old
 
@@ -93,7 +88,7 @@ module _ (old : BookState) (moment : ℕ) (key : Key) (call : Call) (queue max :
   place = length before.entries
 
   abbrev pub places : List ℕ
-  places = take (may_name call) (items_in old queue)
+  places = taken_by old call
 
   abbrev pub own_entry : Entry
   own_entry = entry moment (Arrive key call) places
@@ -104,14 +99,17 @@ module _ (old : BookState) (moment : ℕ) (key : Key) (call : Call) (queue max :
   abbrev pub sound : IsSound old
   sound = may.comes.sound
 
-  pub opposes : opposite (side_of call) ≡ Some (Gives queue)
+  pub opposes : opposite (side_of call) ≡ Some (Gives may.queue)
   opposes = ap opposite may.side
+
+  line : IsLine before.entries (Gives may.queue) (items_in old (side_of call))
+  line = subst (IsLine before.entries (Gives may.queue)) (sym (ap (items_in old) may.side)) (sound.waiters_are.lines (Gives may.queue))
 
   pub next : IsNext before key
   next = is_next before old.sessions sound.sessions_are sound.legal key may.next
 
   pub follows : MayFollow before own_entry
-  follows = front_follows before moment key call (Gives queue) (items_in old queue) opposes (sound.waiters_are.lines (Gives queue)) may.comes.time may.comes.nothing_due next
+  follows = front_follows before moment key call (Gives may.queue) (items_in old (side_of call)) opposes line may.comes.time may.comes.nothing_due next
 
   pub legal_after : Legal after
   legal_after = Legal-with_entry before own_entry sound.legal follows
@@ -121,76 +119,77 @@ module _ (old : BookState) (moment : ℕ) (key : Key) (call : Call) (queue max :
 
   pub tells : Tells before own_entry (Names own_entry) (kept.ReceivedBy place)
   tells = subst (Tells before own_entry (Names own_entry)) (ap (λ s. partners_reply s place) may.side)
-      (tells_named before moment key call (Gives queue) (items_in old queue) opposes (sound.waiters_are.lines (Gives queue)) legal_after)
+      (tells_named before moment key call (Gives may.queue) (items_in old (side_of call)) opposes line legal_after)
 
   -- what is kept for it, where its session has this version
-  pub kept_is : (version : Version) → HasOpened before.entries key.client key.incarnation version → IsKept after.entries place call (told_in version k)
-  kept_is version opened =
-      let named : take max (items_in old queue) ≡ places = ap (λ n. take n (items_in old queue)) may.most in
-      subst (λ partners. WillTell before call partners k) named may.will moment key version sound.legal legal_after (asked_last before.entries own_entry key key.incarnation version refl opened)
+  pub kept_is : (version : Version) → HasOpened before.entries key.client key.incarnation version → IsKept after.entries place call (told_in version (kept.Drained place))
+  kept_is version opened = may.will moment key version sound.legal legal_after (asked_last before.entries own_entry key key.incarnation version refl opened)
 
 -- the items were taken out, and the request's number began
-pub record Began (old mid : BookState) (begun : Table) (moment : ℕ) (key : Key) (call : Call) (queue max : ℕ) (room : Vec ℕ) (k : Kept) : Type 0 where
-  pub may : MayDrain old moment key call queue max room k
-  pub draining : IsDraining mid (take (may_name call) (items_in old queue))
+pub record Began (old mid : BookState) (begun : Table) (moment : ℕ) (key : Key) (call : Call) (room : Vec ℕ) : Type 0 where
+  pub may : MayDrain old moment key call room
+  pub draining : IsDraining mid (taken_by old call)
   pub same : mid.account ≡ old.account
   pub begins : OnlyAdvances mid.sessions begun key (Waits (length (account_of old).entries))
 
-module _ {old : BookState} {moment : ℕ} {key : Key} {call : Call} {queue max : ℕ} {room : Vec ℕ} {k : Kept} {items : List ℕ}
-    (may : MayDrain old moment key call queue max room k) (taken : items ≡ take max (items_in old queue)) where
-  as_many : items ≡ take (may_name call) (items_in old queue)
-  as_many = taken ∙ ap (λ n. take n (items_in old queue)) may.most
+-- the items of a side, up to a number, where these are the call's
+pub all_taken : (old : BookState) (call : Call) {side : Side} {most : ℕ} {items : List ℕ} → side ≡ side_of call → most ≡ may_name call → items ≡ take most (items_in old side) → items ≡ taken_by old call
+all_taken old call {side = side} {most = most} same number taken = taken ∙ ap (λ n. take n (items_in old side)) number ∙ ap (λ s. take (may_name call) (items_in old s)) same
 
+module _ {old : BookState} {moment : ℕ} {key : Key} {call : Call} {room : Vec ℕ} {items : List ℕ} (may : MayDrain old moment key call room) (taken : items ≡ taken_by old call) where
   -- the duty was begun for the place behind the last entry
-  pub began_at_last : {mid : BookState} {begun : Table} {place : ℕ} → mid.account ≡ old.account → IsDraining mid items → place ≡ length (account_of mid).entries
-      → OnlyAdvances mid.sessions begun key (Waits place) → Began old mid begun moment key call queue max room k
+  pub began_at_last : {mid : BookState} {begun : Table} {place : ℕ} → mid.account ≡ old.account → IsDraining mid items → place ≡ length (account_of old).entries
+      → OnlyAdvances mid.sessions begun key (Waits place) → Began old mid begun moment key call room
   began_at_last {mid = mid} {begun = begun} same draining last begins = record {
     may = may;
-    draining = subst (IsDraining mid) as_many draining;
+    draining = subst (IsDraining mid) taken draining;
     same = same;
-    begins = subst (λ n. OnlyAdvances mid.sessions begun key (Waits n)) (last ∙ ap (λ (s : Stored). length s.account.entries) same) begins;
+    begins = subst (λ n. OnlyAdvances mid.sessions begun key (Waits n)) last begins;
   }
 
   -- the entry that was recorded names what was taken out
   pub names_taken : (mid : BookState) {now : Account} {partners : List ℕ} → mid.account ≡ old.account → partners ≡ items → now ≡ with_entry (account_of mid) (entry moment (Arrive key call) partners)
-      → now ≡ with_entry (account_of old) (entry moment (Arrive key call) (take (may_name call) (items_in old queue)))
+      → now ≡ with_entry (account_of old) (entry moment (Arrive key call) (taken_by old call))
   names_taken mid same is pushed =
-      pushed ∙ ap (λ (places : List ℕ). with_entry (account_of mid) (entry moment (Arrive key call) places)) (is ∙ as_many)
-      ∙ ap (λ (s : Stored). with_entry s.account (entry moment (Arrive key call) (take (may_name call) (items_in old queue)))) same
+      pushed ∙ ap (λ (places : List ℕ). with_entry (account_of mid) (entry moment (Arrive key call) places)) (is ∙ taken)
+      ∙ ap (λ (s : Stored). with_entry s.account (entry moment (Arrive key call) (taken_by old call))) same
 
 -- then its entry was recorded, and it was settled with this
-pub record DrainsOnce (old mid new : BookState) (begun : Table) (moment : ℕ) (key : Key) (call : Call) (queue : ℕ) (k : Kept) : Type 0 where
-  pub settles : SettlesAs begun new.sessions key.client (length (account_of old).entries) k
-  pub pushed : account_of new ≡ with_entry (account_of old) (entry moment (Arrive key call) (take (may_name call) (items_in old queue)))
+pub record DrainsOnce (old mid new : BookState) (begun : Table) (moment : ℕ) (key : Key) (call : Call) : Type 0 where
+  pub settles : SettlesAs begun new.sessions key.client (length (account_of old).entries) (kept.Drained (length (account_of old).entries))
+  pub pushed : account_of new ≡ with_entry (account_of old) (entry moment (Arrive key call) (taken_by old call))
   pub room_left : old.account.room ≡ new.account.room + 1
   pub waiters : new.waiters ≡ mid.waiters
   pub waiting : new.waiting ≡ mid.waiting
-  pub due : new.due ≡ without_deadline (limit_at (account_of new).entries (length (account_of old).entries)) (length (account_of old).entries) mid.due
+  pub due : new.due ≡ mid.due
 
-module _ {old mid : BookState} {begun : Table} {moment : ℕ} {key : Key} {call : Call} {queue max : ℕ} {room : Vec ℕ} {k : Kept} (is : Began old mid begun moment key call queue max room k) where
+module _ {old mid : BookState} {begun : Table} {moment : ℕ} {key : Key} {call : Call} {room : Vec ℕ} (is : Began old mid begun moment key call room) where
   abbrev was : Account
   was = account_of old
 
   abbrev at : ℕ
   at = length was.entries
 
+  abbrev k : Kept
+  k = kept.Drained at
+
   abbrev new_entry : Entry
-  new_entry = entry moment (Arrive key call) (take (may_name call) (items_in old queue))
+  new_entry = entry moment (Arrive key call) (taken_by old call)
 
   abbrev is_now : Account
   is_now = with_entry was new_entry
 
   own_next : IsNext was key
-  own_next = next old moment key call queue max room k is.may
+  own_next = next old moment key call room is.may
 
   own_closes : ClosesThose was.entries new_entry (Names new_entry)
-  own_closes = closes old moment key call queue max room k is.may
+  own_closes = closes old moment key call room is.may
 
   own_tells : Tells was new_entry (Names new_entry) (kept.ReceivedBy at)
-  own_tells = tells old moment key call queue max room k is.may
+  own_tells = tells old moment key call room is.may
 
   own_legal : Legal is_now
-  own_legal = legal_after old moment key call queue max room k is.may
+  own_legal = legal_after old moment key call room is.may
 
   abbrev own_sound : IsSound old
   own_sound = is.may.comes.sound
@@ -211,7 +210,7 @@ module _ {old mid : BookState} {begun : Table} {moment : ℕ} {key : Key} {call 
   opened = opened_while_left was (Names new_entry) (kept.ReceivedBy at) mid.sessions key.client key.incarnation v left.sessions_are own_next.incarnation is.begins.was
 
   own_kept : IsKept is_now.entries at call (told_in v k)
-  own_kept = kept_is old moment key call queue max room k is.may v opened
+  own_kept = kept_is old moment key call room is.may v opened
 
   -- what it is told
   pub drained_recorded : IsRecorded was is_now moment key call (told_to begun (Some (record { place = at; client = key.client })) k)
@@ -238,13 +237,10 @@ module _ {old mid : BookState} {begun : Table} {moment : ℕ} {key : Key} {call 
 
   -- ---- the tables
 
-  no_limit : limit_at is_now.entries at ≡ None
-  no_limit = ap (option_and_then limit_in) (get-append_end was.entries new_entry) ∙ ap (option_and_then (limit_after moment)) is.may.at_once
-
   fewer : mid.waiting ≤ old.waiting
   fewer = number_at_most (Left (Names new_entry) (Waiting was.entries)) (Waiting was.entries) mid.waiting old.waiting (λ r both. both.0) left.waiting_is own_sound.waiting_is
 
-  module _ (new : BookState) (drains : DrainsOnce old mid new begun moment key call queue k) where
+  module _ (new : BookState) (drains : DrainsOnce old mid new begun moment key call) where
     changes : Changes mid.sessions new.sessions key.client (session_for key v (Settled (Some at) (told_in v k)))
     changes =
         let settles = drains.settles.settles in
@@ -256,9 +252,6 @@ module _ {old mid : BookState} {begun : Table} {moment : ℕ} {key : Key} {call 
               ∙ ap (λ w. Some (session_for key v (Settled (Some at) (told_in w k)))) (sym version);
           others = λ other apart. settles.sets.others other apart ∙ is.begins.sets.others other apart;
         }
-
-    due_is : new.due ≡ mid.due
-    due_is = drains.due ∙ ap (λ (b : Account). without_deadline (limit_at b.entries at) at mid.due) drains.pushed ∙ ap (λ o. without_deadline o at mid.due) no_limit
 
     pub drained_sound : IsSound new
     drained_sound =
@@ -275,7 +268,7 @@ module _ {old mid : BookState} {begun : Table} {moment : ℕ} {key : Key} {call 
               (session_for key v (Settled (Some at) (told_in v k))) refl left.sessions_are changes own_session;
           waiters_are = subst (AreWaiters is_now.entries) (sym drains.waiters) (waiters_at_last was.entries new_entry (Names new_entry) own_closes mid.waiters left.waiters_are);
           waiting_is = subst (NumberOf (Waiting is_now.entries)) (sym drains.waiting) (number_at_last was.entries new_entry (Names new_entry) own_closes mid.waiting left.waiting_is);
-          due_are = subst (AreDeadlines is_now.entries) (sym due_is) (due_at_last was.entries new_entry (Names new_entry) own_closes mid.due left.due_are);
+          due_are = subst (AreDeadlines is_now.entries) (sym drains.due) (due_at_last was.entries new_entry (Names new_entry) own_closes mid.due left.due_are);
           clients = few_still was.entries new_entry (λ c i w own. absurd (no_hello key call c i w own)) own_sound.fits.clients;
           space = omega arith;
           spare = omega arith;
@@ -283,10 +276,10 @@ module _ {old mid : BookState} {begun : Table} {moment : ℕ} {key : Key} {call 
 
 -- ---- a drain for which all growths were made may be recorded
 
-pub may_drain : (old new : BookState) (moment : ℕ) (key : Key) (call : Call) (queue max : ℕ) (room : Vec ℕ) (k : Kept) → Comes old moment (Arrive key call) → standing_of old.sessions key ≡ standing.Next → HasNext old.sessions key
-    → side_of call ≡ Takes queue → wait_of call ≡ Some Now → max ≡ may_name call → IsPrepared old new moment call → HasRoomToName new.waiters call room
-    → WillTell (account_of new) call (take max (items_in new queue)) k → MayDrain new moment key call queue max room k
-may_drain old new moment key call queue max room k comes stands next side at_once most prepared names will =
+pub may_drain : (old new : BookState) (moment : ℕ) (key : Key) (call : Call) (queue : ℕ) (room : Vec ℕ) → Comes old moment (Arrive key call) → standing_of old.sessions key ≡ standing.Next → HasNext old.sessions key
+    → side_of call ≡ Takes queue → wait_of call ≡ Some Now → IsPrepared old new moment call → HasRoomToName new.waiters call room
+    → WillTell (account_of new) call (taken_by new call) (kept.Drained (length (account_of new).entries)) → MayDrain new moment key call room
+may_drain old new moment key call queue room comes stands next side at_once prepared names will =
     let ready = prepared.ready in
     let same = ready.same in
     let due : new.due ≡ old.due = prepared.due ∙ ap (λ deadline. with_deadline deadline (length (account_of old).entries) old.due)
@@ -307,9 +300,9 @@ may_drain old new moment key call queue max room k comes stands next side at_onc
       };
       stands = ap (λ t. standing_of t key) same.sessions ∙ stands;
       next = subst (λ t. HasNext t key) (sym same.sessions) next;
+      queue = queue;
       side = side;
       at_once = at_once;
-      most = most;
       names = names;
       room = omega arith;
       space = omega arith;

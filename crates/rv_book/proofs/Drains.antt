@@ -137,6 +137,7 @@ module _ (queue max : ℕ) where
     fits = λ a r told legal fits arrived replies. subst (FitsIn a.epoch) (sym replies.2) (fits_drained a r replies.0 legal fits arrived replies.1, tt);
     exists = λ a r legal arrived. let has = has_items a r legal arrived in inl (Drained has.0, (has.0, has.1, refl));
     waits_not = λ a r told legal arrived w replies. goes (subst Stays (same_Some _ _ (sym w.is_open.arrived ∙ arrived)) w.is_open.stays);
+    stopped = λ es r told stays no_put unmet stopped. absurd (goes stays);
     met = λ b earlier later other version legal arrived also names opposes waits asked. absurd (goes_unnamed b later earlier own legal arrived goes names);
   }
 

@@ -8,7 +8,7 @@ use Rattle.rv_session.specs.OwedDuty.{OwedDuty}
 use Rattle.rv_dual.specs.Offers.{places_of}
 use Rattle.rv_dual.specs.Queue.{SameLists}
 use Rattle.rv_account.specs.declared.entry.Entry.{Entry}
-use Rattle.rv_book.specs.declared.arrival.Arrival.{Arrival}
+use Rattle.rv_book.specs.declared.outcome.Arrived.{Arrived}
 use Rattle.rv_account.specs.Calls.{Lasts}
 use Rattle.rv_book.specs.Meeting.{ArrivedOn, Exchanged, FindsNobody, SwappedNothing, SwappedWith, WaitsAlone}
 use Rattle.rv_book.specs.Parked.{AreParked, IsParked, owed_at}
@@ -63,7 +63,7 @@ module _ (old new : Waiters) (exchanger : ℕ) (changed : ExchangerChanged old n
 
   -- ---- an arrival
 
-  swapped : (wait : Wait) (duty : OwedDuty) (result : Arrival) → SwappedWith before after duty result → ArrivedOn old new (Exchanges exchanger) (Some wait) duty result
+  swapped : (wait : Wait) (duty : OwedDuty) (result : Arrived) → SwappedWith before after duty result → ArrivedOn old new (Exchanges exchanger) (Some wait) duty result
   swapped wait duty result swap = subst (ArrivedOn old new (Exchanges exchanger) (Some wait) duty) (sym swap.is) (record {
     meets = record {
       other = Exchanges exchanger;
@@ -76,7 +76,7 @@ module _ (old new : Waiters) (exchanger : ℕ) (changed : ExchangerChanged old n
     parked = λ es parked owed. parked_at es parked (λ duty there. absurd (none-some duty (sym swap.left ∙ there)));
   })
 
-  waits_alone : (wait : Wait) (duty : OwedDuty) (result : Arrival) → Lasts (Some wait) → WaitsAlone before after duty result → ArrivedOn old new (Exchanges exchanger) (Some wait) duty result
+  waits_alone : (wait : Wait) (duty : OwedDuty) (result : Arrived) → Lasts (Some wait) → WaitsAlone before after duty result → ArrivedOn old new (Exchanges exchanger) (Some wait) duty result
   waits_alone wait duty result lasts waits = subst (ArrivedOn old new (Exchanges exchanger) (Some wait) duty) (sym waits.is) (record {
     meets = inl (
       (refl, lasts),
@@ -91,7 +91,7 @@ module _ (old new : Waiters) (exchanger : ℕ) (changed : ExchangerChanged old n
     parked = λ es parked owed. parked_at es parked (λ other there. subst (λ (d : OwedDuty). owed_at es d.place ≡ Some d) (same_Some _ _ (sym waits.waits ∙ there)) owed);
   })
 
-  swapped_nothing : (wait : Wait) (duty : OwedDuty) (result : Arrival) → (Lasts (Some wait) → ⊥) → SwappedNothing before after duty result → ArrivedOn old new (Exchanges exchanger) (Some wait) duty result
+  swapped_nothing : (wait : Wait) (duty : OwedDuty) (result : Arrived) → (Lasts (Some wait) → ⊥) → SwappedNothing before after duty result → ArrivedOn old new (Exchanges exchanger) (Some wait) duty result
   swapped_nothing wait duty result goes nothing =
       let same : after ≡ before = nothing.none_waits ∙ sym nothing.nobody in
       subst (ArrivedOn old new (Exchanges exchanger) (Some wait) duty) (sym nothing.is) (record {
@@ -101,7 +101,7 @@ module _ (old new : Waiters) (exchanger : ℕ) (changed : ExchangerChanged old n
         parked = λ es parked owed. parked_at es parked (λ other there. absurd (none-some other (sym nothing.none_waits ∙ there)));
       })
 
-  pub arrived_exchanges : (wait : Wait) (duty : OwedDuty) (result : Arrival) → Exchanged before after wait duty result → ArrivedOn old new (Exchanges exchanger) (Some wait) duty result
+  pub arrived_exchanges : (wait : Wait) (duty : OwedDuty) (result : Arrived) → Exchanged before after wait duty result → ArrivedOn old new (Exchanges exchanger) (Some wait) duty result
   arrived_exchanges wait duty result (inl swap) = swapped wait duty result swap
   arrived_exchanges wait duty result (inr (inl waits)) = waits_alone wait duty result waits.0 waits.1
   arrived_exchanges wait duty result (inr (inr goes)) = swapped_nothing wait duty result goes.0 goes.1

@@ -1,6 +1,7 @@
 -- What is said of a wait by whether it lasts: how many entries it may need, its limit and its deadline.
 use Rattle.std.proofs.Common.{◌≡◌, ℕ, zero, suc, ◌≤◌, Option, Some, None, option_and_then, refl, arith}
 use Rattle.std.specs.Prelude.{IsSome}
+use Rattle.std.proofs.lemmas.Option.{none-some}
 use Rattle.rv_text.specs.declared.call.Wait.{Wait}
 use Rattle.rv_text.specs.declared.call.Wait.TheVariants.{Now, Millis, Forever}
 use Rattle.rv_account.specs.Calls.{Lasts, limit_after, need_by}
@@ -31,3 +32,11 @@ lasting_deadline moment (Some Now) lasts = refl
 lasting_deadline moment (Some (Millis zero)) lasts = absurd (omega arith)
 lasting_deadline moment (Some (Millis (suc n))) lasts = refl
 lasting_deadline moment (Some Forever) lasts = refl
+
+-- what has a deadline lasts
+pub deadline_lasts : (moment : ℕ) (wait : Option Wait) (limit : ℕ) → deadline_after moment wait ≡ Some limit → (w : Wait) × (wait ≡ Some w) × Lasts wait
+deadline_lasts moment None limit is = absurd (none-some limit is)
+deadline_lasts moment (Some Now) limit is = absurd (none-some limit is)
+deadline_lasts moment (Some (Millis zero)) limit is = absurd (none-some limit is)
+deadline_lasts moment (Some (Millis (suc n))) limit is = (Millis (suc n), refl, omega arith)
+deadline_lasts moment (Some Forever) limit is = absurd (none-some limit is)

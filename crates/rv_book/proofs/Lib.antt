@@ -67,6 +67,7 @@ pub mod ArrivedDeadlines
 pub mod Recording
 pub mod Marking
 pub mod Greeting
+mod Opening
 pub mod Cancelling
 pub mod Standing
 pub mod Repeating
@@ -83,3 +84,4 @@ mod TakingUpTo
 mod NamingFront
 mod Draining
 mod TimingOut
+mod Lacking

@@ -41,6 +41,10 @@ pub among_is : (opposed : ℕ) (deadline : Option ℕ) (limit : ℕ) → deadlin
 among_is zero deadline limit is = is
 among_is (suc more) deadline limit is = absurd (none-some limit is)
 
+pub nobody_beside : (opposed : ℕ) (deadline : Option ℕ) (limit : ℕ) → deadline_beside opposed deadline ≡ Some limit → opposed ≡ 0
+nobody_beside zero deadline limit is = refl
+nobody_beside (suc more) deadline limit is = absurd (none-some limit is)
+
 pub none_beside : (opposed : ℕ) → deadline_beside opposed None ≡ None
 none_beside zero = refl
 none_beside (suc more) = refl

@@ -26,6 +26,7 @@ use Rattle.rv_book.proofs.Fronts.{read_whole}
 use Rattle.rv_book.proofs.Growing.{call_read, reads_on}
 use Rattle.rv_book.proofs.Limits.{act_fits, act_there, call_of_act}
 use Rattle.rv_book.proofs.Looking.{looks_waits_not, same_before}
+use Rattle.rv_book.proofs.Opposites.{looks_alone}
 use Rattle.rv_book.proofs.ReplyLaws.{FitsIn, ReplyLaws}
 
 -- the oldest item of a queue is its front
@@ -109,5 +110,6 @@ peeks queue = record {
   fits = λ a r told legal within arrived. fits queue a r told within;
   exists = λ a r legal arrived. inl (exists_at queue a.entries r);
   waits_not = λ a r told legal arrived w replies. looks_waits_not a.entries r queue (Peek queue) arrived refl w;
+  stopped = λ es r told stays no_put unmet stopped. absurd (looks_alone queue stays.0);
   met = λ b earlier later other version legal arrived also names opposes waits asked. absurd (let no : ⊥ = cc in no);
 }

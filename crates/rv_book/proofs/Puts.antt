@@ -27,5 +27,6 @@ puts queue item = record {
   fits = λ a r reply legal fits arrived is. subst (FitsIn a.epoch) (sym is) (done_fits, tt);
   exists = λ a r legal arrived. inl (reply.TheVariants.Done, refl);
   waits_not = λ a r reply legal arrived w is. waits_not queue item a r arrived w;
+  stopped = λ es r told stays no_put unmet stopped. absurd (no_put (refl, refl));
   met = λ b earlier later other version legal arrived also names opposes waits asked. absurd (let no : ⊥ = cc in no);
 }

@@ -24,7 +24,7 @@ use Rattle.rv_book.specs.Elapsing.{AreDeadlines, deadline_among, deadline_beside
 use Rattle.rv_book.specs.Counting.{NumberOf}
 use Rattle.rv_account.specs.declared.entry.Act.TheVariants.{Arrive}
 use Rattle.rv_account.specs.declared.entry.Entry.{Entry}
-use Rattle.rv_book.specs.declared.arrival.Arrival.{Arrival}
+use Rattle.rv_book.specs.declared.outcome.Arrived.{Arrived}
 use Rattle.rv_book.specs.declared.state.BookState.{BookState}
 use Rattle.rv_book.specs.Legal.{Legal, MayFollow}
 use Rattle.rv_book.specs.Limits.{FitEntries}
@@ -39,10 +39,11 @@ use Rattle.rv_book.proofs.FewClients.{few_still}
 use Rattle.rv_book.proofs.Following.{arrival_follows}
 use Rattle.rv_book.proofs.Keeping.{fit_with, sound_with}
 use Rattle.rv_book.proofs.Keys.{no_hello}
-use Rattle.rv_book.proofs.Lasting.{lasting_need, need_positive}
+use Rattle.rv_book.proofs.CallKinds.{waiting_meets}
+use Rattle.rv_book.proofs.Lasting.{deadline_lasts, lasting_need, need_positive}
 use Rattle.rv_book.proofs.Legality.{Legal-with_entry}
 use Rattle.rv_book.proofs.Owing.{Waits-after, goes_not_on, goes_on}
-use Rattle.rv_book.proofs.Parking.{among_is, nobody_opposed}
+use Rattle.rv_book.proofs.Parking.{among_is, nobody_beside, nobody_opposed}
 use Rattle.rv_book.proofs.Replying.{recorded_kept, recorded_waits}
 use Rattle.rv_book.proofs.Settling.{own_stays, sessions_recorded}
 use Rattle.rv_book.proofs.Standing.{is_next}
@@ -64,12 +65,12 @@ abbrev pub duty_of_new : BookState → Key → OwedDuty
 duty_of_new old key = record { place = length (account_of old).entries; client = key.client }
 
 -- a request comes to a state in which it may be recorded, and has arrived in its queue
-pub record Arrives (old : BookState) (moment : ℕ) (key : Key) (call : Call) (places : Vec ℕ) (waiters : Waiters) (arrived : Arrival) : Type 0 where
+pub record Arrives (old : BookState) (moment : ℕ) (key : Key) (call : Call) (places : Vec ℕ) (waiters : Waiters) (arrived : Arrived) : Type 0 where
   pub may : MayRecord old moment key call places
   pub on : ArrivedOn old.waiters waiters (side_of call) (wait_of call) (duty_of_new old key) arrived
 
 -- its duty was begun for the place behind the last entry
-pub arrives : {old : BookState} {moment : ℕ} {key : Key} {call : Call} {places : Vec ℕ} {waiters : Waiters} {arrived : Arrival} {duty : OwedDuty} {place : ℕ} → MayRecord old moment key call places
+pub arrives : {old : BookState} {moment : ℕ} {key : Key} {call : Call} {places : Vec ℕ} {waiters : Waiters} {arrived : Arrived} {duty : OwedDuty} {place : ℕ} → MayRecord old moment key call places
     → duty ≡ record { place = place; client = key.client } → place ≡ length (account_of old).entries → ArrivedOn old.waiters waiters (side_of call) (wait_of call) duty arrived
     → Arrives old moment key call places waiters arrived
 arrives {old = old} {key = key} {call = call} {waiters = waiters} {arrived = arrived} may begun last on = record {
@@ -77,7 +78,7 @@ arrives {old = old} {key = key} {call = call} {waiters = waiters} {arrived = arr
   on = subst (λ (d : OwedDuty). ArrivedOn old.waiters waiters (side_of call) (wait_of call) d arrived) (begun ∙ ap (λ n. record { place = n; client = key.client }) last) on;
 }
 
-module _ {old : BookState} {moment : ℕ} {key : Key} {call : Call} {places : Vec ℕ} {waiters : Waiters} {arrived : Arrival} (is : Arrives old moment key call places waiters arrived) where
+module _ {old : BookState} {moment : ℕ} {key : Key} {call : Call} {places : Vec ℕ} {waiters : Waiters} {arrived : Arrived} (is : Arrives old moment key call places waiters arrived) where
   abbrev pub before : Account
   before = account_of old
 
@@ -130,11 +131,28 @@ module _ {old : BookState} {moment : ℕ} {key : Key} {call : Call} {places : Ve
       by_partner None none (inl waits) = nobody_opposed old.waiters (side_of call) waits.1.nobody
       by_partner None none (inr goes) = nobody_opposed old.waiters (side_of call) goes.1
 
-  due_are : AreDeadlines (before.entries ++ own_entry ∷ []) (without_duty (before.entries ++ own_entry ∷ []) arrived.own (without_duty (before.entries ++ own_entry ∷ []) arrived.other old.due))
+  -- where somebody was there, it met one
+  unmet_by : (partner : Option ℕ) → MeetsOrWaits old.waiters waiters (side_of call) (wait_of call) (length before.entries) partner → opposed_by old.waiters (opposite (side_of call)) ≡ 0 → partner ≡ None
+  unmet_by None meets nobody = refl
+  unmet_by (Some p) first nobody =
+      let there : opposed_by old.waiters (opposite (side_of call)) ≡ suc (length (waiting_on waiters first.other)) = ap (opposed_by old.waiters) first.opposes ∙ ap length first.first in
+      absurd (omega (arith, there, nobody))
+
+  -- where it has a deadline it waits
+  waits_has : (limit : ℕ) → deadline_among old.waiters moment call ≡ Some limit → (own : Option OwedDuty) → OwnDuty (side_of call) (wait_of call) arrived.partner (duty_of_new old key) own → own ≡ None
+  waits_has limit has None own_is = refl
+  waits_has limit has (Some own) own_is =
+      let opposed = opposed_by old.waiters (opposite (side_of call)) in
+      let lasts = deadline_lasts moment (wait_of call) limit (among_is opposed (deadline_of moment call) limit has) in
+      let unmet = unmet_by arrived.partner is.on.meets (nobody_beside opposed (deadline_of moment call) limit has) in
+      absurd (none-some lasts.0 (sym (own_is.1 unmet (waiting_meets call lasts.0 lasts.1, lasts.2)) ∙ lasts.1))
+
+  due_are : AreDeadlines (before.entries ++ own_entry ∷ []) (without_duty (before.entries ++ own_entry ∷ []) arrived.other old.due)
   due_are =
-      subst (λ due. AreDeadlines (before.entries ++ own_entry ∷ []) (without_duty (before.entries ++ own_entry ∷ []) arrived.own (without_duty (before.entries ++ own_entry ∷ []) arrived.other due))) (sym is.may.due)
+      subst (λ due. AreDeadlines (before.entries ++ own_entry ∷ []) (without_duty (before.entries ++ own_entry ∷ []) arrived.other due)) (sym is.may.due)
       (due_arrived before own_entry key call sound.legal follows.pairs.names_free_partners refl (deadline_among old.waiters moment call) (among_is (opposed_by old.waiters (opposite (side_of call))) (deadline_of moment call))
-      arrived.partner (duty_of_new old key) arrived.own arrived.other refl refl is.on.own other_is (λ unmet. ap (λ n. deadline_beside n (deadline_of moment call)) (opposed_none unmet)) is.may.deadlines sound.due_are)
+      arrived.partner (duty_of_new old key) arrived.own arrived.other refl is.on.own other_is (λ unmet. ap (λ n. deadline_beside n (deadline_of moment call)) (opposed_none unmet))
+      (λ limit has. waits_has limit has arrived.own is.on.own) is.may.deadlines sound.due_are)
 
   -- what a call that looks sees, once it has arrived
   pub sees : (MayMeet call → ⊥) → AreWaiters before.entries waiters
@@ -195,7 +213,7 @@ module _ {old : BookState} {moment : ℕ} {key : Key} {call : Call} {places : Ve
           arrived.other arrived.own settles ends other_is is.on.own (kept_is arrived.own refl)
 
       pub sound_after : (new : BookState) → account_of new ≡ with_entry before own_entry → new.sessions ≡ last → new.waiters ≡ waiters
-          → new.due ≡ without_duty (before.entries ++ own_entry ∷ []) arrived.own (without_duty (before.entries ++ own_entry ∷ []) arrived.other old.due) → new.waiting + ends_waiting arrived.other ≡ old.waiting + starts_waiting arrived.own
+          → new.due ≡ without_duty (before.entries ++ own_entry ∷ []) arrived.other old.due → new.waiting + ends_waiting arrived.other ≡ old.waiting + starts_waiting arrived.own
           → old.account.room ≡ new.account.room + 1 → IsSound new
       sound_after new pushed same_sessions same_waiters same_due counted room =
           let k = count_after.0 in

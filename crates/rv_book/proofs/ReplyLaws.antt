@@ -9,11 +9,11 @@ use Rattle.rv_account.specs.declared.entry.Entry.{Entry}
 use Rattle.rv_account.specs.Account.{Account, call_at}
 use Rattle.rv_book.specs.Legal.{Legal}
 use Rattle.rv_book.specs.Limits.{FitsAccount}
-use Rattle.rv_book.specs.Replies.{RepliesAt}
+use Rattle.rv_book.specs.Replies.{RepliesAt, ToldStopped}
 use Rattle.rv_book.specs.Sessions.{AskedIn}
-use Rattle.rv_book.specs.Waiting.{NamesPartner, Waiting}
+use Rattle.rv_book.specs.Waiting.{Met, NamesPartner, Waiting}
 use Rattle.rv_book.specs.Arriving.{IsKept}
-use Rattle.rv_account.specs.Calls.{opposite}
+use Rattle.rv_account.specs.Calls.{IsPut, Stays, opposite}
 use Rattle.rv_book.specs.Operations.{partners_reply}
 use Rattle.rv_text.specs.Calls.{side_of, wait_of}
 
@@ -33,6 +33,8 @@ pub record ReplyLaws (call : Call) : Type 0 where
   pub exists : (a : Account) (r : ℕ) → Legal a → call_at a.entries r ≡ Some call → ((reply : Reply) × RepliesAt a.entries r call reply) ⊎ Waiting a.entries r
   -- and not both
   pub waits_not : (a : Account) (r : ℕ) (reply : Reply) → Legal a → call_at a.entries r ≡ Some call → Waiting a.entries r → RepliesAt a.entries r call reply → ⊥
+  -- one that stays, unmet, is told by what stopped it first
+  pub stopped : (es : List Entry) (r : ℕ) (told : Reply) → Stays call → (IsPut call → ⊥) → (Met es r → ⊥) → ToldStopped es r told → RepliesAt es r call told
   -- what is kept for the earlier of a pair is its reply, as the version that it was asked in tells it
   pub met : (b : Account) (earlier later : ℕ) (other : Call) (version : Version) → Legal b → call_at b.entries earlier ≡ Some call → call_at b.entries later ≡ Some other → NamesPartner b.entries later earlier
       → opposite (side_of other) ≡ Some (side_of call) → IsSome (wait_of call) → AskedIn b.entries earlier version

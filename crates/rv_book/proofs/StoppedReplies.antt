@@ -1,30 +1,19 @@
 -- What stops a waiting request first tells it its reply.
 use Rattle.std.proofs.Common.{◌≡◌, inl, inr, ℕ, ◌<◌, List, [], ◌∷◌, ◌++◌, length, Some, None, refl, sym, ap, subst, ◌∙◌, arith}
 use Rattle.std.proofs.lemmas.Option.{same_Some}
-use Rattle.rv_text.specs.declared.call.Call as call
 use Rattle.rv_text.specs.declared.call.Call.{Call}
 use Rattle.rv_text.specs.declared.answer.Reply as reply
-use Rattle.rv_text.specs.declared.answer.Reply.{Reply}
 use Rattle.rv_account.specs.declared.entry.Entry.{Entry}
 use Rattle.rv_account.specs.declared.entry.Act.TheVariants.{Tick}
 use Rattle.rv_account.specs.Account.{Names, call_at, just}
 use Rattle.rv_account.specs.Calls.{IsPut, Stays}
-use Rattle.rv_book.specs.Replies.{RepliesAt, ToldStopped, told_by}
-use Rattle.rv_book.specs.Waiting.{Met, StoppedAt, Waiting}
+use Rattle.rv_book.specs.Replies.{RepliesAt, told_by}
+use Rattle.rv_book.specs.Waiting.{StoppedAt, Waiting}
 use Rattle.rv_book.proofs.FirstStops.{told_by_last}
 use Rattle.rv_book.proofs.Growing.{Met-back, call_read, reads_within}
 use Rattle.rv_book.proofs.Naming.{just_none}
 use Rattle.rv_book.proofs.Sides.{IsRequestUntil, tick_stops}
-use Rattle.rv_book.proofs.Unmet.{lasting_told}
-
--- a request that stays, unmet and stopped, is told by what stopped it first
-pub stopped_replies : (c : Call) (es : List Entry) (r : ℕ) (told : Reply) → Stays c → (IsPut c → ⊥) → (Met es r → ⊥) → ToldStopped es r told → RepliesAt es r c told
-stopped_replies (call.TheVariants.Put queue item) es r told stays no_put unmet stopped = absurd (no_put (refl, refl))
-stopped_replies (call.TheVariants.Transfer queue item wait) es r told stays no_put unmet stopped = inr (unmet, lasting_told wait es r reply.TheVariants.Nobody told stays.1 stopped)
-stopped_replies (call.TheVariants.Take queue wait) es r told stays no_put unmet stopped = inr (unmet, lasting_told wait es r reply.TheVariants.Empty told stays.1 stopped)
-stopped_replies (call.TheVariants.Swap exchanger item wait) es r told stays no_put unmet stopped = inr (unmet, lasting_told wait es r reply.TheVariants.TimedOut told stays.1 stopped)
-stopped_replies (call.TheVariants.Drain queue max) es r told stays no_put unmet stopped = absurd stays.1
-stopped_replies _ es r told stays no_put unmet stopped = absurd (let no : ⊥ = let is = stays.0 in cc in no)
+use Rattle.rv_book.proofs.Replying.{reply_laws}
 
 -- a waiting request that the last entry stops is told by it
 pub told_stopped : (es : List Entry) (e : Entry) (r : ℕ) (call : Call) → Waiting es r → call_at es r ≡ Some call → (Names e r → ⊥) → StoppedAt (es ++ e ∷ []) r (length es) → RepliesAt (es ++ e ∷ []) r call (told_by e.act)
@@ -32,7 +21,7 @@ told_stopped es e r call w arrived unnamed stopped =
     let opened = w.is_open in
     let same : opened.call ≡ call = same_Some _ _ (sym opened.arrived ∙ arrived) in
     let inside : r < length es = reads_within call_read refl es r call arrived in
-    stopped_replies call (es ++ e ∷ []) r (told_by e.act) (subst Stays same opened.stays) (λ put. w.no_put (subst IsPut (sym same) put))
+    (reply_laws call).stopped (es ++ e ∷ []) r (told_by e.act) (subst Stays same opened.stays) (λ put. w.no_put (subst IsPut (sym same) put))
     (λ met. elim (Met-back es e r met) [
       | inl before ↦ opened.unmet before
       | inr new ↦ elim new [ inl last ↦ omega arith | inr named ↦ unnamed named ]

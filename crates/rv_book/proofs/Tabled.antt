@@ -12,7 +12,7 @@ use Rattle.rv_dual.specs.Meanings.{TakenFront}
 use Rattle.rv_dual.specs.Queue.{IsAbove, Queue, SameLists}
 use Rattle.rv_dual.specs.declared.giver.Offer.{Offer}
 use Rattle.rv_account.specs.declared.entry.Entry.{Entry}
-use Rattle.rv_book.specs.declared.arrival.Arrival.{Arrival}
+use Rattle.rv_book.specs.declared.outcome.Arrived.{Arrived}
 use Rattle.rv_account.specs.Calls.{Lasts}
 use Rattle.rv_book.specs.Meeting.{ArrivedOn, FindsNobody, Gave, GaveNobody, GaveTo, LaysDown, LeavesFirst, LeftFront, OwnDuty, StandsBy, Took, TookFrom, TookNothing, offer_by, own_by}
 use Rattle.rv_book.specs.Parked.{AreParked, IsParked, owed_at}
@@ -177,7 +177,7 @@ module _ (old new : Waiters) (queue : ℕ) (changed : ChangedAt old new queue) (
   abbrev pub after : Queue
   after = queue_at new.queues queue
 
-  gave_to : (wait : Option Wait) (result : Arrival) → GaveTo before after duty result → ArrivedOn old new (Gives queue) wait duty result
+  gave_to : (wait : Option Wait) (result : Arrived) → GaveTo before after duty result → ArrivedOn old new (Gives queue) wait duty result
   gave_to wait result gave = subst (ArrivedOn old new (Gives queue) wait duty) (sym gave.is) (record {
     meets = record {
       other = Takes queue;
@@ -206,7 +206,7 @@ module _ (old new : Waiters) (queue : ℕ) (changed : ChangedAt old new queue) (
     takers = λ i other at. was.takers i other (sym (ap (λ l. slice_get l i) takers) ∙ at);
   }
 
-  lays_down : (wait : Option Wait) (result : Arrival) → Lasts wait → LaysDown before after wait duty result → ArrivedOn old new (Gives queue) wait duty result
+  lays_down : (wait : Option Wait) (result : Arrived) → Lasts wait → LaysDown before after wait duty result → ArrivedOn old new (Gives queue) wait duty result
   lays_down wait result lasts lays = subst (ArrivedOn old new (Gives queue) wait duty) (sym lays.is) (record {
     meets = inl (
       (refl, lasts),
@@ -221,7 +221,7 @@ module _ (old new : Waiters) (queue : ℕ) (changed : ChangedAt old new queue) (
     parked = λ es parked owed. parked_changed old new queue changed es parked (pushed_givers es wait owed lays.givers lays.takers);
   })
 
-  gave_nobody : (wait : Option Wait) (result : Arrival) → (Lasts wait → ⊥) → GaveNobody before after duty result → ArrivedOn old new (Gives queue) wait duty result
+  gave_nobody : (wait : Option Wait) (result : Arrived) → (Lasts wait → ⊥) → GaveNobody before after duty result → ArrivedOn old new (Gives queue) wait duty result
   gave_nobody wait result goes gave =
       let same = nothing_changed old new queue changed gave.same in
       subst (ArrivedOn old new (Gives queue) wait duty) (sym gave.is) (record {
@@ -231,14 +231,14 @@ module _ (old new : Waiters) (queue : ℕ) (changed : ChangedAt old new queue) (
         parked = λ es parked owed. same_parked es old new same parked;
       })
 
-  pub arrived_gives : (wait : Option Wait) (result : Arrival) → Gave before after wait duty result → ArrivedOn old new (Gives queue) wait duty result
+  pub arrived_gives : (wait : Option Wait) (result : Arrived) → Gave before after wait duty result → ArrivedOn old new (Gives queue) wait duty result
   arrived_gives wait result (inl gave) = gave_to wait result gave
   arrived_gives wait result (inr (inl lays)) = lays_down wait result lays.0 lays.1
   arrived_gives wait result (inr (inr goes)) = gave_nobody wait result goes.0 goes.1
 
   -- ---- an arrival that takes
 
-  took_from : (wait : Option Wait) (result : Arrival) → TookFrom before after duty result → ArrivedOn old new (Takes queue) wait duty result
+  took_from : (wait : Option Wait) (result : Arrived) → TookFrom before after duty result → ArrivedOn old new (Takes queue) wait duty result
   took_from wait result took =
       let leaves = first_leaves old new queue changed took.offer took.oldest took.takers in
       subst (ArrivedOn old new (Takes queue) wait duty) (sym took.is) (record {
@@ -257,7 +257,7 @@ module _ (old new : Waiters) (queue : ℕ) (changed : ChangedAt old new queue) (
     ];
   }
 
-  stands_by : (wait : Wait) (result : Arrival) → Lasts (Some wait) → StandsBy before after duty result → ArrivedOn old new (Takes queue) (Some wait) duty result
+  stands_by : (wait : Wait) (result : Arrived) → Lasts (Some wait) → StandsBy before after duty result → ArrivedOn old new (Takes queue) (Some wait) duty result
   stands_by wait result lasts stands = subst (ArrivedOn old new (Takes queue) (Some wait) duty) (sym stands.is) (record {
     meets = inl (
       (refl, lasts),
@@ -272,7 +272,7 @@ module _ (old new : Waiters) (queue : ℕ) (changed : ChangedAt old new queue) (
     parked = λ es parked owed. parked_changed old new queue changed es parked (pushed_takers es owed stands.takers stands.givers);
   })
 
-  took_nothing : (wait : Option Wait) (result : Arrival) → (Lasts wait → ⊥) → TookNothing before after duty result → ArrivedOn old new (Takes queue) wait duty result
+  took_nothing : (wait : Option Wait) (result : Arrived) → (Lasts wait → ⊥) → TookNothing before after duty result → ArrivedOn old new (Takes queue) wait duty result
   took_nothing wait result goes took =
       let same = nothing_changed old new queue changed took.same in
       subst (ArrivedOn old new (Takes queue) wait duty) (sym took.is) (record {
@@ -282,7 +282,7 @@ module _ (old new : Waiters) (queue : ℕ) (changed : ChangedAt old new queue) (
         parked = λ es parked owed. same_parked es old new same parked;
       })
 
-  pub arrived_takes : (wait : Wait) (result : Arrival) → Took before after (Some wait) duty result → ArrivedOn old new (Takes queue) (Some wait) duty result
+  pub arrived_takes : (wait : Wait) (result : Arrived) → Took before after (Some wait) duty result → ArrivedOn old new (Takes queue) (Some wait) duty result
   arrived_takes wait result (inl took) = took_from (Some wait) result took
   arrived_takes wait result (inr (inl stands)) = stands_by wait result stands.0 stands.1
   arrived_takes wait result (inr (inr goes)) = took_nothing (Some wait) result goes.0 goes.1

@@ -17,7 +17,7 @@ use Rattle.rv_book.proofs.OldestMet.{MeetsOldest}
 use Rattle.rv_account.specs.Calls.{Stays}
 use Rattle.rv_account.specs.declared.entry.Act.TheVariants.{Arrive}
 use Rattle.rv_account.specs.declared.entry.Entry.{Entry}
-use Rattle.rv_book.specs.declared.arrival.Arrival.{Arrival}
+use Rattle.rv_book.specs.declared.outcome.Arrived.{Arrived}
 use Rattle.rv_book.specs.Legal.{Legal, NamesFreePartners}
 use Rattle.rv_book.specs.Meeting.{ArrivedOn, FindsNobody, StaysBy, MeetsOrWaits, MeetsFirst}
 use Rattle.rv_book.specs.Parked.{AreParked, AreWaiters, IsLine, IsLineOf, owed_at, owed_by, owed_in}
@@ -294,7 +294,7 @@ module _ (a : Account) (e : Entry) (old new : Waiters) (key : Key) (call : Call)
       by_wait (Some wait) = refl
 
   -- after an arrival the table has each side's open arrivals
-  pub waiters_after : (duty : OwedDuty) (result : Arrival) → duty ≡ record { place = length a.entries; client = key.client } → e.partners ≡ just result.partner
+  pub waiters_after : (duty : OwedDuty) (result : Arrived) → duty ≡ record { place = length a.entries; client = key.client } → e.partners ≡ just result.partner
       → ArrivedOn old new (side_of call) (wait_of call) duty result → AreWaiters (a.entries ++ e ∷ []) new
   waiters_after duty result is named arrived = record {
     lines = by_partner result.partner named (subst (λ (d : OwedDuty). MeetsOrWaits old new (side_of call) (wait_of call) d.place result.partner) is arrived.meets);

@@ -16,7 +16,7 @@ use Rattle.rv_dual.specs.declared.giver.Offer.{Offer}
 use Rattle.rv_dual.specs.declared.giver.Offer.TheVariants.{Put, Waits}
 use Rattle.rv_swap.specs.Exchange.{LeavesExchanger, NotWaiting}
 use Rattle.rv_account.specs.declared.entry.Entry.{Entry}
-use Rattle.rv_book.specs.declared.arrival.Arrival.{Arrival}
+use Rattle.rv_book.specs.declared.outcome.Arrived.{Arrived}
 use Rattle.rv_book.specs.Parked.{AreParked, owed_at}
 use Rattle.rv_text.specs.Calls.{side_of}
 use Rattle.rv_account.specs.Calls.{Lasts, may_name, opposite}
@@ -40,7 +40,7 @@ pub record SameMemory (old new : Queue) : Type 0 where
   pub takers : new.taker_room.capacity ≡ old.taker_room.capacity
 
 -- it gave to the first of the consumers, which left
-pub record GaveTo (old new : Queue) (duty : OwedDuty) (result : Arrival) : Type 0 where
+pub record GaveTo (old new : Queue) (duty : OwedDuty) (result : Arrived) : Type 0 where
   pub taker : OwedDuty
   pub oldest : old.takers ≡ taker ∷ new.takers
   pub givers : new.givers ≡ old.givers
@@ -48,7 +48,7 @@ pub record GaveTo (old new : Queue) (duty : OwedDuty) (result : Arrival) : Type 
   pub is : result ≡ record { partner = Some taker.place; own = Some duty; other = Some taker }
 
 -- no consumer is there: its item waits behind the others
-pub record LaysDown (old new : Queue) (wait : Option Wait) (duty : OwedDuty) (result : Arrival) : Type 0 where
+pub record LaysDown (old new : Queue) (wait : Option Wait) (duty : OwedDuty) (result : Arrived) : Type 0 where
   pub nobody : old.takers ≡ []
   pub givers : new.givers ≡ old.givers ++ offer_by wait duty ∷ []
   pub takers : new.takers ≡ old.takers
@@ -56,14 +56,14 @@ pub record LaysDown (old new : Queue) (wait : Option Wait) (duty : OwedDuty) (re
   pub is : result ≡ record { partner = None; own = own_by wait duty; other = None }
 
 -- no consumer is there, and it leaves nothing
-pub record GaveNobody (old new : Queue) (duty : OwedDuty) (result : Arrival) : Type 0 where
+pub record GaveNobody (old new : Queue) (duty : OwedDuty) (result : Arrived) : Type 0 where
   pub nobody : old.takers ≡ []
   pub same : SameLists old new
   pub memory : SameMemory old new
   pub is : result ≡ record { partner = None; own = Some duty; other = None }
 
 -- it took the first of the items, which left
-pub record TookFrom (old new : Queue) (duty : OwedDuty) (result : Arrival) : Type 0 where
+pub record TookFrom (old new : Queue) (duty : OwedDuty) (result : Arrived) : Type 0 where
   pub offer : Offer
   pub oldest : old.givers ≡ offer ∷ new.givers
   pub takers : new.takers ≡ old.takers
@@ -71,7 +71,7 @@ pub record TookFrom (old new : Queue) (duty : OwedDuty) (result : Arrival) : Typ
   pub is : result ≡ record { partner = Some (place_of offer); own = Some duty; other = duty_of offer }
 
 -- no item is there: it waits behind the other consumers
-pub record StandsBy (old new : Queue) (duty : OwedDuty) (result : Arrival) : Type 0 where
+pub record StandsBy (old new : Queue) (duty : OwedDuty) (result : Arrived) : Type 0 where
   pub nobody : old.givers ≡ []
   pub takers : new.takers ≡ old.takers ++ duty ∷ []
   pub givers : new.givers ≡ old.givers
@@ -79,7 +79,7 @@ pub record StandsBy (old new : Queue) (duty : OwedDuty) (result : Arrival) : Typ
   pub is : result ≡ record { partner = None; own = None; other = None }
 
 -- no item is there, and it goes
-pub record TookNothing (old new : Queue) (duty : OwedDuty) (result : Arrival) : Type 0 where
+pub record TookNothing (old new : Queue) (duty : OwedDuty) (result : Arrived) : Type 0 where
   pub nobody : old.givers ≡ []
   pub same : SameLists old new
   pub memory : SameMemory old new
@@ -108,12 +108,12 @@ pub record GrowsTakers (old new : Queue) : Type 0 where
 abbrev pub ByWait : Option Wait → Type 0 → Type 0 → Type 0
 ByWait wait stays goes = (Lasts wait × stays) ⊎ ((¬ Lasts wait) × goes)
 
-abbrev pub Gave : Queue → Queue → Option Wait → OwedDuty → Arrival → Type 0
+abbrev pub Gave : Queue → Queue → Option Wait → OwedDuty → Arrived → Type 0
 Gave old new wait duty result =
     GaveTo old new duty result
     ⊎ ByWait wait (LaysDown old new wait duty result) (GaveNobody old new duty result)
 
-abbrev pub Took : Queue → Queue → Option Wait → OwedDuty → Arrival → Type 0
+abbrev pub Took : Queue → Queue → Option Wait → OwedDuty → Arrived → Type 0
 Took old new wait duty result =
     TookFrom old new duty result
     ⊎ ByWait wait (StandsBy old new duty result) (TookNothing old new duty result)
@@ -121,25 +121,25 @@ Took old new wait duty result =
 -- ---- one exchanger
 
 -- it met the request that waited, which left
-pub record SwappedWith (old new : Option OwedDuty) (duty : OwedDuty) (result : Arrival) : Type 0 where
+pub record SwappedWith (old new : Option OwedDuty) (duty : OwedDuty) (result : Arrived) : Type 0 where
   pub earlier : OwedDuty
   pub waited : old ≡ Some earlier
   pub left : new ≡ None
   pub is : result ≡ record { partner = Some earlier.place; own = Some duty; other = Some earlier }
 
 -- nobody waits, and it waits from now on
-pub record WaitsAlone (old new : Option OwedDuty) (duty : OwedDuty) (result : Arrival) : Type 0 where
+pub record WaitsAlone (old new : Option OwedDuty) (duty : OwedDuty) (result : Arrived) : Type 0 where
   pub nobody : old ≡ None
   pub waits : new ≡ Some duty
   pub is : result ≡ record { partner = None; own = None; other = None }
 
 -- nobody waits, and it goes
-pub record SwappedNothing (old new : Option OwedDuty) (duty : OwedDuty) (result : Arrival) : Type 0 where
+pub record SwappedNothing (old new : Option OwedDuty) (duty : OwedDuty) (result : Arrived) : Type 0 where
   pub nobody : old ≡ None
   pub none_waits : new ≡ None
   pub is : result ≡ record { partner = None; own = Some duty; other = None }
 
-abbrev pub Exchanged : Option OwedDuty → Option OwedDuty → Wait → OwedDuty → Arrival → Type 0
+abbrev pub Exchanged : Option OwedDuty → Option OwedDuty → Wait → OwedDuty → Arrived → Type 0
 Exchanged old new wait duty result =
     SwappedWith old new duty result
     ⊎ ByWait (Some wait) (WaitsAlone old new duty result) (SwappedNothing old new duty result)
@@ -203,7 +203,7 @@ PartnersDuty entries (Some partner) other = other ≡ owed_at entries partner
 -- what the arrival of a request with this duty did; what the parked duties are to the entries holds after it
 -- too, where it holds of those before and of this one
 pub record ArrivedOn (old new : Waiters) (side : Side) (wait : Option Wait) (duty : OwedDuty)
-    (result : Arrival) : Type 0 where
+    (result : Arrived) : Type 0 where
   pub meets : MeetsOrWaits old new side wait duty.place result.partner
   pub own : OwnDuty side wait result.partner duty result.own
   pub other : (entries : List Entry) → AreParked entries old
@@ -233,6 +233,13 @@ pub record LeavesFirst (old new : Waiters) (side : Side) (duty : Option OwedDuty
 abbrev pub LeftFront : Waiters → Waiters → Side → Option (Option OwedDuty × ℕ) → Type 0
 LeftFront old new side (Some (duty, place)) = LeavesFirst old new side duty place
 LeftFront old new side None = (waiting_on old side ≡ []) × SameWaiters old new
+
+-- the same of the items that a side takes; no other side takes any
+abbrev pub TakenFor : Waiters → Waiters → Side → Option (Option OwedDuty × ℕ) → Type 0
+TakenFor old new (Takes queue) result = LeftFront old new (Gives queue) result
+TakenFor old new (Gives queue) result = (result ≡ None) × (new ≡ old)
+TakenFor old new (Looks queue) result = (result ≡ None) × (new ≡ old)
+TakenFor old new (Exchanges exchanger) result = (result ≡ None) × (new ≡ old)
 
 -- the place waits on the side, and on no other
 pub record StandsOn (waiters : Waiters) (side : Side) (place : ℕ) : Type 0 where
@@ -283,7 +290,15 @@ pub record MakesRoomFor (old new : Waiters) (side : Side) (wait : Option Wait) :
   pub others : (third : Side) → third ≢ side → room_on new third ≡ room_on old third
   pub needless : ¬ ParksOn old side wait → new ≡ old
 
+-- how many partners the call can meet
+abbrev pub most_named : Waiters → Call → ℕ
+most_named waiters call = min (may_name call) (opposed_by waiters (opposite (side_of call)))
+
+-- it can meet some
+abbrev pub NamesSome : Waiters → Call → Type 0
+NamesSome waiters call = 0 < most_named waiters call
+
 -- nothing is listed, and there is room for all partners that the call can meet
 pub record HasRoomToName (waiters : Waiters) (call : Call) (places : Vec ℕ) : Type 0 where
   pub none : places.items ≡ []
-  pub room : min (may_name call) (opposed_by waiters (opposite (side_of call))) ≤ vec_capacity places
+  pub room : most_named waiters call ≤ vec_capacity places

@@ -1,5 +1,5 @@
 -- What each operation of the state finds and what it leaves, and what became of a message.
-use Rattle.std.specs.Prelude.{◌≡◌, ◌⊎◌, ◌≤◌, ◌+◌, ℕ, length, Option, Some, None, option_map}
+use Rattle.std.specs.Prelude.{◌≡◌, ◌⊎◌, ◌<◌, ◌≤◌, ◌+◌, ℕ, length, Option, Some, None, IsSome, option_map}
 use Rattle.std.specs.Global.{Vec}
 use Rattle.rv_text.specs.declared.message.Key.{Key}
 use Rattle.rv_text.specs.declared.version.Version.{Version}
@@ -14,10 +14,10 @@ use Rattle.rv_text.specs.declared.answer.Refusal.{Refusal}
 use Rattle.rv_text.specs.declared.answer.Refusal.TheVariants.{NoMemory}
 use Rattle.rv_text.specs.Calls.{drains_of, side_of, wait_of}
 use Rattle.rv_session.specs.declared.kept.Kept.{Kept}
-use Rattle.rv_session.specs.Meanings.{HasNext}
-use Rattle.rv_session.specs.Standings.{standing_of}
+use Rattle.rv_session.specs.Meanings.{HasNext, IsNewer}
+use Rattle.rv_session.specs.Standings.{max_clients, standing_of}
 use Rattle.rv_session.specs.Kept.{told_in}
-use Rattle.rv_session.specs.Table.{OnlySettles, Table, version_in, waiting_of}
+use Rattle.rv_session.specs.Table.{OnlySettles, Table, session_count, session_of, version_in, waiting_of}
 use Rattle.rv_session.specs.declared.standing.Standing.TheVariants as standing
 use Rattle.rv_session.specs.declared.kept.Kept.TheVariants as kept
 use Rattle.rv_account.specs.declared.entry.Act.{Act}
@@ -30,7 +30,8 @@ use Rattle.rv_account.specs.Account.{Account, call_at, with_entry}
 use Rattle.rv_book.specs.Legal.{KeepsTime, NothingDue}
 use Rattle.rv_book.specs.Limits.{FitEntries, FitsAccount, FitsAct}
 use Rattle.rv_account.specs.Calls.{MayMeet, need_of}
-use Rattle.rv_book.specs.Meeting.{HasRoomOn, HasRoomToName, LeavesSide, MakesRoomFor, StandsOn}
+use Rattle.rv_book.specs.Meeting.{HasRoomOn, HasRoomToName, LacksRoomOn, LeavesSide, MakesRoomFor}
+use Rattle.rv_book.specs.Meeting.{NamesSome, StandsOn}
 use Rattle.rv_book.specs.Parked.{AreParked, AreWaiters, owed_at}
 use Rattle.rv_book.specs.Elapsing.{deadline_among, with_deadline, without_deadline}
 use Rattle.rv_book.specs.Steps.{EpochFullDue, NextAt, Ticks, max_entries, max_moment, step_moment}
@@ -100,6 +101,25 @@ pub record HasRoomReady (old new : BookState) (need : ℕ) (call : Option Call) 
   pub side_room : HasRoomFor new call
   pub space : HasSpace old need
 
+-- a growth for entries, or for an arrival with this call that parks, is needed: there is less room
+abbrev pub LacksSideRoom : BookState → Option Call → Type 0
+LacksSideRoom state None = ⊥
+LacksSideRoom state (Some call) = LacksRoomOn state.waiters (side_of call) (wait_of call)
+
+abbrev pub LacksRoom : BookState → ℕ → Option Call → Type 0
+LacksRoom state need call = (state.account.room < state.waiting + need) ⊎ LacksSideRoom state call
+
+-- a growth for an arrival with this call is needed: for entries or on its side there is less room, or it can
+-- meet somebody whom its entry will name, or it gets a deadline
+abbrev pub LacksRoomFor : BookState → ℕ → Call → Type 0
+LacksRoomFor state moment call =
+    LacksRoom state (need_of call) (Some call)
+    ⊎ (NamesSome state.waiters call ⊎ IsSome (deadline_among state.waiters moment call))
+
+-- a refusal for want of memory has this cause
+abbrev pub OnlyFor : Type 0 → Refusal → Type 0
+OnlyFor cause refusal = refusal ≡ NoMemory → cause
+
 -- the state with other deadlines
 abbrev pub with_due : BookState → Deadlines → BookState
 with_due state due = record {
@@ -108,6 +128,16 @@ with_due state due = record {
   waiters = state.waiters;
   waiting = state.waiting;
   due = due;
+}
+
+-- the state with other sessions
+abbrev pub with_sessions : BookState → Table → BookState
+with_sessions state sessions = record {
+  account = state.account;
+  sessions = sessions;
+  waiters = state.waiters;
+  waiting = state.waiting;
+  due = state.due;
 }
 
 -- all that a request adds has room, and if it will wait its deadline is there already
@@ -136,6 +166,16 @@ pub record MayRecord (state : BookState) (moment : ℕ) (key : Key) (call : Call
 -- what a call that looks at its queue sees there is what the account says
 abbrev pub Sees : BookState → Call → Type 0
 Sees state call = ¬ MayMeet call → AreWaiters (account_of state).entries state.waiters
+
+-- a hello opens a session: the client has none, and there is room for one, and nothing waits
+pub record IsFirst (t : Table) (client : ℕ) (waiting : Option ℕ) : Type 0 where
+  pub none : session_of t client ≡ None
+  pub room : session_count t < max_clients
+  pub waits : waiting ≡ None
+
+-- or its session is of a lower incarnation, and its last request waits at this place, if it does
+abbrev pub OpensSession : Table → ℕ → ℕ → Option ℕ → Type 0
+OpensSession t client incarnation waiting = IsFirst t client waiting ⊎ IsNewer t client incarnation waiting
 
 -- ---- who is settled
 

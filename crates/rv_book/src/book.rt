@@ -16,7 +16,7 @@ use std::marker::Model;
 use std::snapshot::Snapshot;
 
 /// The book of an epoch, which contracts see as its [`Account`].
-/// The account is always legal and within the limits; all that the book keeps beside it is what that says.
+/// The account is always legal and within the limits, and all else that the book keeps follows from it.
 #[derive(Drop)]
 pub struct Book {
     state: BookState,
@@ -47,6 +47,7 @@ impl Book {
     }
 
     /// Opens a book of an epoch, 1 to 2^53 - 1, at a moment in milliseconds, which counts as at most 2^62.
+    /// Fails only if memory was refused.
     pub fn open(alloc: Global, epoch: u64, now: u64) -> Result<Book, NoMemory>
         requires { FitsIdentifier epoch }
         ensures epoch { IfOk result (λ book. book.epoch ≡ epoch) }
@@ -58,9 +59,10 @@ impl Book {
     }
 
     /// Takes one step with a message that came at a moment in milliseconds, which counts as no less than the
-    /// book's own and at most 2^62. First, where something is due, one tick times it out and takes no memory.
-    /// Then the message is recorded; or it is refused, or repeats one that was answered and is told the same
-    /// again, and the account stays. Where a growth was refused the verdict is refusal 11.
+    /// book's own and at most 2^62. First one tick times out all that is due, if anything is, without memory.
+    /// Then the message is recorded. Or it is refused, or repeats one that was answered and is told the same
+    /// again, and then the account stays as the tick left it. If memory for it was refused the verdict is
+    /// refusal 11, and the account stays so too.
     ///
     /// The cost grows neither with the entries nor with the clients, on average: a wait that ends by a tick,
     /// cancel or hello is searched for in its queue, and a limit among the limits, in logarithmic time.
@@ -84,7 +86,8 @@ impl Book {
         }
     }
 
-    /// The answer that a verdict of this book stands for, now and later. It fails only for memory of texts.
+    /// The answer that a verdict of this book stands for, now and later. Fails only if memory for a text was
+    /// refused.
     pub fn answer(&self, alloc: Global, verdict: &Verdict) -> Result<Answer, NoMemory>
         requires { WasGiven self.now verdict.now }
         ensures ok { IfOk result (λ answer. answer ≡ verdict.now.said) }
@@ -107,7 +110,7 @@ impl Book {
     }
 }
 
-// The reply that is kept, with its text copied from the account. It fails only where that copy does.
+// The reply that is kept, with its text copied from the account. Fails only if that copy does.
 fn reply_of(alloc: Global, account: &Account, kept: Kept) -> Result<Reply, NoMemory>
     requires { IsSome (kept_reply account.now.account.entries kept) }
     ensures ok { IfOk result (λ reply. kept_reply account.now.account.entries kept ≡ Some reply) }

@@ -1,11 +1,11 @@
-//! The exchangers: who waits at each.
+//! The exchangers, with the request that waits at each.
 ghost use Rattle.std.specs.Prelude.{◌≡◌, IfOk, Some, length};
 ghost use Rattle.rv_text.specs.Limits.{FitsSide};
 ghost use Rattle.rv_text.specs.declared.call.Side.TheVariants.{Exchanges};
 ghost use Rattle.rv_book.specs.Meeting.{Exchanged, LeftExchanger};
 ghost use Rattle.rv_book.specs.Views.{AllFree, OnlyExchanger, exchanger_at, place_of_duty};
 
-use crate::arrival::Arrival;
+use crate::outcome::Arrived;
 use rv_account::lasts;
 use rv_session::{Duty, Place};
 use rv_swap::{Swap, SwapOutcome, SwapTry};
@@ -14,29 +14,29 @@ use std::alloc::Global;
 use std::marker::Model;
 
 // Two met at an exchanger, the earlier one and the one that arrives now.
-fn swapped(earlier: Duty, later: Duty) -> Arrival
+fn swapped(earlier: Duty, later: Duty) -> Arrived
     ensures { result ≡ record {
       partner = Some earlier.place;
       own = Some later;
       other = Some earlier;
     } }
 {
-    Arrival::met(earlier.place(), Some(later), Some(earlier))
+    Arrived::met(earlier.place(), Some(later), Some(earlier))
 }
 
-// A request arrives at an exchanger: where nobody is there it waits, or goes.
-fn exchange(exchanger: &mut Swap, wait: Wait, duty: Duty) -> Arrival
+// A request arrives at an exchanger: if none waits there it waits itself, or goes.
+fn exchange(exchanger: &mut Swap, wait: Wait, duty: Duty) -> Arrived
     ensures { Exchanged exchanger.old exchanger.new wait duty result }
 {
     if lasts(wait) {
         match exchanger.arrive(duty) {
             SwapOutcome::Met(earlier, later) => swapped(earlier, later),
-            SwapOutcome::Parked => Arrival::alone(None),
+            SwapOutcome::Parked => Arrived::alone(None),
         }
     } else {
         match exchanger.try_arrive(duty) {
             SwapTry::Met(earlier, later) => swapped(earlier, later),
-            SwapTry::Alone(duty) => Arrival::alone(Some(duty)),
+            SwapTry::Alone(duty) => Arrived::alone(Some(duty)),
         }
     }
 }
@@ -59,7 +59,7 @@ impl Model for Exchangers {
 }
 
 impl Exchangers {
-    /// 64 exchangers at which nobody waits.
+    /// 64 exchangers at which no request waits.
     pub(crate) fn empty(alloc: Global) -> Result<Exchangers, NoMemory>
         ensures { IfOk result AllFree }
     {
@@ -79,8 +79,8 @@ impl Exchangers {
         usize::from(self.exchangers[exchanger as usize].waiting().is_some())
     }
 
-    /// An arrival meets the one that waits at the exchanger, which leaves; else it waits, if its wait lasts.
-    pub(crate) fn exchange(&mut self, exchanger: u64, wait: Wait, duty: Duty) -> Arrival
+    /// An arrival meets the one that waits at the exchanger, which leaves. Alone it waits, if its wait lasts.
+    pub(crate) fn exchange(&mut self, exchanger: u64, wait: Wait, duty: Duty) -> Arrived
         requires { FitsSide (Exchanges exchanger) }
         ensures exchanged { Exchanged (exchanger_at self.old exchanger) (exchanger_at self.new exchanger) wait
             duty result }
@@ -89,7 +89,7 @@ impl Exchangers {
         exchange(&mut self.exchangers[exchanger as usize], wait, duty)
     }
 
-    /// The request that waits at an exchanger, if it is of this place, leaves it and gives its duty back.
+    /// The request that waits at an exchanger, if it is of this place, leaves it, and its duty comes back.
     pub(crate) fn withdraw(&mut self, exchanger: u64, place: Place) -> Option<Duty>
         requires { FitsSide (Exchanges exchanger) }
         ensures left { LeftExchanger (exchanger_at self.old exchanger) (exchanger_at self.new exchanger) place

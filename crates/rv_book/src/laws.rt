@@ -25,7 +25,7 @@ pub fn cancels_can_enter()
     ensures { CancelsCanEnter }
 {}
 
-/// After the time-outs of a step a hello that is no repeat can enter, where no refusal of it is due.
+/// After the time-outs of a step a hello that is no repeat can enter, if no refusal of it is due.
 pub fn hellos_can_enter()
     ensures { HellosCanEnter }
 {}
@@ -50,7 +50,7 @@ pub fn one_next()
     ensures { OneNext }
 {}
 
-/// Wherever a verdict is, a step from some legal account of its length before gives its answer and length.
+/// Each verdict is of a step from some legal account of its length before, with its answer and length.
 pub fn verdict_is_of_a_step(verdict: &Verdict)
     ensures { IsOfStep verdict.now }
 {

@@ -1,10 +1,10 @@
 //! The book: sessions and all that waits in one epoch, and the account of what happened to them.
 #![tactic(auto)]
 
-mod arrival;
 mod book;
 mod exchangers;
 pub mod laws;
+mod outcome;
 mod queues;
 mod state;
 mod verdict;

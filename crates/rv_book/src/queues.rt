@@ -1,4 +1,4 @@
-//! The queues: who waits in each, the oldest first.
+//! The queues: all that wait in each, the oldest first.
 ghost use Rattle.std.specs.Prelude.{◌≡◌, ◌<◌, [], None, Some, OnOk, OnErr, IfOk, length, slice_get};
 ghost use Rattle.rv_text.specs.Limits.{FitsQueue};
 ghost use Rattle.rv_dual.specs.Offers.{duty_of, place_of, places_of};
@@ -8,35 +8,35 @@ ghost use Rattle.rv_dual.specs.Withdrawing.{Withdraws};
 ghost use Rattle.rv_book.specs.Meeting.{Gave, GrowsGivers, GrowsTakers, HasRoomToGive, HasRoomToTake, Took};
 ghost use Rattle.rv_book.specs.Views.{AllEmpty, OnlyQueue, queue_at};
 
-use crate::arrival::Arrival;
+use crate::outcome::Arrived;
 use rv_account::lasts;
-use rv_dual::{Dual, GiveOutcome, Giver, Pair, TakeOutcome, TryOutcome};
+use rv_dual::{Dual, DualOutcome, Giver, Pair, TryOutcome};
 use rv_session::{Duty, Place};
 use rv_text::{MAX_QUEUE, NoMemory, Wait};
 use std::alloc::Global;
 use std::marker::Model;
 
 // A put arrives: its duty comes back, whether a consumer waits or not.
-fn put(queue: &mut Dual, duty: Duty) -> Arrival
+fn put(queue: &mut Dual, duty: Duty) -> Arrived
     requires room { queue.old.takers ≡ [] → 0 < queue.old.giver_room.spare }
     requires above { IsAbove queue.old duty.place }
     ensures { Gave queue.old queue.new None duty result }
 {
     match queue.give(Giver::Put(duty.place())) {
-        GiveOutcome::Met(pair) => {
+        DualOutcome::Met(pair) => {
             let (giver, taker, _) = pair.part();
             let own = match giver {
                 None => duty,
                 Some(_giver) => unreachable!(),
             };
-            Arrival::met(taker.place(), Some(own), Some(taker))
+            Arrived::met(taker.place(), Some(own), Some(taker))
         }
-        GiveOutcome::Parked => Arrival::alone(Some(duty)),
+        DualOutcome::Parked => Arrived::alone(Some(duty)),
     }
 }
 
 // What became of a giver that met a consumer.
-fn gave(pair: Pair) -> Arrival
+fn gave(pair: Pair) -> Arrived
     ensures { result ≡ record {
       partner = Some pair.taker.place;
       own = duty_of pair.giver;
@@ -44,11 +44,11 @@ fn gave(pair: Pair) -> Arrival
     } }
 {
     let (own, taker, _) = pair.part();
-    Arrival::met(taker.place(), own, Some(taker))
+    Arrived::met(taker.place(), own, Some(taker))
 }
 
 // What became of a taker that met a giver.
-fn took(pair: Pair) -> Arrival
+fn took(pair: Pair) -> Arrived
     ensures { result ≡ record {
       partner = Some (place_of pair.giver);
       own = Some pair.taker;
@@ -56,43 +56,43 @@ fn took(pair: Pair) -> Arrival
     } }
 {
     let (other, own, place) = pair.part();
-    Arrival::met(place, Some(own), other)
+    Arrived::met(place, Some(own), other)
 }
 
-// A request that gives arrives: where no consumer is there it waits, or goes.
-fn transfer(queue: &mut Dual, wait: Wait, duty: Duty) -> Arrival
+// A request that gives arrives: if no consumer is there it waits, or goes.
+fn transfer(queue: &mut Dual, wait: Wait, duty: Duty) -> Arrived
     requires room { HasRoomToGive queue.old (Some wait) }
     requires above { IsAbove queue.old duty.place }
     ensures { Gave queue.old queue.new (Some wait) duty result }
 {
     if lasts(wait) {
         match queue.give(Giver::Waits(duty)) {
-            GiveOutcome::Met(pair) => gave(pair),
-            GiveOutcome::Parked => Arrival::alone(None),
+            DualOutcome::Met(pair) => gave(pair),
+            DualOutcome::Parked => Arrived::alone(None),
         }
     } else {
         match queue.try_give(duty) {
             TryOutcome::Met(pair) => gave(pair),
-            TryOutcome::Alone(duty) => Arrival::alone(Some(duty)),
+            TryOutcome::Alone(duty) => Arrived::alone(Some(duty)),
         }
     }
 }
 
-// Who takes arrives: where no item is there it waits, or goes.
-fn receive(queue: &mut Dual, wait: Wait, duty: Duty) -> Arrival
+// A taker arrives: if no item is there it waits, or goes.
+fn receive(queue: &mut Dual, wait: Wait, duty: Duty) -> Arrived
     requires room { HasRoomToTake queue.old (Some wait) }
     requires above { IsAbove queue.old duty.place }
     ensures { Took queue.old queue.new (Some wait) duty result }
 {
     if lasts(wait) {
         match queue.take(duty) {
-            TakeOutcome::Met(pair) => took(pair),
-            TakeOutcome::Parked => Arrival::alone(None),
+            DualOutcome::Met(pair) => took(pair),
+            DualOutcome::Parked => Arrived::alone(None),
         }
     } else {
         match queue.try_take(duty) {
             TryOutcome::Met(pair) => took(pair),
-            TryOutcome::Alone(duty) => Arrival::alone(Some(duty)),
+            TryOutcome::Alone(duty) => Arrived::alone(Some(duty)),
         }
     }
 }
@@ -115,7 +115,7 @@ impl Model for Queues {
 }
 
 impl Queues {
-    /// 64 queues in which nobody waits.
+    /// 64 empty queues.
     pub(crate) fn empty(alloc: Global) -> Result<Queues, NoMemory>
         ensures { IfOk result AllEmpty }
     {
@@ -145,7 +145,7 @@ impl Queues {
         (dual.items(), dual.consumers())
     }
 
-    /// Makes room for one more item in a queue. Where a growth is refused all that wait stay.
+    /// Makes room for one more item in a queue. All that wait stay, also if memory is refused.
     pub(crate) fn reserve_giver(&mut self, queue: u64) -> Result<(), NoMemory>
         requires { FitsQueue queue }
         ensures makes { GrowsGivers (queue_at self.old queue) (queue_at self.new queue) }
@@ -167,8 +167,8 @@ impl Queues {
         self.queues[queue as usize].reserve_taker()
     }
 
-    /// A giver meets the queue's oldest consumer, which leaves; else it waits last, if its wait lasts.
-    pub(crate) fn give(&mut self, queue: u64, wait: Option<Wait>, duty: Duty) -> Arrival
+    /// A giver meets the queue's oldest consumer, which leaves. Alone it waits last, if its wait lasts.
+    pub(crate) fn give(&mut self, queue: u64, wait: Option<Wait>, duty: Duty) -> Arrived
         requires fits { FitsQueue queue }
         requires room { HasRoomToGive (queue_at self.old queue) wait }
         requires above { IsAbove (queue_at self.old queue) duty.place }
@@ -182,8 +182,8 @@ impl Queues {
         }
     }
 
-    /// A taker meets the queue's oldest item, which leaves; else it waits last, if its wait lasts.
-    pub(crate) fn receive(&mut self, queue: u64, wait: Wait, duty: Duty) -> Arrival
+    /// A taker meets the queue's oldest item, which leaves. Alone it waits last, if its wait lasts.
+    pub(crate) fn receive(&mut self, queue: u64, wait: Wait, duty: Duty) -> Arrived
         requires fits { FitsQueue queue }
         requires room { HasRoomToTake (queue_at self.old queue) (Some wait) }
         requires above { IsAbove (queue_at self.old queue) duty.place }

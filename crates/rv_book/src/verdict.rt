@@ -1,4 +1,4 @@
-//! What the book said to a message, in a form that takes no memory.
+//! The book's answer to a message, in a form that takes no memory.
 use rv_account::Account;
 use rv_session::Kept;
 use rv_text::{Key, Message, Refusal, Version};

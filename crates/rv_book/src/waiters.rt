@@ -1,15 +1,15 @@
-//! Where requests wait for each other: the queues and the exchangers, by the side of a call.
+//! The queues and the exchangers, in which requests wait for each other, by the side of a call.
 ghost use Rattle.std.specs.Prelude.{◌≡◌, ◌↔◌, OnOk, OnErr, IfOk, IsTrue, length, slice_get};
 ghost use Rattle.rv_text.specs.Calls.{side_of, wait_of};
 ghost use Rattle.rv_text.specs.Limits.{FitsQueue, FitsSide};
 ghost use Rattle.rv_text.specs.declared.call.Side.TheVariants.{Gives, Takes};
 ghost use Rattle.rv_account.specs.Calls.{opposite};
-ghost use Rattle.rv_book.specs.Meeting.{ArrivedOn, HasRoomOn, LacksRoomOn, LeftFront, MakesRoomFor};
+ghost use Rattle.rv_book.specs.Meeting.{ArrivedOn, HasRoomOn, LacksRoomOn, MakesRoomFor, TakenFor};
 ghost use Rattle.rv_book.specs.Meeting.{StaysAlone, Withdrew, opposed_by};
 ghost use Rattle.rv_book.specs.Views.{AreBelow, NobodyWaits, waiting_on};
 
-use crate::arrival::Arrival;
 use crate::exchangers::Exchangers;
+use crate::outcome::Arrived;
 use crate::queues::Queues;
 use rv_account::lasts;
 use rv_session::{Duty, Place};
@@ -17,7 +17,7 @@ use rv_text::{Call, NoMemory, Side};
 use std::alloc::Global;
 use std::marker::Model;
 
-/// Who waits, and where.
+/// All that wait, in queues and at exchangers.
 #[derive(Drop)]
 pub(crate) struct Waiters {
     queues: Queues,
@@ -33,7 +33,7 @@ impl Model for Waiters {
 }
 
 impl Waiters {
-    /// Queues and exchangers where nobody waits.
+    /// Empty queues and exchangers.
     pub(crate) fn empty(alloc: Global) -> Result<Waiters, NoMemory>
         ensures { IfOk result NobodyWaits }
     {
@@ -59,7 +59,7 @@ impl Waiters {
         self.queues.count(queue)
     }
 
-    /// How many wait whom an arrival of this side meets.
+    /// How many wait that an arrival of this side can meet.
     pub(crate) fn opposed(&self, side: Side) -> usize
         requires { FitsSide side }
         ensures { result ≡ opposed_by self.now (opposite side) }
@@ -80,7 +80,7 @@ impl Waiters {
         call.wait().is_none_or(|wait| lasts(wait)) && self.opposed(call.side()) == 0
     }
 
-    /// Makes room for an arrival that parks in a queue, on its own side; no other arrival needs any.
+    /// Makes room for an arrival that parks in a queue, on its own side. No other arrival needs any.
     pub(crate) fn reserve(&mut self, call: &Call) -> Result<(), NoMemory>
         requires { FitsSide (side_of call.now) }
         ensures makes { MakesRoomFor self.old self.new (side_of call.now) (wait_of call.now) }
@@ -97,8 +97,8 @@ impl Waiters {
         }
     }
 
-    /// A request meets the oldest of the other side, which leaves; else it waits last, if its wait lasts.
-    pub(crate) fn arrive(&mut self, call: &Call, duty: Duty) -> Arrival
+    /// A request meets the oldest of the other side, which leaves. Alone it waits last, if its wait lasts.
+    pub(crate) fn arrive(&mut self, call: &Call, duty: Duty) -> Arrived
         requires fits { FitsSide (side_of call.now) }
         requires room { HasRoomOn self.old (side_of call.now) (wait_of call.now) }
         requires above { AreBelow self.old duty.place }
@@ -107,7 +107,7 @@ impl Waiters {
         match call.side() {
             Side::Gives(queue) => self.queues.give(queue, call.wait(), duty),
             Side::Takes(queue) => self.queues.receive(queue, call.wait().unwrap(), duty),
-            Side::Looks(_) => Arrival::alone(Some(duty)),
+            Side::Looks(_) => Arrived::alone(Some(duty)),
             Side::Exchanges(exchanger) => {
                 self.exchangers
                     .exchange(exchanger, call.wait().unwrap(), duty)
@@ -115,12 +115,15 @@ impl Waiters {
         }
     }
 
-    /// A queue's oldest item, if there is one, leaves it: its duty, None for a put's, and its place come out.
-    pub(crate) fn take_front(&mut self, queue: u64) -> Option<(Option<Duty>, Place)>
-        requires { FitsQueue queue }
-        ensures { LeftFront self.old self.new (Gives queue) result }
+    /// The oldest item that a side takes, if there is one, leaves: its duty, None for a put's, and its place.
+    pub(crate) fn take_front(&mut self, side: Side) -> Option<(Option<Duty>, Place)>
+        requires { FitsSide side }
+        ensures { TakenFor self.old self.new side result }
     {
-        self.queues.take_front(queue)
+        match side {
+            Side::Takes(queue) => self.queues.take_front(queue),
+            Side::Gives(_) | Side::Looks(_) | Side::Exchanges(_) => None,
+        }
     }
 
     /// The request that waits at a place on this side leaves it, and gives its duty back.

@@ -3,10 +3,8 @@ use Rattle.std.specs.Prelude.{◌≡◌, ◌++◌, [], ◌∷◌, ℕ, Option, S
 use Rattle.rv_session.specs.OwedDuty.{OwedDuty}
 use Rattle.rv_dual.specs.declared.giver.Offer.{Offer}
 use Rattle.rv_dual.specs.declared.giver.Offer.TheVariants.{Waits}
-use Rattle.rv_dual.specs.declared.pair.GiveOutcome.{GiveOutcome}
-use Rattle.rv_dual.specs.declared.pair.GiveOutcome as given
-use Rattle.rv_dual.specs.declared.pair.TakeOutcome.{TakeOutcome}
-use Rattle.rv_dual.specs.declared.pair.TakeOutcome as taken
+use Rattle.rv_dual.specs.declared.pair.DualOutcome.{DualOutcome}
+use Rattle.rv_dual.specs.declared.pair.DualOutcome as told
 use Rattle.rv_dual.specs.declared.pair.TryOutcome.{TryOutcome}
 use Rattle.rv_dual.specs.declared.pair.TryOutcome as tried
 use Rattle.rv_dual.specs.Offers.{Meeting, duty_of, place_of}
@@ -73,13 +71,13 @@ pub record FindsNoGiver (old new : Queue) (duty returned : OwedDuty) : Type 0 wh
   pub back : returned ≡ duty
   pub same : new ≡ old
 
-abbrev pub GiveMeans : Queue → Queue → Offer → GiveOutcome → Type 0
-GiveMeans old new offer (given.TheVariants.Met pair) = MeetsTaker old new offer pair
-GiveMeans old new offer given.TheVariants.Parked = ParksGiver old new offer
+abbrev pub GiveMeans : Queue → Queue → Offer → DualOutcome → Type 0
+GiveMeans old new offer (told.TheVariants.Met pair) = MeetsTaker old new offer pair
+GiveMeans old new offer told.TheVariants.Parked = ParksGiver old new offer
 
-abbrev pub TakeMeans : Queue → Queue → OwedDuty → TakeOutcome → Type 0
-TakeMeans old new duty (taken.TheVariants.Met pair) = MeetsGiver old new duty pair
-TakeMeans old new duty taken.TheVariants.Parked = ParksTaker old new duty
+abbrev pub TakeMeans : Queue → Queue → OwedDuty → DualOutcome → Type 0
+TakeMeans old new duty (told.TheVariants.Met pair) = MeetsGiver old new duty pair
+TakeMeans old new duty told.TheVariants.Parked = ParksTaker old new duty
 
 abbrev pub TriedGive : Queue → Queue → OwedDuty → TryOutcome → Type 0
 TriedGive old new duty (tried.TheVariants.Met pair) = MeetsTaker old new (Waits duty) pair

@@ -7,7 +7,7 @@ ghost use Rattle.rv_dual.specs.Room.{KeepsRoom};
 
 use crate::giver::{Giver, Offer};
 use crate::line::SlotLine;
-use crate::pair::{GiveOutcome, Pair, TakeOutcome, TryOutcome};
+use crate::pair::{DualOutcome, Pair, TryOutcome};
 use rv_session::{Duty, Parked, Place};
 use rv_text::NoMemory;
 use std::alloc::Global;
@@ -20,8 +20,8 @@ use std::marker::Model;
 ///
 /// Places arrive in rising order, so a place stands at most once. [`withdraw`](Dual::withdraw) finds it in
 /// time logarithmic in the slots between the oldest that waits and the newest. All else takes constant time,
-/// on average over the calls so far: a slot that a withdrawal left is passed over once. Until then it takes
-/// the memory of one who waits.
+/// on average over the calls so far: a slot that a withdrawal left is passed over once. Until then it keeps
+/// its memory.
 #[derive(Drop)]
 pub struct Dual {
     givers: SlotLine<Offer>,
@@ -72,7 +72,7 @@ impl Dual {
     ghost use Rattle.rv_dual.specs.Meanings.{GiveMeans, TakeMeans, TakenFront, TriedGive, TriedTake};
     ghost use Rattle.rv_dual.specs.Withdrawing.{Withdraws};
 
-    /// A queue where nobody waits. It takes no memory yet.
+    /// An empty queue. It takes no memory yet.
     pub fn new(alloc: Global) -> Dual
         ensures givers { result.givers ≡ [] }
         ensures takers { result.takers ≡ [] }
@@ -83,9 +83,8 @@ impl Dual {
         }
     }
 
-    /// Makes room for one more item, so that the next giver that waits takes no memory. It fails only where
-    /// no room was left and memory is refused. Either way all that wait stay, and so does the room that was
-    /// there.
+    /// Makes room for one more item, so that the next giver that waits takes no memory. Fails only if no room
+    /// was left and memory was refused. Either way all that wait stay, and so does the room that was there.
     pub fn reserve_giver(&mut self) -> Result<(), NoMemory>
         ensures same { SameLists self.old self.new }
         ensures takers { self.new.taker_room ≡ self.old.taker_room }
@@ -107,8 +106,8 @@ impl Dual {
         self.takers.reserve()
     }
 
-    /// Makes room for one more of either side. It fails only where one of them had none left and memory is
-    /// refused. Either way all that wait stay, and so does the room that was there.
+    /// Makes room for one more of each side. Fails only if one of them had none left and memory was refused.
+    /// Either way all that wait stay, and so does the room that was there.
     pub fn reserve(&mut self) -> Result<(), NoMemory>
         ensures same { SameLists self.old self.new }
         ensures kept { GrowRooms self.old self.new }
@@ -120,41 +119,41 @@ impl Dual {
     }
 
     /// A giver arrives: it meets the consumer that waited longest, which leaves the queue, or waits behind
-    /// the items that are there. It is asked where there is room for an item, if no consumer waits, and the
-    /// giver's place is above all that wait.
-    pub fn give(&mut self, giver: Giver) -> GiveOutcome
+    /// the items that are there. If no consumer waits there must be room for an item. The giver's place must
+    /// be above all that wait.
+    pub fn give(&mut self, giver: Giver) -> DualOutcome
         requires room { self.old.takers ≡ [] → 0 < self.old.giver_room.spare }
         requires above { IsAbove self.old (place_of (offer_of giver)) }
         ensures { GiveMeans self.old self.new (offer_of giver) result }
     {
         match self.takers.pop() {
-            Some(taker) => GiveOutcome::Met(Pair::new(giver, taker.wake())),
+            Some(taker) => DualOutcome::Met(Pair::new(giver, taker.wake())),
             None => {
                 self.givers.push(giver.park());
-                GiveOutcome::Parked
+                DualOutcome::Parked
             }
         }
     }
 
     /// A taker arrives: it meets the oldest item, which leaves the queue, or waits behind the consumers
-    /// that are there. It is asked where there is room for a consumer, if no item waits, and the taker's
-    /// place is above all that wait.
-    pub fn take(&mut self, duty: Duty) -> TakeOutcome
+    /// that are there. If no item waits there must be room for a consumer. The taker's place must be above
+    /// all that wait.
+    pub fn take(&mut self, duty: Duty) -> DualOutcome
         requires room { self.old.givers ≡ [] → 0 < self.old.taker_room.spare }
         requires above { IsAbove self.old duty.place }
         ensures { TakeMeans self.old self.new duty result }
     {
         match self.givers.pop() {
-            Some(offer) => TakeOutcome::Met(Pair::new(offer.wake(), duty)),
+            Some(offer) => DualOutcome::Met(Pair::new(offer.wake(), duty)),
             None => {
                 self.takers.push(duty.park());
-                TakeOutcome::Parked
+                DualOutcome::Parked
             }
         }
     }
 
     /// A giver that doesn't wait arrives: it meets the consumer that waited longest, which leaves the
-    /// queue, or nobody, and then nothing changes and its duty comes back.
+    /// queue. If there is none nothing changes, and its duty comes back.
     pub fn try_give(&mut self, giver: Duty) -> TryOutcome
         ensures { TriedGive self.old self.new giver result }
     {
@@ -164,8 +163,8 @@ impl Dual {
         }
     }
 
-    /// A taker that doesn't wait arrives: it meets the oldest item, which leaves the queue, or none, and
-    /// then nothing changes and its duty comes back.
+    /// A taker that doesn't wait arrives: it meets the oldest item, which leaves the queue. If there is none
+    /// nothing changes, and its duty comes back.
     pub fn try_take(&mut self, taker: Duty) -> TryOutcome
         ensures { TriedTake self.old self.new taker result }
     {
@@ -175,8 +174,8 @@ impl Dual {
         }
     }
 
-    /// The oldest item leaves the queue, and comes out as its duty, which is None for a put's, and its place.
-    /// It is None where no item waits, and then nothing changes. Consumers stay.
+    /// The oldest item leaves the queue: its duty, None for a put's, and its place. If no item waits it is
+    /// None, and nothing changes. Consumers stay.
     #[tactic(auto, using(crate::proofs::Sides::dual_after_giver))]
     pub fn take_front(&mut self) -> Option<(Option<Duty>, Place)>
         ensures { TakenFront self.old self.new result }
@@ -185,7 +184,7 @@ impl Dual {
     }
 
     /// The request that waits at a place leaves the queue, wherever it stands in it, and its duty comes
-    /// back. It is None, and all that wait stay, where the place is a put's, or nobody waits there.
+    /// back. If the place is a put's, or no request waits there, it is None and nothing changes.
     pub fn withdraw(&mut self, place: Place) -> Option<Duty>
         ensures { Withdraws self.old self.new place result }
     {
@@ -195,7 +194,7 @@ impl Dual {
         }
     }
 
-    /// The place of the oldest item; None where no item waits.
+    /// The place of the oldest item, if an item waits.
     pub fn front(&self) -> Option<Place>
         ensures oldest { result ≡ slice_get (places_of self.now.givers) 0 }
         ensures sound { IsQueue self.now }

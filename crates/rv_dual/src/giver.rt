@@ -1,4 +1,4 @@
-//! Who brings an item: a put, or a request that waits until its item is taken.
+//! Givers: a put, or a request that waits until its item is taken.
 ghost use Rattle.std.specs.Prelude.{◌≡◌};
 ghost use Rattle.rv_dual.specs.Offers.{offer_of, place_of, duty_of, waits_at};
 
@@ -12,7 +12,7 @@ pub enum Giver {
     Waits(Duty),
 }
 
-/// An item that waits in a queue: what its giver left there. Contracts see a giver in a pair as its offer.
+/// An item that waits in a queue, as its giver left it there. Contracts see a giver in a pair as its offer.
 #[derive(Drop)]
 pub enum Offer {
     /// The item of the put at this place.

@@ -1,6 +1,6 @@
 //! The dual queue: items that wait for consumers, or consumers that wait for items, the oldest first, with
-//! the duties of the requests that wait laid aside in it. Whoever meets one of the other side gets a pair,
-//! which must be taken apart.
+//! the duties of the requests that wait laid aside in it. An arrival that meets one of the other side gets a
+//! pair, which must be taken apart.
 #![tactic(auto)]
 
 mod dual;
@@ -11,4 +11,4 @@ mod slot;
 
 pub use dual::Dual;
 pub use giver::{Giver, Offer};
-pub use pair::{GiveOutcome, Pair, TakeOutcome, TryOutcome};
+pub use pair::{DualOutcome, Pair, TryOutcome};

@@ -1,12 +1,12 @@
-//! A giver and a taker that met, and what a queue says to whoever arrives.
+//! A giver and a taker that met, and what becomes of an arrival.
 ghost use Rattle.std.specs.Prelude.{◌≡◌};
 
 use crate::giver::Giver;
 use rv_session::{Duty, Place};
 use std::marker::Model;
 
-/// A giver and a taker that met. It can't be dropped, and only a queue makes it: whoever gets it takes it
-/// apart, and settles the duties in it. Contracts see what the giver offers and the taker's duty.
+/// A giver and a taker that met. Only a queue makes it, and it can't be dropped: take it apart, and settle
+/// the duties in it. Contracts see what the giver offers and the taker's duty.
 pub struct Pair {
     giver: Giver,
     taker: Duty,
@@ -42,23 +42,15 @@ impl Pair {
     }
 }
 
-/// What a queue says to a giver.
-pub enum GiveOutcome {
-    /// It met the consumer that had waited longest.
+/// What becomes of an arrival that waits if it meets nobody.
+pub enum DualOutcome {
+    /// It met the oldest of the other side.
     Met(Pair),
-    /// No consumer waited, and it waits behind the items that are there.
+    /// Nobody of the other side was there, and it waits behind all of its own side.
     Parked,
 }
 
-/// What a queue says to a taker.
-pub enum TakeOutcome {
-    /// It met the oldest item.
-    Met(Pair),
-    /// No item waited, and it waits behind the consumers that are there.
-    Parked,
-}
-
-/// What a queue says to a request that doesn't wait.
+/// What becomes of a request that doesn't wait.
 pub enum TryOutcome {
     /// It met the oldest of the other side.
     Met(Pair),

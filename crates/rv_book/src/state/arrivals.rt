@@ -1,8 +1,7 @@
-//! Requests: what arrives, what it meets or takes out of its queue, and what a repeat is told.
-ghost use Rattle.std.specs.Prelude.{◌≡◌, ◌<◌, ◌≤◌, [], OnOk, OnErr, IfOk, IfErr, IfSome, None, true, false};
+//! Requests: how they arrive, meet or drain a queue, and the reply to a repeat.
+ghost use Rattle.std.specs.Prelude.{◌≡◌, ◌<◌, ◌≤◌, [], OnOk, OnErr, IfOk, IfErr, IfSome, true, false};
 ghost use Rattle.std.specs.Prelude.{length, min, take, vec_capacity, vec_len};
-ghost use Rattle.rv_text.specs.Calls.{drains_of};
-ghost use Rattle.rv_text.specs.Limits.{FitsCall, FitsQueue};
+ghost use Rattle.rv_text.specs.Limits.{FitsCall, FitsSide};
 ghost use Rattle.rv_book.specs.Arriving.{GoesOnWaiting, IsRecorded, WillReply, said_of};
 ghost use Rattle.rv_account.specs.Calls.{need_of};
 ghost use Rattle.rv_book.specs.Operations.{Becomes, Comes, HasSpace, IsRefused, IsRepeat, MayRecord};
@@ -10,7 +9,6 @@ ghost use Rattle.rv_book.specs.Operations.{NoEntryDue, SameAccount, Sees, kept_a
 ghost use Rattle.rv_book.specs.Tables.{IsSound, account_of};
 ghost use Rattle.rv_account.specs.Account.{just};
 ghost use Rattle.rv_book.specs.Draining.{IsTaker, IsDraining, MayDrain, SameIdle, TookItem, items_in};
-ghost use Rattle.rv_text.specs.declared.call.Side.TheVariants.{Takes};
 ghost use Rattle.rv_text.specs.declared.message.Message.TheVariants as message;
 ghost use Rattle.rv_account.specs.declared.entry.Act.TheVariants.{Arrive};
 ghost use Rattle.rv_session.specs.Meanings.{HasNext};
@@ -19,12 +17,12 @@ ghost use Rattle.rv_session.specs.declared.standing.Standing.TheVariants as stan
 ghost use Rattle.rv_text.specs.declared.answer.Refusal.TheVariants.{OtherCall};
 
 use super::BookState;
-use crate::arrival::Arrival;
-use rv_account::{Act, Partners};
+use crate::outcome::Arrived;
+use rv_account::{Act, Partners, may_name};
 use rv_session::{Kept, Place, Standing};
 use rv_text::{Call, Key, Refusal, Side, Wait};
 
-// What is kept as the reply of a request that met nobody and goes, where this is said of nobody there.
+// The reply to keep for a request that met nobody and goes, if this one says that nobody was there.
 fn reply_at_once(wait: Wait, nobody: Kept) -> Kept
     ensures { result ≡ kept_at_once wait nobody }
 {
@@ -34,7 +32,7 @@ fn reply_at_once(wait: Wait, nobody: Kept) -> Kept
     }
 }
 
-// What is kept as the reply of the request that an arrival of this side, at this place, met.
+// The reply to keep for the request that an arrival of this side, at this place, met.
 fn reply_to_partner(side: Side, place: Place) -> Kept
     ensures { result ≡ partners_reply side place }
 {
@@ -57,21 +55,8 @@ fn named(partner: Option<Place>, mut places: Vec<Place>) -> Partners
     Partners::from_vec(places)
 }
 
-// The queue of a side that takes.
-fn taken_from(side: Side) -> u64
-    requires { IsTaker side }
-    ensures { side ≡ Takes result }
-{
-    match side {
-        Side::Takes(queue) => queue,
-        Side::Gives(_) => unreachable!(),
-        Side::Looks(_) => unreachable!(),
-        Side::Exchanges(_) => unreachable!(),
-    }
-}
-
 impl BookState {
-    /// Answers a request, and records it where it is no repeat and no refusal is due.
+    /// Answers a request, and records it if it is no repeat and no refusal is due.
     pub(super) fn request(
         &mut self,
         moment: u64,
@@ -93,7 +78,7 @@ impl BookState {
         }
     }
 
-    // What a request at a place is told, if it came with this call: the reply that is kept, or waiting.
+    // The reply that is kept for a request at a place, if it came with this call; none if it waits.
     fn repeat(
         &self,
         place: Option<Place>,
@@ -110,7 +95,7 @@ impl BookState {
         }
     }
 
-    // Makes room for a session's next request, records it, and gives its reply; none where it waits.
+    // Makes room for a session's next request, records it, and gives its reply; none if it waits.
     fn arrive(&mut self, moment: u64, key: Key, call: Call) -> Result<Option<Kept>, Refusal>
         requires comes { Comes self.old moment (Arrive key call) }
         requires stands { standing_of self.old.sessions key ≡ standing.Next }
@@ -122,15 +107,13 @@ impl BookState {
         ensures err { IfErr result (NoEntryDue (account_of self.old) (need_of call)) }
     {
         let places = self.prepare(moment, &call)?;
-        let Some(max) = call.drains() else {
-            return Ok(self.record(moment, key, call, places));
-        };
-        let queue = taken_from(call.side());
-        let kept = Kept::Drained(self.account.len());
-        Ok(self.drain(moment, key, call, queue, max as usize, places, kept))
+        match call.drains() {
+            Some(_) => Ok(self.drain(moment, key, call, places)),
+            None => Ok(self.record(moment, key, call, places)),
+        }
     }
 
-    // Records a session's next request, for which there is room, and gives its reply; none where it waits.
+    // Records a session's next request, for which there is room, and gives its reply; none if it waits.
     fn record(&mut self, moment: u64, key: Key, call: Call, places: Vec<Place>) -> Option<Kept>
         requires { MayRecord self.old moment key call places }
         ensures sound { IsSound self.new }
@@ -142,7 +125,7 @@ impl BookState {
         let arrived = self.waiters.arrive(&call, duty);
         let kept = self.reply_to(&call, arrived.partner);
         self.waiting = arrived.count(self.waiting);
-        let Arrival {
+        let Arrived {
             partner,
             own,
             other,
@@ -151,13 +134,12 @@ impl BookState {
         self.account
             .push(moment, Act::Arrive { key, call }, partners);
         self.settle(other, others);
-        self.settle(own, kept)
+        self.settle_new(own, kept)
     }
 
-    // What is kept as the reply of a call, no drain, that arrived with this partner and doesn't wait.
+    // The reply to keep for a call that arrived with this partner and doesn't wait.
     fn reply_to(&self, call: &Call, partner: Option<Place>) -> Kept
-        requires fits { FitsCall call.now }
-        requires single { drains_of call.now ≡ None }
+        requires { FitsCall call.now }
         ensures { Sees self.now call.now → ¬ GoesOnWaiting call.now partner
             → WillReply (account_of self.now) call.now partner result }
     {
@@ -183,63 +165,56 @@ impl BookState {
                 Some(place) => Kept::Peeked(place),
                 None => Kept::Empty,
             },
-            Call::Drain { .. } => unreachable!(),
+            Call::Drain { .. } => Kept::Drained(self.account.len()),
         }
     }
 
-    // Records a session's next request, which drains a queue and has room to; this is kept as its reply.
-    fn drain(
-        &mut self,
-        moment: u64,
-        key: Key,
-        call: Call,
-        queue: u64,
-        max: usize,
-        mut places: Vec<Place>,
-        kept: Kept,
-    ) -> Option<Kept>
-        requires may { MayDrain self.old moment key call queue max places kept }
-        requires fits { FitsQueue queue }
+    // Records a session's next request, which drains a queue, and gives its reply. There must be room for it.
+    fn drain(&mut self, moment: u64, key: Key, call: Call, mut places: Vec<Place>) -> Option<Kept>
+        requires { MayDrain self.old moment key call places }
         ensures sound { IsSound self.new }
         ensures recorded { IsRecorded (account_of self.old) (account_of self.new) moment key call result }
     {
-        self.take_items(queue, max, &mut places);
-        let duty = self.sessions.begin(&key, self.account.len());
+        let taker = self.account.len();
+        self.take_items(call.side(), may_name(&call), &mut places);
+        let duty = self.sessions.begin(&key, taker);
         self.account.push(
             moment,
             Act::Arrive { key, call },
             Partners::from_vec(places),
         );
-        self.settle(Some(duty), kept)
+        self.settle_new(Some(duty), Kept::Drained(taker))
     }
 
-    // Takes up to so many of the oldest items out of a queue, one a pass, and lists their places.
-    fn take_items(&mut self, queue: u64, max: usize, places: &mut Vec<Place>)
-        requires fits { FitsQueue queue }
+    // Takes up to so many of the oldest items for a side that takes, one a pass, and lists their places.
+    fn take_items(&mut self, side: Side, max: usize, places: &mut Vec<Place>)
+        requires fits { FitsSide side }
+        requires takes { IsTaker side }
         requires sound { IsSound self.old }
         requires empty { places.old.items ≡ [] }
-        requires room { min max (length (items_in self.old queue)) ≤ vec_capacity places.old }
+        requires room { min max (length (items_in self.old side)) ≤ vec_capacity places.old }
         ensures draining { IsDraining self.new places.new.items }
         ensures account { self.new.account ≡ self.old.account }
         ensures idle { SameIdle self.old.sessions self.new.sessions }
-        ensures taken { places.new.items ≡ take max (items_in self.old queue) }
+        ensures taken { places.new.items ≡ take max (items_in self.old side) }
     {
-        while places.len() < max && self.take_item(queue, places) {}
+        while places.len() < max && self.take_item(side, places) {}
     }
 
-    // Takes a queue's oldest item out, if there is one, and lists it: what is recorded next received it.
-    fn take_item(&mut self, queue: u64, listed: &mut Vec<Place>) -> bool
-        requires fits { FitsQueue queue }
+    // Takes the oldest item for a side that takes, if there is one, and lists it: the next entry received it.
+    fn take_item(&mut self, side: Side, listed: &mut Vec<Place>) -> bool
+        requires fits { FitsSide side }
+        requires takes { IsTaker side }
         requires draining { IsDraining self.old listed.old.items }
-        requires room { 0 < length (items_in self.old queue) → vec_len listed.old < vec_capacity listed.old }
+        requires room { 0 < length (items_in self.old side) → vec_len listed.old < vec_capacity listed.old }
         ensures draining { IsDraining self.new listed.new.items }
         ensures account { self.new.account ≡ self.old.account }
         ensures idle { SameIdle self.old.sessions self.new.sessions }
         ensures capacity { vec_capacity listed.old ≤ vec_capacity listed.new }
-        ensures one { result ≡ true → TookItem self.old self.new queue listed.old.items listed.new.items }
-        ensures none { result ≡ false → (listed.new ≡ listed.old) × (items_in self.old queue ≡ []) }
+        ensures one { result ≡ true → TookItem self.old self.new side listed.old.items listed.new.items }
+        ensures none { result ≡ false → (listed.new ≡ listed.old) × (items_in self.old side ≡ []) }
     {
-        match self.waiters.take_front(queue) {
+        match self.waiters.take_front(side) {
             Some((duty, place)) => {
                 let taker = self.account.len();
                 self.waiting -= usize::from(duty.is_some());

@@ -12,7 +12,7 @@ ghost use Rattle.rv_book.specs.Limits.{FitEntries};
 ghost use Rattle.rv_book.specs.Waiting.{Waiting, limit_at};
 ghost use Rattle.rv_book.specs.Operations.{Becomes, Comes, EndsAt, EndsIf, HasSpace, IsOwedIn, IsRefused};
 ghost use Rattle.rv_book.specs.Operations.{IsTime, MayEnd, NoEntryDue, SameAccount, SettlesIf};
-ghost use Rattle.rv_book.specs.Operations.{TakesNoMemory, told_to, with_due};
+ghost use Rattle.rv_book.specs.Operations.{TakesNoMemory, told_to, with_due, with_sessions};
 ghost use Rattle.rv_book.specs.Tables.{IsSound, account_of};
 ghost use Rattle.rv_session.specs.Meanings.{HasLast, HasNext};
 ghost use Rattle.rv_session.specs.declared.session.RequestState.TheVariants as state;
@@ -91,7 +91,8 @@ impl BookState {
         }
     }
 
-    /// Settles a duty's request, if there is one, with this reply, as its session's version tells it.
+    /// Settles a duty's request, if there is one, with this reply, as its session's version tells it. The
+    /// request waited, so it may have a deadline, which goes.
     pub(super) fn settle(&mut self, duty: Option<Duty>, kept: Kept) -> Option<Kept>
         requires waits { IfSome duty (IsOwedIn self.old.sessions) }
         requires fit { FitEntries (account_of self.old).entries }
@@ -104,6 +105,17 @@ impl BookState {
     {
         let duty = duty?;
         self.forget(duty.place());
+        self.settle_new(Some(duty), kept)
+    }
+
+    /// The same of a request that arrives now and doesn't wait, so that it has no deadline.
+    pub(super) fn settle_new(&mut self, duty: Option<Duty>, kept: Kept) -> Option<Kept>
+        requires { IfSome duty (IsOwedIn self.old.sessions) }
+        ensures told { result ≡ told_to self.old.sessions duty kept }
+        ensures sessions { SettlesIf self.old.sessions self.new.sessions duty kept }
+        ensures rest { self.new ≡ with_sessions self.old self.new.sessions }
+    {
+        let duty = duty?;
         let told = kept.told_in(self.sessions.version(&duty));
         self.sessions.settle(duty, told);
         Some(told)

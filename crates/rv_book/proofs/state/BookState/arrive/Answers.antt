@@ -1,14 +1,12 @@
 -- A request for which there is room may be recorded.
-use Rattle.std.proofs.Common.{◌∙◌, length, take, unwrap_or, sym, ap, subst, arith}
+use Rattle.std.proofs.Common.{◌∙◌, length, sym, ap, subst, arith}
 use Rattle.rv_text.specs.Calls.{side_of, wait_of}
-use Rattle.rv_session.specs.declared.kept.Kept.TheVariants as kept
 use Rattle.rv_session.specs.Meanings.{HasNext}
 use Rattle.rv_session.specs.Standings.{standing_of}
 use Rattle.rv_account.specs.Account.{Account}
 use Rattle.rv_book.specs.Elapsing.{deadline_among, with_deadline}
 use Rattle.rv_book.specs.Legal.{KeepsTime, NothingDue}
-use Rattle.rv_book.specs.Arriving.{WillTell}
-use Rattle.rv_book.specs.Draining.{items_in}
+use Rattle.rv_book.specs.Draining.{taken_by}
 use Rattle.rv_book.specs.Operations.{with_due}
 use Rattle.rv_book.specs.Tables.{account_of}
 use Rattle.rv_book.proofs.Draining.{may_drain}
@@ -41,23 +39,15 @@ record-requires c =
       room = omega (arith, prepared.ready.room, same.waiting);
       side_room = prepared.ready.side_room;
       space = let entries = ap (λ (a : Account). length a.entries) same.account in omega (arith, prepared.ready.space, entries, same.waiting);
-      single = sym c.drains.ensures ∙ c.in_default.is;
+      single = sym c.drains.ensures ∙ c.in-None.is;
       names = c.in_ok-places.ensures.names;
     }
 
-pub taken_from-queue-requires : goal.taken_from-queue-requires
-taken_from-queue-requires c =
-    let is = drain_is c.args.call c.in-Some.max (sym c.drains.ensures ∙ c.in-Some.is) in
-    (is.0, c.side.ensures ∙ ap side_of is.1)
-
-pub drain-requires-clause-may : goal.drain-requires-clause-may
-drain-requires-clause-may c =
+pub drain-requires : goal.drain-requires
+drain-requires c =
     let new = c.prepare.new.self in
     let call = c.args.call in
-    let queue = c.taken_from-queue.result in
-    let max = c.in-Some.max in
-    let drains = sym c.drains.ensures ∙ c.in-Some.is in
-    let is = drain_is call max drains in
-    may_drain c.args.self.now new c.args.moment c.args.key call queue max c.in_ok-places.places (kept.Drained c.len.result) c.requires.comes c.requires.stands c.requires.next
-    (sym c.side.ensures ∙ c.taken_from-queue.ensures) (ap wait_of is.1) (sym (ap (λ o. unwrap_or o 1) drains)) c.in_ok-places.ensures.ok c.in_ok-places.ensures.names
-    (subst (λ n. WillTell (account_of new) call (take max (items_in new queue)) (kept.Drained n)) (sym c.len.ensures) (will_drain (account_of new) call (take max (items_in new queue)) is.0 max is.1))
+    let is = drain_is call c.in-Some.field-0 (sym c.drains.ensures ∙ c.in-Some.is) in
+    may_drain c.args.self.now new c.args.moment c.args.key call is.0 c.in_ok-places.places c.requires.comes c.requires.stands c.requires.next
+    (ap side_of is.1) (ap wait_of is.1) c.in_ok-places.ensures.ok c.in_ok-places.ensures.names
+    (will_drain (account_of new) call (taken_by new call) is.0 c.in-Some.field-0 is.1)

@@ -68,9 +68,9 @@ returns-in-Newer-clause-ok c =
     let a = account_of c.args.self.now in
     let t = c.args.self.now.sessions in
     let sound = c.requires.sound in
-    let b = account_of c.renew.new.self in
+    let b = account_of c.admit-in-Newer.new.self in
     let welcome = Welcome a.epoch c.args.client c.args.incarnation c.args.version in
-    on_ok_both c.renew.result _ _ _ c.renew.ensures.ok c.renew.ensures.space
+    on_ok_both c.admit-in-Newer.result _ _ _ c.admit-in-Newer.ensures.ok c.admit-in-Newer.ensures.space
     (λ adds room. newer_hello a t c.args.moment sound.sessions_are sound.legal b c.args.client c.args.incarnation c.args.version welcome c.in-Newer.waiting c.in-Newer.ensures.means
     (entered a b c.args.moment 1 (act.TheVariants.Hello c.args.client c.args.incarnation c.args.version) welcome _ c.args.self.now.waiting sound.waiting_is room adds refl))
 
@@ -79,8 +79,8 @@ returns-in-Newer-clause-err c =
     let a = account_of c.args.self.now in
     let t = c.args.self.now.sessions in
     let sound = c.requires.sound in
-    let b = account_of c.renew.new.self in
-    err_both c.renew.result _ _ _ c.renew.ensures.err c.renew.ensures.same
+    let b = account_of c.admit-in-Newer.new.self in
+    err_both c.admit-in-Newer.result _ _ _ c.admit-in-Newer.ensures.err c.admit-in-Newer.ensures.same
     (λ refusal due same. becomes_refused a b c.args.moment (Hello c.args.client c.args.incarnation c.args.version) refusal
     (newer_hello a t c.args.moment sound.sessions_are sound.legal b c.args.client c.args.incarnation c.args.version (Refused refusal) c.in-Newer.waiting c.in-Newer.ensures.means
     (unentered a b c.args.moment 1 (act.TheVariants.Hello c.args.client c.args.incarnation c.args.version) refusal _ due same)))

@@ -1,6 +1,6 @@
--- Where no entry is due, the epoch is full or a growth was refused.
-use Rattle.std.proofs.Common.{inr, ◌+◌, ◌≤◌, length, arith}
-use Rattle.rv_book.specs.Operations.{NoEntryDue}
+-- Where no entry is due, the epoch is full or a growth was refused, for which there was no room.
+use Rattle.std.proofs.Common.{inl, inr, ◌+◌, ◌<◌, ◌≤◌, length, option_map, arith}
+use Rattle.rv_book.specs.Operations.{LacksRoom, NoEntryDue, OnlyFor}
 use Rattle.rv_book.specs.Tables.{account_of}
 use Rattle.rv_book.proofs.Lines.{room_left}
 use Rattle.rv_book.proofs.Stepping.{err_gives}
@@ -29,3 +29,9 @@ returns-in_err-reserve-2-clause-err c =
     let a = account_of c.args.self.now in
     err_gives c.from_residual-in_err-reserve-2.result _ (NoEntryDue a c.args.need) c.from_residual-in_err-reserve-2.ensures.1
     (λ refusal is. inr (room_left a c.args.self.now.waiting c.args.need c.requires.sound.waiting_is (omega (arith, c.len.ensures)), is))
+
+pub returns-in_err-reserve-clause-full : goal.returns-in_err-reserve-clause-full
+returns-in_err-reserve-clause-full c =
+    let old = c.args.self.now in
+    let less : old.account.room < old.waiting + c.args.need = c.in_err-reserve.ensures.full in
+    err_gives c.from_residual.result _ (OnlyFor (LacksRoom old c.args.need (option_map (λ call. call.now) c.args.call))) c.from_residual.ensures.1 (λ refusal is wanted. inl less)

@@ -5,14 +5,14 @@ use Rattle.rv_session.specs.OwedDuty.{OwedDuty}
 use Rattle.rv_session.specs.Table.{OnlyAdvances}
 use Rattle.rv_session.specs.declared.session.RequestState.TheVariants.{Waits}
 use Rattle.rv_session.specs.declared.kept.Kept.{Kept}
-use Rattle.rv_account.specs.Account.{Account, just, with_entry}
-use Rattle.rv_book.specs.Arriving.{IsRecorded, entry}
+use Rattle.rv_account.specs.Account.{Account}
+use Rattle.rv_book.specs.Arriving.{IsRecorded}
 use Rattle.rv_book.specs.Elapsing.{without_duty}
 use Rattle.rv_book.specs.Limits.{FitEntries}
 use Rattle.rv_book.specs.Meeting.{ends_waiting}
 use Rattle.rv_book.specs.Operations.{partners_reply, told_to}
 use Rattle.rv_book.specs.Tables.{account_of}
-use Rattle.rv_account.specs.declared.entry.Act.TheVariants.{Arrive}
+use Rattle.rv_book.specs.declared.state.BookState.{BookState}
 use Rattle.rv_book.specs.Views.{AreBelow}
 use Rattle.rv_book.proofs.Recording.{arrives, fit_after, least, meets, named, next, room_named, sees, sound_after, told}
 use Rattle.rv_book.proofs.Settling.{own_due, partner_due}
@@ -45,8 +45,8 @@ settle-requires-clause-fit c =
     let is = arrives c.requires c.begin-duty.ensures.duty c.len-place.ensures c.arrive-arrived.ensures in
     subst (λ (a : Account). FitEntries a.entries) (sym (named is c.push.ensures.entry c.named-partners.ensures)) (fit_after is)
 
-pub settle-requires-2-clause-waits : goal.settle-requires-2-clause-waits
-settle-requires-2-clause-waits c =
+pub settle_new-requires : goal.settle_new-requires
+settle_new-requires c =
     let old = c.args.self.now in
     let a = account_of old in
     let arrived = c.arrive-arrived.result in
@@ -54,12 +54,6 @@ settle-requires-2-clause-waits c =
     let begins = subst (λ n. OnlyAdvances old.sessions c.begin-duty.new.self c.args.key (Waits n)) c.len-place.ensures c.begin-duty.ensures.waits in
     own_due a old.sessions c.begin-duty.new.self c.settle.new.self.sessions c.args.key c.args.call arrived.partner (length a.entries) arrived.other arrived.own c.reply_to_partner-others.result
     (next is) (meets is) begins c.settle.ensures.sessions (is.on.other a.entries c.requires.comes.sound.waiters_are.parked) is.on.own
-
-pub settle-requires-2-clause-fit : goal.settle-requires-2-clause-fit
-settle-requires-2-clause-fit c =
-    let is = arrives c.requires c.begin-duty.ensures.duty c.len-place.ensures c.arrive-arrived.ensures in
-    let pushed = named is c.push.ensures.entry c.named-partners.ensures in
-    subst (λ (a : Account). FitEntries a.entries) (sym (ap (λ (stored : _). stored.account) c.settle.ensures.account ∙ pushed)) (fit_after is)
 
 pub returns-clause-sound : goal.returns-clause-sound
 returns-clause-sound c =
@@ -73,14 +67,13 @@ returns-clause-sound c =
     let will = c.reply_to-kept.ensures (sees is) in
     let pushed = named is c.push.ensures.entry c.named-partners.ensures in
     let entries = ap (λ (b : Account). b.entries) pushed in
-    let other_due = c.settle.ensures.due ∙ ap (λ es. without_duty es arrived.other old.due) entries in
-    let own_due = c.settle-2.ensures.due ∙ ap (λ es. without_duty es arrived.own c.settle.new.self.due) (ap (λ (stored : _). stored.account.entries) c.settle.ensures.account ∙ entries)
-    ∙ ap (without_duty (with_entry a (entry c.args.moment (Arrive c.args.key call) (just arrived.partner))).entries arrived.own) other_due in
-    let stored = c.settle-2.ensures.account ∙ c.settle.ensures.account in
+    let settled = c.settle_new.ensures.rest in
+    let other_due = ap (λ (state : BookState). state.due) settled ∙ c.settle.ensures.due ∙ ap (λ es. without_duty es arrived.other old.due) entries in
+    let stored = ap (λ (state : BookState). state.account) settled ∙ c.settle.ensures.account in
     sound_after is c.reply_to-kept.result c.reply_to_partner-others.result will c.begin-duty.new.self begins others
-    c.settle.new.self.sessions c.settle-2.new.self.sessions c.settle.ensures.sessions c.settle-2.ensures.sessions c.settle-2.new.self
-    (ap (λ (stored : _). stored.account) stored ∙ pushed) refl (c.settle-2.ensures.waiters ∙ c.settle.ensures.waiters) own_due
-    (ap (λ n. n + ends_waiting arrived.other) (c.settle-2.ensures.waiting ∙ c.settle.ensures.waiting) ∙ c.count-self.ensures)
+    c.settle.new.self.sessions c.settle_new.new.self.sessions c.settle.ensures.sessions c.settle_new.ensures.sessions c.settle_new.new.self
+    (ap (λ (stored : _). stored.account) stored ∙ pushed) refl (ap (λ (state : BookState). state.waiters) settled ∙ c.settle.ensures.waiters) other_due
+    (ap (λ n. n + ends_waiting arrived.other) (ap (λ (state : BookState). state.waiting) settled ∙ c.settle.ensures.waiting) ∙ c.count-self.ensures)
     (subst (λ (stored : _). old.account.room ≡ stored.room + 1) (sym stored) c.push.ensures.room)
 
 pub returns-clause-recorded : goal.returns-clause-recorded
@@ -94,6 +87,6 @@ returns-clause-recorded c =
     let others = c.reply_to_partner-others.ensures ∙ ap (λ side. partners_reply side c.len-place.result) c.side.ensures ∙ ap (partners_reply (side_of call)) c.len-place.ensures in
     let will = c.reply_to-kept.ensures (sees is) in
     let done = told is c.reply_to-kept.result c.reply_to_partner-others.result will c.begin-duty.new.self begins others c.settle.new.self.sessions c.settle.ensures.sessions in
-    let pushed = ap (λ (stored : _). stored.account) (c.settle-2.ensures.account ∙ c.settle.ensures.account) ∙ named is c.push.ensures.entry c.named-partners.ensures in
-    subst (λ (result : Option Kept). IsRecorded a (account_of c.settle-2.new.self) c.args.moment key call result) (sym c.settle-2.ensures.told)
+    let pushed = ap (λ (stored : _). stored.account) (ap (λ (state : BookState). state.account) c.settle_new.ensures.rest ∙ c.settle.ensures.account) ∙ named is c.push.ensures.entry c.named-partners.ensures in
+    subst (λ (result : Option Kept). IsRecorded a (account_of c.settle_new.new.self) c.args.moment key call result) (sym c.settle_new.ensures.told)
     (subst (λ b. IsRecorded a b c.args.moment key call (told_to c.settle.new.self.sessions c.arrive-arrived.result.own c.reply_to-kept.result)) (sym pushed) done)

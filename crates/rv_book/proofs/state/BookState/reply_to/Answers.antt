@@ -7,7 +7,9 @@ use Rattle.rv_session.specs.declared.kept.Kept as kept
 use Rattle.rv_book.specs.Arriving.{GoesOnWaiting, WillReply}
 use Rattle.rv_book.specs.Operations.{Sees}
 use Rattle.rv_book.specs.Tables.{account_of}
+use Rattle.rv_account.specs.Account.{just}
 use Rattle.rv_book.proofs.Counts.{count_replies}
+use Rattle.rv_book.proofs.Drains.{will_drain}
 use Rattle.rv_book.proofs.Opposites.{looks_alone}
 use Rattle.rv_book.proofs.Peeks.{peek_finds_none, peek_replies}
 use Rattle.rv_book.proofs.Puts.{put_replies}
@@ -100,3 +102,9 @@ returns-in-None-front c = λ sees ends.
     let are = (subst (Sees state) c.in-Peek.is sees) (looks_alone queue) in
     subst (λ (call : Call). WillReply a call c.args.partner kept.TheVariants.Empty) (sym c.in-Peek.is)
     (peek_finds_none a queue c.args.partner (seen_none a.entries state.waiters queue are (sym c.in-None-front.is ∙ c.front.ensures)))
+
+pub returns-in-Drain : goal.returns-in-Drain
+returns-in-Drain c = λ sees ends.
+    let a = account_of c.args.self.now in
+    subst (λ n. WillReply a c.args.call.now c.args.partner (kept.TheVariants.Drained n)) (sym c.len.ensures)
+    (will_drain a c.args.call.now (just c.args.partner) c.in-Drain.queue c.in-Drain.max c.in-Drain.is)

@@ -4,7 +4,7 @@ use Rattle.rv_book.proofs.TakingUpTo.{TookSome}
 use Rattle.rv_book.proofs.state.BookState.take_items.Given as goal
 
 abbrev pub invariant-loop-self : goal.invariant-loop-self
-invariant-loop-self l = TookSome l.initial.self l.self l.queue l.max l.places
+invariant-loop-self l = TookSome l.initial.self l.self l.side l.max l.places
 
 abbrev pub decreases-loop-self : goal.decreases-loop-self
 decreases-loop-self l = l.max - vec_len l.places

@@ -1,45 +1,45 @@
-//! What becomes of an arrival: whom it met, and whose duties are to be settled.
+//! What became of an arrival: its partner, and the duties that are to be settled.
 ghost use Rattle.std.specs.Prelude.{◌≡◌, None, Some};
 
 use rv_session::{Duty, Place};
 
 /// What became of an arrival in its queue or at its exchanger. The duties in it are to be settled.
-pub(crate) struct Arrival {
+pub(crate) struct Arrived {
     /// The place of the earlier arrival that it met.
     pub(crate) partner: Option<Place>,
-    /// Its own duty, where it doesn't wait.
+    /// Its own duty, unless it waits.
     pub(crate) own: Option<Duty>,
     /// The duty of the request that it met; a put has none.
     pub(crate) other: Option<Duty>,
 }
 
-impl Arrival {
+impl Arrived {
     ghost use Rattle.std.specs.Prelude.{◌≤◌, ◌+◌, ◌^◌};
     ghost use Rattle.rv_book.specs.Meeting.{ends_waiting, starts_waiting};
 
     /// It met the earlier arrival at this place.
-    pub(crate) fn met(partner: Place, own: Option<Duty>, other: Option<Duty>) -> Arrival
+    pub(crate) fn met(partner: Place, own: Option<Duty>, other: Option<Duty>) -> Arrived
         ensures { result ≡ record { partner = Some partner; own = own; other = other } }
     {
-        Arrival {
+        Arrived {
             partner: Some(partner),
             own,
             other,
         }
     }
 
-    /// It met nobody, and waits where its own duty doesn't come back.
-    pub(crate) fn alone(own: Option<Duty>) -> Arrival
+    /// It met nobody, and waits unless its own duty comes back.
+    pub(crate) fn alone(own: Option<Duty>) -> Arrived
         ensures { result ≡ record { partner = None; own = own; other = None } }
     {
-        Arrival {
+        Arrived {
             partner: None,
             own,
             other: None,
         }
     }
 
-    /// How many requests wait after it, where so many did before.
+    /// How many requests wait after it, if so many did before.
     pub(crate) fn count(&self, waiting: usize) -> usize
         requires most { waiting + starts_waiting self.now.own ≤ 2 ^ 32 }
         requires least { ends_waiting self.now.other ≤ waiting + starts_waiting self.now.own }
