@@ -17,7 +17,7 @@ pub enum Rule {
     M3,
     /// A client starts again only in a greater incarnation.
     N1,
-    /// A request or a cancel has the account's epoch, and the incarnation of its client's last hello.
+    /// The key of a request or a cancel is of this epoch and of the incarnation in which its client stands.
     N2,
     /// A session numbers its requests one by one, and at most one of them waits. A cancel is of that one, or
     /// of the next.
