@@ -15,14 +15,14 @@ use Rattle.rv_app.specs.declared.calls.CallSaid.{CallSaid}
 use Rattle.rv_app.specs.declared.calls.CallSaid.TheVariants.{Stopped, Whole}
 use Rattle.rv_run.specs.declared.fault.RunFault.{RunFault}
 use Rattle.rv_run.specs.declared.fault.RunFault.TheVariants.{NoMemory, ReadFault, TooLong, WriteFault}
-use Rattle.rv_app.specs.declared.word.Word.{Word}
+use Rattle.rv_app.specs.declared.end_word.EndWord.{EndWord}
 use Rattle.rv_app.specs.CallRuns.{CutsLine, CutsText, RanCalls, RunsCalls, TextComesNext, SettlesFirst, Stops, StopsText, TakesLines, TakesText}
 use Rattle.rv_app.specs.declared.client.Halt.TheVariants as halt
 use Rattle.rv_app.specs.Calling.{HaltsAt, HasNumbers, IsTurnedAway, IsWelcomed, SettlesLine, SettlesLines, StopsWithWord, key_behind}
 use Rattle.rv_app.specs.Lines.{lines}
 use Rattle.rv_app.specs.Outcomes.{ReadsAll}
 use Rattle.rv_app.specs.Run.{printed_lines}
-use Rattle.rv_app.specs.Word.{word_text}
+use Rattle.rv_app.specs.EndWord.{word_text}
 use Rattle.rv_run.proofs.Printing.{printed_append}
 use Rattle.rv_app.proofs.Settling.{key_behind_none, key_behind_on, key_next, settles_more}
 
@@ -109,7 +109,7 @@ module _ {O R W : Type 0} (taken : O → Option (List ℕ)) (remaining : R → O
 
 module _ {O R W : Type 0} (taken : O → Option (List ℕ)) (remaining : R → Option (List ℕ)) (contents : W → Option (List ℕ)) (starting : Starting) (tries : ℕ) where
   -- behind the texts a word is printed, or it is not
-  pub runs_by_word : (all texts : List (List ℕ)) (word : Word) (before after : Link R W) (count : ℕ) (a b c : Sink O) (result : Result CallSaid RunFault)
+  pub runs_by_word : (all texts : List (List ℕ)) (word : EndWord) (before after : Link R W) (count : ℕ) (a b c : Sink O) (result : Result CallSaid RunFault)
       → Stops remaining contents starting tries all texts word before after → TakesLines taken texts a b → count ≡ length (printed_lines texts)
       → IfOk result (λ said. said ≡ Stopped) → OnOk result (TakesText taken (word_text word) b c) → IfErr result (StopsText taken (word_text word) count b c)
       → RunsCalls taken remaining contents starting tries all before after a c result
@@ -124,7 +124,7 @@ module _ {O R W : Type 0} (taken : O → Option (List ℕ)) (remaining : R → O
   runs_by_word all texts word before after count a b c (Err TooLong) stops took counted said out cut = absurd cut
 
   -- the client is not welcome
-  pub runs_at_once : (all : List (List ℕ)) (word : Word) (before after : Link R W) (a c : Sink O) (result : Result CallSaid RunFault)
+  pub runs_at_once : (all : List (List ℕ)) (word : EndWord) (before after : Link R W) (a c : Sink O) (result : Result CallSaid RunFault)
       → IsTurnedAway remaining contents starting tries word before after
       → IfOk result (λ said. said ≡ Stopped) → OnOk result (TakesText taken (word_text word) a c) → IfErr result (StopsText taken (word_text word) 0 a c)
       → RunsCalls taken remaining contents starting tries all before after a c result
@@ -157,7 +157,7 @@ module _ {O R W : Type 0} (taken : O → Option (List ℕ)) (remaining : R → O
         }
 
     -- a word ends it at the next line
-    pub runs_to_word : (line later : List ℕ) (word : Word) (after : Link R W) (c : Sink O) (result : Result CallSaid RunFault) → lines rest ≡ line ∷ lines later
+    pub runs_to_word : (line later : List ℕ) (word : EndWord) (after : Link R W) (c : Sink O) (result : Result CallSaid RunFault) → lines rest ≡ line ∷ lines later
         → IfSome idle (λ key. StopsWithWord remaining contents tries key line word at after)
         → IfOk result (λ said. said ≡ Stopped) → OnOk result (TakesText taken (word_text word) b c) → IfErr result (StopsText taken (word_text word) count b c)
         → RunsCalls taken remaining contents starting tries all before after a c result

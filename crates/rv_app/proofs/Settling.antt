@@ -16,8 +16,8 @@ use Rattle.rv_client.specs.Process.{PassesBy, Starting, first_key, key_after}
 use Rattle.rv_app.specs.declared.client.Halt.{Halt}
 use Rattle.rv_app.specs.declared.client.Halt.TheVariants as halt
 use Rattle.rv_app.specs.Calling.{AllInVain, HaltsAt, HasNumbers, HelloEnds, HellosInVain, IsHelloInVain, SaysHello, SettlesLine, SettlesLines, WelcomesOrNot, key_behind}
-use Rattle.rv_app.specs.declared.word.Word.{Word}
-use Rattle.rv_app.specs.declared.word.Word.TheVariants.{BadLine, EpochEnded, NotWelcome, Refused, Replaced, Unsettled}
+use Rattle.rv_app.specs.declared.end_word.EndWord.{EndWord}
+use Rattle.rv_app.specs.declared.end_word.EndWord.TheVariants.{BadLine, EpochEnded, NotWelcome, Refused, Replaced, Unsettled}
 
 -- ---- keys
 
@@ -73,7 +73,7 @@ module _ {R W : Type 0} (remaining : R → Option (List ℕ)) (contents : W → 
     in_vain = hellos_more starting vain.answers once.answer a b c vain.in_vain once.asked once.passed_by;
   }
 
-  pub hello_ended : (starting : Starting) (times tries : ℕ) (a b c : Link R W) (ended : Result (Option Key) Word) → AllInVain remaining contents starting times a b → times < tries
+  pub hello_ended : (starting : Starting) (times tries : ℕ) (a b c : Link R W) (ended : Result (Option Key) EndWord) → AllInVain remaining contents starting times a b → times < tries
       → HelloEnds remaining contents starting b c ended → WelcomesOrNot remaining contents starting tries a c ended
   hello_ended starting times tries a b c (Ok next) vain fewer ends =
       (ends.0, record { answers = vain.answers; fewer = omega (arith, vain.each); between = b; in_vain = vain.in_vain; last = ends.1 }, ends.2, ends.1.has.2.0)

@@ -11,12 +11,12 @@ use Rattle.rv_app.specs.declared.calls.CallSaid.{CallSaid}
 use Rattle.rv_app.specs.declared.calls.CallSaid.TheVariants.{Stopped, Whole}
 use Rattle.rv_run.specs.declared.fault.RunFault.{RunFault}
 use Rattle.rv_run.specs.declared.fault.RunFault.TheVariants.{NoMemory, ReadFault, TooLong, WriteFault}
-use Rattle.rv_app.specs.declared.word.Word.{Word}
+use Rattle.rv_app.specs.declared.end_word.EndWord.{EndWord}
 use Rattle.rv_app.specs.Calling.{IsTurnedAway, IsWelcomed, SettlesLines, StopsWithWord, key_behind}
 use Rattle.rv_app.specs.Lines.{lines}
 use Rattle.rv_app.specs.Outcomes.{ReadsAll}
 use Rattle.rv_app.specs.Run.{printed_lines}
-use Rattle.rv_app.specs.Word.{word_text}
+use Rattle.rv_app.specs.EndWord.{word_text}
 
 -- ---- what came of the lines
 
@@ -30,7 +30,7 @@ module _ {R W : Type 0} (remaining : R → Option (List ℕ)) (contents : W → 
     pub settled : SettlesLines remaining contents tries (first_key starting epoch) all texts greeted after
 
   -- so were some first lines, and the word says why the one behind them was not
-  pub record CallsStopAtLine (all texts : List (List ℕ)) (word : Word) (before after : Link R W)
+  pub record CallsStopAtLine (all texts : List (List ℕ)) (word : EndWord) (before after : Link R W)
       : Type 0 where
     pub first : List (List ℕ)
     pub line : List ℕ
@@ -46,12 +46,12 @@ module _ {R W : Type 0} (remaining : R → Option (List ℕ)) (contents : W → 
         word between after
 
   -- the word says why the client is not welcome, and no line was looked at
-  pub record StopsAtOnce (texts : List (List ℕ)) (word : Word) (before after : Link R W) : Type 0 where
+  pub record StopsAtOnce (texts : List (List ℕ)) (word : EndWord) (before after : Link R W) : Type 0 where
     pub no_text : texts ≡ []
     pub turned_away : IsTurnedAway remaining contents starting tries word before after
 
   -- the word ends the run behind the lines that were settled with these texts
-  abbrev pub Stops : List (List ℕ) → List (List ℕ) → Word → Link R W → Link R W → Type 0
+  abbrev pub Stops : List (List ℕ) → List (List ℕ) → EndWord → Link R W → Link R W → Type 0
   Stops all texts word before after = StopsAtOnce texts word before after
       ⊎ CallsStopAtLine all texts word before after
 
@@ -65,7 +65,7 @@ module _ {R W : Type 0} (remaining : R → Option (List ℕ)) (contents : W → 
   -- behind these texts comes this one: that of one more settled line, or the word that ends the run
   abbrev pub TextComesNext : List (List ℕ) → List (List ℕ) → List ℕ → Link R W → Link R W → Type 0
   TextComesNext all texts text before after = SettlesFirst all (texts ++ text ∷ []) before after
-      ⊎ ((word : Word) × Stops all texts word before after × (text ≡ word_text word))
+      ⊎ ((word : EndWord) × Stops all texts word before after × (text ≡ word_text word))
 
 -- ---- what the output took
 
@@ -116,7 +116,7 @@ module _ {O R W : Type 0} (taken : O → Option (List ℕ)) (remaining : R → O
   -- the lines before the last have the texts of settled ones, and the last is a word
   pub record RunsToWord (all : List (List ℕ)) (before after : Link R W) (out out' : Sink O) : Type 0 where
     pub texts : List (List ℕ)
-    pub word : Word
+    pub word : EndWord
     pub stops : Stops remaining contents starting tries all texts word before after
     pub took : TakesLines taken (texts ++ word_text word ∷ []) out out'
 

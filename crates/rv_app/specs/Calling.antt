@@ -17,8 +17,8 @@ use Rattle.rv_text.specs.Members.{max_identifier}
 use Rattle.rv_client.specs.Process.{Asking, PassesBy, Starting, first_key, hello_of}
 use Rattle.rv_app.specs.declared.client.Halt.{Halt}
 use Rattle.rv_app.specs.declared.client.Halt.TheVariants as halt
-use Rattle.rv_app.specs.declared.word.Word.{Word}
-use Rattle.rv_app.specs.declared.word.Word.TheVariants as word
+use Rattle.rv_app.specs.declared.end_word.EndWord.{EndWord}
+use Rattle.rv_app.specs.declared.end_word.EndWord.TheVariants as word
 
 -- the key behind so many requests
 abbrev pub key_behind : Key → ℕ → Key
@@ -82,7 +82,7 @@ module _ {R W : Type 0} (remaining : R → Option (List ℕ)) (contents : W → 
     pub met : DecidingHello starting tries before after (Err fault)
 
   -- the client isn't welcome, and this word says so
-  abbrev pub IsTurnedAway : Starting → ℕ → Word → Link R W → Link R W → Type 0
+  abbrev pub IsTurnedAway : Starting → ℕ → EndWord → Link R W → Link R W → Type 0
   IsTurnedAway starting tries (word.Refused refusal) before after =
       DecidingHello starting tries before after (Ok (answers.Refused refusal))
   IsTurnedAway starting tries word.NotWelcome before after =
@@ -123,7 +123,7 @@ module _ {R W : Type 0} (remaining : R → Option (List ℕ)) (contents : W → 
     pub made : MakesCall tries key line before after (called.Unsettled asking fault)
 
   -- this word says why the line, whose call would have this key, is not settled
-  abbrev pub StopsWithWord : ℕ → Key → List ℕ → Word → Link R W → Link R W → Type 0
+  abbrev pub StopsWithWord : ℕ → Key → List ℕ → EndWord → Link R W → Link R W → Type 0
   StopsWithWord tries key line word.BadLine before after = IsNoCall line × (after ≡ before)
   StopsWithWord tries key line (word.Unsettled number) before after =
       (number ≡ key.number) × LeavesUnsettled tries key line before after
@@ -142,7 +142,7 @@ module _ {R W : Type 0} (remaining : R → Option (List ℕ)) (contents : W → 
     pub passed_by : PassesBy starting answer
 
   -- one hello welcomed the client, or ended with this word
-  abbrev pub HelloEnds : Starting → Link R W → Link R W → Result (Option Key) Word → Type 0
+  abbrev pub HelloEnds : Starting → Link R W → Link R W → Result (Option Key) EndWord → Type 0
   HelloEnds starting before after (Ok next) = (epoch : ℕ)
       × SaysHello starting before after
       (Ok (answers.Welcome epoch starting.client starting.incarnation starting.version))
@@ -154,7 +154,7 @@ module _ {R W : Type 0} (remaining : R → Option (List ℕ)) (contents : W → 
   HelloEnds starting before after (Err _) = ⊥
 
   -- all hellos welcomed the client, or ended with this word
-  abbrev pub WelcomesOrNot : Starting → ℕ → Link R W → Link R W → Result (Option Key) Word → Type 0
+  abbrev pub WelcomesOrNot : Starting → ℕ → Link R W → Link R W → Result (Option Key) EndWord → Type 0
   WelcomesOrNot starting tries before after (Ok next) = (epoch : ℕ)
       × IsWelcomed starting tries epoch before after × (next ≡ Some (first_key starting epoch))
       × FitsIdentifier epoch

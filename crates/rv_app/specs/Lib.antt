@@ -7,6 +7,6 @@ pub mod Laws
 pub mod Lines
 pub mod Outcomes
 pub mod Run
-pub mod Word
+pub mod EndWord
 -- What only private clauses and proofs cite.
 pub mod Body

@@ -12,11 +12,11 @@ use std::alloc::Global;
 use std::io::Write;
 
 /// Writes the lines of an account, legal or not: `epoch E opened T`, and a line for each entry, each with LF
-/// after it, whatever their numbers and however long. That lines within the limits are read as that account
-/// is a law of rv_lines.
+/// after it, whatever their numbers and however long. By a law of rv_lines, lines within the limits are read
+/// as that account.
 ///
-/// It ends by `WriteFault`, after the bytes that the fault counts, or by `NoMemory`, after some whole lines
-/// or none, and by no other fault.
+/// Its only faults are `WriteFault`, after the bytes that the fault counts, and `NoMemory`, after some whole
+/// lines or none.
 pub fn write_account<W: Write>(
     alloc: Global,
     account: &Account,

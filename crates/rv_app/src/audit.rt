@@ -12,7 +12,7 @@ use rv_world::{Audit, audit};
 use std::alloc::Global;
 use std::io::{Read, Write};
 
-/// What an audit said of an input.
+/// The verdict of an audit on an input.
 #[derive(Clone, Copy, Debug, PartialEq, Eq)]
 pub enum AuditSaid {
     /// Its lines are read as a legal account.

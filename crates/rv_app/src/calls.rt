@@ -10,10 +10,10 @@ ghost use Rattle.rv_app.specs.CallRuns.{DidNothing, RanCalls, RunsCalls, StopsTe
 ghost use Rattle.rv_app.specs.Lines.{lines};
 ghost use Rattle.rv_app.specs.Outcomes.{FoundTooLong, max_input};
 ghost use Rattle.rv_run.specs.Output.{IsShortText};
-ghost use Rattle.rv_app.specs.Word.{word_text};
+ghost use Rattle.rv_app.specs.EndWord.{word_text};
 
-use crate::client::{Halt, call_line, say_hello};
-use crate::word::Word;
+use crate::client::{Caller, Halt};
+use crate::end_word::EndWord;
 use rv_client::{Idle, New};
 use rv_frame::{Sink, Source};
 use rv_lines::first_line;
@@ -22,12 +22,12 @@ use rv_text::Version;
 use std::alloc::Global;
 use std::io::{Read, Write};
 
-/// How a run of calls ended.
+/// The end of a run of calls.
 #[derive(Clone, Copy, Debug, PartialEq, Eq)]
 pub enum CallSaid {
     /// The call of each line was settled.
     Whole,
-    /// The last line that was printed is a word, and no call was made behind it.
+    /// The last line that was printed is a word, and no call was made after it.
     Stopped,
 }
 
@@ -37,15 +37,14 @@ pub enum CallSaid {
 /// times.
 ///
 /// All lines are read before hello is said, and read faults, too long an input and want of memory up to
-/// there are found before anything is asked or written. The run ends where a line cannot be settled, with
-/// one word behind those that were: `refused N` and `not welcome` at the hello; `unsettled NUMBER`, where
-/// nothing final was heard, and the request is given up; `epoch ended CURRENT`; `replaced CURRENT`; and `bad
-/// line` for a line that says no call. Lines end by LF, which the last one may lack.
+/// there are found before anything is asked or written. A line that cannot be settled ends the run, with one
+/// word behind the lines that were: `refused N` and `not welcome` at the hello; `unsettled NUMBER` if nothing
+/// final was heard, and the request is given up; `epoch ended CURRENT`; `replaced CURRENT`; and `bad line` if
+/// the line says no call. Lines end by LF, which the last one may lack.
 ///
-/// [`RunFault::WriteFault`] tells of `out` alone: what becomes of the link is told by the word. A line whose
-/// reading or text finds no memory, or a word whose text does, ends the run behind whole lines: each is that
-/// of a call that was settled. Of a line that was not read nothing was asked; one whose text found no memory
-/// was settled.
+/// [`RunFault::WriteFault`] tells of `out` alone; a fault of the link is told by the word. If memory is
+/// refused for reading a line, for its text or for a word, the run ends behind whole lines, each that of a
+/// settled call. A line that was not read was not asked for; one whose text found no memory was settled.
 pub fn call_run<L: Read, O: Write, R: Read, W: Write>(
     alloc: Global,
     lines: &mut Source<L>,
@@ -88,47 +87,41 @@ pub fn call_run<L: Read, O: Write, R: Read, W: Write>(
         × DidNothing (link from.old to.old) (link from.new to.new) out.old out.new }
 {
     let input = read_input(alloc, lines)?;
-    match say_hello(
-        alloc,
-        New::start(client, incarnation, version),
-        from,
-        to,
-        tries,
-    ) {
-        Ok(idle) => call_lines(alloc, idle, &input, out, from, to, tries),
+    let caller = Caller { alloc, tries };
+    match caller.say_hello(New::start(client, incarnation, version), from, to) {
+        Ok(idle) => call_lines(caller, idle, &input, out, from, to),
         Err(word) => print_word(alloc, word, out, 0),
     }
 }
 
 // Makes the call of each line, and prints its text.
 fn call_lines<O: Write, R: Read, W: Write>(
-    alloc: Global,
+    caller: Caller,
     idle: Idle,
     input: &[u8],
     out: &mut Sink<O>,
     from: &mut Source<R>,
     to: &mut Sink<W>,
-    tries: u32,
 ) -> Result<CallSaid, RunFault>
     requires within { length input.now ≤ max_input }
     requires numbers { HasNumbers idle (length input.now) }
     ensures { (starting : Starting) (epoch : ℕ) (before : Link R W)
-        → IsWelcomed R.remaining W.contents starting tries epoch before (link from.old to.old)
+        → IsWelcomed R.remaining W.contents starting caller.tries epoch before (link from.old to.old)
         → idle ≡ Some (first_key starting epoch)
-        → RunsCalls O.contents R.remaining W.contents starting tries (lines input.now)
+        → RunsCalls O.contents R.remaining W.contents starting caller.tries (lines input.now)
         before (link from.new to.new) out.old out.new result }
 {
     let mut idle = idle;
     let mut printed = 0;
     let mut rest = input;
     while let Some((line, after)) = first_line(rest) {
-        match call_line(alloc, idle, line, from, to, tries) {
+        match caller.call_line(idle, line, from, to) {
             Ok((next, text)) => {
                 printed = print_line(out, text, printed)?;
                 idle = next;
                 rest = after;
             }
-            Err(Halt::Word(word)) => return print_word(alloc, word, out, printed),
+            Err(Halt::Word(word)) => return print_word(caller.alloc, word, out, printed),
             Err(Halt::NoMemory) => return Err(RunFault::NoMemory),
         }
     }
@@ -138,7 +131,7 @@ fn call_lines<O: Write, R: Read, W: Write>(
 // Prints the word that ends the run, behind so many bytes.
 fn print_word<O: Write>(
     alloc: Global,
-    word: Word,
+    word: EndWord,
     out: &mut Sink<O>,
     printed: u64,
 ) -> Result<CallSaid, RunFault>

@@ -7,18 +7,18 @@ ghost use Rattle.rv_client.specs.Process.{key_after};
 ghost use Rattle.rv_app.specs.Calling.{HaltsAt, HaltsReading, HelloEnds, IsHelloInVain, SettlesLine};
 ghost use Rattle.rv_app.specs.Calling.{WelcomesOrNot};
 
-use crate::word::Word;
+use crate::end_word::EndWord;
 use rv_client::{CallOutcome, Idle, New, WelcomeOutcome, ask, call};
 use rv_frame::{Sink, Source};
 use rv_text::{Answer, Call, NoMemory, TextFault, decode_call, encode_answer};
 use std::alloc::{AllocError, Global};
 use std::io::{Read, Write};
 
-// Why a line has no text.
+// The reason why a line has no text.
 #[derive(Clone, Copy, Debug)]
 pub(crate) enum Halt {
     // The run ends with this word.
-    Word(Word),
+    Word(EndWord),
     // Memory was refused.
     NoMemory,
 }
@@ -33,37 +33,79 @@ impl From<AllocError> for Halt {
     }
 }
 
-/// Says hello until the client is idle. It is not where a hello is refused, where the link fails, or where
-/// `tries` answers have said nothing to it.
-pub(crate) fn say_hello<R: Read, W: Write>(
-    alloc: Global,
-    new: New,
-    from: &mut Source<R>,
-    to: &mut Sink<W>,
-    tries: u32,
-) -> Result<Idle, Word>
-    requires client { FitsIdentifier new.client }
-    requires incarnation { FitsIdentifier new.incarnation }
-    ensures { WelcomesOrNot R.remaining W.contents new tries
-        (link from.old to.old) (link from.new to.new) result }
-{
-    let mut new = new;
-    for _tried in 0..tries {
-        match try_hello(alloc, new, from, to) {
-            Ok(same) => new = same,
-            Err(ended) => return ended,
-        }
-    }
-    Err(Word::NotWelcome)
+/// The caller of a run: the memory for its requests, and how often each is asked at most.
+#[derive(Clone, Copy)]
+pub(crate) struct Caller {
+    pub(crate) alloc: Global,
+    pub(crate) tries: u32,
 }
 
-// Says hello once. The client comes back where the answer says nothing to it.
+impl Caller {
+    /// Says hello until the client is idle. It gives up if a hello is refused, if the link fails, and if
+    /// `tries` answers have said nothing to the client.
+    pub(crate) fn say_hello<R: Read, W: Write>(
+        self,
+        new: New,
+        from: &mut Source<R>,
+        to: &mut Sink<W>,
+    ) -> Result<Idle, EndWord>
+        requires client { FitsIdentifier new.client }
+        requires incarnation { FitsIdentifier new.incarnation }
+        ensures { WelcomesOrNot R.remaining W.contents new self.tries
+            (link from.old to.old) (link from.new to.new) result }
+    {
+        let mut new = new;
+        for _tried in 0..self.tries {
+            match try_hello(self.alloc, new, from, to) {
+                Ok(same) => new = same,
+                Err(ended) => return ended,
+            }
+        }
+        Err(EndWord::NotWelcome)
+    }
+
+    /// Makes the call that a line says: the client that is idle again, and the text of the reply's answer. If
+    /// the line says no call, nothing goes out.
+    pub(crate) fn call_line<R: Read, W: Write>(
+        self,
+        idle: Idle,
+        line: &[u8],
+        from: &mut Source<R>,
+        to: &mut Sink<W>,
+    ) -> Result<(Idle, String), Halt>
+        requires next { IsSome idle }
+        requires key { IfSome idle FitsKey }
+        ensures next { IfOk result (λ p. IfSome idle (λ key. p.0 ≡ key_after key)) }
+        ensures settled { IfOk result (λ p. IfSome idle (λ key. SettlesLine R.remaining W.contents self.tries
+            key line.now (string_bytes p.1) (link from.old to.old) (link from.new to.new))) }
+        ensures short { IfOk result (λ p. HasBodyLength (string_bytes p.1)) }
+        ensures halted { IfErr result (λ halt. IfSome idle (λ key. HaltsAt R.remaining W.contents self.tries
+            key line.now halt (link from.old to.old) (link from.new to.new))) }
+    {
+        let key = idle.next_key().unwrap();
+        let asked = read_call(self.alloc, line)?;
+        match call(self.alloc, idle, from, to, asked, self.tries) {
+            CallOutcome::Settled(next, reply) => {
+                let answer = Answer::Replied { key, reply };
+                Ok((next, encode_answer(self.alloc, &answer)?))
+            }
+            CallOutcome::Unsettled(outstanding, _) => {
+                let number = outstanding.abandon().number;
+                Err(Halt::Word(EndWord::Unsettled(number)))
+            }
+            CallOutcome::EpochEnded(_, current) => Err(Halt::Word(EndWord::EpochEnded(current))),
+            CallOutcome::Replaced(_, current) => Err(Halt::Word(EndWord::Replaced(current))),
+        }
+    }
+}
+
+// Says hello once. The client comes back if the answer says nothing to it.
 fn try_hello<R: Read, W: Write>(
     alloc: Global,
     new: New,
     from: &mut Source<R>,
     to: &mut Sink<W>,
-) -> Result<New, Result<Idle, Word>>
+) -> Result<New, Result<Idle, EndWord>>
     requires client { FitsIdentifier new.client }
     requires incarnation { FitsIdentifier new.incarnation }
     ensures again { IfOk result (λ same. (same ≡ new)
@@ -75,44 +117,9 @@ fn try_hello<R: Read, W: Write>(
         Ok(answer) => match new.welcome(&answer) {
             WelcomeOutcome::Idle(idle) => Err(Ok(idle)),
             WelcomeOutcome::Again(same) => Ok(same),
-            WelcomeOutcome::Refused(_, refusal) => Err(Err(Word::Refused(refusal))),
+            WelcomeOutcome::Refused(_, refusal) => Err(Err(EndWord::Refused(refusal))),
         },
-        Err(_) => Err(Err(Word::NotWelcome)),
-    }
-}
-
-/// Makes the call that a line says: the client that is idle again, and the text of the reply's answer. Where
-/// the line says no call nothing goes out.
-pub(crate) fn call_line<R: Read, W: Write>(
-    alloc: Global,
-    idle: Idle,
-    line: &[u8],
-    from: &mut Source<R>,
-    to: &mut Sink<W>,
-    tries: u32,
-) -> Result<(Idle, String), Halt>
-    requires next { IsSome idle }
-    requires key { IfSome idle FitsKey }
-    ensures next { IfOk result (λ p. IfSome idle (λ key. p.0 ≡ key_after key)) }
-    ensures settled { IfOk result (λ p. IfSome idle (λ key. SettlesLine R.remaining W.contents tries key
-        line.now (string_bytes p.1) (link from.old to.old) (link from.new to.new))) }
-    ensures short { IfOk result (λ p. HasBodyLength (string_bytes p.1)) }
-    ensures halted { IfErr result (λ halt. IfSome idle (λ key. HaltsAt R.remaining W.contents tries key
-        line.now halt (link from.old to.old) (link from.new to.new))) }
-{
-    let key = idle.next_key().unwrap();
-    let asked = read_call(alloc, line)?;
-    match call(alloc, idle, from, to, asked, tries) {
-        CallOutcome::Settled(next, reply) => {
-            let answer = Answer::Replied { key, reply };
-            Ok((next, encode_answer(alloc, &answer)?))
-        }
-        CallOutcome::Unsettled(outstanding, _) => {
-            let number = outstanding.abandon().number;
-            Err(Halt::Word(Word::Unsettled(number)))
-        }
-        CallOutcome::EpochEnded(_, current) => Err(Halt::Word(Word::EpochEnded(current))),
-        CallOutcome::Replaced(_, current) => Err(Halt::Word(Word::Replaced(current))),
+        Err(_) => Err(Err(EndWord::NotWelcome)),
     }
 }
 
@@ -123,8 +130,8 @@ fn read_call(alloc: Global, line: &[u8]) -> Result<Call, Halt>
 {
     match decode_call(alloc, line) {
         Ok(call) => Ok(call),
-        Err(TextFault::NotJson) => Err(Halt::Word(Word::BadLine)),
-        Err(TextFault::NotMessage) => Err(Halt::Word(Word::BadLine)),
+        Err(TextFault::NotJson) => Err(Halt::Word(EndWord::BadLine)),
+        Err(TextFault::NotMessage) => Err(Halt::Word(EndWord::BadLine)),
         Err(TextFault::NoMemory) => Err(Halt::NoMemory),
     }
 }

@@ -1,10 +1,10 @@
-//! Why the program ends with a line on standard error.
+//! The faults that end the program with a line on standard error.
 use rv_command::CommandFault;
 use rv_run::RunFault;
 use rv_server::ServeFault;
 use thiserror::Error;
 
-/// Why the program ends before its command is done.
+/// The reason why the program ends before its command is done.
 #[derive(Clone, Copy, Debug, Error)]
 pub(crate) enum ProgramFault {
     /// The words name no command, or found no memory.

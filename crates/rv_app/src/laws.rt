@@ -1,4 +1,4 @@
-//! The laws of what the program reads and writes: of command lines, of the lines of the book's input and of
+//! The laws of the program's input and output: of command lines, of the lines of the book's input and of
 //! accounts, and of plays.
 ghost use Rattle.rv_app.specs.Laws.{OneReading};
 

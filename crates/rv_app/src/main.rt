@@ -1,4 +1,4 @@
-//! The program `rv`: it reads its command line, and runs what the words name.
+//! The program `rv`: it reads its command line, and runs the command that the words name.
 #![tactic(auto)]
 
 ghost use Rattle.std.specs.Prelude.{◌≤◌};
@@ -8,6 +8,7 @@ mod account;
 mod audit;
 mod calls;
 mod client;
+mod end_word;
 mod fault;
 pub mod laws;
 mod line;
@@ -15,7 +16,6 @@ mod opened;
 mod run;
 mod server;
 mod turn;
-mod word;
 
 pub use account::write_account;
 pub use audit::{AuditSaid, audit_run};
@@ -28,7 +28,7 @@ pub use rv_play::play_run;
 pub use rv_run::{OutputFault, RunFault};
 use rv_server::ServeFault;
 use rv_text::Version;
-use server::serve_epoch;
+use server::{ServerPlan, serve_epoch};
 use std::alloc::Global;
 use std::io::ErrorKind;
 use std::net::{TcpListener, TcpStream};
@@ -39,7 +39,7 @@ use std::time::Duration;
 use std::{env, io, time};
 use thiserror::Error;
 
-// Where standard error takes nothing, the status alone tells the fault.
+// If standard error takes nothing, the status alone tells the fault.
 fn main(rt: HostRuntime) -> ExitCode {
     match run_program(&rt, &rt) {
         Ok(code) => code,
@@ -50,7 +50,7 @@ fn main(rt: HostRuntime) -> ExitCode {
     }
 }
 
-// What may start threads and wait is handed in beside what may not.
+// The leave to start threads and to wait is handed in by itself.
 fn run_program<T: Threads + Wait + AllocGlobal + time::Clock + Sync>(
     rt: &HostRuntime,
     threads: &T,
@@ -66,7 +66,14 @@ fn run_program<T: Threads + Wait + AllocGlobal + time::Clock + Sync>(
             epoch,
             workers,
             connections,
-        } => run_serve(rt, threads, listen, epoch, workers, connections)?,
+        } => {
+            let plan = ServerPlan {
+                epoch,
+                workers,
+                connections,
+            };
+            run_serve(rt, threads, listen, plan)?;
+        }
         Command::Call {
             connect,
             client,
@@ -78,7 +85,7 @@ fn run_program<T: Threads + Wait + AllocGlobal + time::Clock + Sync>(
     Ok(ExitCode::SUCCESS)
 }
 
-// The words of the command line. Those that are no UTF-8 name no command.
+// The words of the command line. Words that are no UTF-8 name no command.
 fn words_of(rt: &HostRuntime) -> Result<Vec<String>, CommandFault> {
     match env::args(rt) {
         Ok(words) => Ok(words.collect(rt.alloc())?),
@@ -111,19 +118,17 @@ fn run_serve<T: Threads + Wait + AllocGlobal + time::Clock + Sync>(
     rt: &HostRuntime,
     threads: &T,
     listen: &str,
-    epoch: u64,
-    workers: usize,
-    connections: u32,
+    plan: ServerPlan,
 ) -> Result<(), ProgramFault>
-    requires epoch { FitsIdentifier epoch }
-    requires some { 1 ≤ workers }
-    requires most { workers ≤ 64 }
+    requires epoch { FitsIdentifier plan.epoch }
+    requires some { 1 ≤ plan.workers }
+    requires most { plan.workers ≤ 64 }
 {
     let Ok(listener) = TcpListener::bind(rt, listen) else {
         return Err(ProgramFault::Address);
     };
     let mut sink = Sink::new(rt.stdout());
-    match serve_epoch(threads, listener, epoch, workers, connections, &mut sink) {
+    match serve_epoch(threads, listener, plan, &mut sink) {
         Ok(end) => end.told(),
         Err(_) => Err(ProgramFault::Serve(ServeFault::NoMemory)),
     }
@@ -148,7 +153,7 @@ fn limit(stream: &TcpStream) -> io::Result<()> {
     stream.set_write_timeout(Some(Duration::from_secs(LINK_SECONDS)))
 }
 
-// Connects first, and then reads the lines. Where the delay of small packets cannot be switched off, the run
+// Connects first, and then reads the lines. If the delay of small packets cannot be switched off, the run
 // goes on, slower.
 fn run_call(
     rt: &HostRuntime,

@@ -1,7 +1,7 @@
 //! A book whose epoch and opening moment are known by its type.
-ghost use Rattle.std.specs.Prelude.{◌≡◌, ◌≤◌, [], ℕ, ◌^◌, IfOk, length};
-ghost use Rattle.rv_book.specs.Steps.{Next};
+ghost use Rattle.std.specs.Prelude.{◌≡◌, ◌≤◌, [], ℕ, ◌^◌, IfOk};
 ghost use Rattle.rv_book.specs.Verdicts.{WasGiven};
+ghost use Rattle.rv_server.specs.Books.{IsStep, entry_count, shown_by};
 ghost use Rattle.rv_text.specs.Limits.{FitsIdentifier};
 
 use rv_book::{Book, Verdict};
@@ -10,7 +10,7 @@ use rv_text::{Answer, Message, NoMemory};
 use std::alloc::Global;
 use std::marker::{Brand, Model, PhantomData};
 
-/// Of which epoch a book is, and at which moment it was opened: contracts alone see it.
+/// The epoch of a book, and the moment of its opening: contracts alone see them.
 pub(crate) trait Opening {
     // The epoch.
     ghost epoch: { ℕ };
@@ -45,7 +45,7 @@ impl<O: Opening> Model for OpenedBook<O> {
 }
 
 impl<O: Opening> OpenedBook<O> {
-    /// Opens the book. It fails only where memory was refused.
+    /// Opens the book. It fails only if memory was refused.
     pub(crate) fn open(alloc: Global, epoch: u64, moment: u64) -> Result<OpenedBook<O>, NoMemory>
         requires fits { FitsIdentifier epoch }
         requires small { moment ≤ 2 ^ 62 }
@@ -73,16 +73,11 @@ impl<O: Opening> OpenedBook<O> {
 impl<O: Opening> Desk for OpenedBook<O> {
     type Stamp = Verdict;
 
-    ghost stamped = { λ verdict. record {
-      asked = verdict.asked;
-      said = verdict.said;
-      before = verdict.before;
-      length = verdict.length;
-    } };
+    ghost stamped = { shown_by };
 
-    ghost count = { λ account. length account.entries };
+    ghost count = { entry_count };
 
-    ghost steps = { λ old now message new verdict. Next old now message new verdict.said };
+    ghost steps = { IsStep };
 
     ghost gave = { WasGiven };
 

@@ -21,7 +21,7 @@ use std::thread::Threads;
 use std::time::{Duration, Instant};
 use std::{thread, time};
 
-// How many milliseconds a worker waits before it asks a waiting request again.
+// The milliseconds that a worker waits before it asks a waiting request again.
 const PAUSE_MILLIS: u64 = 5;
 
 // The machine's clock, in whole milliseconds since the server's start. A reading that fails counts as 0.
@@ -62,7 +62,7 @@ impl<'a, R: time::Clock> Gate for Sleeping<'a, R> {
     }
 }
 
-/// How a server ended whose book was opened, and how the writing of the book's account did.
+/// The end of a server whose book was opened, and that of the writing of the book's account.
 #[derive(Clone, Copy)]
 pub(crate) struct ServerEnd {
     ended: Result<(), ServeFault>,
@@ -70,7 +70,7 @@ pub(crate) struct ServerEnd {
 }
 
 impl ServerEnd {
-    /// Of a fault of the server and one of the writing the first is told.
+    /// Tells the fault of the server, or else that of the writing.
     pub(crate) fn told(&self) -> Result<(), ProgramFault>
         ensures server { IfErr self.now.ended (λ fault. result ≡ Err (program.Serve fault)) }
         ensures writing { OnOk self.now.ended
@@ -87,27 +87,33 @@ impl ServerEnd {
     }
 }
 
-/// Opens the book of an epoch at moment 0 and serves so many connections, by at most so many workers at once.
-/// When all were served, and after a fault of the server too, it writes the book's account: one of this
-/// epoch, opened at moment 0. Where there is no memory for the book, its lock and its seats, nothing is
-/// served or written.
+/// The task of a server: the epoch of its book, the number of its workers, and the number of connections that
+/// they serve before it ends.
+#[derive(Clone, Copy)]
+pub(crate) struct ServerPlan {
+    pub(crate) epoch: u64,
+    pub(crate) workers: usize,
+    pub(crate) connections: u32,
+}
+
+/// Opens the book of the plan's epoch at moment 0, and serves the plan's connections. When all were served,
+/// and after a fault of the server too, it writes the book's account: one of this epoch, opened at moment 0.
+/// Without memory for the book, its lock and its seats, nothing is served or written.
 pub(crate) fn serve_epoch<R: Threads + Wait + AllocGlobal + time::Clock + Sync, W: Write>(
     rt: &R,
     listener: TcpListener,
-    epoch: u64,
-    workers: usize,
-    connections: u32,
+    plan: ServerPlan,
     sink: &mut Sink<W>,
 ) -> Result<ServerEnd, NoMemory>
-    requires epoch { FitsIdentifier epoch }
-    requires some { 1 ≤ workers }
-    requires most { workers ≤ 64 }
+    requires epoch { FitsIdentifier plan.epoch }
+    requires some { 1 ≤ plan.workers }
+    requires most { plan.workers ≤ 64 }
     ensures account { IfOk result (λ end.
-        EndsWithAccount W.contents epoch 0 sink.old sink.new end.written) }
+        EndsWithAccount W.contents plan.epoch 0 sink.old sink.new end.written) }
     ensures nothing { OnErr result (sink.new ≡ sink.old) }
 {
-    let blank = Blank::new(workers as u64);
-    serve_book::<Brand, Brand, R, W>(rt, blank, listener, epoch, 0, workers, connections, sink)
+    let blank = Blank::new(plan.workers as u64);
+    serve_book::<Brand, Brand, R, W>(rt, blank, listener, plan, 0, sink)
 }
 
 // The whole life of a server, under the name of its ledger and the opening of its book.
@@ -115,10 +121,8 @@ fn serve_book<L, O, R, W>(
     rt: &R,
     blank: Blank,
     listener: TcpListener,
-    epoch: u64,
+    plan: ServerPlan,
     moment: u64,
-    workers: usize,
-    connections: u32,
     sink: &mut Sink<W>,
 ) -> Result<ServerEnd, NoMemory>
 where
@@ -128,13 +132,13 @@ where
     W: Write,
     requires name { blank.name ≡ L.name }
     requires parts { blank.parts ≡ L.parts }
-    requires made { blank.parts ≡ workers }
-    requires epoch { FitsIdentifier epoch }
+    requires made { blank.parts ≡ plan.workers }
+    requires epoch { FitsIdentifier plan.epoch }
     requires small { moment ≤ 2 ^ 62 }
-    requires of_epoch { epoch ≡ O.epoch }
+    requires of_epoch { plan.epoch ≡ O.epoch }
     requires at_moment { moment ≡ O.moment }
-    requires some { 1 ≤ workers }
-    requires most { workers ≤ 64 }
+    requires some { 1 ≤ plan.workers }
+    requires most { plan.workers ≤ 64 }
     ensures account { IfOk result (λ end.
         EndsWithAccount W.contents O.epoch O.moment sink.old sink.new end.written) }
     ensures nothing { OnErr result (sink.new ≡ sink.old) }
@@ -142,8 +146,8 @@ where
     let alloc = rt.alloc();
     let clock = SinceStart::new(rt);
     let gate = Sleeping { rt };
-    let book = OpenedBook::<O>::open(alloc, epoch, moment)?;
-    let (shared, seats) = Shared::<OpenedBook<O>, L>::open(alloc, blank, book, workers)?;
+    let book = OpenedBook::<O>::open(alloc, plan.epoch, moment)?;
+    let (shared, seats) = Shared::<OpenedBook<O>, L>::open(alloc, blank, book, plan.workers)?;
     let (seats, ended) = match serve(
         rt,
         alloc,
@@ -152,18 +156,14 @@ where
         &clock,
         &gate,
         listener,
-        connections,
+        plan.connections,
     ) {
         Ok(report) => (report.seats, Ok(())),
         Err((report, fault)) => (report.seats, Err(fault)),
     };
-    match finish(shared, seats) {
-        Ok(Closing { desk, total: _ }) => {
-            let written = write_book(alloc, &desk, sink);
-            Ok(ServerEnd { ended, written })
-        }
-        Err(_) => unreachable!(),
-    }
+    let Closing { desk, total: _ } = finish(shared, seats).unwrap();
+    let written = write_book(alloc, &desk, sink);
+    Ok(ServerEnd { ended, written })
 }
 
 // Writes the account of a book.

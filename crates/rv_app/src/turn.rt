@@ -1,4 +1,4 @@
-//! The turn of one line: what it does to the book, and the body that answers it.
+//! The turn of one line: its step of the book, and the body that answers it.
 ghost use Rattle.std.specs.Prelude.{◌≡◌, string_bytes, IfOk};
 ghost use Rattle.rv_text.specs.Bodies.{HasBodyLength, answer_text};
 ghost use Rattle.rv_book.specs.Verdicts.{WasGiven};
@@ -38,8 +38,8 @@ impl LineBody {
     }
 }
 
-/// Answers a line: its message is handed to the book at its moment. Where memory is refused, the
-/// book may have taken the message's step or not.
+/// Answers a line: its message is handed to the book at its moment. If memory is refused, the book may have
+/// taken the message's step or not.
 pub(crate) fn answer_line(alloc: Global, book: &mut Book, line: &[u8]) -> LineBody
     ensures answers { AnswersLine line.now book.old book.new (body_text result) }
     ensures of_body { HasTextOfBody result }

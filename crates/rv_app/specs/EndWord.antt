@@ -2,11 +2,11 @@
 use Rattle.std.specs.Prelude.{ℕ, List, codes, ◌++◌}
 use Rattle.std.specs.Fmt.{decimal}
 use Rattle.rv_text.specs.Rows.{code_of}
-use Rattle.rv_app.specs.declared.word.Word.{Word}
-use Rattle.rv_app.specs.declared.word.Word.TheVariants.{BadLine, EpochEnded, NotWelcome, Refused, Replaced}
-use Rattle.rv_app.specs.declared.word.Word.TheVariants.{Unsettled}
+use Rattle.rv_app.specs.declared.end_word.EndWord.{EndWord}
+use Rattle.rv_app.specs.declared.end_word.EndWord.TheVariants.{BadLine, EpochEnded, NotWelcome, Refused}
+use Rattle.rv_app.specs.declared.end_word.EndWord.TheVariants.{Replaced, Unsettled}
 
-abbrev pub word_text : Word → List ℕ
+abbrev pub word_text : EndWord → List ℕ
 word_text NotWelcome = codes "not welcome"
 word_text (Refused refusal) = codes "refused " ++ decimal (code_of refusal)
 word_text (Unsettled number) = codes "unsettled " ++ decimal number

@@ -5,7 +5,7 @@ use Rattle.rv_client.specs.Link.{link}
 use Rattle.rv_client.specs.Process.{Starting}
 use Rattle.rv_app.specs.Calling.{HelloEnds, IsHelloInVain}
 use Rattle.rv_app.proofs.Settling.{hello_ended, none_in_vain, one_more_in_vain}
-use Rattle.rv_app.proofs.client.say_hello.Goals as goal
+use Rattle.rv_app.proofs.client.Caller.say_hello.Goals as goal
 
 pub loop-tried-init : goal.loop-tried-init
 loop-tried-init g c = record {
@@ -28,6 +28,6 @@ loop-tried-preserved g c =
     }
 
 pub returns-in-Err : goal.returns-in-Err
-returns-in-Err g c = hello_ended g.R.Read.remaining g.W.Write.contents c.args.new c.loop-tried._tried c.args.tries (link c.args.from.now c.args.to.now) (link c.loop-tried.from c.loop-tried.to)
+returns-in-Err g c = hello_ended g.R.Read.remaining g.W.Write.contents c.args.new c.loop-tried._tried c.args.self.tries (link c.args.from.now c.args.to.now) (link c.loop-tried.from c.loop-tried.to)
     (link c.try_hello.new.from c.try_hello.new.to) c.in-Err.ended c.loop-tried.invariant.in_vain c.loop-tried-test.true
     (subst (λ (s : Starting). HelloEnds g.R.Read.remaining g.W.Write.contents s (link c.loop-tried.from c.loop-tried.to) (link c.try_hello.new.from c.try_hello.new.to) c.in-Err.ended) c.loop-tried.invariant.same c.in-Err.ensures.ended)

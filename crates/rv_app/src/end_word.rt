@@ -1,14 +1,14 @@
 //! The words that end a run of calls.
 ghost use Rattle.std.specs.Prelude.{◌≡◌, IfOk, string_bytes};
 ghost use Rattle.rv_run.specs.Output.{IsShortText};
-ghost use Rattle.rv_app.specs.Word.{word_text};
+ghost use Rattle.rv_app.specs.EndWord.{word_text};
 
 use rv_text::{NoMemory, Refusal};
 use std::alloc::Global;
 
-// Why a run of calls ends before its lines do.
+// The reason why a run of calls ends before its lines do.
 #[derive(Clone, Copy, Debug)]
-pub(crate) enum Word {
+pub(crate) enum EndWord {
     // No welcome came: the link failed, or no answer said anything to the client.
     NotWelcome,
     // The hello was refused, for this reason.
@@ -23,19 +23,19 @@ pub(crate) enum Word {
     BadLine,
 }
 
-impl Word {
+impl EndWord {
     /// The line that tells the word.
     pub(crate) fn text(self, alloc: Global) -> Result<String, NoMemory>
         ensures text { IfOk result (λ text. string_bytes text ≡ word_text self) }
         ensures short { IfOk result IsShortText }
     {
         match self {
-            Word::NotWelcome => String::from_str(alloc, "not welcome"),
-            Word::Refused(refusal) => format!(in alloc; "refused {}", refusal.code()),
-            Word::Unsettled(number) => format!(in alloc; "unsettled {number}"),
-            Word::EpochEnded(current) => format!(in alloc; "epoch ended {current}"),
-            Word::Replaced(current) => format!(in alloc; "replaced {current}"),
-            Word::BadLine => String::from_str(alloc, "bad line"),
+            EndWord::NotWelcome => String::from_str(alloc, "not welcome"),
+            EndWord::Refused(refusal) => format!(in alloc; "refused {}", refusal.code()),
+            EndWord::Unsettled(number) => format!(in alloc; "unsettled {number}"),
+            EndWord::EpochEnded(current) => format!(in alloc; "epoch ended {current}"),
+            EndWord::Replaced(current) => format!(in alloc; "replaced {current}"),
+            EndWord::BadLine => String::from_str(alloc, "bad line"),
         }
     }
 }
