@@ -36,7 +36,7 @@ fn add_forty<R: Abort + AllocGlobal>(rt: &R, again: bool) -> Result<(), Fail> {
     Ok(())
 }
 
-// This and the next ask for as many growths (tests/refusals): to add what is there takes no memory.
+// This and the next ask for as many growths (tests/faults/refusals.py): to add what is there takes no memory.
 #[test]
 fn forty_are_added(rt: HostRuntime) -> Result<(), Fail> {
     add_forty(&rt, false)

@@ -1,6 +1,6 @@
 //! The worked scripts on a book: the answer to each message, and the entries that the book has then. If a
-//! growth of memory is refused, as by `tests/refusals`, the message that it stopped is given again, and all
-//! else is as with ample memory.
+//! growth of memory is refused, as by `tests/faults/refusals.py`, the message that it stopped is given again,
+//! and all else is as with ample memory.
 ghost use Rattle.std.specs.Prelude.{IfOk};
 ghost use Rattle.rv_text.specs.Limits.{FitsMessage};
 
