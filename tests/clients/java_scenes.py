@@ -252,7 +252,7 @@ def an_interrupt_in_the_hello(_java):
         with scripted(otherwise=deed) as server, playing("interrupted-hello", server.port) as program:
             until("a hello", lambda: server.heard)
             program.go()
-            program.expect("threw InterruptedException", "within 5 seconds")
+            program.expect("threw InterruptedException", "within 30 seconds")
             demand({one["kind"] for one in server.heard} == {"hello"}, f"{server.heard}")
             server.otherwise = well
             program.go()
@@ -265,7 +265,7 @@ def an_interrupt_while_the_server_is_away(_java):
         with scripted(welcome, otherwise=deed) as server, playing("interrupted-hello", server.port) as program:
             until("a request", lambda: len(server.heard) > 1)
             program.go()
-            program.expect("threw Unsettled of 1/1/1/1, interrupted", "within 5 seconds")
+            program.expect("threw Unsettled of 1/1/1/1, interrupted", "within 30 seconds")
             program.go()
             program.expect(STATE + "more threads than the 1 clients", "ends")
 
@@ -280,7 +280,7 @@ def an_interrupt_in_again(_java):
         program.expect("again threw InterruptedException", "give up threw InterruptedException")
         until("a request again", lambda: len(server.heard) > count)
         program.go()
-        program.expect("threw InterruptedException", "within 5 seconds", "Optional[Cancelled[key=1/1/1/1]]", "ends")
+        program.expect("threw InterruptedException", "within 30 seconds", "Optional[Cancelled[key=1/1/1/1]]", "ends")
         demand([one["kind"] for one in server.heard[count:]] == ["request", "cancel"], f"{server.heard[count:]}")
 
 
@@ -304,6 +304,7 @@ def exceptions_read_back(_java):
         "(request 1/2/3/4)"])
 
 
+@java.in_time
 def an_unresolved_host(_java):
     """Is looked up with each connection."""
     with tempfile.TemporaryDirectory(prefix="rv-hosts-") as folder, scripted() as server:

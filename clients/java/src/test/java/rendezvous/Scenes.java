@@ -347,7 +347,7 @@ final class Scenes {
         String told = started.end();
         long millis = TimeUnit.NANOSECONDS.toMillis(System.nanoTime() - began);
         System.out.println(told);
-        System.out.println("within " + (1 + millis / 5000) * 5 + " seconds");
+        System.out.println("within " + (1 + millis / 30_000) * 30 + " seconds");
     }
 
     /** A thread is interrupted while it asks an unsettled request again. */
