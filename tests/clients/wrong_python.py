@@ -5,8 +5,8 @@ from tests.clients.wrong import (
     ANY_REPLY, LAST_OUTCOME, ANY_CALL, Edit, WrongClient)
 
 PACKAGE, TESTS = "clients/python/src/rendezvous", "clients/python/tests"
-MACHINE, SESSION, BODIES, LINK, DRIVER, ERRORS = (
-    f"{PACKAGE}/{name}.py" for name in ("machine", "session", "bodies", "link", "driver", "errors"))
+MACHINE, SESSION, BODIES, CALLS, REPLIES, LINK, DRIVER, ERRORS = (
+    f"{PACKAGE}/{name}.py" for name in ("machine", "session", "bodies", "calls", "replies", "link", "driver", "errors"))
 # Where a link was lost, and what goes on to another number there.
 LOST = "            self._failed()\n            return None\n"
 SKIP = ("            key = self.machine.key\n            if key and %s:\n"
@@ -43,10 +43,10 @@ IN_PYTHON = [
     WrongClient(OLD_HELLO, "test_refusals.Hellos.test_versions", [
         Edit(MACHINE, "if machine.version > 1 else {}", "if machine.version > 2 else {}")]),
     WrongClient(OWN_NUMBER, "test_calls.Calls.test_each_call", [
-        Edit(BODIES, "*(reply[name] for name in BY))", '*(reply[name] for name in (*BY[:2], "number")))')]),
+        Edit(REPLIES, "Key(key.epoch, *by) if", "Key(key.epoch, *by[:2], key.number) if")]),
     WrongClient(PART_OF_A_KEY, "test_calls.Receipts.test_what_is_no_receipt", [
-        Edit(BODIES, "named = BY if", "named = tuple(filter(answer.get, BY)) if"),
-        Edit(BODIES, "*(reply[name] for name in BY))", "*(reply.get(name, 1) for name in BY))")]),
+        Edit(BODIES, "return BY if", "return tuple(filter(reply.get, BY)) if"),
+        Edit(REPLIES, "Key(key.epoch, *by) if", "Key(key.epoch, *by, *[1] * (3 - len(by))) if")]),
     WrongClient(OTHER_VERSION, "test_refusals.Hellos.test_other_versions", [
         Edit(MACHINE, " or code == 12 and current != machine.version:", ":")]),
     WrongClient(FULL_TOO_EARLY, "test_true_words.Refusals.test_no_room_with_a_copy_out", [
@@ -59,9 +59,9 @@ IN_PYTHON = [
         Edit(MACHINE, "    return _end(machine, EpochEnded(machine.key, machine.key.epoch))\n",
              "    return Step(replace(machine, state=State.NEW, key=None, flying=Flying.NOTHING))\n")]),
     WrongClient(ANY_REPLY, "test_true_words.Refusals.test_replies_of_other_calls", [
-        Edit(MACHINE, 'return word == "cancelled" or word in named', "return True")]),
+        Edit(MACHINE, "return word in replies_of(machine.call)", "return True")]),
     WrongClient(ANY_REPLY + ", by its wait", "test_calls.Replies.test_replies_of_other_calls", [
-        Edit(MACHINE, '"take": {"now": ("item", "empty")', '"take": {"now": ("item", "empty", "timedout")')]),
+        Edit(CALLS, 'now=("empty",)', 'now=("empty", "timedout")')]),
     WrongClient(LAST_OUTCOME, "test_interrupts.Interrupts.test_each_line_of_each_call", [
         Edit(SESSION, "        outcome, fault = known_of(job)\n        self._jobs.pop",
              "        outcome, fault = self.last, None\n        self._jobs.pop")]),

@@ -2,9 +2,9 @@
 from __future__ import annotations
 
 import json
-from typing import Any, Dict, Optional, Tuple
+from typing import Any, Dict, Tuple
 
-from .replies import Key
+from .replies import REPLIES, Key, Outcome
 
 Members = Dict[str, Any]
 
@@ -18,11 +18,6 @@ GREATEST_CODE = 12
 KEY = ("client", "epoch", "incarnation", "number")
 # The consumer's key in a receipt, whose epoch is the answer's.
 BY = ("by_client", "by_incarnation", "by_number")
-REPLIES: Dict[str, Tuple[str, ...]] = {
-    "done": (), "item": ("item",), "empty": (), "received": (), "nobody": (), "swapped": ("item",),
-    "timedout": (), "cancelled": (), "counted": ("consumers", "items"), "peeked": ("item",),
-    "drained": ("texts",),
-}
 DETAILS = {2: "current", 4: "current", 5: "last", 7: "open", 8: "last", 12: "current"}
 # The limits of members that are whole numbers; of all others they are 1 and GREATEST.
 LIMITS = {"items": (0, GREATEST_COUNT), "consumers": (0, GREATEST_COUNT), "last": (0, GREATEST),
@@ -64,12 +59,16 @@ def further_members(answer: Members) -> Tuple[str, ...]:
     if kind == "waiting":
         return KEY
     if kind == "reply" and isinstance(answer.get("reply"), str) and answer["reply"] in REPLIES:
-        named = BY if answer["reply"] == "received" and BY[0] in answer else REPLIES[answer["reply"]]
-        return (*KEY, "reply", *named)
+        return (*KEY, "reply", *told_members(answer))
     if kind == "refused" and is_whole(answer.get("code"), 1, GREATEST_CODE):
         detail = DETAILS.get(answer["code"])
         return ("code", detail) if detail else ("code",)
     raise NoAnswer("an answer of no kind")
+
+
+def told_members(reply: Members) -> Tuple[str, ...]:
+    """The names of what a reply tells: a receipt may name the consumer."""
+    return BY if reply["reply"] == "received" and BY[0] in reply else REPLIES[reply["reply"]].members
 
 
 def keeps_limit(name: str, answer: Members) -> bool:
@@ -106,6 +105,6 @@ def key_of(answer: Members) -> Key:
     return Key(answer["epoch"], answer["client"], answer["incarnation"], answer["number"])
 
 
-def consumer_of(reply: Members) -> Optional[Key]:
-    """The key of the consumer that a reply names; None where it names none."""
-    return Key(reply["epoch"], *(reply[name] for name in BY)) if BY[0] in reply else None
+def outcome_of(reply: Members) -> Outcome:
+    """The outcome that a reply tells."""
+    return REPLIES[reply["reply"]].outcome(key_of(reply), *(reply[name] for name in told_members(reply)))

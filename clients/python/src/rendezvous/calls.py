@@ -1,7 +1,10 @@
-"""The calls of requests: their members, and what no request may have, which is told before anything is sent."""
+"""The calls of requests, a row each: its members and its replies. What no request may have is told before anything is sent."""
 from __future__ import annotations
 
+import enum
 import math
+from functools import partial
+from typing import Any, Callable, Mapping, NamedTuple, Tuple, Union
 
 from .bodies import GREATEST_DRAIN, GREATEST_ITEM, Members, is_item, is_whole
 
@@ -9,36 +12,89 @@ GREATEST_PLACE = 63
 GREATEST_WAIT = 86_400_000
 
 
+class Call(NamedTuple):
+    """What a call is: the members of its body beside its word, in the order in which `made` is given them; the words of the
+    replies that it may have; and of those that it may have only where it doesn't wait."""
+
+    members: Tuple[str, ...]
+    replies: Tuple[str, ...]
+    now: Tuple[str, ...] = ()
+
+
+CALLS: Mapping[str, Call] = {
+    "put": Call(("queue", "item"), ("done",)),
+    "transfer": Call(("queue", "item", "wait"), ("received",), now=("nobody",)),
+    "take": Call(("queue", "wait"), ("item",), now=("empty",)),
+    "drain": Call(("queue", "max"), ("drained",)),
+    "swap": Call(("exchanger", "item", "wait"), ("swapped",)),
+    "count": Call(("queue",), ("counted",)),
+    "peek": Call(("queue",), ("peeked", "empty")),
+}
+
+
+class Wait(enum.Enum):
+    """A wait that is no number of seconds."""
+
+    NOW = "now"
+    FOREVER = "forever"
+
+
+def made(word: str, *given: object) -> Members:
+    """The members of a call, each of what is given for it."""
+    return {"call": word, **{name: VALUES[name](value) for name, value in zip(CALLS[word].members, given)}}
+
+
+def replies_of(call: Members) -> Tuple[str, ...]:
+    """The words of the replies that a call may have. A wait for a time may time out, and each call may be cancelled."""
+    row, wait = CALLS[call["call"]], call.get("wait")
+    unmet = row.now if wait == "now" else ("timedout",) if isinstance(wait, int) else ()
+    return (*row.replies, *unmet, "cancelled")
+
+
+# ---- members
+
 def checked(holds: bool, what: str) -> None:
     """Refuses what no request may have."""
     if not holds:
         raise ValueError(what)
 
 
-def placed(word: str, place: int, kind: str = "queue") -> Members:
-    """The members of a call at a queue or an exchanger."""
+def place_of(kind: str, place: int) -> int:
+    """A queue or an exchanger."""
     checked(is_whole(place, 0, GREATEST_PLACE), f"the {kind} is a whole number from 0 to {GREATEST_PLACE}: {place!r}")
-    return {"call": word, kind: place}
+    return place
 
 
-def carrying(call: Members, item: str) -> Members:
-    """The members of a call that gives an item."""
+def text_of(item: str) -> str:
+    """An item that is given."""
     if not isinstance(item, str):
         raise TypeError(f"items are text: {type(item).__name__}")
     if not is_item(item):
         size = len(item.encode(errors="surrogatepass"))
         checked(size <= GREATEST_ITEM, f"item above {GREATEST_ITEM} bytes: {size}")
         raise ValueError("items are text in UTF-8, and a lone surrogate is none")
-    return {**call, "item": item}
+    return item
 
 
-def draining(call: Members, most: int) -> Members:
-    """The members of a call that takes so many items at most."""
+def most_of(most: int) -> int:
+    """How many items are taken at most."""
     checked(is_whole(most, 1, GREATEST_DRAIN), f"a drain takes 1 to {GREATEST_DRAIN} items at most: {most!r}")
-    return {**call, "max": most}
+    return most
 
 
 def milliseconds(seconds: float) -> int:
     """A wait in whole milliseconds, rounded up; a time below zero is not waited for."""
     checked(not math.isnan(seconds) and seconds * 1000 <= GREATEST_WAIT, f"a timeout is at most a day: {seconds!r}")
     return max(0, math.ceil(seconds * 1000))
+
+
+def wait_of(wait: Union[Wait, float]) -> Union[str, int]:
+    """A wait, or one of so many seconds."""
+    return wait.value if isinstance(wait, Wait) else milliseconds(wait)
+
+
+# What is written as a member, by what is given for it.
+VALUES: Mapping[str, Callable[[Any], object]] = {
+    "queue": partial(place_of, "queue"), "exchanger": partial(place_of, "exchanger"), "item": text_of, "max": most_of,
+    "wait": wait_of,
+}

@@ -7,10 +7,10 @@ from __future__ import annotations
 
 import enum
 from dataclasses import dataclass, replace
-from typing import Callable, Dict, Mapping, NamedTuple, Optional, Tuple, Union
+from typing import Callable, Dict, NamedTuple, Optional, Union
 
-from . import replies
-from .bodies import GREATEST, Members, consumer_of, key_of
+from .bodies import BY, GREATEST, Members, key_of, outcome_of
+from .calls import replies_of
 from .errors import Misused
 from .replies import Key, Outcome
 
@@ -300,43 +300,15 @@ def _turned_away(machine: Machine, refusal: Members) -> Step:
 
 # ---- a request's answers
 
-# The replies that a call may have, by its word and, where it has one, its wait; a cancel may meet each call.
-EXPECTED: Mapping[str, Mapping[str, Tuple[str, ...]]] = {
-    "put": {"none": ("done",)},
-    "transfer": {"now": ("received", "nobody"), "time": ("received", "timedout"), "forever": ("received",)},
-    "take": {"now": ("item", "empty"), "time": ("item", "timedout"), "forever": ("item",)},
-    "swap": {"time": ("swapped", "timedout"), "forever": ("swapped",)},
-    "count": {"none": ("counted",)},
-    "peek": {"none": ("peeked", "empty")},
-    "drain": {"none": ("drained",)},
-}
-
-
 def _can_have(machine: Machine, reply: Members) -> bool:
     """Whether the reply is one that the outstanding call can have, in this version."""
     assert machine.call is not None
-    wait, word = machine.call.get("wait", "none"), reply["reply"]
-    named = EXPECTED[machine.call["call"]]["time" if isinstance(wait, int) else wait]
+    word = reply["reply"]
     if word == "drained" and len(reply["texts"]) > machine.call.get("max", 0):
         return False
-    if word == "received" and (consumer_of(reply) is None) != (machine.version == 1):
+    if word == "received" and (BY[0] in reply) != (machine.version > 1):
         return False
-    return word == "cancelled" or word in named
-
-
-MADE: Dict[str, Callable[[Key, Members], Outcome]] = {
-    "done": lambda key, _: replies.Done(key),
-    "received": lambda key, reply: replies.Receipt(key, consumer_of(reply)),
-    "nobody": lambda key, _: replies.Nobody(key),
-    "item": lambda key, reply: replies.Item(key, reply["item"]),
-    "empty": lambda key, _: replies.Empty(key),
-    "swapped": lambda key, reply: replies.Swapped(key, reply["item"]),
-    "timedout": lambda key, _: replies.TimedOut(key),
-    "cancelled": lambda key, _: replies.Cancelled(key),
-    "counted": lambda key, reply: replies.Counted(key, reply["items"], reply["consumers"]),
-    "peeked": lambda key, reply: replies.Peeked(key, reply["item"]),
-    "drained": lambda key, reply: replies.Drained(key, tuple(reply["texts"])),
-}
+    return word in replies_of(machine.call)
 
 
 def _replied(machine: Machine, reply: Members) -> Step:
@@ -346,7 +318,7 @@ def _replied(machine: Machine, reply: Members) -> Step:
     if key_of(reply) != key or not _can_have(machine, reply):
         return _fault(machine)
     following = key._replace(number=key.number + 1) if key.number < GREATEST else None
-    return Step(_idle(machine, following), tell=Settled(MADE[reply["reply"]](key, reply)))
+    return Step(_idle(machine, following), tell=Settled(outcome_of(reply)))
 
 
 def _waits(machine: Machine, answer: Members) -> Step:

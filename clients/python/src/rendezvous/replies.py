@@ -1,8 +1,8 @@
-"""What a request came to: one type for each kind of reply, each with the key of its request."""
+"""What a request came to: one type for each kind of reply, each with the key of its request; and a row for each."""
 from __future__ import annotations
 
 from dataclasses import dataclass
-from typing import NamedTuple, Optional, Tuple
+from typing import Callable, Mapping, NamedTuple, Optional, Tuple
 
 __all__ = [
     "Cancelled", "Counted", "Done", "Drained", "Empty", "Item", "Key", "Nobody", "Outcome", "Peeked", "Receipt",
@@ -93,3 +93,30 @@ class Drained(Outcome):
     """The items of a drain, oldest first; there may be none."""
 
     items: Tuple[str, ...]
+
+
+def received(key: Key, *by: int) -> Receipt:
+    """A receipt that names the consumer by this, which stands behind the same epoch, or names none."""
+    return Receipt(key, Key(key.epoch, *by) if by else None)
+
+
+class Reply(NamedTuple):
+    """What a reply is: the members of what it tells beside the request's key, and the outcome of the key and of those."""
+
+    members: Tuple[str, ...]
+    outcome: Callable[..., Outcome]
+
+
+REPLIES: Mapping[str, Reply] = {
+    "done": Reply((), Done),
+    "received": Reply((), received),
+    "nobody": Reply((), Nobody),
+    "item": Reply(("item",), Item),
+    "empty": Reply((), Empty),
+    "swapped": Reply(("item",), Swapped),
+    "timedout": Reply((), TimedOut),
+    "cancelled": Reply((), Cancelled),
+    "counted": Reply(("items", "consumers"), Counted),
+    "peeked": Reply(("item",), Peeked),
+    "drained": Reply(("texts",), lambda key, texts: Drained(key, tuple(texts))),
+}

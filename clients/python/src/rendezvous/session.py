@@ -9,7 +9,7 @@ from typing import Callable, List, NoReturn, Optional, Tuple, TypeVar, cast
 
 from . import errors, machine as m, replies
 from .bodies import GREATEST, GREATEST_VERSION, Members, is_whole
-from .calls import carrying, checked, draining, milliseconds, placed
+from .calls import Wait, checked, made
 from .driver import Driver, Job
 from .link import Address, address_of
 from .replies import Counted, Key, Outcome, Receipt
@@ -100,44 +100,41 @@ class Session:
     def put(self, queue: int, item: str, timeout: Optional[float] = None) -> None:
         """The item goes to the tail of the queue; nobody is waited for. A full server is asked again for `timeout` seconds,
         or as long as the session's patience; then this is `Full`."""
-        self._call(carrying(placed("put", queue), item), nothing, timeout)
+        self._call(made("put", queue, item), nothing, timeout)
 
     def transfer(self, queue: int, item: str) -> Receipt:
         """Waits until a consumer was assigned the item. The receipt names that consumer's request."""
-        return self._call({**carrying(placed("transfer", queue), item), "wait": "forever"}, receipt_of)
+        return self._call(made("transfer", queue, item, Wait.FOREVER), receipt_of)
 
     def try_transfer(self, queue: int, item: str, timeout: Optional[float] = None) -> Optional[Receipt]:
         """Hands the item over if a consumer waits, or comes within `timeout` seconds; else None, and nobody gets it."""
-        return self._timed(carrying(placed("transfer", queue), item), receipt_if_any, timeout)
+        return self._call(made("transfer", queue, item, Wait.NOW if timeout is None else timeout), receipt_if_any, timeout)
 
     def take(self, queue: int) -> str:
         """The oldest item, waiting for one if need be."""
-        return self._call({**placed("take", queue), "wait": "forever"}, item_of)
+        return self._call(made("take", queue, Wait.FOREVER), item_of)
 
     def poll(self, queue: int, timeout: Optional[float] = None) -> Optional[str]:
         """The oldest item, if one is there or comes within `timeout` seconds; else None."""
-        return self._timed(placed("take", queue), item_if_any, timeout)
+        return self._call(made("take", queue, Wait.NOW if timeout is None else timeout), item_if_any, timeout)
 
     def drain(self, queue: int, max: int) -> List[str]:
         """Up to `max` of the oldest items, 1 to 16, oldest first; it never waits, so there may be none. They are taken in
         one step of the server: nothing comes between two of them, and the transfers among them are received. Like each
         call it repeats its one key, so no item is lost or taken twice where a link breaks."""
-        return self._call(draining(placed("drain", queue), max), items_of)
+        return self._call(made("drain", queue, max), items_of)
 
     def exchange(self, exchanger: int, item: str, timeout: Optional[float] = None) -> str:
         """The partner's object for this one. `TimedOut` where nobody came within `timeout` seconds."""
-        call = carrying(placed("swap", exchanger, "exchanger"), item)
-        if timeout is None:
-            return self._call({**call, "wait": "forever"}, item_of)
-        return self._timed(call, item_of, timeout)
+        return self._call(made("swap", exchanger, item, Wait.FOREVER if timeout is None else timeout), item_of, timeout)
 
     def count(self, queue: int) -> Counted:
         """The items and the waiting consumers of a queue, exact in the step that answers."""
-        return self._call(placed("count", queue), counts_of)
+        return self._call(made("count", queue), counts_of)
 
     def peek(self, queue: int) -> Optional[str]:
         """The oldest item, which stays; None where there is none."""
-        return self._call(placed("peek", queue), item_if_any)
+        return self._call(made("peek", queue), item_if_any)
 
     def again(self, timeout: Optional[float] = None) -> Outcome:
         """Goes on with the request that an exception left unsettled, and gives what it came to: a value that has its key.
@@ -160,12 +157,6 @@ class Session:
     def _job(self, call: Optional[Members], own: Optional[float], resumes: bool = False) -> Job:
         """A call's job."""
         return Job(call, own, self.patience, resumes)
-
-    def _timed(self, call: Members, result: Callable[[Outcome], Result], timeout: Optional[float]) -> Result:
-        """A call that doesn't wait, or waits for so many seconds."""
-        if timeout is None:
-            return self._call({**call, "wait": "now"}, result)
-        return self._call({**call, "wait": milliseconds(timeout)}, result, timeout)
 
     def _call(self, call: Members, result: Callable[[Outcome], Result], own: Optional[float] = None) -> Result:
         """Asks one call, and gives its result."""
