@@ -4,6 +4,7 @@ A machine, an event and what is told are JSON members, as in the table of cases.
 event, when the rule applies, and what comes then: both are functions of the machine and of what the event
 brings, which is a call, an answer or nothing.
 """
+from tests.model.calls import KINDS
 from tests.model.texts import KEY, MAX_IDENTIFIER, TAKER
 
 # What is noted of one request, before anything is.
@@ -63,12 +64,9 @@ def can_wait(call):
 
 def replies_of(call):
     """The words of the replies that a call can have."""
-    word, wait = call["call"], call.get("wait")
-    words = {"put": ["done"], "transfer": ["received"], "take": ["item"], "swap": ["swapped"],
-             "count": ["counted"], "peek": ["peeked", "empty"], "drain": ["drained"]}[word]
-    unmet = {"transfer": ["nobody"], "take": ["empty"]}[word] if wait == "now" else []
-    late = ["timedout"] if isinstance(wait, int) else []
-    return [*words, *unmet, *late, "cancelled"]
+    kind, wait = KINDS[call["call"]], call.get("wait")
+    unmet = "timedout" if isinstance(wait, int) else kind.unmet
+    return [kind.met, "cancelled"] if wait == "forever" else [kind.met, unmet, "cancelled"]
 
 
 def can_have(call, version, reply):

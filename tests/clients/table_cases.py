@@ -14,14 +14,17 @@ from tests import ROOT
 from tests.clients.machine_cases import machine
 from tests.clients.machine_rules import can_have, can_wait
 from tests.clients.machine_walk import Walk
+from tests.clients.outcomes import WORDS as OUTCOME_WORDS
 from tests.clients.stories import STORIES, table
 from tests.model.account import Hello
+from tests.model.answers import REPLIES
 from tests.model.plays import Play
 from tests.model.texts import TAKER, members_of, members_of_call
 from tests.model.world import Idle, New, Outstanding, World
 from tests.sockets.wire import demand
 
 TABLE = ROOT / "clients/cases.jsonl"
+TYPES = {word: outcome for outcome, word in OUTCOME_WORDS.items()}
 WORDS = {"speak": Speak, "lose": Lose, "give up": GiveUp, "expire": Expire}
 
 
@@ -69,17 +72,13 @@ def event_of(event):
 
 def outcome_of(reply):
     """The Python outcome of a reply."""
-    key = replies.Key(*(reply[name] for name in replies.Key._fields))
-    by = replies.Key(key.epoch, *(reply[name] for name in TAKER)) if TAKER[0] in reply else None
-    given = {
-        "done": (replies.Done,), "received": (replies.Receipt, by), "nobody": (replies.Nobody,),
-        "item": (replies.Item, reply.get("item")), "empty": (replies.Empty,),
-        "swapped": (replies.Swapped, reply.get("item")), "timedout": (replies.TimedOut,),
-        "cancelled": (replies.Cancelled,), "peeked": (replies.Peeked, reply.get("item")),
-        "counted": (replies.Counted, reply.get("items"), reply.get("consumers")),
-        "drained": (replies.Drained, tuple(reply.get("texts", ()))),
-    }[reply["reply"]]
-    return given[0](key, *given[1:])
+    key, word = replies.Key(*(reply[name] for name in replies.Key._fields)), reply["reply"]
+    given = {name: reply[name] for name in REPLIES[word]}
+    if word == "received" and TAKER[0] in reply:
+        given = {"by": replies.Key(key.epoch, *(reply[name] for name in TAKER))}
+    if word == "drained":
+        given = {"items": tuple(reply["texts"])}
+    return TYPES[word](key, **given)
 
 
 def told_of(tells):

@@ -5,18 +5,11 @@ The words are those of docs/MODEL.md, sections 4 to 8. A place is an index into 
 """
 from dataclasses import dataclass
 
+from tests.model.calls import KINDS
+
 MAX_MOMENT = 2**62
 MAX_CLIENTS = 1024
 MAX_ENTRIES = 100_000
-SIDES = {
-    "put": "giving",
-    "transfer": "giving",
-    "take": "taking",
-    "drain": "taking",
-    "swap": "exchanging",
-    "count": "looking",
-    "peek": "looking",
-}
 OTHER_SIDE = {"giving": "taking", "taking": "giving", "exchanging": "exchanging"}
 
 
@@ -39,13 +32,17 @@ class Call:
     max: int | None = None
 
     @property
+    def kind(self):
+        return KINDS[self.word]
+
+    @property
     def side(self):
-        return SIDES[self.word]
+        return self.kind.side
 
     @property
     def may_name(self):
         """How many partners its arrival may name."""
-        if self.word == "drain":
+        if self.max is not None:
             return self.max
         return 1 if self.side in OTHER_SIDE else 0
 
@@ -110,7 +107,7 @@ def limit(entries, r):
 
 def stays(call):
     """Whether a call may be met after its arrival."""
-    return call.word == "put" or call.wait == "forever" or isinstance(call.wait, int) and call.wait > 0
+    return call.kind.rests or call.wait == "forever" or isinstance(call.wait, int) and call.wait > 0
 
 
 def met(entries, r):
@@ -133,7 +130,7 @@ def stops(entries, r, later):
 
 def stopper(entries, r):
     """The first entry that stops the arrival, if one does; a put is never stopped."""
-    if entries[r].act.call.word == "put":
+    if entries[r].act.call.kind.rests:
         return None
     return next((later for later in entries[r + 1 :] if stops(entries, r, later)), None)
 
@@ -151,7 +148,7 @@ def open_at(entries, side, at):
 
 def waiting(entries):
     """The places of the waiting requests: what is open and no put."""
-    return [r for r in arrivals(entries) if entries[r].act.call.word != "put" and is_open(entries, r)]
+    return [r for r in arrivals(entries) if not entries[r].act.call.kind.rests and is_open(entries, r)]
 
 
 def overdue(entries, moment):
@@ -187,7 +184,7 @@ def last_number(entries, client):
 
 def waiting_of(entries, client):
     """The key of the client's waiting request, if it has one."""
-    own = [r for r in arrivals(entries) if entries[r].act.key.client == client and entries[r].act.call.word != "put"]
+    own = [r for r in arrivals(entries) if entries[r].act.key.client == client and not entries[r].act.call.kind.rests]
     return next((entries[r].act.key for r in own if is_open(entries, r)), None)
 
 
@@ -208,38 +205,49 @@ def reply(entries, key):
     if r is None:
         came = any(isinstance(entry.act, Cancel) and entry.act.key == key for entry in entries)
         return {"reply": "cancelled"} if came else None
+    word = reply_word(entries, r)
+    return word and {"reply": word, **reply_members(entries, r, word)}
+
+
+def reply_word(entries, r):
+    """The word of an arrival's reply, if it has one."""
     call = entries[r].act.call
-    if call.word == "put":
-        return {"reply": "done"}
-    if call.word == "drain":
-        return {"reply": "drained", "texts": [entries[giver].act.call.item for giver in met_with(entries, r)]}
-    if call.side == "looking":
-        return look(entries[:r], call)
-    return reply_met(entries, r) or reply_unmet(entries, r)
+    if meets(entries, r):
+        return call.kind.met
+    if call.wait in (None, "now"):
+        return call.kind.unmet
+    if call.wait == 0:
+        return "timedout"
+    match stopper(entries, r):
+        case None:
+            return None
+        case Entry(act=Tick()):
+            return "timedout"
+    return "cancelled"
 
 
-def look(before, call):
-    """The reply of a count or a peek, by the entries before it."""
-    givers, takers = open_at(before, "giving", call.at), open_at(before, "taking", call.at)
-    if call.word == "count":
-        return {"reply": "counted", "items": len(givers), "consumers": len(takers)}
-    if givers:
-        return {"reply": "peeked", "item": before[givers[0]].act.call.item}
-    return {"reply": "empty"}
+def meets(entries, r):
+    """Whether the arrival is in a pair or swap, or looks and finds an item."""
+    call = entries[r].act.call
+    return bool(open_at(entries[:r], "giving", call.at)) if call.side == "looking" else met(entries, r)
 
 
-def reply_met(entries, r):
-    """The reply of an arrival that is in a pair or swap."""
-    others = met_with(entries, r)
-    if not others:
-        return None
-    if entries[r].act.call.word == "transfer":
-        return received(entries, r, entries[others[0]].act.key)
-    item = entries[others[0]].act.call.item
-    return {
-        "take": {"reply": "item", "item": item},
-        "swap": {"reply": "swapped", "item": item},
-    }[entries[r].act.call.word]
+def reply_members(entries, r, word):
+    """What an arrival's reply of this word tells."""
+    before, at = entries[:r], entries[r].act.call.at
+    others = [entries[other].act for other in met_with(entries, r)]
+    match word:
+        case "received":
+            return received(entries, r, others[0].key)
+        case "item" | "swapped":
+            return {"item": others[0].call.item}
+        case "drained":
+            return {"texts": [other.call.item for other in others]}
+        case "counted":
+            return {"items": len(open_at(before, "giving", at)), "consumers": len(open_at(before, "taking", at))}
+        case "peeked":
+            return {"item": before[open_at(before, "giving", at)[0]].act.call.item}
+    return {}
 
 
 def received(entries, r, taker):
@@ -254,18 +262,3 @@ def receipt(spoken, taker):
         return {"reply": "received"}
     by = {"by_client": taker.client, "by_incarnation": taker.incarnation, "by_number": taker.number}
     return {"reply": "received", **by}
-
-
-def reply_unmet(entries, r):
-    """The reply of an arrival that met nobody."""
-    call = entries[r].act.call
-    if call.wait == "now":
-        return {"reply": "nobody" if call.word == "transfer" else "empty"}
-    if call.wait == 0:
-        return {"reply": "timedout"}
-    match stopper(entries, r):
-        case None:
-            return None
-        case Entry(act=Tick()):
-            return {"reply": "timedout"}
-    return {"reply": "cancelled"}

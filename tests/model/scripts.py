@@ -4,6 +4,7 @@ import json
 from tests.model.account import (
     MAX_CLIENTS, Account, Key, Request, incarnation, last_number, limit, reply, version, waiting, waiting_of)
 from tests.model.audit import audit
+from tests.model.calls import KINDS
 from tests.model.steps import replied, told
 from tests.model.texts import KEY, MAX_BODY_BYTES, MAX_IDENTIFIER, members_of_call, members_of_version, written
 
@@ -199,14 +200,13 @@ class Script:
         if self.odds(0.25):
             word = self.chance.choice(["swap", "swap", "count", "peek"])
         at = self.chance.randrange(65) if self.odds(0.02) else self.chance.choice(self.queues)
-        members = {"call": word, "exchanger" if word == "swap" else "queue": at}
-        if word in ("put", "transfer", "swap"):
-            members["item"] = self.item()
-        if word in ("transfer", "take", "swap"):
-            members["wait"] = self.wait()
-        if word == "drain":
-            members["max"] = self.chance.choice(NO_MAXIMA if self.odds(0.02) else MAXIMA)
-        return members
+        place, *names = KINDS[word].members
+        given = {"item": self.item, "wait": self.wait, "max": self.most}
+        return {"call": word, place: at, **{name: given[name]() for name in names}}
+
+    def most(self):
+        """How many items a drain takes at most, mostly as many as it may."""
+        return self.chance.choice(NO_MAXIMA if self.odds(0.02) else MAXIMA)
 
     def wait(self):
         """A wait, mostly one that its call may have."""

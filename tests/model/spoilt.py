@@ -4,6 +4,7 @@ from dataclasses import replace
 from tests.model.account import (
     MAX_MOMENT, OTHER_SIDE, Account, Call, Cancel, Entry, Hello, Key, Request, Tick, arrivals, incarnation, is_open,
     last_number, limit, open_at, waiting)
+from tests.model.calls import KINDS
 from tests.model.lines import MAX_PARTNER, account_text
 from tests.model.scripts import Script
 from tests.model.texts import MAX_DRAIN, MAX_IDENTIFIER, NoReading, members_of, read_message, written
@@ -11,7 +12,7 @@ from tests.model.texts import MAX_DRAIN, MAX_IDENTIFIER, NoReading, members_of, 
 EPOCHS = [1, 1, 1, 1, 2, 7, MAX_IDENTIFIER]
 OPENINGS = [0] * 12 + [1, 5, 1_000, MAX_MOMENT - 86_400_000, MAX_MOMENT - 5, MAX_MOMENT]
 WAITS = ["now", "forever", 0, 1, 2, 5, 10, 86_400_000]
-WORDS = ["put", "transfer", "take", "drain", "swap", "count", "peek"]
+WORDS = list(KINDS)
 NUMERALS = [b"", b"0", b"00", b"01", b"+1", b"-1", b"-0", b"1.0", b"1e0", b"0x1", b"1_0", b"x", b"-", b"--", b"tick",
             "１".encode(), "²".encode(), b"99998", b"99999", b"100000", b"100001", b"4611686018427387903",
             b"4611686018427387904", b"4611686018427387905", b"9223372036854775808", b"18446744073709551615",
@@ -294,10 +295,11 @@ class SpoiltEntries:
     def any_call(self, word, at, wait=None):
         """A call of a word."""
         wait = self.chance.choice(WAITS) if wait is None else wait
-        wait = 1 if (word, wait) == ("swap", "now") else wait
-        item = self.chance.choice(["a", "b"]) if word in ("put", "transfer", "swap") else None
-        most = self.chance.choice([1, 2, 2, 3, MAX_DRAIN]) if word == "drain" else None
-        return Call(word, at, item, wait if word in ("transfer", "take", "swap") else None, most)
+        members = KINDS[word].members
+        wait = 1 if wait == "now" and not KINDS[word].unmet else wait
+        item = self.chance.choice(["a", "b"]) if "item" in members else None
+        most = self.chance.choice([1, 2, 2, 3, MAX_DRAIN]) if "max" in members else None
+        return Call(word, at, item, wait if "wait" in members else None, most)
 
     def act(self):
         """A request becomes the cancel of its key or a hello, a cancel a request, a hello a tick, a tick a hello."""
@@ -340,7 +342,7 @@ class SpoiltEntries:
         if not there or self.odds(0.2):
             return self.any_call(self.chance.choice(WORDS), self.chance.choice(self.script.queues))
         met = self.chance.choice(there)
-        words = {"giving": ["take", "drain"], "taking": ["put", "transfer"], "exchanging": ["swap"]}[met.side]
+        words = [word for word, kind in KINDS.items() if kind.side == OTHER_SIDE[met.side]]
         return self.any_call(self.chance.choice(words), met.at)
 
 

@@ -2,6 +2,7 @@
 import json
 
 from tests.model.account import Call, Cancel, Hello, Key, Request
+from tests.model.calls import KINDS
 
 MAX_BODY_BYTES = 65_535
 MAX_ITEM_BYTES = 512
@@ -10,15 +11,6 @@ MAX_PLACE = 63
 MAX_IDENTIFIER = 2**53 - 1
 MAX_WAIT = 86_400_000
 MAX_DRAIN = 16
-CALLS = {
-    "put": {"queue", "item"},
-    "transfer": {"queue", "item", "wait"},
-    "take": {"queue", "wait"},
-    "drain": {"queue", "max"},
-    "swap": {"exchanger", "item", "wait"},
-    "count": {"queue"},
-    "peek": {"queue"},
-}
 KEY = ("epoch", "client", "incarnation", "number")
 # Behind the epoch, which is the answer's, the key of a consumer that an answer names.
 TAKER = ("by_client", "by_incarnation", "by_number")
@@ -57,7 +49,7 @@ def members_of_call(call):
     """The members of a call."""
     more = {"item": call.item, "wait": call.wait, "max": call.max}
     present = {name: value for name, value in more.items() if value is not None}
-    return {"call": call.word, "exchanger" if call.word == "swap" else "queue": call.at, **present}
+    return {"call": call.word, call.kind.members[0]: call.at, **present}
 
 
 def demand(condition):
@@ -99,14 +91,14 @@ def read_hello(members):
 def read_call(members):
     """The call with these members."""
     word = members.pop("call", None)
-    demand(isinstance(word, str) and word in CALLS and members.keys() == CALLS[word])
-    at = whole(members["exchanger" if word == "swap" else "queue"], 0, MAX_PLACE)
+    demand(isinstance(word, str) and word in KINDS and members.keys() == set(KINDS[word].members))
+    at = whole(members[KINDS[word].members[0]], 0, MAX_PLACE)
     item, wait = members.get("item"), members.get("wait")
     if "item" in members:
         demand(isinstance(item, str) and len(item.encode()) <= MAX_ITEM_BYTES)
     if "wait" in members and wait not in ("now", "forever"):
         whole(wait, 0, MAX_WAIT)
-    demand((word, wait) != ("swap", "now"))
+    demand(wait != "now" or KINDS[word].unmet)
     return Call(word, at, item, wait, whole(members["max"], 1, MAX_DRAIN) if "max" in members else None)
 
 
