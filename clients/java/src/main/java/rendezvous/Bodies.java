@@ -39,12 +39,6 @@ final class Bodies {
     private static final List<String> KEY = List.of("client", "epoch", "incarnation", "number");
     /** The consumer's key in a receipt, whose epoch is the answer's. */
     static final List<String> BY = List.of("by_client", "by_incarnation", "by_number");
-    private static final Map<String, List<String>> REPLIES = Map.ofEntries(
-        Map.entry("done", List.of()), Map.entry("item", List.of("item")), Map.entry("empty", List.of()),
-        Map.entry("received", List.of()), Map.entry("nobody", List.of()), Map.entry("swapped", List.of("item")),
-        Map.entry("timedout", List.of()), Map.entry("cancelled", List.of()),
-        Map.entry("counted", List.of("consumers", "items")), Map.entry("peeked", List.of("item")),
-        Map.entry("drained", List.of("texts")));
     private static final Map<Long, String> DETAILS =
         Map.of(2L, "current", 4L, "current", 5L, "last", 7L, "open", 8L, "last", 12L, "current");
     private static final Gson GSON = new GsonBuilder().disableHtmlEscaping().create();
@@ -142,7 +136,7 @@ final class Bodies {
                 return KEY;
             case "reply":
                 boolean names = word(answer, "reply").equals("received") && answer.has(BY.get(0));
-                return joined(KEY, "reply", names ? BY : REPLIES.get(word(answer, "reply")));
+                return joined(KEY, "reply", names ? BY : Replies.membersOf(word(answer, "reply")));
             case "refused":
                 String detail = isWhole(answer.get("code"), 1, 12) ? DETAILS.get(number(answer, "code")) : null;
                 return joined(List.of(), "code", detail == null ? List.of() : List.of(detail));

@@ -2,11 +2,35 @@ package rendezvous;
 
 import com.google.gson.JsonElement;
 import com.google.gson.JsonObject;
+import java.util.Map;
 import java.util.Objects;
+import java.util.Set;
 import java.util.concurrent.TimeUnit;
 
-/** The calls of requests. */
+/** The calls of requests, a row each, and their members. */
 final class Calls {
+    /**
+     * What a call is.
+     *
+     * @param replies the words of the replies that it may have
+     * @param now and of those that it may have only where it does not wait
+     */
+    private record Row(Set<String> replies, Set<String> now) {
+        /** A call that has the same replies however it waits. */
+        Row(String... replies) {
+            this(Set.of(replies), Set.of());
+        }
+    }
+
+    private static final Map<String, Row> CALLS = Map.of(
+        "put", new Row("done"),
+        "transfer", new Row(Set.of("received"), Set.of("nobody")),
+        "take", new Row(Set.of("item"), Set.of("empty")),
+        "drain", new Row("drained"),
+        "swap", new Row("swapped"),
+        "count", new Row("counted"),
+        "peek", new Row("peeked", "empty"));
+
     /**
      * A call, and how long it may last.
      *
@@ -75,6 +99,13 @@ final class Calls {
         }
         call.addProperty("wait", wait);
         return new Job(call, TimeUnit.MILLISECONDS.toNanos(wait));
+    }
+
+    /** Whether a call may have a reply of this word. A wait for a time may time out, and each call may be cancelled. */
+    static boolean mayHave(JsonObject call, String reply) {
+        Row row = CALLS.get(Bodies.word(call, "call"));
+        return row.replies().contains(reply) || reply.equals("cancelled") || reply.equals("timedout") && isTimed(call)
+            || row.now().contains(reply) && Bodies.word(call, "wait").equals("now");
     }
 
     /** Whether a call waits for a time, which may be none. */

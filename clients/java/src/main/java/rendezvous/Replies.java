@@ -3,60 +3,70 @@ package rendezvous;
 import com.google.gson.JsonObject;
 import java.util.ArrayList;
 import java.util.List;
+import java.util.Map;
 import java.util.Optional;
+import java.util.function.BiFunction;
+import java.util.function.Function;
 
-/** Which replies a call can have, and what they tell. */
+/** The replies, a row each, and which of them a call can have. */
 final class Replies {
+    /**
+     * What a reply is.
+     *
+     * @param members the names of what it tells beside the request's key
+     * @param outcome what it tells, of that key and its members
+     */
+    private record Row(List<String> members, BiFunction<Key, JsonObject, Outcome> outcome) {
+        /** A reply that tells nothing but its word. */
+        Row(Function<Key, Outcome> outcome) {
+            this(List.of(), (key, reply) -> outcome.apply(key));
+        }
+
+        /** A reply that tells an item. */
+        static Row ofItem(BiFunction<Key, String, Outcome> outcome) {
+            return new Row(List.of("item"), (key, reply) -> outcome.apply(key, Bodies.word(reply, "item")));
+        }
+    }
+
+    private static final Map<String, Row> REPLIES = Map.ofEntries(
+        Map.entry("done", new Row(Outcome.Done::new)),
+        Map.entry("received", new Row(List.of(), (key, reply) -> new Receipt(key, consumerOf(reply)))),
+        Map.entry("nobody", new Row(Outcome.Nobody::new)),
+        Map.entry("item", Row.ofItem(Outcome.Item::new)),
+        Map.entry("empty", new Row(Outcome.Empty::new)),
+        Map.entry("swapped", Row.ofItem(Outcome.Swapped::new)),
+        Map.entry("timedout", new Row(Outcome.TimedOut::new)),
+        Map.entry("cancelled", new Row(Outcome.Cancelled::new)),
+        Map.entry("counted", new Row(List.of("consumers", "items"), (key, reply) -> new Outcome.Counted(key,
+            (int) Bodies.number(reply, "items"), (int) Bodies.number(reply, "consumers")))),
+        Map.entry("peeked", Row.ofItem(Outcome.Peeked::new)),
+        Map.entry("drained", new Row(List.of("texts"), (key, reply) -> new Outcome.Drained(key, textsOf(reply)))));
+
     private Replies() {}
 
-    /** Whether a call can have this reply, in a session of this version. */
-    static boolean canHave(JsonObject call, int version, JsonObject answer) {
-        String reply = Bodies.word(answer, "reply");
-        return reply.equals("cancelled") || switch (Bodies.word(call, "call")) {
-            case "put" -> reply.equals("done");
-            case "transfer" -> reply.equals("received") && namesConsumer(answer) == (version == 2)
-                || isNobodyHere(call, reply, "nobody");
-            case "take" -> reply.equals("item") || isNobodyHere(call, reply, "empty");
-            case "swap" -> reply.equals("swapped") || isLate(call, reply);
-            case "count" -> reply.equals("counted");
-            case "peek" -> reply.equals("peeked") || reply.equals("empty");
-            case "drain" -> reply.equals("drained")
-                && answer.getAsJsonArray("texts").size() <= Bodies.number(call, "max");
-            default -> false;
-        };
-    }
-
-    /** Whether a reply says that nobody is there, or came in time, to a call that waits so. */
-    private static boolean isNobodyHere(JsonObject call, String reply, String now) {
-        return isLate(call, reply) || reply.equals(now) && Bodies.word(call, "wait").equals("now");
-    }
-
-    private static boolean isLate(JsonObject call, String reply) {
-        return reply.equals("timedout") && Calls.isTimed(call);
-    }
-
-    private static boolean namesConsumer(JsonObject reply) {
-        return reply.has(Bodies.BY.get(0));
+    /** The names of what a reply of this word tells; null where there is none. */
+    static List<String> membersOf(String word) {
+        Row row = REPLIES.get(word);
+        return row == null ? null : row.members();
     }
 
     /** What a reply tells. */
     static Outcome outcomeOf(JsonObject reply) {
-        Key key = Bodies.keyOf(reply);
-        String item = Bodies.word(reply, "item");
-        return switch (Bodies.word(reply, "reply")) {
-            case "done" -> new Outcome.Done(key);
-            case "received" -> new Receipt(key, consumerOf(reply));
-            case "nobody" -> new Outcome.Nobody(key);
-            case "item" -> new Outcome.Item(key, item);
-            case "empty" -> new Outcome.Empty(key);
-            case "swapped" -> new Outcome.Swapped(key, item);
-            case "timedout" -> new Outcome.TimedOut(key);
-            case "counted" -> new Outcome.Counted(key, (int) Bodies.number(reply, "items"),
-                (int) Bodies.number(reply, "consumers"));
-            case "peeked" -> new Outcome.Peeked(key, item);
-            case "drained" -> new Outcome.Drained(key, textsOf(reply));
-            default -> new Outcome.Cancelled(key);
+        return REPLIES.get(Bodies.word(reply, "reply")).outcome().apply(Bodies.keyOf(reply), reply);
+    }
+
+    /** Whether a call can have this reply, in a session of this version. */
+    static boolean canHave(JsonObject call, int version, JsonObject answer) {
+        String reply = Bodies.word(answer, "reply");
+        return Calls.mayHave(call, reply) && switch (reply) {
+            case "received" -> namesConsumer(answer) == (version == 2);
+            case "drained" -> answer.getAsJsonArray("texts").size() <= Bodies.number(call, "max");
+            default -> true;
         };
+    }
+
+    private static boolean namesConsumer(JsonObject reply) {
+        return reply.has(Bodies.BY.get(0));
     }
 
     private static List<String> textsOf(JsonObject reply) {
