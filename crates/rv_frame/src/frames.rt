@@ -12,7 +12,7 @@ use thiserror::Error;
 /// A growth of memory was refused.
 pub type NoMemory = AllocError;
 
-/// Why a piece is not taken.
+/// The reason why a piece is not taken.
 #[derive(Clone, Copy, Debug, PartialEq, Eq, Error)]
 pub enum FrameFault {
     /// Fault 1: two length bytes say 0. All other lengths are good.
@@ -37,7 +37,7 @@ impl From<AllocError> for FrameFault {
 /// Frames out of bytes that are fed in pieces. A frame is a length, in two bytes with the greater part first,
 /// and so many bytes of body: 1 to 65,535.
 ///
-/// Contracts see the bodies of the whole frames that can still be taken, oldest first, and what follows
+/// Contracts see the bodies of the whole frames that can still be taken, oldest first, and the end behind
 /// them: the bytes of a frame that is not whole, or the bad length that was met. The frames that were
 /// taken and those that can still be are those of the cut of all bytes that were fed, whatever the pieces
 /// (`laws::fed_is_cut`, `laws::taken_is_cut`).
@@ -75,7 +75,7 @@ impl Frames {
 
     /// Takes a piece of the bytes in, of any length.
     ///
-    /// `BadLength(n)` comes exactly where the cut meets the length n. The frames before it stay and can be
+    /// `BadLength(n)` comes exactly if the cut meets the length n. The frames before it stay and can be
     /// taken, the rest is dropped; all further pieces get this answer, and leave everything as it is. After
     /// `NoMemory` nothing has changed, and it never comes once a bad length was met.
     pub fn feed(&mut self, piece: &[u8]) -> Result<(), FrameFault>
@@ -92,8 +92,8 @@ impl Frames {
         self.held.feed(piece)
     }
 
-    /// Takes the oldest whole frame, and gives its body; `None` where no whole frame is left. Where
-    /// memory for the body is refused, nothing changes.
+    /// Takes the oldest whole frame, and gives its body; `None` if no whole frame is left. If memory for
+    /// the body is refused, nothing changes.
     pub fn next(&mut self) -> Result<Option<Vec<u8>>, NoMemory>
         ensures oldest { IfOk result (λ taken. MatchOption taken (self.old.frames ≡ [])
             (λ body. self.old.frames ≡ body.items ∷ self.new.frames)) }

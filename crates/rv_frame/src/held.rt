@@ -1,4 +1,4 @@
-//! The bytes of a stream that were not taken yet, and where its frames lie in them.
+//! The bytes of a stream that were not taken yet, and the places of its frames in them.
 ghost use Rattle.std.specs.Prelude.{◌≡◌, ◌∷◌, [], Err, None, Ok, drop, take};
 ghost use Rattle.std.specs.Prelude.{IfOk, IfSome, IsErrOf, IsTrue, ◌↔◌, MatchOption, OnErr, OnOk};
 ghost use Rattle.rv_frame.specs.Cut.{Bad, FitsLength, IsFrameBody, Open};

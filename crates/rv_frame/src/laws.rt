@@ -1,7 +1,7 @@
-//! What holds of frames in bytes as such: each contract is a law, and no body does anything.
+//! Laws of frames in bytes: each contract is one, and no body does anything.
 ghost use Rattle.rv_frame.specs.Laws.{FedIsCut, OneCut, PiecesJoin, TakenIsCut};
 
-/// Bytes have at most one cut into whole frames and what follows them.
+/// Bytes have at most one cut into whole frames and an end behind them.
 pub fn one_cut()
     ensures { OneCut }
 {}

@@ -1,4 +1,4 @@
-//! Readers and writers that remember a failure and count what went out, and frames of bytes.
+//! Readers and writers that remember a failure and count bytes, and frames of bytes.
 #![tactic(auto)]
 
 mod frames;

@@ -1,4 +1,4 @@
-//! A writer that remembers that a write failed, and counts what went out.
+//! A writer that remembers that a write failed, and counts the bytes that went out.
 ghost use Rattle.std.specs.Prelude.{◌≡◌, ◌<◌, ◌≤◌, true, false, take, length, IfErr, OnOk, OnErr, IsErrOf};
 ghost use Rattle.std.specs.Prelude.{[]};
 ghost use Rattle.rv_frame.specs.Sink.{SinkTakes, sink_device, sink_failed};
@@ -51,8 +51,8 @@ impl<W: Write> Sink<W> {
     /// A write error of any kind is a fault, `Interrupted` too, and so is a write that takes 0
     /// bytes. None is tried again. With no bytes to write the device is not asked.
     ///
-    /// The device is not flushed. Standard output and sockets hold nothing back; of a device that
-    /// does, as a `BufWriter`, what it holds counts as taken, and goes on by [`Sink::flush`].
+    /// The device is not flushed. Standard output and sockets hold nothing back. Bytes that a device
+    /// holds back, as a `BufWriter` does, count as taken, and go on by [`Sink::flush`].
     ///
     /// `WriteFault` says that a write of this call failed, after the device took exactly `sent`
     /// of the bytes and not all of them, or that the sink had failed before, and then `sent` is
@@ -90,8 +90,8 @@ impl<W: Write> Sink<W> {
         Ok(())
     }
 
-    /// Flushes the device, once, so that what it holds back goes on. Of the bytes that it took none
-    /// is lost and none added.
+    /// Flushes the device, once, so that the bytes that it holds back go on. Of the bytes that it took
+    /// none is lost and none added.
     ///
     /// `WriteFault` says that this flush failed, for an error of whatever kind, or that the sink had
     /// failed before; `sent` is 0. The sink has then failed.

@@ -45,12 +45,12 @@ impl<R: Read> Source<R> {
     /// Reads the device's next bytes to the front of the buffer, and answers how many came: at
     /// least one, and 0 only at the end of the device, which is no fault.
     ///
-    /// It makes exactly one read of the device, and none where the source has failed. An error of
+    /// It makes exactly one read of the device, and none if the source has failed. An error of
     /// any kind is a fault, `Interrupted` too, and is not tried again.
     ///
     /// `ReadFault` says that this read failed or an earlier one did. The source has then failed,
-    /// and every later call is a fault. After a read that failed, what stands in the buffer means
-    /// nothing; a call on a source that had failed before leaves the buffer as it is.
+    /// and every later call is a fault. After a failed read the buffer's content means nothing. A call
+    /// on a source that had failed before leaves the buffer as it is.
     pub fn read(&mut self, buffer: &mut [u8]) -> Result<usize, ReadFault>
         requires room { 0 < length buffer.old }
         ensures count { ReadsAtMost result buffer.new }

@@ -1,4 +1,4 @@
-//! A reader and a writer for tests, which give and take a few bytes at a time and stop where they are told.
+//! A reader and a writer for tests, which give and take a few bytes at a time and stop as they are told.
 ghost use Rattle.std.specs.Prelude.{◌≡◌, ◌<◌, Some, None, [], length, min};
 ghost use Rattle.std.specs.Prelude.{IfErr, IfOk, IsErr, IsOk, MatchResult};
 ghost use Rattle.std.specs.Io.{ReadsAtMost, WritesAtMost};
@@ -56,7 +56,7 @@ impl<'a> TestReader<'a> {
         self.reads
     }
 
-    // The kind of the error at the latest read, where it is the one that fails.
+    // The kind of the error at the latest read, if that read is the one that fails.
     fn fails_now(&self) -> Option<ErrorKind>
         ensures named { (kind : ErrorKind) → result ≡ Some kind →
             reader_fault self.now ≡ Some (reader_reads self.now, kind) }
@@ -107,12 +107,12 @@ impl Read for TestReader<'_> {
     }
 }
 
-/// What a `TestWriter` does in place of one write.
+/// The answer of a `TestWriter` in place of one write.
 #[derive(Clone, Copy, Debug, PartialEq, Eq)]
 pub enum Stop {
-    /// It answers an error of this kind.
+    /// An error of this kind.
     Error(ErrorKind),
-    /// It takes 0 bytes.
+    /// No fault, but 0 bytes are taken.
     TakesNothing,
 }
 

@@ -8,12 +8,12 @@ use crate::sink::{Sink, WriteFault};
 use std::io::Write;
 
 // How many bytes of a frame go to the device together: those of its length, and the first of its body. A
-// longer frame takes a second write, for what is left of its body.
+// longer frame takes a second write, for the rest of its body.
 const FRONT_BYTES: usize = 4_098;
 
 /// Writes the frame of a body of 1 to 65,535 bytes: its two length bytes, the greater part first, and
 /// the body. The device is never flushed. A device that takes all that it is given is written to once, or
-/// twice where the body has more than 4,096 bytes.
+/// twice if the body has more than 4,096 bytes.
 ///
 /// `WriteFault` counts the bytes of the frame that went out, those of the length too, and never all of
 /// them. The sink has then failed, as [`Sink::write_all`] says.

@@ -1,4 +1,4 @@
-//! Why a run over the lines of an input ends.
+//! The faults that end a run over the lines of an input.
 ghost use Rattle.std.specs.Prelude.{◌≡◌};
 ghost use Rattle.rv_run.specs.Faults.{fault_number};
 ghost use Rattle.rv_run.specs.declared.fault.RunFault.TheVariants.{NoMemory, ReadFault, WriteFault};
@@ -8,7 +8,7 @@ use rv_frame::ReadFault;
 use std::alloc::AllocError;
 use thiserror::Error;
 
-/// Why a run ended before its output was whole.
+/// The reason why a run ended before its output was whole.
 #[derive(Clone, Copy, Debug, PartialEq, Eq, Error)]
 #[error("run fault {}", self.number())]
 pub enum RunFault {
@@ -16,7 +16,7 @@ pub enum RunFault {
     ReadFault,
     /// 2: a write of the output failed, after the bytes that the fault counts.
     WriteFault(OutputFault),
-    /// 3: memory was refused. Each run says what it had printed by then: nothing, or some whole lines.
+    /// 3: memory was refused. By then nothing was printed, or some whole lines, as each run says.
     NoMemory,
     /// 4: the input has more than 536,870,912 bytes. Nothing was printed.
     TooLong,

@@ -14,9 +14,9 @@ const MAX_INPUT_BYTES: usize = 536_870_912;
 // How many bytes are asked for at a time.
 const PIECE_BYTES: usize = 65_536;
 
-/// All the bytes that the source has left. It is a fault where they are more than
-/// 536,870,912, or where memory was refused or a read failed. It asks for 65,536 at a time, and for none
-/// behind the piece that passes the limit.
+/// Reads all the bytes that the source has left. It is a fault if they are more than 536,870,912, if memory
+/// was refused, and if a read failed. It asks for 65,536 at a time, and for none behind the piece that passes
+/// the limit.
 pub fn read_input<R: Read>(alloc: Global, source: &mut Source<R>) -> Result<Vec<u8>, RunFault>
     ensures bytes { IfOk result (λ input.
         IfSome (source_remaining R.remaining source.old) (λ bytes. input.items ≡ bytes)) }

@@ -1,5 +1,5 @@
-//! What the runs over lines share: they read their whole input, print their lines in large pieces, and end by
-//! the same faults.
+//! The parts that runs over lines share: they read their whole input, print their lines in large pieces, and
+//! end by the same faults.
 #![tactic(auto)]
 
 mod fault;

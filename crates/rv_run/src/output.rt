@@ -1,4 +1,4 @@
-//! Gathers what is printed, and sends it in large pieces.
+//! Gathers printed lines, and sends them in large pieces.
 ghost use Rattle.std.specs.Prelude.{◌≡◌, ◌∷◌, ◌++◌, ◌+◌, ◌^◌, ◌<◌, ◌≤◌, [], length, IfOk, IfErr, OnErr, OnOk};
 ghost use Rattle.std.specs.Io.KnownBytes.{Appends};
 ghost use Rattle.std.specs.Vec.{vec_capacity};
@@ -9,16 +9,17 @@ use std::alloc::{AllocError, Global};
 use std::io::Write;
 use thiserror::Error;
 
-/// A write of the output failed. Of a first fault this says that of all that the output had taken in, and of
-/// the line that it was to take in then, exactly the first `sent` bytes went out, and not all. A later one
-/// doesn't count what went out at the first.
+/// A write of the output failed. At the first fault `sent` counts the bytes that went out: the first of all
+/// that the output had taken in and of the line that it was to take in then, and not all. A later fault
+/// doesn't count the bytes that went out at the first.
 #[derive(Clone, Copy, Debug, PartialEq, Eq, Error)]
 #[error("a write failed after {sent} bytes")]
 pub struct OutputFault {
+    /// The number of bytes that went out.
     pub sent: u128,
 }
 
-// How many bytes are gathered at most.
+// The most bytes that are gathered.
 const ROOM: usize = 131_072;
 
 /// Lines on their way to a sink, gathered into pieces of at most 131,072 bytes. Its room is made once, by
@@ -45,10 +46,10 @@ impl Output {
         })
     }
 
-    /// Takes a text of any length in, and LF after it. Where there is no room left for both, what was
-    /// gathered is sent first; else the sink is not asked. Only a text of at least 131,072 bytes is sent by
-    /// itself, and so only such a one can be cut. A text whose call ends by a fault is not taken in; what was
-    /// gathered before it waits as it did, or all of it went out.
+    /// Takes in a text of any length, and LF after it. If no room is left for both, the gathered bytes are
+    /// sent first; else the sink is not asked. Only a text of at least 131,072 bytes is sent by itself, and
+    /// so only such a text can be cut. At a fault the text is not taken in: the bytes gathered before it
+    /// still wait, or all of them went out.
     pub fn line<W: Write>(&mut self, sink: &mut Sink<W>, text: &[u8]) -> Result<(), OutputFault>
         requires { taken_in self.old + length text.now + 1 < 2 ^ 128 }
         ensures ok { OnOk result (Appends (promised_contents (sink_contents W.contents sink.old) self.old)
@@ -77,8 +78,8 @@ impl Output {
         Ok(())
     }
 
-    /// Sends what was gathered. The sink is not asked where that is nothing. A fault leaves the output as it
-    /// was, and says how much went out.
+    /// Sends the gathered bytes. If there are none, the sink is not asked. A fault leaves the output as it
+    /// was, and counts the bytes that went out.
     pub fn flush<W: Write>(&mut self, sink: &mut Sink<W>) -> Result<(), OutputFault>
         requires { taken_in self.old < 2 ^ 128 }
         ensures empty { OnOk result (gathered_bytes self.new ≡ []) }
@@ -98,7 +99,7 @@ impl Output {
         Ok(())
     }
 
-    // Sends bytes, of which there are some, behind so many that went out, and gives how many that makes.
+    // Sends bytes, at least one, behind so many that went out, and gives how many went out then.
     fn send<W: Write>(sink: &mut Sink<W>, sent: u128, bytes: &[u8]) -> Result<u128, OutputFault>
         requires some { 0 < length bytes.now }
         requires countable { sent + length bytes.now < 2 ^ 128 }
