@@ -40,6 +40,7 @@ impl Clients {
     ghost use Rattle.rv_world.specs.Table.{EntersClient, StandsInTable, newest_of, running_of, with_process};
     ghost use Rattle.rv_world.specs.Table.{IsAskingIn, IsReadyIn, SaysIn};
     ghost use Rattle.rv_world.specs.Processes.{request_under, said_by};
+    ghost use Rattle.rv_world.specs.declared.process.Saying.TheVariants as sayings;
 
     // The table with no client. It takes no memory yet.
     pub(crate) fn empty(alloc: Global) -> Clients
@@ -127,6 +128,7 @@ impl Clients {
     ) -> Result<Message, NoMemory>
         requires { IsAskingIn self.old client }
         ensures says { IfOk result (SaysIn self.old client (said_by saying)) }
+        ensures sure { OnErr result (saying ≡ sayings.Request) }
         ensures stays { self.new ≡ self.old }
     {
         let outstanding = self.wake(client);

@@ -1,7 +1,8 @@
 //! A process as it is kept between events, its messages about a request, and the results of answers for it.
-ghost use Rattle.std.specs.Prelude.{◌≡◌, IfOk};
+ghost use Rattle.std.specs.Prelude.{◌≡◌, IfOk, OnErr};
 ghost use Rattle.rv_client.specs.Process as process;
 ghost use Rattle.rv_world.specs.Processes.{HearsAs, said_by};
+ghost use Rattle.rv_world.specs.declared.process.Saying.TheVariants as sayings;
 
 use crate::seen::Seen;
 use rv_client::{HearOutcome, Idle, New, Outstanding, Resting, WelcomeOutcome};
@@ -127,7 +128,8 @@ pub(crate) fn said_by(
     outstanding: &Outstanding,
     saying: Saying,
 ) -> Result<Message, NoMemory>
-    ensures { IfOk result (λ message. message ≡ said_by saying outstanding.now) }
+    ensures said { IfOk result (λ message. message ≡ said_by saying outstanding.now) }
+    ensures sure { OnErr result (saying ≡ sayings.Request) }
 {
     match saying {
         Saying::Request => outstanding.message(alloc),
