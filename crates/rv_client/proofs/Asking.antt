@@ -1,8 +1,8 @@
 -- What a body that is no answer's comes to.
 use Rattle.std.proofs.Common.{◌≡◌, List, ℕ, Option, Err, inr, refl}
 use Rattle.rv_text.specs.Bodies.{HasBodyLength, IsNotJson}
-use Rattle.rv_text.specs.declared.fault.TextFault.{TextFault}
-use Rattle.rv_text.specs.declared.fault.TextFault.TheVariants.{NotJson, NotMessage, NoMemory}
+use Rattle.rv_json.specs.declared.fault.TextFault.{TextFault}
+use Rattle.rv_json.specs.declared.fault.TextFault.TheVariants.{NotJson, NotMessage, NoMemory}
 use Rattle.rv_frame.specs.Cut.{IsFrameBody, frame_bytes}
 use Rattle.rv_client.specs.Faults.{text_fault}
 use Rattle.rv_client.specs.Link.{Asks, IsNoAnswer, Link, LinkHolds, Moves}

@@ -1,6 +1,6 @@
 -- The fault of a link by the fault of a body.
-use Rattle.rv_text.specs.declared.fault.TextFault.{TextFault}
-use Rattle.rv_text.specs.declared.fault.TextFault as text
+use Rattle.rv_json.specs.declared.fault.TextFault.{TextFault}
+use Rattle.rv_json.specs.declared.fault.TextFault as text
 use Rattle.rv_client.specs.declared.fault.LinkFault.{LinkFault}
 use Rattle.rv_client.specs.declared.fault.LinkFault.TheVariants.{BadBody, NoMemory}
 

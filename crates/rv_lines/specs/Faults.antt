@@ -1,6 +1,6 @@
 -- What a text's fault is to its line, and what a line's fault is to its account.
-use Rattle.rv_text.specs.declared.fault.TextFault.{TextFault}
-use Rattle.rv_text.specs.declared.fault.TextFault.TheVariants as text
+use Rattle.rv_json.specs.declared.fault.TextFault.{TextFault}
+use Rattle.rv_json.specs.declared.fault.TextFault.TheVariants as text
 use Rattle.rv_lines.specs.declared.fault.LineFault.{LineFault}
 use Rattle.rv_lines.specs.declared.fault.LineFault.TheVariants as line
 

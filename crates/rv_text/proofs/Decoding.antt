@@ -7,8 +7,8 @@ use Rattle.serde_json.specs.Data.{Data, null, boolean, number, string, array, ob
 use Rattle.serde_json.specs.Find.{as_object}
 use Rattle.serde_json.specs.View.{members_view}
 use Rattle.serde_json.specs.declared.value.Value.{Value}
-use Rattle.rv_text.specs.declared.fault.TextFault.{TextFault}
-use Rattle.rv_text.specs.declared.fault.TextFault.TheVariants.{NotJson, NotMessage, NoMemory}
+use Rattle.rv_json.specs.declared.fault.TextFault.{TextFault}
+use Rattle.rv_json.specs.declared.fault.TextFault.TheVariants.{NotJson, NotMessage, NoMemory}
 use Rattle.rv_text.specs.Bodies.{HasBodyLength, IsBody, Decodes}
 use Rattle.rv_text.specs.Members.{Field, field_of, members_of, object_of}
 use Rattle.rv_text.specs.Laws.{AtMostOne}

@@ -7,13 +7,14 @@ use Rattle.std.proofs.lemmas.Option.{same_Some}
 use Rattle.std.proofs.lemmas.Slice.Eq.{bytes_eq-Decides}
 use Rattle.std.specs.Prelude.{◌⊎◌, ◌≤◌, nat_le}
 use Rattle.serde_json.specs.Data.{unsigned, negative, float, Data, null, boolean, number, string, array, object, Items, no_items, item, Members}
-use Rattle.serde_json.specs.View.{items_of, items_view, members_view}
+use Rattle.serde_json.specs.View.{items_of, members_view}
 use Rattle.serde_json.specs.declared.value.Value.{Value}
-use Rattle.serde_json.proofs.Views.{items_len-items_view, members_len-members_view}
+use Rattle.serde_json.proofs.Views.{members_len-members_view}
 use Rattle.serde_json.specs.Events.{items_len, members_len}
 use Rattle.serde_json.specs.Find.{get_member, as_number, as_u64, as_str}
 use Rattle.rv_text.specs.Members.{Member, Field, field_of, members_of, texts_value}
-use Rattle.rv_text.specs.Reading.{◌>>=◌, ReaderLine, under, among, numbered_among, whole_among, text_among, few_in, texts_of, texts_among}
+use Rattle.rv_json.specs.Finding.{◌>>=◌, whole_among, text_among, few_in, texts_of, texts_among}
+use Rattle.rv_text.specs.Reading.{ReaderLine, under, among, numbered_among}
 use Rattle.rv_text.specs.Reading.{Shape}
 use Rattle.rv_text.proofs.Objects.{HoldsFields}
 use Rattle.rv_text.proofs.Sound.{IsSoundRow}
@@ -170,10 +171,6 @@ pub record IsReader (A : Type 0) (shape : Shape A) : Type 0 where
   pub lacks : (x : A) → Lacks (without x) (members_of (shape.row x))
   pub finds : (ms : Members) (x : A) → shape.Fits x → HoldsFields (map field_of (shape.row x)) ms
       → Lacks (without x) ms → shape.found ms ≡ Some x
-
--- as many items as the list has values
-pub items_counted : (vs : List Value) → items_len (items_view vs) ≡ length vs
-items_counted = items_len-items_view
 
 -- as many members as the map has entries
 pub members_counted : (es : List (String Global × Value)) → members_len (members_view es) ≡ length es

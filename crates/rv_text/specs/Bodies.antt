@@ -1,11 +1,10 @@
 -- Which bytes are the body of which value, and the one text that is written for a value: RFC 8259, as
 -- `serde_json` reads and writes its `Value`.
-use Rattle.std.specs.Prelude.{◌≡◌, ◌⊎◌, ℕ, ◌≤◌, List, length, Some, IfOk, IsUtf8, Result, Ok, Err}
-use Rattle.serde_json.specs.Data.{Data}
-use Rattle.serde_json.specs.Read.{read}
+use Rattle.std.specs.Prelude.{◌≡◌, ◌⊎◌, ℕ, List, IfOk, Result, Ok, Err}
 use Rattle.serde_json.specs.Written.{compact_text}
-use Rattle.rv_text.specs.declared.fault.TextFault.{TextFault}
-use Rattle.rv_text.specs.declared.fault.TextFault.TheVariants as fault
+pub use Rattle.rv_json.specs.Bodies.{HasBodyLength, Reads, IsNotJson}
+use Rattle.rv_json.specs.declared.fault.TextFault.{TextFault}
+use Rattle.rv_json.specs.declared.fault.TextFault.TheVariants as fault
 use Rattle.rv_text.specs.declared.message.Message.{Message}
 use Rattle.rv_text.specs.declared.call.Call.{Call}
 use Rattle.rv_text.specs.declared.answer.Answer.{Answer}
@@ -14,18 +13,6 @@ use Rattle.rv_text.specs.declared.answer.Refusal.{Refusal}
 use Rattle.rv_text.specs.Members.{Member, object_of}
 use Rattle.rv_text.specs.Rows.{message_row, answer_row, call_row}
 use Rattle.rv_text.specs.Limits.{FitsMessage, FitsAnswer, FitsCall}
-
--- 1 to 65,535 bytes
-abbrev pub HasBodyLength : List ℕ → Type 0
-HasBodyLength bytes = (1 ≤ length bytes) × (length bytes ≤ 65535)
-
--- the bytes are a JSON text, and this is its value
-abbrev pub Reads : List ℕ → Data → Type 0
-Reads bytes value = IsUtf8 bytes × (read bytes ≡ Some value)
-
--- the bytes have no reading
-abbrev pub IsNotJson : List ℕ → Type 0
-IsNotJson bytes = (value : Data) → ¬ Reads bytes value
 
 -- the bytes are a body of x: they have a body's length, they read as the object with exactly the members of
 -- its row, and it is within its limits

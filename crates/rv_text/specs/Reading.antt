@@ -1,21 +1,19 @@
 -- For private clauses: what the decoder looks for among the members of an object, each by its name, and what
 -- the encoder puts there.
 use Rattle.std.specs.Prelude.{◌≡◌, ◌==◌, ℕ, Bool, List, [], ◌∷◌, length, map, codes, if◌then◌else◌}
-use Rattle.std.specs.Prelude.{Option, Some, None, option_and_then, nat_eq, nat_le, Result, Ok, Err}
+use Rattle.std.specs.Prelude.{Option, Some, None, nat_eq, Result, Ok, Err}
 use Rattle.std.specs.Prelude.{String, string_bytes, string_cmp, IfOk}
 use Rattle.std.specs.declared.alloc.Global.{Global}
 use Rattle.std.specs.declared.alloc.AllocError.{AllocError}
-use Rattle.std.specs.BTreeMap.{BTreeMap, IsOrdered}
+use Rattle.std.specs.BTreeMap.{IsOrdered}
 use Rattle.std.specs.Str.{bytes_eq}
 use Rattle.serde_json.specs.Data.{Data, Items, Members}
 use Rattle.serde_json.specs.Data as json
-use Rattle.serde_json.specs.Events.{items_len, members_len}
+use Rattle.serde_json.specs.Events.{members_len}
 use Rattle.serde_json.specs.View.{members_view}
-use Rattle.serde_json.specs.declared.value.Value.{Value}
-use Rattle.serde_json.specs.Find.{get_member, as_number, as_u64, as_str, as_array}
 use Rattle.serde_json.specs.Written.{compact_text}
-use Rattle.rv_text.specs.declared.fault.TextFault.{TextFault}
-use Rattle.rv_text.specs.declared.fault.TextFault.TheVariants as fault
+use Rattle.rv_json.specs.declared.fault.TextFault.{TextFault}
+use Rattle.rv_json.specs.declared.fault.TextFault.TheVariants as fault
 use Rattle.rv_text.specs.declared.version.Version.{Version}
 use Rattle.rv_text.specs.declared.version.Version.TheVariants.{One, Two}
 use Rattle.rv_text.specs.declared.message.Key.{Key}
@@ -33,55 +31,12 @@ use Rattle.rv_text.specs.declared.answer.Answer.{Answer}
 use Rattle.rv_text.specs.declared.answer.Answer.TheVariants as answer
 use Rattle.rv_text.specs.Versions.{version_of}
 use Rattle.rv_text.specs.Members.{Member, Field, field_of, with_fields, members_of, object_of}
-use Rattle.rv_text.specs.Bodies.{HasBodyLength, Reads, IsNotJson}
+use Rattle.rv_json.specs.Bodies.{HasBodyLength, Reads, IsNotJson}
+pub use Rattle.rv_json.specs.Finding.{Map, Finds, FindsAmong, ◌>>=◌, whole_among, text_among, item_among, texts_among}
 use Rattle.rv_text.specs.Rows.{message_row, answer_row, call_row}
 use Rattle.rv_text.specs.Limits.{FitsMessage, FitsAnswer, FitsCall}
 
--- a JSON object in memory
-abbrev pub Map : Type 0
-Map = BTreeMap (String Global) Value
-
--- ---- what a reader answers
-
--- the fault that a reader answers if this is to be found
-abbrev pub Fails : {A : Type 0} → TextFault → Option A → Type 0
-Fails fault.NotJson found = ⊥
-Fails fault.NotMessage found = found ≡ None
-Fails fault.NoMemory found = Unit {0}
-
--- a reader's answer, seen by view, is what is to be found, unless memory ran out
-abbrev pub Finds : {A B : Type 0} → (A → B) → Result A TextFault → Option B → Type 0
-Finds view (Ok x) found = found ≡ Some (view x)
-Finds view (Err fault) found = Fails fault found
-
--- the same of what is to be found among the members of a map
-abbrev pub FindsSeenAmong : {A B : Type 0}
-    → Map → (A → B) → Result A TextFault → (Members → Option B) → Type 0
-FindsSeenAmong object view answer found = Finds view answer (found (members_view object.entries))
-
-abbrev pub FindsAmong : {A : Type 0} → Map → Result A TextFault → (Members → Option A) → Type 0
-FindsAmong object answer found = FindsSeenAmong object (λ x. x) answer found
-
--- why bytes give no value: each fault with what it tells of them
-abbrev pub Unread : List ℕ → TextFault → Type 0
-Unread bytes fault.NotJson = HasBodyLength bytes × IsNotJson bytes
-Unread bytes fault.NotMessage = ¬ HasBodyLength bytes
-Unread bytes fault.NoMemory = HasBodyLength bytes
-
--- ---- one member
-
-abbrev pub whole_among : List ℕ → Members → Option ℕ
-whole_among name members = option_and_then as_u64 (option_and_then as_number (get_member name members))
-
-abbrev pub text_among : List ℕ → Members → Option (List ℕ)
-text_among name members = option_and_then as_str (get_member name members)
-
 -- ---- the members of a row
-
-infixl 10 ◌>>=◌
-abbrev pub ◌>>=◌ : {A B : Type 0} → Option A → (A → Option B) → Option B
-None >>= next = None
-(Some x) >>= next = next x
 
 -- what is found under a word or a number, as its line says
 abbrev pub ReaderLine : Type 0 → Type 0 → Type 0
@@ -107,29 +62,6 @@ numbered_among name lines members = do
 
 abbrev pub queue_among : Members → Option ℕ
 queue_among = whole_among (codes "queue")
-
-abbrev pub item_among : Members → Option (List ℕ)
-item_among = text_among (codes "item")
-
--- the texts of a list, if each of its values is one
-abbrev pub texts_of : Items → Option (List (List ℕ))
-texts_of json.no_items = Some []
-texts_of (json.item value values) = do
-  text ← as_str value
-  texts ← texts_of values
-  Some (text ∷ texts)
-
--- the values of a list, if they are no more than a drain takes at most
-abbrev pub few_of : Items → Option Items
-few_of values = if nat_le (items_len values) 16 then Some values else None
-
-abbrev pub few_in : Data → Option Items
-few_in value = option_and_then few_of (as_array value)
-
-abbrev pub texts_among : Members → Option (List (List ℕ))
-texts_among members = do
-  values ← option_and_then few_in (get_member (codes "texts") members)
-  texts_of values
 
 abbrev pub wait_lines : List (ReaderLine (List ℕ) Wait)
 wait_lines = (codes "now", λ ms. Some wait.Now) ∷ (codes "forever", λ ms. Some wait.Forever) ∷ []

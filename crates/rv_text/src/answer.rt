@@ -1,10 +1,10 @@
 //! What the server answers: welcomes, replies and refusals.
 ghost use Rattle.std.specs.Prelude.{◌≡◌, ◌↔◌, IsTrue, length};
 
-use crate::fault::NoMemory;
 use crate::message::{Key, MAX_IDENTIFIER, fits_identifier};
 use crate::version::Version;
 use rv_item::{Item, Items};
+use rv_json::NoMemory;
 use thiserror::Error;
 
 /// The greatest number that a count tells: as many items or consumers as an epoch can have.

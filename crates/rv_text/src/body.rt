@@ -1,17 +1,11 @@
 //! The value whose body given bytes are, for each kind of value that has a body.
-ghost use Rattle.std.specs.Prelude.{◌≡◌, ◌↔◌, IsTrue, IfOk, IfErr, OnOk, length, string_cmp};
+ghost use Rattle.std.specs.Prelude.{◌≡◌, ◌↔◌, IsTrue, OnOk, length, string_cmp};
 ghost use Rattle.std.specs.BTreeMap.{IsOrdered};
-ghost use Rattle.serde_json.specs.View.{view, members_view};
-ghost use Rattle.rv_text.specs.Bodies.{HasBodyLength, Reads};
-ghost use Rattle.rv_text.specs.Reading.{FindsAmong, Unread, Shape, FindsAlone, FindsIn};
+ghost use Rattle.serde_json.specs.View.{members_view};
+ghost use Rattle.rv_text.specs.Reading.{FindsAmong, Shape, FindsAlone, FindsIn};
 
-use crate::fault::TextFault;
-use crate::members::Members;
-use serde_json::Value;
+use rv_json::{Members, TextFault, read_value};
 use std::alloc::Global;
-
-/// The most bytes that a body has; the least is 1.
-pub const MAX_BODY_BYTES: usize = 65_535;
 
 /// A kind of value that has a body. Its shape says how it is found among the members of an object, its
 /// own members and its limits.
@@ -54,25 +48,4 @@ fn read_alone<B: Body>(alloc: Global, members: &mut Members) -> Result<B, TextFa
     } else {
         Err(TextFault::NotMessage)
     }
-}
-
-// The JSON value of bytes that have a body's length.
-fn read_value(alloc: Global, bytes: &[u8]) -> Result<Value, TextFault>
-    ensures value { IfOk result (λ value. HasBodyLength bytes.now × Reads bytes.now (view value)) }
-    ensures fault { IfErr result (Unread bytes.now) }
-{
-    if !has_body_length(bytes) {
-        return Err(TextFault::NotMessage);
-    }
-    match Value::from_slice(alloc, bytes) {
-        Ok(value) => Ok(value),
-        Err(error) if error.is_memory() => Err(TextFault::NoMemory),
-        Err(_) => Err(TextFault::NotJson),
-    }
-}
-
-fn has_body_length(bytes: &[u8]) -> bool
-    ensures { IsTrue result ↔ HasBodyLength bytes.now }
-{
-    (1..=MAX_BODY_BYTES).contains(&bytes.len())
 }

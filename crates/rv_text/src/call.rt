@@ -3,8 +3,8 @@ ghost use Rattle.std.specs.Prelude.{◌≡◌, ◌↔◌, IfOk, IsTrue, option_m
 ghost use Rattle.rv_text.specs.Limits.{FitsMax};
 
 use self::Side::{Exchanges, Gives, Looks, Takes};
-use crate::fault::NoMemory;
 use rv_item::{Item, MAX_DRAIN};
+use rv_json::NoMemory;
 use std::alloc::Global;
 
 /// The greatest number of a queue; the least is 0.
@@ -71,13 +71,13 @@ pub enum Call {
 
 // What a call is: its word in a body, its side, its wait, how many items it drains, and its item.
 #[derive(Clone, Copy)]
-pub(crate) struct Nature<'a>(
-    pub(crate) &'static str,
-    pub(crate) Side,
-    pub(crate) Option<Wait>,
-    pub(crate) Option<u64>,
-    pub(crate) Option<&'a Item>,
-);
+pub(crate) struct Nature<'a> {
+    pub(crate) word: &'static str,
+    pub(crate) side: Side,
+    pub(crate) wait: Option<Wait>,
+    pub(crate) drains: Option<u64>,
+    pub(crate) item: Option<&'a Item>,
+}
 
 /// The queue or exchanger of a call, and the call's side of it, which decides what calls it may meet.
 #[derive(Clone, Copy, Debug, PartialEq, Eq)]
@@ -90,6 +90,28 @@ pub enum Side {
     Looks(u64),
     /// It swaps items at this exchanger, and meets calls that swap there too.
     Exchanges(u64),
+}
+
+impl<'a> Nature<'a> {
+    ghost use Rattle.std.specs.Prelude.{None};
+
+    // That of a call that drains nothing.
+    fn of(word: &'static str, side: Side, wait: Option<Wait>, item: Option<&'a Item>) -> Nature<'a>
+        ensures word { result.word.now ≡ word.now }
+        ensures side { result.side ≡ side }
+        ensures wait { result.wait ≡ wait }
+        ensures drains { result.drains ≡ None }
+        ensures item { option_map (λ i. i.now) result.item ≡ option_map (λ i. i.now) item.entry }
+    {
+        let drains = None;
+        Nature {
+            word,
+            side,
+            wait,
+            drains,
+            item,
+        }
+    }
 }
 
 impl Wait {
@@ -137,28 +159,29 @@ impl Call {
 
     // What the call is, one row a call.
     pub(crate) fn nature(&self) -> Nature<'_>
-        ensures word { result.0.now ≡ (nature_of self.now).word }
-        ensures side { result.1 ≡ side_of self.now }
-        ensures wait { result.2 ≡ wait_of self.now }
-        ensures drains { result.3 ≡ drains_of self.now }
-        ensures item { option_map (λ i. i.now) result.4 ≡ item_of self.now }
+        ensures word { result.word.now ≡ (nature_of self.now).word }
+        ensures side { result.side ≡ side_of self.now }
+        ensures wait { result.wait ≡ wait_of self.now }
+        ensures drains { result.drains ≡ drains_of self.now }
+        ensures item { option_map (λ i. i.now) result.item ≡ item_of self.now }
     {
         match self {
-            Call::Put { queue, item } => Nature("put", Gives(*queue), None, None, Some(item)),
+            Call::Put { queue, item } => Nature::of("put", Gives(*queue), None, Some(item)),
             Call::Transfer { queue, item, wait } => {
-                Nature("transfer", Gives(*queue), Some(*wait), None, Some(item))
+                Nature::of("transfer", Gives(*queue), Some(*wait), Some(item))
             }
-            Call::Take { queue, wait } => Nature("take", Takes(*queue), Some(*wait), None, None),
+            Call::Take { queue, wait } => Nature::of("take", Takes(*queue), Some(*wait), None),
             Call::Swap {
                 exchanger,
                 item,
                 wait,
-            } => Nature("swap", Exchanges(*exchanger), Some(*wait), None, Some(item)),
-            Call::Count { queue } => Nature("count", Looks(*queue), None, None, None),
-            Call::Peek { queue } => Nature("peek", Looks(*queue), None, None, None),
-            Call::Drain { queue, max } => {
-                Nature("drain", Takes(*queue), Some(Wait::Now), Some(*max), None)
-            }
+            } => Nature::of("swap", Exchanges(*exchanger), Some(*wait), Some(item)),
+            Call::Count { queue } => Nature::of("count", Looks(*queue), None, None),
+            Call::Peek { queue } => Nature::of("peek", Looks(*queue), None, None),
+            Call::Drain { queue, max } => Nature {
+                drains: Some(*max),
+                ..Nature::of("drain", Takes(*queue), Some(Wait::Now), None)
+            },
         }
     }
 
@@ -166,28 +189,28 @@ impl Call {
     pub fn side(&self) -> Side
         ensures { result ≡ side_of self.now }
     {
-        self.nature().1
+        self.nature().side
     }
 
     /// How long the call may wait: none for a put, a count and a peek, and now for a drain.
     pub fn wait(&self) -> Option<Wait>
         ensures { result ≡ wait_of self.now }
     {
-        self.nature().2
+        self.nature().wait
     }
 
     /// How many items the call takes at most in one step; none if it meets one partner at most.
     pub fn drains(&self) -> Option<u64>
         ensures { result ≡ drains_of self.now }
     {
-        self.nature().3
+        self.nature().drains
     }
 
     /// The item that the call hands over, if it does.
     pub fn item(&self) -> Option<&Item>
         ensures { option_map (λ i. i.now) result ≡ item_of self.now }
     {
-        self.nature().4
+        self.nature().item
     }
 
     /// Whether the calls are of one kind and have the same members.

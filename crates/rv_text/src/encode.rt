@@ -11,13 +11,12 @@ ghost use Rattle.rv_text.specs.Bodies.{HasBodyLength, message_text, answer_text,
 ghost use Rattle.rv_text.specs.Limits.{FitsMessage, FitsAnswer};
 
 use crate::answer::{Answer, Refusal, Reply};
-use crate::call::{Call, Nature, Side, Wait};
-use crate::fault::NoMemory;
+use crate::call::{Call, Side, Wait};
 use crate::laws::body_constants;
-use crate::members::Members;
 use crate::message::{Key, Message};
 use crate::version::Version;
 use rv_item::{Item, Items};
+use rv_json::{Members, NoMemory};
 use serde_json::{Map, Value};
 use std::alloc::Global;
 
@@ -115,11 +114,11 @@ fn put_version(members: &mut Members, alloc: Global, version: Version) -> Result
 fn put_call(members: &mut Members, alloc: Global, call: &Call) -> Result<(), NoMemory>
     ensures { OnOk result (PutsRow (call_row call.now) members.old members.new) }
 {
-    let Nature(word, side, wait, drains, item) = call.nature();
-    put_text(members, alloc, "call", word)?;
-    put_side(members, alloc, side)?;
-    put_max_or_wait(members, alloc, drains, wait)?;
-    match item {
+    let nature = call.nature();
+    put_text(members, alloc, "call", nature.word)?;
+    put_side(members, alloc, nature.side)?;
+    put_max_or_wait(members, alloc, nature.drains, nature.wait)?;
+    match nature.item {
         Some(item) => put_item(members, alloc, item),
         None => Ok(()),
     }

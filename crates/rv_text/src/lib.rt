@@ -6,20 +6,18 @@ mod body;
 mod call;
 mod decode;
 mod encode;
-mod fault;
 pub mod laws;
 mod members;
 mod message;
 mod version;
 
 pub use answer::{Answer, MAX_COUNTED, Refusal, Reply};
-pub use body::MAX_BODY_BYTES;
 pub use call::{Call, MAX_EXCHANGER, MAX_QUEUE, MAX_WAIT, Side, Wait};
 pub use decode::{decode_answer, decode_call, decode_message};
 pub use encode::{
     BAD_TEXT_BODY, NO_MEMORY_BODY, bad_text_body, encode_answer, encode_message, no_memory_body,
 };
-pub use fault::{NoMemory, TextFault};
 pub use message::{Key, MAX_IDENTIFIER, Message, fits_identifier};
 pub use rv_item::{Item, Items, MAX_DRAIN};
+pub use rv_json::{MAX_BODY_BYTES, NoMemory, TextFault};
 pub use version::Version;

@@ -1,119 +1,20 @@
-//! Reads what stands in a JSON object, member by member. Limits are not looked at yet.
-ghost use Rattle.std.specs.Prelude.{◌≡◌, option_map};
-ghost use Rattle.serde_json.specs.Find.{get_member, as_str};
-ghost use Rattle.serde_json.specs.View.{view, items_view, members_view};
-ghost use Rattle.rv_text.specs.Reading.{Finds, FindsAmong, FindsSeenAmong, whole_among, text_among, few_of};
-ghost use Rattle.rv_text.specs.Reading.{few_in, texts_of, texts_among, item_among, wait_among};
-ghost use Rattle.rv_text.specs.Reading.{key_among, call_among, version_among};
+//! Reads keys, calls, replies and refusals among the members of a JSON object. Limits are not looked at yet.
+ghost use Rattle.std.specs.Prelude.{◌≡◌};
+ghost use Rattle.serde_json.specs.View.{members_view};
+ghost use Rattle.rv_text.specs.Reading.{FindsAmong, wait_among, key_among, call_among, version_among};
 ghost use Rattle.rv_text.specs.Reading.{received_among, reply_among, refusal_among, current_version_among};
 
 use crate::answer::{Refusal, Reply};
 use crate::call::{Call, Wait};
-use crate::fault::TextFault;
 use crate::message::Key;
 use crate::version::Version;
-use rv_item::{Item, Items, MAX_DRAIN};
-use serde_json::{Map, Value};
+use rv_json::{Members, TextFault, find_whole, read_text, read_whole, take_item, take_texts};
 use std::alloc::Global;
-
-/// The members of a JSON object, by name.
-pub(crate) type Members = Map<String, Value>;
-
-fn member<'v>(members: &'v Members, name: &str) -> Option<&'v Value>
-    ensures { option_map (λ v. view v.now) result
-        ≡ get_member name.now (members_view members.now.entries) }
-{
-    members.get(name)
-}
-
-// The whole number that stands at the name.
-fn whole(members: &Members, name: &str) -> Option<u64>
-    ensures { result ≡ whole_among name.now (members_view members.now.entries) }
-{
-    member(members, name).and_then(Value::as_u64)
-}
-
-pub(crate) fn read_whole(members: &Members, name: &str) -> Result<u64, TextFault>
-    ensures { FindsAmong members.now result (whole_among name.now) }
-{
-    whole(members, name).ok_or(TextFault::NotMessage)
-}
-
-pub(crate) fn read_text<'v>(members: &'v Members, name: &str) -> Result<&'v str, TextFault>
-    ensures { FindsSeenAmong members.now (λ text. text.now) result (text_among name.now) }
-{
-    member(members, name)
-        .and_then(Value::as_str)
-        .ok_or(TextFault::NotMessage)
-}
-
-// Takes the value at the name out of the members.
-fn take_member(members: &mut Members, name: &str) -> Option<Value>
-    ensures { option_map view result ≡ get_member name.now (members_view members.old.entries) }
-{
-    members.remove(name)
-}
-
-fn take_item(members: &mut Members) -> Result<Item, TextFault>
-    ensures { FindsAmong members.old result item_among }
-{
-    let value = take_member(members, "item").ok_or(TextFault::NotMessage)?;
-    item_of(value)
-}
-
-fn take_texts(alloc: Global, members: &mut Members) -> Result<Items, TextFault>
-    ensures { FindsAmong members.old result texts_among }
-{
-    let value = take_member(members, "texts").ok_or(TextFault::NotMessage)?;
-    take_each_text(alloc, values_of(value)?)
-}
-
-// The values of a list of 16 at most.
-fn values_of(value: Value) -> Result<Vec<Value>, TextFault>
-    ensures { Finds (λ values. items_view values.items) result (few_in (view value)) }
-{
-    match value {
-        Value::Array(values) => few_of(values),
-        _ => Err(TextFault::NotMessage),
-    }
-}
-
-#[tactic(auto, using(crate::proofs::Steps::items_counted))]
-fn few_of(values: Vec<Value>) -> Result<Vec<Value>, TextFault>
-    ensures { Finds (λ values. items_view values.items) result (few_of (items_view values.items)) }
-{
-    if values.len() as u64 <= MAX_DRAIN {
-        Ok(values)
-    } else {
-        Err(TextFault::NotMessage)
-    }
-}
-
-// The items whose texts these values are, in their order.
-fn take_each_text(alloc: Global, values: Vec<Value>) -> Result<Items, TextFault>
-    ensures { Finds (λ items. items) result (texts_of (items_view values.items)) }
-{
-    let mut items = Items::new(alloc);
-    for value in values {
-        items.push(item_of(value)?)?;
-    }
-    Ok(items)
-}
-
-// The item whose text the value is. It takes the text over.
-fn item_of(value: Value) -> Result<Item, TextFault>
-    ensures { Finds (λ item. item) result (as_str (view value)) }
-{
-    match value {
-        Value::String(text) => Ok(Item::from_text(text)),
-        _ => Err(TextFault::NotMessage),
-    }
-}
 
 fn read_wait(members: &Members) -> Result<Wait, TextFault>
     ensures { FindsAmong members.now result wait_among }
 {
-    if let Some(millis) = whole(members, "wait") {
+    if let Some(millis) = find_whole(members, "wait") {
         return Ok(Wait::Millis(millis));
     }
     match read_text(members, "wait")? {
@@ -174,7 +75,7 @@ pub(crate) fn read_call(members: &mut Members) -> Result<Call, TextFault>
 pub(crate) fn read_version(members: &Members) -> Version
     ensures { result ≡ version_among (members_view members.now.entries) }
 {
-    match whole(members, "version") {
+    match find_whole(members, "version") {
         Some(2) => Version::Two,
         _ => Version::One,
     }
@@ -185,7 +86,7 @@ pub(crate) fn read_version(members: &Members) -> Version
 fn read_received(members: &Members, epoch: u64) -> Result<Reply, TextFault>
     ensures { FindsAmong members.now result (received_among epoch) }
 {
-    match whole(members, "by_client") {
+    match find_whole(members, "by_client") {
         None => Ok(Reply::Received),
         Some(client) => Ok(Reply::ReceivedBy(Key {
             epoch,

@@ -1,8 +1,8 @@
 -- A line is bad where it has no moment and body, and where the body is no message's.
 use Rattle.std.proofs.Common.{◌≡◌, ◌⊎◌, inl, inr, Ok, Err, Result, sym, ◌∙◌}
 use Rattle.std.proofs.lemmas.Result.{err_from_is_err_and}
-use Rattle.rv_text.specs.declared.fault.TextFault.{TextFault}
-use Rattle.rv_text.specs.declared.fault.TextFault.TheVariants.{NoMemory, NotJson, NotMessage}
+use Rattle.rv_json.specs.declared.fault.TextFault.{TextFault}
+use Rattle.rv_json.specs.declared.fault.TextFault.TheVariants.{NoMemory, NotJson, NotMessage}
 use Rattle.rv_text.specs.declared.message.Message.{Message}
 use Rattle.rv_lines.specs.Faults.{line_fault}
 use Rattle.rv_lines.specs.declared.fault.LineFault.TheVariants as line

@@ -2,8 +2,8 @@
 use Rattle.std.proofs.Common.{◌≡◌, ◌++◌, length, option_map}
 use Rattle.std.specs.Vec.Iter.{into_iter_items, into_iter_len}
 use Rattle.serde_json.specs.View.{items_view}
-use Rattle.rv_text.specs.Reading.{texts_of}
-use Rattle.rv_text.proofs.members.take_each_text.Given as goal
+use Rattle.rv_json.specs.Finding.{texts_of}
+use Rattle.rv_json.proofs.members.take_each_text.Given as goal
 
 abbrev pub invariant-loop-value : goal.invariant-loop-value
 invariant-loop-value l =

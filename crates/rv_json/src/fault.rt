@@ -23,7 +23,7 @@ pub enum TextFault {
 
 impl From<AllocError> for TextFault {
     ghost use Rattle.std.specs.Prelude.{◌≡◌};
-    ghost use Rattle.rv_text.specs.declared.fault.TextFault.TheVariants.{NoMemory};
+    ghost use Rattle.rv_json.specs.declared.fault.TextFault.TheVariants.{NoMemory};
 
     ghost from_gives = { λ _ fault. fault ≡ NoMemory };
 

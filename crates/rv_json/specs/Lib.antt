@@ -1,0 +1,3 @@
+-- What a reader must agree with, all that public contracts cite:
+pub mod Bodies
+pub mod Finding
