@@ -1,4 +1,4 @@
-//! Reads members of a JSON object, each by its name. A list has at most 16 texts; no other limit is looked at.
+//! Reads members of a JSON object, each by its name. The only limit is that of a list: 16 texts.
 ghost use Rattle.std.specs.Prelude.{◌≡◌, option_map, Err};
 ghost use Rattle.serde_json.specs.Find.{get_member, as_str};
 ghost use Rattle.serde_json.specs.View.{view, items_view, members_view};
@@ -28,7 +28,7 @@ pub fn find_whole(members: &Members, name: &str) -> Option<u64>
     member(members, name).and_then(Value::as_u64)
 }
 
-/// The whole number at the name. [`TextFault::NotMessage`] comes only if none stands there, and no other fault.
+/// The whole number at the name. The only fault is [`TextFault::NotMessage`], if none stands there.
 pub fn read_whole(members: &Members, name: &str) -> Result<u64, TextFault>
     ensures found { FindsAmong members.now result (whole_among name.now) }
     ensures sure { ¬ (result ≡ Err fault.NoMemory) }
@@ -36,7 +36,7 @@ pub fn read_whole(members: &Members, name: &str) -> Result<u64, TextFault>
     find_whole(members, name).ok_or(TextFault::NotMessage)
 }
 
-/// The text at the name. [`TextFault::NotMessage`] comes only if none stands there, and no other fault.
+/// The text at the name. The only fault is [`TextFault::NotMessage`], if none stands there.
 pub fn read_text<'v>(members: &'v Members, name: &str) -> Result<&'v str, TextFault>
     ensures found { FindsSeenAmong members.now (λ text. text.now) result (text_among name.now) }
     ensures sure { ¬ (result ≡ Err fault.NoMemory) }
@@ -53,8 +53,8 @@ fn take_member(members: &mut Members, name: &str) -> Option<Value>
     members.remove(name)
 }
 
-/// The text of the member `item`, taken out without a copy. [`TextFault::NotMessage`] comes only if no text stands
-/// there, and no other fault.
+/// The text of the member `item`, taken out without a copy. The only fault is [`TextFault::NotMessage`],
+/// if no text stands there.
 pub fn take_item(members: &mut Members) -> Result<Item, TextFault>
     ensures found { FindsAmong members.old result item_among }
     ensures sure { ¬ (result ≡ Err fault.NoMemory) }
@@ -63,8 +63,8 @@ pub fn take_item(members: &mut Members) -> Result<Item, TextFault>
     item_of(value)
 }
 
-/// The texts of the member `texts`, taken out without a copy. [`TextFault::NotMessage`] comes only if no list of at
-/// most 16 texts stands there, and [`TextFault::NoMemory`] only if a growth was refused.
+/// The texts of the member `texts`, taken out without a copy. [`TextFault::NotMessage`] comes only if no
+/// list of at most 16 texts stands there, and [`TextFault::NoMemory`] only if a growth was refused.
 pub fn take_texts(alloc: Global, members: &mut Members) -> Result<Items, TextFault>
     ensures { FindsAmong members.old result texts_among }
 {

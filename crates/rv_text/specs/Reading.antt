@@ -32,7 +32,8 @@ use Rattle.rv_text.specs.declared.answer.Answer.TheVariants as answer
 use Rattle.rv_text.specs.Versions.{version_of}
 use Rattle.rv_text.specs.Members.{Member, Field, field_of, with_fields, members_of, object_of}
 use Rattle.rv_json.specs.Bodies.{HasBodyLength, Reads, IsNotJson}
-pub use Rattle.rv_json.specs.Finding.{Map, Finds, FindsAmong, ◌>>=◌, whole_among, text_among, item_among, texts_among}
+pub use Rattle.rv_json.specs.Finding.{Map, Finds, FindsAmong, ◌>>=◌}
+pub use Rattle.rv_json.specs.Finding.{whole_among, text_among, item_among, texts_among}
 use Rattle.rv_text.specs.Rows.{message_row, answer_row, call_row}
 use Rattle.rv_text.specs.Limits.{FitsMessage, FitsAnswer, FitsCall}
 
