@@ -16,8 +16,6 @@ import random
 import sys
 import time
 
-if "--selftest" in sys.argv:
-    os.environ.setdefault("RV_PATIENCE", "30")
 ROOT = pathlib.Path(__file__).resolve().parents[2]
 sys.dont_write_bytecode, sys.path[0] = True, str(ROOT)
 from tests.faults import callers, crowds, exchanges, limits, memory, mutants, silence, turns  # noqa: E402
@@ -84,8 +82,14 @@ def run_waiting(program, count):
 
 def of_double(wrong, name):
     """What came of a case where the double does this wrong, or nothing."""
+    with systems():
+        return came_of_double(wrong, *case_and_numbers(name))
+
+
+def case_and_numbers(name):
+    """A case, and the seed and the number of spoilt bodies that it takes."""
     case = {name_of(case): case for case in [*ONCE, *WAITING, *RANDOM, *SPOILT]}[name]
-    return came_of_double(wrong, case, *([FIXED] if case in RANDOM + SPOILT else []), *([FEW] if case in SPOILT else []))
+    return case, *([FIXED] if case in RANDOM + SPOILT else []), *([FEW] if case in SPOILT else [])
 
 
 def main():
@@ -102,10 +106,13 @@ def main():
     print(f"seed {asked.seed}", flush=True)
     with systems():
         if asked.selftest:
+            # the processes that try doubles make systems of their own, of what is built here
             count.try_doubles(WRONGS, of_double)
         else:
             run(os.path.abspath(asked.program), asked, count)
     count.end()
 
 
-main()
+# processes that try a double read this file too
+if __name__ == "__main__":
+    main()

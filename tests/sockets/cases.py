@@ -11,6 +11,9 @@ from tests.sockets.wire import PATIENCE, Wrong
 DOUBLE = str(ROOT / "tests/sockets/double.py")
 # How many doubles are tried at once: most of them wait.
 AT_ONCE = 8
+# How long a client waits for a double that is wrong, in seconds: it may never answer, and whatever the case then finds, the
+# double has failed it. One that is right gets the time of a slow machine.
+SHORT = 30
 
 
 def came_of(case, *given):
@@ -31,6 +34,13 @@ def came_of_double(wrong, case, *given):
     """The same where the program is the double, and does this wrong, or nothing."""
     os.environ["RV_WRONG"] = wrong
     return came_of(case, DOUBLE, *given)
+
+
+def came_at_once(came_of_name, tried, patience=PATIENCE):
+    """Each wrong and name with what came of it. Several are tried at once, in processes that read anew how long they wait."""
+    os.environ["RV_PATIENCE"] = str(patience)
+    with concurrent.futures.ProcessPoolExecutor(AT_ONCE, multiprocessing.get_context("spawn")) as pool:
+        yield from zip(tried, pool.map(came_of_name, *zip(*tried)))
 
 
 class Count:
@@ -60,16 +70,14 @@ class Count:
     def try_doubles(self, wrongs, came_of_name):
         """Each double that does a thing wrong must fail the case that is named beside it, and the one that does none must
         pass all of these. `came_of_name` gives what came of a wrong and a name."""
-        named = [*wrongs, *(("", name) for name in dict.fromkeys(name for _, name in wrongs))]
-        tried = [pair for pair in named if self.wants(pair[1])]
-        with concurrent.futures.ProcessPoolExecutor(AT_ONCE, multiprocessing.get_context("fork")) as pool:
-            for (wrong, name), (fault, _, seconds) in zip(tried, pool.map(came_of_name, *zip(*tried))):
-                if not wrong:
-                    self.judge(f"the double, {name}", fault, seconds=seconds)
-                    continue
-                self.judge(f"a server that {wrong}, {name}", None if fault else "it passes", seconds=seconds)
-                if fault and self.verbose:
-                    print(f"    {fault[:200]}")
+        tried = [(wrong, name) for wrong, name in wrongs if self.wants(name)]
+        for (wrong, name), (fault, _, seconds) in came_at_once(came_of_name, tried, SHORT):
+            self.judge(f"a server that {wrong}, {name}", None if fault else "it passes", seconds=seconds)
+            if fault and self.verbose:
+                print(f"    {fault[:200]}")
+        right = [("", name) for name in dict.fromkeys(name for _, name in tried)]
+        for (_, name), (fault, _, seconds) in came_at_once(came_of_name, right):
+            self.judge(f"the double, {name}", fault, seconds=seconds)
 
     def end(self):
         """Tells how many passed and failed, and ends."""
