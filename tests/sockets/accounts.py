@@ -17,7 +17,7 @@ def read_account(text):
 
 def call_members(call):
     """The members of a call."""
-    members = {"call": call.word, "exchanger" if call.word == "swap" else "queue": call.at}
+    members = {"call": call.word, call.kind.members[0]: call.at}
     more = {"item": call.item, "wait": call.wait, "max": call.max}
     return {**members, **{name: value for name, value in more.items() if value is not None}}
 

@@ -1,11 +1,13 @@
 """The judge of crowds: what must hold of all that their clients were told, and of what one client took behind them, with no
 word on how the server came to it."""
 from tests.model.account import receipt
+from tests.model.calls import KINDS
 
 # Replies after which an item goes to nobody.
 NOES = ("timedout", "cancelled", "nobody")
-REPLIES = {"put": ("done",), "transfer": ("received", *NOES), "take": ("item", "empty", "timedout", "cancelled"),
-           "drain": ("drained",), "swap": ("swapped", "timedout", "cancelled"), "count": ("counted",), "peek": ("peeked", "empty")}
+# The replies that a call may have, by its word.
+REPLIES = {word: {kind.met, kind.unmet, *(["timedout", "cancelled"] if "wait" in kind.members else [])}
+           for word, kind in KINDS.items()}
 
 
 def crowd_fault(ledger, left):
@@ -41,7 +43,7 @@ def wrong_kinds(ledger, left):
         if told is None:
             if key not in ledger.given_up:
                 return f"{key} has no reply"
-        elif told["reply"] not in (*REPLIES[call["call"]], "cancelled"):
+        elif told["reply"] not in REPLIES[call["call"]] | {"cancelled"}:
             return f"{key} {call} was told {told}"
         elif "item" in told or "texts" in told:
             place = (call["call"] == "swap", call.get("queue", call.get("exchanger")))

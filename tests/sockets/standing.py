@@ -44,7 +44,8 @@ class Replies:
         """A place is open no more."""
         act = self.entries[r].act
         self.open[act.call.side, act.call.at].pop(r)
-        self.waits.pop(act.key.client, None) if act.call.word != "put" else None
+        if not act.call.kind.rests:
+            self.waits.pop(act.key.client, None)
 
     def there(self, side, at):
         """The open places of a side, oldest first."""
@@ -53,20 +54,18 @@ class Replies:
     def arrive(self, place, act, partners):
         """A request is settled, or its place is open."""
         call = act.call
-        if partners or call.word == "drain":
+        if partners or call.max is not None:
             self.meet_all(act, partners)
         elif call.side == "looking":
             self.made[act.key] = self.look(call)
-        elif call.word == "put":
-            self.made[act.key] = {"reply": "done"}
+        elif call.kind.rests:
+            self.made[act.key] = {"reply": call.kind.unmet}
             self.there(call.side, call.at)[place] = True
         elif stays(call):
             self.there(call.side, call.at)[place] = True
             self.waits[act.key.client] = place
         else:
-            word = {"transfer": "nobody",
-                    "take": "empty"}.get(call.word) if call.wait == "now" else "timedout"
-            self.made[act.key] = {"reply": word}
+            self.made[act.key] = {"reply": call.kind.unmet if call.wait == "now" else "timedout"}
 
     def meet_all(self, act, partners):
         """A request meets its partners, of which a drain may have none."""
@@ -78,15 +77,15 @@ class Replies:
 
     def meet(self, act, others):
         """What a request is told that met others."""
-        items, word = [other.call.item for other in others], act.call.word
-        if word == "drain":
-            self.made[act.key] = {"reply": "drained", "texts": items}
-        elif word == "transfer":
-            self.made[act.key] = {"reply": "received", **self.named(act.key.client, others[0].key)}
-        elif word == "put":
-            self.made[act.key] = {"reply": "done"}
-        else:
-            self.made[act.key] = {"reply": "item" if word == "take" else "swapped", "item": items[0]}
+        items, kind = [other.call.item for other in others], act.call.kind
+        more = {}
+        if "max" in kind.members:
+            more = {"texts": items}
+        elif kind.side != "giving":
+            more = {"item": items[0]}
+        elif not kind.rests:
+            more = self.named(act.key.client, others[0].key)
+        self.made[act.key] = {"reply": kind.met, **more}
 
     def named(self, client, taker):
         """The consumer's key, as a client's session is told it."""

@@ -3,6 +3,7 @@ import collections
 import heapq
 import json
 
+from tests.model.calls import KINDS
 from tools.drawing.picture import BAD, FAINT, INK, PALE, Picture
 from tools.drawing.words import hello_words, item_words, place_words
 
@@ -10,7 +11,16 @@ LEFT, TOP, ROW = 110, 50, 60
 # How wide a column is; where there are more columns than have words, all of them together are so wide.
 COLUMN, WORDY, WIDE = 76, 200, 15_200
 COLOURS = {"giving": "#2a7f62", "taking": "#3b6ea5", "exchanging": "#8e5ea2", "looking": FAINT}
-SIDES = {"put": "giving", "transfer": "giving", "take": "taking", "drain": "taking", "swap": "exchanging"}
+
+
+def side_of(act):
+    """The side of a request; what is none looks on."""
+    return KINDS[act["call"]].side if "call" in act else "looking"
+
+
+def colour_of(act):
+    """The colour of its side."""
+    return COLOURS[side_of(act)]
 
 
 class Entry:
@@ -30,11 +40,15 @@ class Entry:
     def stays(self):
         """Whether its item or its client may be there behind it."""
         waits = self.act.get("wait") not in (None, "now", 0)
-        return self.act["kind"] == "request" and not self.partners and (waits or self.act["call"] == "put")
+        return self.act["kind"] == "request" and not self.partners and (waits or self.rests())
+
+    def rests(self):
+        """Whether its item may be met behind its reply, as a put's."""
+        return "call" in self.act and KINDS[self.act["call"]].rests
 
     def colour(self):
         """The colour of its side."""
-        return COLOURS[SIDES.get(self.act.get("call"), "looking")]
+        return colour_of(self.act)
 
 
 class Ends:
@@ -61,7 +75,7 @@ class Ends:
     def begin(self, place, entry):
         """A request stays. An item of a put waits for nobody: only who takes it ends it."""
         self.open[place] = entry.act["client"]
-        if entry.act["call"] != "put":
+        if not entry.rests():
             self.waiting[entry.act["client"]].add(place)
         if entry.limit() is not None:
             heapq.heappush(self.limits, (entry.limit(), place))
@@ -164,7 +178,7 @@ def write_entry(picture, act, at, wordy):
     """What an entry says, above its dot, and below it where it acts."""
     if not wordy:
         return
-    colour = COLOURS[SIDES.get(act.get("call"), "looking")]
+    colour = colour_of(act)
     if act["kind"] != "request":
         words = "cancel" if act["kind"] == "cancel" else hello_words(act["incarnation"], act.get("version"))
         picture.text((at[0], at[1] - 12), words, FAINT, "middle", 10)
@@ -180,7 +194,7 @@ def draw_meeting(picture, entries, pair, x, rows):
     act, other = (entries[place].act for place in pair)
     if "client" not in other:
         return
-    giver, taker = (other, act) if SIDES.get(act.get("call")) == "taking" else (act, other)
+    giver, taker = (other, act) if side_of(act) == "taking" else (act, other)
     ends = tuple((x, rows[one["client"]]) for one in (giver, taker))
     picture.line(ends, INK, arrow="both" if act.get("call") == "swap" else "end", width=2)
 
