@@ -189,24 +189,35 @@ def receipts():
              [line], [b"unsettled 1"], [SECOND, ask], speak=2)
 
 
-def cut(name, answer):
-    """A server that sends a part of a frame to a hello, and closes."""
+@contextlib.contextmanager
+def one_client(answer):
+    """A server for one connection, which `answer` is called with; its address."""
     listener = socket.create_server(("127.0.0.1", 0))
     listener.settimeout(PATIENCE)
 
     def serve():
-        """Answers the one hello."""
+        """Accepts it, and closes it behind the answer."""
         with listener:
             connection, _ = listener.accept()
         connection.settimeout(PATIENCE)
         with connection:
-            connection.recv(4_098)
-            connection.sendall(answer)
+            answer(connection)
 
     thread = threading.Thread(target=serve)
     thread.start()
-    ran = run(call_words("127.0.0.1:%d" % listener.getsockname()[1]), input=TAKE_LINE)
+    yield "127.0.0.1:%d" % listener.getsockname()[1]
     thread.join(PATIENCE)
+
+
+def cut(name, answer):
+    """A server that sends a part of a frame to a hello, and closes."""
+    def serve(connection):
+        """Answers the one hello."""
+        connection.recv(4_098)
+        connection.sendall(answer)
+
+    with one_client(serve) as address:
+        ran = run(call_words(address), input=TAKE_LINE)
     judge(name, ran, (b"not welcome\n", b"", 1))
 
 
@@ -242,15 +253,10 @@ def drains():
 def printed_at_once():
     """A line is printed as soon as it is settled: it is there before the next request is answered."""
     released = threading.Event()
-    listener = socket.create_server(("127.0.0.1", 0))
-    listener.settimeout(PATIENCE)
 
-    def serve():
+    def serve(connection):
         """Answers the hello and the first take, and the second once it is released."""
-        with listener:
-            connection, _ = listener.accept()
-        connection.settimeout(PATIENCE)
-        with connection, connection.makefile("rb") as source:
+        with connection.makefile("rb") as source:
             for answer in [WELCOME, item(b"a"), item(b"b", 2)]:
                 source.read(int.from_bytes(source.read(2), "big"))
                 if answer == item(b"b", 2):
@@ -258,10 +264,8 @@ def printed_at_once():
                 connection.sendall(frame(answer))
             source.read(1)
 
-    thread = threading.Thread(target=serve)
-    thread.start()
-    words = [PROGRAM, *call_words("127.0.0.1:%d" % listener.getsockname()[1])]
-    with subprocess.Popen(words, stdin=subprocess.PIPE, stdout=subprocess.PIPE) as ran:
+    with one_client(serve) as address, subprocess.Popen(
+            [PROGRAM, *call_words(address)], stdin=subprocess.PIPE, stdout=subprocess.PIPE) as ran:
         ran.stdin.write(TAKE_LINE + b"\n" + TAKE_LINE)
         ran.stdin.close()
         timer = threading.Timer(PATIENCE, ran.kill)
@@ -270,7 +274,6 @@ def printed_at_once():
         released.set()
         rest = ran.stdout.read()
         timer.cancel()
-    thread.join(PATIENCE)
     wanted = item(b"a") + b"\n", item(b"b", 2) + b"\n", 0
     judge("a line that is printed at once", (first, rest, ran.returncode), wanted)
 
