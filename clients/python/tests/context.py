@@ -5,9 +5,11 @@ import functools
 import os
 import pathlib
 import sys
+import tempfile
 import time
 import types
 import unittest
+from unittest import mock
 
 sys.path.insert(0, str(pathlib.Path(__file__).resolve().parent.parent / "src"))
 import rendezvous as rv  # noqa: E402
@@ -64,6 +66,16 @@ class Case(unittest.TestCase):
 def session(server, **more):
     """A session of client 1, incarnation 1. It waits long, so that a slow machine does not have it ask once more."""
     return rv.Session(server.address, 1, 1, **{"patience": PATIENCE, "answer": PATIENCE / 2, **more})
+
+
+@contextlib.contextmanager
+def leasing(**environment):
+    """In the block numbers are leased in a new folder, which it is given, and from the first 1,024 where the environment has no
+    other range."""
+    with tempfile.TemporaryDirectory(prefix="rv-leases-") as name, mock.patch.dict(os.environ):
+        os.environ.pop("RV_CLIENTS", None)
+        os.environ.update({"XDG_RUNTIME_DIR": name, **environment})
+        yield pathlib.Path(name, "rendezvous")
 
 
 def key(number, epoch=1):

@@ -4,7 +4,7 @@ Programs hand items to each other, and learn whether they were taken:
 
     from rendezvous import Session
 
-    with Session("127.0.0.1:7411", client=1, incarnation=1) as session:
+    with Session("127.0.0.1:7411") as session:
         receipt = session.transfer(3, "a")  # waits until a consumer was assigned the item
         print(receipt.by)                   # the key of that consumer's request
 
@@ -13,12 +13,12 @@ returns a guess: what is not known is an exception with the request's key, and `
 request again.
 """
 from .errors import (
-    Cancelled, EpochEnded, Full, Interrupted, Misused, NotAsked, Refused, RendezvousError, Replaced, TimedOut,
+    AllLeased, Cancelled, EpochEnded, Full, Interrupted, Misused, NotAsked, Refused, RendezvousError, Replaced, TimedOut,
     Unsettled)
 from .replies import Counted, Key, Outcome, Receipt
 from .session import Running, Session
 
 __all__ = [
-    "Cancelled", "Counted", "EpochEnded", "Full", "Interrupted", "Key", "Misused", "NotAsked", "Outcome", "Receipt",
+    "AllLeased", "Cancelled", "Counted", "EpochEnded", "Full", "Interrupted", "Key", "Misused", "NotAsked", "Outcome", "Receipt",
     "Refused", "RendezvousError", "Replaced", "Running", "Session", "TimedOut", "Unsettled",
 ]

@@ -19,6 +19,7 @@ from typing import Optional, Tuple
 from . import machine as m
 from .bodies import Members, NoAnswer
 from .errors import Misused
+from .leases import Name
 from .link import Link
 from .replies import Outcome
 
@@ -81,10 +82,11 @@ class Job:
 
 class Driver:
     """The thread of one session. `machine` is replaced by one assignment a step, here alone. `last` is the outcome of the
-    last request that was settled."""
+    last request that was settled. Its name is given back once nothing is done in that name any more."""
 
-    def __init__(self, address: Tuple[str, int], machine: m.Machine, answer: float) -> None:
-        self.address, self.machine, self.answer = address, machine, answer
+    def __init__(self, address: Tuple[str, int], name: Name, version: int, answer: float) -> None:
+        self.address, self.name, self.answer = address, name, answer
+        self.machine = m.Machine(name.client, name.incarnation, version)
         self.last: Optional[Outcome] = None
         self.closing = self.gone = False
         self._process = os.getpid()
@@ -132,6 +134,7 @@ class Driver:
             self._hang_up()
             self._leave()
             self._selector.close()
+            self.name.close()
             self.ended.release()
 
     def _leave(self) -> None:

@@ -6,7 +6,7 @@ from typing import Any, Optional
 from .replies import Key, Outcome
 
 __all__ = [
-    "Cancelled", "EpochEnded", "Full", "Interrupted", "Misused", "NotAsked", "Refused", "RendezvousError", "Replaced",
+    "AllLeased", "Cancelled", "EpochEnded", "Full", "Interrupted", "Misused", "NotAsked", "Refused", "RendezvousError", "Replaced",
     "TimedOut", "Unsettled",
 ]
 
@@ -53,6 +53,18 @@ class NotAsked(RendezvousError):
 
     def words(self) -> str:
         return f"nothing was asked: {self.why}" if self.why else "nothing was asked"
+
+
+class AllLeased(RendezvousError):
+    """No client number was free: each from `first` to `last` is leased in `folder`, by sessions of this user that were not
+    closed yet. Nothing was asked."""
+
+    def __init__(self, key: Optional[Key], first: int, last: int, folder: str) -> None:
+        super().__init__(key, first, last, folder)
+        self.first, self.last, self.folder = first, last, folder
+
+    def words(self) -> str:
+        return f"all client numbers {self.first} to {self.last} of {self.folder} are leased"
 
 
 class Full(RendezvousError):

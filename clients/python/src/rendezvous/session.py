@@ -8,9 +8,10 @@ import weakref
 from typing import Callable, List, NoReturn, Optional, Tuple, TypeVar, cast
 
 from . import errors, machine as m, replies
-from .bodies import GREATEST, GREATEST_VERSION, Members, is_whole
+from .bodies import GREATEST_VERSION, Members, is_whole
 from .calls import Wait, checked, made
 from .driver import Driver, Job
+from .leases import Name, name_of
 from .link import Address, address_of
 from .replies import Counted, Key, Outcome, Receipt
 
@@ -38,8 +39,13 @@ class Running:
 class Session:
     """One client in one incarnation: it asks one request at a time, and is used by one thread at a time.
 
-    `client` is a number that no other process has, `incarnation` one above each that this client was started
-    with. `version` is what the session speaks: in version 2 a receipt names the consumer, in version 1, which
+    `client` is a number that no other process has, and `incarnation` one above each that this client was started
+    with: left out, it is this moment, in milliseconds. Without a client number the least free one of `clients` is leased,
+    until the session is closed; a lease counts among the programs of one user on one host, so each host has a range of its
+    own. The range is `clients`, or what the environment says in RV_CLIENTS (as 1-512), or 1 to 1,024. `AllLeased` where
+    none is free.
+
+    `version` is what the session speaks: in version 2 a receipt names the consumer, in version 1, which
     each server knows, it does not. `patience` is for how many seconds a call goes on while nothing at all is
     heard; None is for ever. `answer` is for how many seconds it waits for one answer before it throws the
     connection away.
@@ -47,14 +53,13 @@ class Session:
     A call with a time of its own ends within that and a second, also where the server is silent or away.
     """
 
-    def __init__(self, address: Address, client: int, incarnation: int, *, version: int = GREATEST_VERSION,
-                 patience: Optional[float] = 60.0, answer: float = 30.0) -> None:
-        for name, number in (("client", client), ("incarnation", incarnation)):
-            checked(is_whole(number, 1, GREATEST), f"the {name} is 1 to {GREATEST}: {number!r}")
+    def __init__(self, address: Address, client: Optional[int] = None, incarnation: Optional[int] = None, *,
+                 clients: Optional[range] = None, version: int = GREATEST_VERSION, patience: Optional[float] = 60.0,
+                 answer: float = 30.0) -> None:
         checked(is_whole(version, 1, GREATEST_VERSION), f"the version is 1 to {GREATEST_VERSION}: {version!r}")
         self.address, self.patience = address_of(address), patience
         self._process = os.getpid()
-        self._driver = Driver(self.address, m.Machine(client, incarnation, version), answer)
+        self._driver = driver_of(self.address, name_of(client, incarnation, clients), version, answer)
         # The job that runs, or that its caller left: setdefault and pop are single steps.
         self._jobs: "dict[str, Job]" = {}
         self._closes = weakref.finalize(self, self._driver.close)
@@ -71,11 +76,21 @@ class Session:
         self._told(self._job(None, None), nothing)
 
     def close(self) -> None:
-        """Closes the connection, for good, and ends the call that runs. An unsettled request goes on standing, until a
-        greater incarnation says hello."""
+        """Closes the connection, for good, ends the call that runs, and gives a leased number back. An unsettled request goes on
+        standing, until a greater incarnation says hello, as the next session does that leases the number."""
         self._driver.close()
         if os.getpid() == self._process and self._driver.ended.acquire(timeout=1.0):
             self._driver.ended.release()
+
+    @property
+    def client(self) -> int:
+        """The session's client number."""
+        return self._driver.name.client
+
+    @property
+    def incarnation(self) -> int:
+        """The start of that client which this session is."""
+        return self._driver.name.incarnation
 
     @property
     def epoch(self) -> Optional[int]:
@@ -208,6 +223,15 @@ class Session:
             key = outcome.key if outcome else fault.key if fault else None
             raise errors.Interrupted(key, outcome, fault) from None
         raise thrown
+
+
+def driver_of(address: Tuple[str, int], name: Name, version: int, answer: float) -> Driver:
+    """The driver of a new session, which gives its name back at its end."""
+    try:
+        return Driver(address, name, version, answer)
+    except BaseException:
+        name.close()
+        raise
 
 
 # ---- what a job's end is to its caller
