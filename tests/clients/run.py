@@ -19,7 +19,7 @@ from tests.clients import (  # noqa: E402
     table_cases, wrong_clients)
 from tests.sockets.wire import Wrong  # noqa: E402
 
-# How many cases of Java run at once.
+# How many cases that mostly wait run at once.
 AT_ONCE = 4
 
 
@@ -78,13 +78,9 @@ def run(program, asked, count):
     """Runs all cases."""
     for case in table_cases.CASES + table_cases.WITH_PROGRAM:
         count.run(case, program)
-    count.run_all("python tests", python_tests.counted)
+    run_python(count)
     for case in long_waits.CASES + interrupted_judged.CASES:
         count.run(case)
-    if installed.missing():
-        print(f"pip was left out: {installed.missing()}", flush=True)
-    else:
-        count.run(installed.pip_installs_it)
     lacking = java.missing()
     if lacking:
         print(f"Java was left out: {lacking}", flush=True)
@@ -103,6 +99,19 @@ def run(program, asked, count):
     else:
         for case in browser.CASES:
             count.run(case, program)
+
+
+def run_python(count):
+    """Runs the Python client's own tests, and what its package goes through, side by side: most of them wait."""
+    for tool in filter(installed.missing, installed.CASES):
+        print(f"{tool} was left out: {installed.missing(tool)}", flush=True)
+    found = [case for tool, cases in installed.CASES.items() if not installed.missing(tool) for case in cases]
+    with concurrent.futures.ThreadPoolExecutor(AT_ONCE) as pool:
+        tests = pool.submit(lambda: python_tests.counted() if count.wants("python tests") else None)
+        tried = [(name_of(case), pool.submit(case)) for case in found if count.wants(name_of(case))]
+        for name, one in tried:
+            count.judge(name, one.result)
+        count.run_all("python tests", tests.result)
 
 
 def run_java(count):
