@@ -5,8 +5,10 @@ from tests.clients.wrong import (
     ANY_REPLY, LAST_OUTCOME, ANY_CALL, Edit, WrongClient)
 
 PACKAGE, TESTS = "clients/python/src/rendezvous", "clients/python/tests"
-MACHINE, SESSION, BODIES, CALLS, REPLIES, LINK, DRIVER, ERRORS = (
-    f"{PACKAGE}/{name}.py" for name in ("machine", "session", "bodies", "calls", "replies", "link", "driver", "errors"))
+MACHINE, SESSION, BODIES, CALLS, REPLIES, LINK, DRIVER, ERRORS, COURSE, ENDINGS, LEASES, UNCLAIMED, AIO, STREAM = (
+    f"{PACKAGE}/{name}.py" for name in (
+        "machine", "session", "bodies", "calls", "replies", "link", "driver", "errors", "course", "endings", "leases", "unclaimed",
+        "aio", "stream"))
 # Where a link was lost, and what goes on to another number there.
 LOST = "            self._failed()\n            return None\n"
 SKIP = ("            key = self.machine.key\n            if key and %s:\n"
@@ -17,16 +19,16 @@ IN_PYTHON = [
     WrongClient(ANOTHER_NUMBER, "test_refusals.Repeats.test_repeats_until_it_is_told", [
         Edit(MACHINE, "if key_of(reply) != key or", "if key_of(reply)[:3] != key[:3] or")]),
     WrongClient(NEW_KEY, "test_refusals.Repeats.test_repeats_until_it_is_told", [
-        Edit(DRIVER, LOST, SKIP % "self.machine.sent" + LOST)]),
+        Edit(COURSE, LOST, SKIP % "self.machine.sent" + LOST)]),
     WrongClient(NEW_KEY + " in a drain", "test_calls.Drains.test_a_drain_is_asked_under_one_key", [
-        Edit(DRIVER, LOST, SKIP % CALL_IS + LOST)]),
+        Edit(COURSE, LOST, SKIP % CALL_IS + LOST)]),
     WrongClient(OTHER_EPOCH, "test_refusals.Repeats.test_refusals_that_are_not_its_own", [
         Edit(MACHINE, 'if refusal["current"] <= machine.key.epoch:', 'if refusal["current"] < machine.key.epoch:')]),
     WrongClient(NOBODY, "test_calls.Calls.test_each_call", [
-        Edit(SESSION, "return outcome if isinstance(outcome, Receipt) else None",
+        Edit(ENDINGS, "return outcome if isinstance(outcome, Receipt) else None",
              "return outcome if isinstance(outcome, (Receipt, replies.TimedOut)) else None")]),
     WrongClient(NEWEST_FIRST, "test_calls.Calls.test_each_call", [
-        Edit(SESSION, "outcome).items)", "outcome).items)[::-1]")]),
+        Edit(ENDINGS, "outcome).items)", "outcome).items)[::-1]")]),
     WrongClient(TOO_MANY, "test_calls.Drains.test_a_drain_is_asked_under_one_key", [
         Edit(BODIES, "len(value) <= GREATEST_DRAIN", "len(value) <= GREATEST_DRAIN + 1"),
         Edit(MACHINE, 'machine.call.get("max", 0)', 'machine.call.get("max", 0) + 1')]),
@@ -66,7 +68,7 @@ IN_PYTHON = [
         Edit(SESSION, "        outcome, fault = known_of(job)\n        self._jobs.pop",
              "        outcome, fault = self.last, None\n        self._jobs.pop")]),
     WrongClient(ANY_CALL, "test_true_words.Cancels.test_a_cancel_names_its_call", [
-        Edit(SESSION, "return None if job is None or job.told is not None else Running(job, self._driver)",
+        Edit(SESSION, "return None if job is None or job.told is not None else Running(job, partial(self._driver.order, job))",
              "return None if job is None or job.told is not None else self"),
     ]),
     WrongClient("loses a cancel in the hello", "test_true_words.Cancels.test_a_cancel_in_the_hello", [
@@ -80,12 +82,12 @@ IN_PYTHON = [
         Edit(SESSION, "        job.give_up(FAREWELL)\n",
              "        self._jobs.clear()\n        raise thrown\n        job.give_up(FAREWELL)\n")]),
     WrongClient("goes on behind its close", "test_true_words.Cancels.test_a_closed_session_takes_nothing", [
-        Edit(DRIVER, "        if self.closing or now >= job.tell_at", "        if now >= job.tell_at")]),
+        Edit(COURSE, "        if self.closing or now >= job.tell_at", "        if now >= job.tell_at")]),
     WrongClient("lets its patience outlast a call's own time", "test_times.OwnTimes.test_a_short_poll", [
-        Edit(DRIVER, "return min(moment, job.tell_at, cancels,", "return min(moment, cancels,"),
-        Edit(DRIVER, "now >= job.tell_at or", "False or")]),
+        Edit(COURSE, "return min(moment, job.tell_at, cancels,", "return min(moment, cancels,"),
+        Edit(COURSE, "now >= job.tell_at or", "False or")]),
     WrongClient("tells a put that its own time cancelled as done", "test_times.OwnTimes.test_a_put_that_is_late", [
-        Edit(SESSION, "    late = waits and not job", "    late = not job")]),
+        Edit(ENDINGS, "    late = waits and not job", "    late = not job")]),
     WrongClient("asks on in a forked process", "test_processes.Forks.test_a_child_asks_nothing", [
         Edit(SESSION, "        if os.getpid() != self._process:\n            raise",
              "        if False:\n            raise")]),
@@ -96,4 +98,47 @@ IN_PYTHON = [
                     Edit(LINK, "        if not self.connected:\n            return False\n        try:\n            return",
                          "        return False\n        try:\n            return"),
                     Edit(DRIVER, "            if self._wait(FOREVER):\n", "            if self._wait(FOREVER) and False:\n")]),
+    WrongClient("leases a number that another program has", "test_leases.Programs.test_another_program", [
+        Edit(LEASES, "            fcntl.lockf(file, fcntl.LOCK_EX | fcntl.LOCK_NB)\n", "            pass\n")]),
+    WrongClient("opens the file of a number twice", "test_leases.Programs.test_a_lease_outlasts_others_of_its_process", [
+        Edit(LEASES, "LEASES.setdefault(lease.place, lease) is lease and lease", "lease")]),
+    WrongClient("keeps the files of its parent in a forked process", "test_leases.Programs.test_a_number_that_outlives_its_parent", [
+        Edit(LEASES, "    for lease in LEASES.values():\n        lease.drop()\n    LEASES", "    LEASES")]),
+    WrongClient("leases by the clock alone", "test_leases.Incarnations.test_a_clock_that_stands_or_goes_back", [
+        Edit(LEASES, "max(now(), 1 + greatest_leased(path, os.pread(file, 64, 0)))", "now()")]),
+    WrongClient("says its hello before its incarnation is written", "test_leases.Incarnations.test_it_is_written_before_it_is_used", [
+        Edit(LEASES, "        text = b\"%d\\n\" % self.incarnation\n", "        text = b\"\"\n")]),
+    WrongClient("gives no number back", "test_leases.Numbers.test_short_sessions_one_after_another", [
+        Edit(DRIVER, "            self.name.close()\n", "")]),
+    WrongClient("leases where others may write", "test_leases.Folders.test_folders_that_are_refused", [
+        Edit(LEASES, " or told.st_mode & (stat.S_IWGRP | stat.S_IWOTH):", ":")]),
+    WrongClient("takes a wrong range for none", "test_leases.Ranges.test_wrong_variables", [
+        Edit(LEASES, "return range_told(os.environ[VARIABLE]) if VARIABLE in os.environ else CLIENTS",
+             "return range_told(os.environ[VARIABLE]) if os.environ.get(VARIABLE) else CLIENTS")]),
+    WrongClient("drops the item of a call that a handler's exception ended", "test_items.Unclaimed", [
+        Edit(SESSION, "                self._shelf.keep(job)\n", "                pass\n")]),
+    WrongClient("takes on behind a cancel that came late", "test_items.Loops.test_a_cancel_ends_its_take", [
+        Edit(SESSION, "self._stopped = self._stopped or job.cancelled\n            return", "return")]),
+    WrongClient("loses a cancel between two takes", "test_items.Loops.test_a_cancel_between_two_takes", [
+        Edit(SESSION, "return running is not None and running.cancel() or loop is not None and loop.stop()",
+             "return running is not None and running.cancel()")]),
+    WrongClient("loses a cancel as a take begins", "test_items.Loops.test_a_cancel_at_each_line", [
+        Edit(SESSION, "        if job is not None and not job.over:\n            job.cancelled", "        if False:\n            job.cancelled")]),
+    WrongClient("drops the item of a cancelled task", "test_aio.Cancels.test_the_next_take_gives_it", [
+        Edit(AIO, "        await left.to_its_end()\n        self._shelf.keep(left.job)\n", "        await left.to_its_end()\n"),
+        Edit(AIO, "        if self._left is not None:\n            self._shelf.keep(self._left.job)\n\n    def _has_room", "    def _has_room")]),
+    WrongClient("gives an unclaimed item twice", "test_aio.Cancels.test_at_each_step_of_the_event_loop", [
+        Edit(UNCLAIMED, "            self._kept.pop(place, None)\n            return", "            return")]),
+    WrongClient("throws away an answer that has come with the cancel", "test_aio.Cancels.test_an_answer_that_is_here", [
+        Edit(AIO, "        if self._course.has_news():\n            under_way.go_on(True)\n", "")]),
+    WrongClient("asks on before a cancelled request is settled", "test_aio.Cancels.test_the_next_call_waits_for_it", [
+        Edit(AIO, "            await self._settled(job)\n", "")]),
+    WrongClient("cancels nothing for a cancelled task", "test_aio.Cancels.test_it_goes_on_at_once", [
+        Edit(AIO, "            self._settling = self._event_loop.create_task(self._settle(under_way))\n", "            pass\n")]),
+    WrongClient("has two tasks ask at once", "test_aio.Tasks.test_a_second_task", [
+        Edit(AIO, "        if self._job is not None:\n            raise", "        if False:\n            raise")]),
+    WrongClient("closes before a cancelled request is settled", "test_aio.Tasks.test_a_block_that_is_left_by_a_timeout", [
+        Edit(AIO, "                await self._left.to_its_end()\n", "                pass\n")]),
+    WrongClient("waits in its close as long as for an answer", "test_aio.Tasks.test_a_close_beside_a_silent_server", [
+        Edit(AIO, "                self._left.job.give_up(FAREWELL)\n", "")]),
 ]

@@ -54,8 +54,8 @@ class Thrown:
 class Script:
     """A call, how the server meets it, and what is done beforehand and when its request was heard."""
 
-    def __init__(self, call, met, at_cancel=None, left=False, hears=None):
-        self.call, self.met, self.at_cancel, self.left, self.hears = call, met, at_cancel, left, hears
+    def __init__(self, call, met, at_cancel=None, left=False, hears=None, gives=None):
+        self.call, self.met, self.at_cancel, self.left, self.hears, self.gives = call, met, at_cancel, left, hears, gives
 
 
 class Untouched(Case):
@@ -102,6 +102,9 @@ SCRIPTS = {
     "exchange, late": Script(lambda one: one.exchange(3, "a", 60), named("timedout")),
     "count": Script(lambda one: one.count(3), counted),
     "peek": Script(lambda one: one.peek(3), named("peeked")),
+    "items": Script(lambda one: next(one.items(3)), named("item")),
+    "items, cancelled": Script(lambda one: list(one.items(3)), waits, hears=cancels, gives=[]),
+    "items, met at its cancel": Script(lambda one: next(one.items(3)), waits, named("item"), hears=cancels),
     "again": Script(lambda one: one.again(), waits, left=True, hears=cancels),
     "give_up": Script(lambda one: one.give_up(), waits, named("item"), left=True),
 }
@@ -164,6 +167,7 @@ class Run:
         """What was told is true, the session tells the rest, and it goes on."""
         self.session_says()
         outcome, why = outcome_in(fault)
+        self.keeps(outcome is None and type(fault) in KINDS, twice)
         self.told += [outcome] if outcome else []
         if isinstance(raised_by(lambda: self.session.count(1)), rv.Misused):
             self.left_over(twice)
@@ -180,6 +184,14 @@ class Run:
         elif why is not None:
             is_same((type(why), why.key.number), (rv.Unsettled, 2))
         is_same(self.told, [outcome_of(reply)] * len(self.told) if reply else [])
+
+    def keeps(self, untold, twice):
+        """What the request took stands in the session where an exception came that doesn't tell it, and else not."""
+        kept, reply = [one.item for one in self.session.unclaimed()], self.account.own_reply(2)
+        took = reply.get("texts", [reply["item"]] if "item" in reply else []) if reply and reply["reply"] != "peeked" else []
+        settled = self.session.last.key.number == 2 and "job" not in self.session._jobs
+        wanted = took if untold and settled else []
+        self.test.assertTrue(kept == wanted or twice and untold and not kept, f"{kept} of {took}")
 
     def session_says(self):
         """What the session has as its last outcome counts as told, where it is the request's."""
@@ -203,6 +215,8 @@ class Run:
 
     def result_of(self, reply):
         """What the call gives for a reply."""
+        if self.script.gives is not None:
+            return self.script.gives
         if self.script.left:
             return outcome_of(reply)
         if reply["reply"] in NOTHING:

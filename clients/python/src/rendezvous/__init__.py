@@ -15,10 +15,12 @@ request again.
 from .errors import (
     AllLeased, Cancelled, EpochEnded, Full, Interrupted, Misused, NotAsked, Refused, RendezvousError, Replaced, TimedOut,
     Unsettled)
+from .course import Running
 from .replies import Counted, Key, Outcome, Receipt
-from .session import Running, Session
+from .session import Items, Session
+from .unclaimed import Unclaimed
 
 __all__ = [
-    "AllLeased", "Cancelled", "Counted", "EpochEnded", "Full", "Interrupted", "Key", "Misused", "NotAsked", "Outcome", "Receipt",
-    "Refused", "RendezvousError", "Replaced", "Running", "Session", "TimedOut", "Unsettled",
+    "AllLeased", "Cancelled", "Counted", "EpochEnded", "Full", "Interrupted", "Items", "Key", "Misused", "NotAsked", "Outcome", "Receipt",
+    "Refused", "RendezvousError", "Replaced", "Running", "Session", "TimedOut", "Unclaimed", "Unsettled",
 ]

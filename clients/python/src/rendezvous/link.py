@@ -39,6 +39,38 @@ def ways_to(address: Tuple[str, int]) -> List[Any]:
         raise OSError(fault.errno, f"{named(address)}: {str(fault.strerror).lower()}") from fault
 
 
+def frame_of(members: Members) -> bytes:
+    """A message, as it is sent: its body behind its length."""
+    body = body_of(members)
+    return struct.pack(">H", len(body)) + body
+
+
+class Inbox:
+    """What came in, in pieces, of which answers are made."""
+
+    def __init__(self) -> None:
+        self._came = b""
+
+    def __bool__(self) -> bool:
+        return bool(self._came)
+
+    def add(self, piece: bytes) -> None:
+        """The next piece."""
+        self._came += piece
+
+    def taken(self) -> Optional[Members]:
+        """The first answer, if it is whole."""
+        if len(self._came) < 2:
+            return None
+        end = 2 + struct.unpack(">H", self._came[:2])[0]
+        if end == 2:
+            raise NoAnswer("a frame of 0 bytes")
+        if len(self._came) < end:
+            return None
+        body, self._came = self._came[2:end], self._came[end:]
+        return read_answer(body)
+
+
 class Link:
     """A connection to the server. It is being made until `connected`; then it takes a message, and gives its answer. `used`
     tells whether something was said there.
@@ -47,7 +79,7 @@ class Link:
     def __init__(self, address: Tuple[str, int]) -> None:
         self.address, self.connected, self.used = address, False, False
         self._ways = ways_to(address)
-        self._out, self._in = b"", b""
+        self._out, self._inbox = b"", Inbox()
         self.socket = self._begin()
 
     def _begin(self) -> socket.socket:
@@ -96,8 +128,7 @@ class Link:
     def say(self, members: Members) -> None:
         """Begins to send a message."""
         self.used = True
-        body = body_of(members)
-        self._out = struct.pack(">H", len(body)) + body
+        self._out = frame_of(members)
         self._write()
 
     def _write(self) -> None:
@@ -115,27 +146,15 @@ class Link:
             return None
         if not piece:
             raise NoAnswer("the connection ended")
-        self._in += piece
-        return self._taken()
-
-    def _taken(self) -> Optional[Members]:
-        """The first answer of what was read, if it is whole."""
-        if len(self._in) < 2:
-            return None
-        end = 2 + struct.unpack(">H", self._in[:2])[0]
-        if end == 2:
-            raise NoAnswer("a frame of 0 bytes")
-        if len(self._in) < end:
-            return None
-        body, self._in = self._in[2:end], self._in[end:]
-        return read_answer(body)
+        self._inbox.add(piece)
+        return self._inbox.taken()
 
     def is_stale(self) -> bool:
         """Whether something is there though nothing is awaited: the peer's end, or an answer to nothing."""
         if not self.connected:
             return False
         try:
-            return bool(self._in) or self.socket.recv(1, socket.MSG_PEEK) is not None
+            return bool(self._inbox) or self.socket.recv(1, socket.MSG_PEEK) is not None
         except (BlockingIOError, InterruptedError):
             return False
         except OSError:

@@ -3,37 +3,24 @@ from __future__ import annotations
 
 import os
 import threading
-import time
 import weakref
-from typing import Callable, List, NoReturn, Optional, Tuple, TypeVar, cast
+from functools import partial
+from typing import Callable, Iterator, List, NoReturn, Optional, Tuple, cast
 
-from . import errors, machine as m, replies
+from . import errors
 from .bodies import GREATEST_VERSION, Members, is_whole
 from .calls import Wait, checked, made
+from .course import Running
 from .driver import Driver, Job
+from .endings import (
+    Result, counts_of, ending, item_if_any, item_of, items_of, itself, known_of, nothing, receipt_if_any, receipt_of)
 from .leases import Name, name_of
 from .link import Address, address_of
-from .replies import Counted, Key, Outcome, Receipt
+from .replies import Counted, Outcome, Receipt
+from .unclaimed import Shelf, Unclaimed
 
-Result = TypeVar("Result")
 # How many seconds an interrupt leaves for the cancel of its call.
 FAREWELL = 1.0
-
-
-class Running:
-    """A call that runs: it can be cancelled, and no other is."""
-
-    def __init__(self, job: Job, driver: Driver) -> None:
-        self._job, self._driver = job, driver
-
-    def cancel(self) -> bool:
-        """Gives this very call up, from any thread and from a signal's handler; False where it has ended. The call ends by
-        `Cancelled`, or with its result where it was met before."""
-        if self._job.told is not None or self._job.misused:
-            return False
-        self._job.cancelled = self._job.given_up = True
-        self._driver.order(self._job)
-        return True
 
 
 class Session:
@@ -62,6 +49,8 @@ class Session:
         self._driver = driver_of(self.address, name_of(client, incarnation, clients), version, answer)
         # The job that runs, or that its caller left: setdefault and pop are single steps.
         self._jobs: "dict[str, Job]" = {}
+        self._shelf = Shelf()
+        self._loop: "Callable[[], Optional[Items]]" = no_loop
         self._closes = weakref.finalize(self, self._driver.close)
 
     def __enter__(self) -> "Session":
@@ -108,7 +97,7 @@ class Session:
     def running(self) -> Optional[Running]:
         """The call that runs now; None where none does."""
         job = self._jobs.get("job")
-        return None if job is None or job.told is not None else Running(job, self._driver)
+        return None if job is None or job.told is not None else Running(job, partial(self._driver.order, job))
 
     # ---- calls
 
@@ -132,6 +121,12 @@ class Session:
     def poll(self, queue: int, timeout: Optional[float] = None) -> Optional[str]:
         """The oldest item, if one is there or comes within `timeout` seconds; else None."""
         return self._call(made("take", queue, Wait.NOW if timeout is None else timeout), item_if_any, timeout)
+
+    def items(self, queue: int) -> "Items":
+        """The items of a queue, one take behind another, for a loop: it ends where a `cancel()` ends its take, or comes between
+        two takes. An item that was met before the cancel is still given, and the loop ends behind it. What stands in
+        `unclaimed()` for this queue comes first. Whatever else ends a take is raised."""
+        return Items(self, queue)
 
     def drain(self, queue: int, max: int) -> List[str]:
         """Up to `max` of the oldest items, 1 to 16, oldest first; it never waits, so there may be none. They are taken in
@@ -162,10 +157,23 @@ class Session:
         return self._resumed(timeout, True)
 
     def cancel(self) -> bool:
-        """Gives the call up that runs now, from any thread and from a signal's handler; False where there is none. Whoever
-        means one certain call keeps `running`, and cancels that."""
-        running = self.running
-        return running is not None and running.cancel()
+        """Gives the call up that runs now, from any thread and from a signal's handler; where none runs, it ends the loop over
+        `items` that is between two takes. False where there is neither. Whoever means one certain call keeps `running`, and
+        cancels that."""
+        running, loop = self.running, self._loop()
+        return running is not None and running.cancel() or loop is not None and loop.stop()
+
+    # ---- what no call gave
+
+    def unclaimed(self) -> List[Unclaimed]:
+        """The items that requests took and no call gave, oldest first: an exception of a signal's handler came meanwhile, which
+        says nothing of the request. They stay here, also behind `close`, until `claim` or `items` takes them. `Interrupted` and
+        `again` tell an outcome themselves, so that it doesn't stand here."""
+        return self._shelf.listed()
+
+    def claim(self, one: Unclaimed) -> str:
+        """Takes one of `unclaimed()` out, and gives its item. ValueError where it isn't there any more."""
+        return self._shelf.claim(one)
 
     # ---- how a call is asked
 
@@ -175,7 +183,18 @@ class Session:
 
     def _call(self, call: Members, result: Callable[[Outcome], Result], own: Optional[float] = None) -> Result:
         """Asks one call, and gives its result."""
-        return self._told(self._job(call, own), result)
+        return self._given(self._job(call, own), result)
+
+    def _given(self, job: Job, result: Callable[[Outcome], Result]) -> Result:
+        """Has a job done, and gives its result; what it took is kept where an exception that doesn't tell it comes instead."""
+        try:
+            return self._told(job, result)
+        except errors.Interrupted:
+            raise
+        except BaseException:
+            if self._jobs.get("job") is not job:
+                self._shelf.keep(job)
+            raise
 
     def _resumed(self, timeout: Optional[float], gives_up: bool) -> Outcome:
         """Goes on with what is unsettled: a job that its caller left, or the machine's request."""
@@ -186,7 +205,7 @@ class Session:
         job.limit(timeout)
         if gives_up:
             job.cancelled = job.given_up = True
-        return self._told(job, itself)
+        return self._given(job, itself)
 
     def _told(self, job: Job, result: Callable[[Outcome], Result]) -> Result:
         """Has a job done, and gives its result; what is thrown meanwhile is thrown once the request was cancelled."""
@@ -225,6 +244,52 @@ class Session:
         raise thrown
 
 
+class Items(Iterator[str]):
+    """The items of a queue, one take behind another, until a cancel."""
+
+    def __init__(self, session: Session, queue: int) -> None:
+        self._session, self._queue = session, queue
+        self._call = made("take", queue, Wait.FOREVER)
+        self._job: Optional[Job] = None
+        self._stopped = False
+
+    def __next__(self) -> str:
+        session = self._session
+        session._loop = weakref.ref(self)
+        kept = session._shelf.first(self._queue)
+        if kept is not None and not self._stopped:
+            return session._shelf.claim(kept)
+        job = self._job = session._job(self._call, None)
+        # who stops the loop sees the job, or is seen here
+        if self._stopped:
+            raise StopIteration
+
+        def item_met(outcome: Outcome) -> str:
+            self._stopped = self._stopped or job.cancelled
+            return item_of(outcome)
+        try:
+            return session._given(job, item_met)
+        except errors.Cancelled:
+            self._stopped = True
+            raise StopIteration from None
+
+    def stop(self) -> bool:
+        """Ends the loop behind the item that was met, if one was; from any thread and from a signal's handler. False where
+        it has ended."""
+        if self._stopped:
+            return False
+        self._stopped, job = True, self._job
+        if job is not None and not job.over:
+            job.cancelled = job.given_up = True
+            self._session._driver.order(job)
+        return True
+
+
+def no_loop() -> Optional[Items]:
+    """There is no loop over items."""
+    return None
+
+
 def driver_of(address: Tuple[str, int], name: Name, version: int, answer: float) -> Driver:
     """The driver of a new session, which gives its name back at its end."""
     try:
@@ -232,98 +297,3 @@ def driver_of(address: Tuple[str, int], name: Name, version: int, answer: float)
     except BaseException:
         name.close()
         raise
-
-
-# ---- what a job's end is to its caller
-
-def ending(job: Job, result: Callable[[Outcome], Result]) -> Tuple[Optional[Result], Optional[Exception]]:
-    """The result of a job that has ended, or its exception. Whoever asks for the outcome itself gets each of them."""
-    if job.misused:
-        return None, errors.Misused(job.misused)
-    outcome, fault = known_of(job)
-    if outcome is not None and result is not itself:
-        fault = ended_without(job, outcome)
-    return None if outcome is None or fault is not None else result(outcome), fault
-
-
-def ended_without(job: Job, outcome: Outcome) -> Optional[errors.RendezvousError]:
-    """The exception of an outcome that is no result: it was cancelled, or nobody came to the exchanger. A cancel that the
-    call's own time ordered is that nobody came in time, where the call waits for somebody: a put does not."""
-    waits = job.call is not None and "wait" in job.call
-    late = waits and not job.cancelled and time.monotonic() >= job.cancel_at
-    if isinstance(outcome, replies.Cancelled) and not late:
-        return errors.Cancelled(outcome.key)
-    swaps = job.call is not None and job.call["call"] == "swap"
-    return errors.TimedOut(outcome.key) if swaps and not isinstance(outcome, replies.Swapped) else None
-
-
-def known_of(job: Job) -> Tuple[Optional[Outcome], Optional[errors.RendezvousError]]:
-    """The outcome of a job, or the exception that says what is known."""
-    told = job.told
-    if isinstance(told, m.Settled):
-        return told.outcome, None
-    if isinstance(told, m.Unsettled):
-        return None, errors.Unsettled(told.key, told.accepted, job.fault)
-    if isinstance(told, m.NotAsked):
-        return None, errors.Cancelled(None) if job.cancelled else errors.NotAsked(None, job.fault)
-    if isinstance(told, m.Full):
-        return None, errors.Full(told.key)
-    if isinstance(told, m.Refused):
-        return None, errors.Refused(told.key, told.code, told.current, meaning(told))
-    if isinstance(told, m.EpochEnded):
-        return None, errors.EpochEnded(told.key, told.current)
-    if isinstance(told, m.Replaced):
-        return None, errors.Replaced(told.key, told.current)
-    return None, None
-
-
-def meaning(refused: m.Refused) -> str:
-    """What a refusal means, where its name alone doesn't say it."""
-    if refused.code == 12:
-        return f": the client's session in this incarnation speaks {refused.current}"
-    if refused.code == 1 and refused.key is None:
-        return ": a server that knows version 1 alone refuses a hello of version 2"
-    if refused.code in (5, 6, 7):
-        return ": another process uses this client and incarnation"
-    return ""
-
-
-# ---- results
-
-def nothing(_: Outcome) -> None:
-    """What a call gives that only has to end."""
-
-
-def itself(outcome: Outcome) -> Outcome:
-    """What a request that was asked again came to."""
-    return outcome
-
-
-def receipt_if_any(outcome: Outcome) -> Optional[Receipt]:
-    """The receipt of a transfer, where it was received."""
-    return outcome if isinstance(outcome, Receipt) else None
-
-
-def receipt_of(outcome: Outcome) -> Receipt:
-    """The receipt of a transfer that was received."""
-    return cast(Receipt, outcome)
-
-
-def item_if_any(outcome: Outcome) -> Optional[str]:
-    """The item of an outcome that has one."""
-    return outcome.item if isinstance(outcome, (replies.Item, replies.Swapped, replies.Peeked)) else None
-
-
-def item_of(outcome: Outcome) -> str:
-    """The item of a take or of a swap."""
-    return cast(str, item_if_any(outcome))
-
-
-def items_of(outcome: Outcome) -> List[str]:
-    """The items of a drain."""
-    return list(cast(replies.Drained, outcome).items)
-
-
-def counts_of(outcome: Outcome) -> Counted:
-    """What a count told."""
-    return cast(Counted, outcome)

@@ -1,0 +1,286 @@
+"""The course of one call, without a wait of its own: over connections that may break at any time, to an outcome or to what is known.
+
+A course says until when there is nothing to do, and is told whether the connection is ready; a thread and an asyncio task
+can wait for that alike.
+"""
+from __future__ import annotations
+
+import random
+import time
+from typing import Callable, Generator, Optional, Protocol
+
+from . import machine as m
+from .bodies import Members, NoAnswer
+from .errors import Misused
+from .leases import Name
+from .replies import Outcome
+
+# A request whose own time is over is cancelled behind so many seconds, in which the server's own word may still come,
+# and what is known is told behind so many.
+CANCEL_BEHIND, TELL_BEHIND = 0.5, 1.0
+# Pauses before a next try, in seconds: any up to this bound, which doubles each time.
+LEAST_PAUSE, GREATEST_PAUSE = 0.01, 5.0
+FOREVER = float("inf")
+
+# It yields the moment until which it waits, and is sent whether the connection is ready.
+Steps = Generator[float, bool, None]
+Turn = Generator[float, bool, Optional[m.Told]]
+
+
+class Channel(Protocol):
+    """A connection, as a course uses it: it never waits. Every fault of it is an OSError or NoAnswer."""
+
+    @property
+    def connected(self) -> bool:
+        """Whether it has been made."""
+
+    @property
+    def used(self) -> bool:
+        """Whether something was said there."""
+
+    def go_on(self) -> Optional[Members]:
+        """Does what can be done at once, and gives an answer that has come whole."""
+
+    def say(self, members: Members) -> None:
+        """Begins to send a message."""
+
+    def is_stale(self) -> bool:
+        """Whether something is there though nothing is awaited: the peer's end, or an answer to nothing."""
+
+    def close(self) -> None:
+        """Throws it away."""
+
+
+class Job:
+    """One call and what came of it. `call` is None where only the hello is to be said; `resumes` where it goes on with the
+    unsettled request. `own` is the call's own time in seconds. `asked` has the members of the call that it is about."""
+
+    def __init__(self, call: Optional[Members], own: Optional[float], patience: Optional[float], resumes: bool = False) -> None:
+        self.call, self.resumes = call, resumes
+        self.asked = call
+        self.patience = FOREVER if patience is None else patience
+        self.cancel_at = self.tell_at = FOREVER
+        self.limit(own)
+        self.given_up = False
+        self.cancelled = False
+        self.told: Optional[m.Told] = None
+        self.misused = ""
+        self.fault = ""
+
+    @property
+    def over(self) -> bool:
+        """Whether its outcome is there, or it can't be asked."""
+        return self.told is not None or bool(self.misused)
+
+    def end(self, told: m.Told) -> None:
+        """Its outcome is there."""
+        self.told = told
+
+    def refuse(self, why: str) -> None:
+        """It can't be asked."""
+        self.misused = why
+
+    def limit(self, own: Optional[float]) -> None:
+        """From now on it has so many seconds of its own, where it had not fewer."""
+        if own is not None:
+            ends = time.monotonic() + max(0.0, own)
+            self.cancel_at, self.tell_at = min(self.cancel_at, ends + CANCEL_BEHIND), min(self.tell_at, ends + TELL_BEHIND)
+
+    def give_up(self, at_most: float) -> None:
+        """Its caller goes, and waits so many seconds for what is known."""
+        self.tell_at = min(self.tell_at, time.monotonic() + at_most)
+        self.given_up = True
+
+
+class Running:
+    """A call that runs: it can be cancelled, and no other is."""
+
+    def __init__(self, job: Job, look: Callable[[], None]) -> None:
+        self._job, self._look = job, look
+
+    def cancel(self) -> bool:
+        """Gives this very call up, from any thread and from a signal's handler; False where it has ended. The call ends by
+        `Cancelled`, or with its result where it was met before."""
+        if self._job.over:
+            return False
+        self._job.cancelled = self._job.given_up = True
+        self._look()
+        return True
+
+
+class Course:
+    """What one session does. `machine` is replaced by one assignment a step, here alone. `last` is the outcome of the last
+    request that was settled. `closing`: what is known is to be told, and nothing more is to be asked."""
+
+    def __init__(self, name: Name, version: int, answer: float) -> None:
+        self.name, self.answer = name, answer
+        self.machine = m.Machine(name.client, name.incarnation, version)
+        self.last: Optional[Outcome] = None
+        self.closing = False
+        self._link: Optional[Channel] = None
+        self._resume_at = self._answer_by = self._heard_at = 0.0
+        self._bound = LEAST_PAUSE
+
+    # ---- what each kind of course does in its own way
+
+    def _open(self) -> Channel:
+        """Begins to make a connection."""
+        raise NotImplementedError
+
+    def _watch(self) -> None:
+        """What the connection waits for may be another now."""
+
+    def _forget(self, link: Channel) -> None:
+        """A connection is looked at no more."""
+
+    def _take_orders(self) -> None:
+        """Looks at what came while a job runs."""
+
+    # ---- one job
+
+    def steps(self, job: Job) -> Steps:
+        """Does one job, and tells its outcome."""
+        try:
+            told = yield from self._outcome(job)
+        except Misused as misused:
+            job.refuse(str(misused))
+            return
+        except BaseException as fault:
+            self._hang_up()
+            job.fault = job.fault or f"{type(fault).__name__}: {fault}"
+            told = self._step(m.Expire()) or m.NotAsked()
+        if self.machine.flying is not m.Flying.NOTHING:
+            self._hang_up()
+        job.end(told)
+
+    def _outcome(self, job: Job) -> Generator[float, bool, m.Told]:
+        """Begins a job, and goes on until there is something to tell."""
+        if job.resumes and self.machine.state is not m.State.OUTSTANDING:
+            raise Misused("no request is unsettled")
+        if job.call is not None:
+            self._step(m.Ask(job.call))
+        elif not job.resumes and self.machine.state is not m.State.NEW:
+            if self.machine.state is m.State.IDLE:
+                return m.Welcomed()
+            raise Misused("the session has ended, or a request is unsettled")
+        job.asked = self.machine.call
+        self._heard_at, self._resume_at, self._bound = time.monotonic(), 0.0, LEAST_PAUSE
+        told: Optional[m.Told] = None
+        while told is None:
+            told = self._looked(job) or (yield from self._turn(job))
+        return told
+
+    def _looked(self, job: Job) -> Optional[m.Told]:
+        """Looks at orders and times, and gives the request up, or tells what is known, where it is time to."""
+        self._take_orders()
+        now = time.monotonic()
+        if self.closing or now >= job.tell_at or now >= self._heard_at + job.patience:
+            job.fault = "the session was closed" if self.closing else job.fault or "no answer in time"
+            return self._step(m.Expire())
+        if (job.given_up or now >= job.cancel_at) and not self.machine.giving_up:
+            told = self._step(m.GiveUp())
+            if told is None and self.machine.flying is not m.Flying.NOTHING:
+                self._hang_up()
+            self._resume_at = 0.0
+            return told
+        return None
+
+    def _turn(self, job: Job) -> Turn:
+        """One turn with the connection: makes it, speaks, or waits for an answer."""
+        try:
+            return (yield from self._linked(job))
+        except (OSError, NoAnswer) as fault:
+            job.fault = str(fault.args[1] if isinstance(fault, OSError) and len(fault.args) > 1 else fault)
+            self._failed()
+            return None
+
+    def _linked(self, job: Job) -> Turn:
+        """The turn, whose faults are the connection's."""
+        now = time.monotonic()
+        if now < self._resume_at:
+            if (yield self._until(job, self._resume_at)):
+                self._hang_up()
+            return None
+        if self._link is None:
+            self._connect(now)
+        elif self.machine.flying is m.Flying.NOTHING and self._link.connected:
+            self._speak(now)
+        elif now >= self._answer_by:
+            raise NoAnswer(f"no answer within {self.answer:g} seconds")
+        elif (yield self._until(job, self._answer_by)) and self._link is not None:
+            answer = self._link.go_on()
+            self._watch()
+            if answer is not None:
+                return self._hear(answer)
+        return None
+
+    def _connect(self, now: float) -> None:
+        """Begins to make a connection."""
+        self._link, self._answer_by = self._open(), now + self.answer
+        self._watch()
+
+    def _speak(self, now: float) -> None:
+        """Says what is due, over a connection that the peer has not closed meanwhile."""
+        assert self._link is not None
+        if not self._link.is_stale():
+            self._send(m.step(self.machine, m.Speak()), now)
+        elif self._link.used:
+            self._hang_up()
+        else:
+            raise NoAnswer("the connection ended before anything was said")
+
+    def _send(self, made: m.Step, now: float) -> None:
+        """Takes a step that sends a message: it counts as sent before it is."""
+        self.machine = made.machine
+        if made.send is not None and self._link is not None:
+            self._answer_by = now + self.answer
+            self._link.say(made.send)
+            self._watch()
+
+    def _hear(self, answer: Members) -> Optional[m.Told]:
+        """Takes in an answer."""
+        made = m.step(self.machine, m.Hear(answer))
+        if isinstance(made.tell, m.Settled):
+            self.last = made.tell.outcome
+        if made.send is not None:
+            self._heard_at, self._bound = time.monotonic(), LEAST_PAUSE
+            self._send(made, self._heard_at)
+            return made.tell
+        self.machine = made.machine
+        if made.drop:
+            self._hang_up()
+        if made.tell is None:
+            self._pause()
+        return made.tell
+
+    def _step(self, event: m.Event) -> Optional[m.Told]:
+        """Takes a step that sends nothing."""
+        made = m.step(self.machine, event)
+        self.machine = made.machine
+        return made.tell
+
+    # ---- the connection
+
+    def _failed(self) -> None:
+        """The connection is of no more use: the next one is tried a little later."""
+        self._hang_up()
+        self._pause()
+
+    def _pause(self) -> None:
+        """Nothing is tried for a while, which is drawn anew each time: so clients that lost one server don't come back at
+        once."""
+        self._resume_at = time.monotonic() + random.uniform(0, self._bound)
+        self._bound = min(GREATEST_PAUSE, 2 * self._bound)
+
+    def _hang_up(self) -> None:
+        """Throws the connection away; what flew there stays counted."""
+        link, self._link = self._link, None
+        self._step(m.Lose())
+        if link is not None:
+            self._forget(link)
+            link.close()
+
+    def _until(self, job: Job, moment: float) -> float:
+        """The next moment at which something is to be done for a job."""
+        cancels = FOREVER if self.machine.giving_up else job.cancel_at
+        return min(moment, job.tell_at, cancels, self._heard_at + job.patience)
