@@ -421,10 +421,12 @@ def growths():
 
 
 def lengths():
-    """The first page is short."""
-    page = (ROOT / "README.md").read_text()
-    for count, most, what in ((len(page.split("\n")) - 1, README_LINES, "lines"), (len(page.split()), README_WORDS, "words")):
-        check(count <= most, f"README.md has {count} {what}, and may have {most}")
+    """The first page is short, and so is the Python client's."""
+    for name, most in (("README.md", {"lines": README_LINES, "words": README_WORDS}), ("clients/python/README.md", {"words": README_WORDS})):
+        page = (ROOT / name).read_text()
+        counted = {"lines": len(page.split("\n")) - 1, "words": len(page.split())}
+        for what, limit in most.items():
+            check(counted[what] <= limit, f"{name} has {counted[what]} {what}, and may have {limit}")
 
 
 def kit():

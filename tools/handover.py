@@ -46,9 +46,9 @@ def hand_over(program, address):
     print(f"A server:      rv serve {' '.join(options)}")
     running = {"server": begin([program, "serve", *options])}
     try:
-        for client, name in ((2, "consumer"), (1, "producer")):
-            print(f"A {name}:    python3 examples/clients/{name}.py {address} {client} 1", flush=True)
-            running[name] = begin([sys.executable, ROOT / f"examples/clients/{name}.py", address, str(client), "1"])
+        for name in ("consumer", "producer"):
+            print(f"A {name}:    python3 examples/clients/{name}.py {address}", flush=True)
+            running[name] = begin([sys.executable, ROOT / f"examples/clients/{name}.py", address])
         return {name: printed(running[name], name) for name in ("consumer", "producer", "server")}
     finally:
         for process in running.values():

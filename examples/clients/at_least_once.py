@@ -3,8 +3,8 @@
 Workers take with a time, so that the take of one that was killed while it waited ends by itself; results come over a second
 queue. A job whose worker died is offered again, so one that was done and not yet reported is done twice.
 
-usage: at_least_once.py ADDRESS                         the boss, client 30, who starts the workers
-       at_least_once.py ADDRESS CLIENT INCARNATION      a worker
+usage: at_least_once.py ADDRESS             the boss, who starts the workers
+       at_least_once.py ADDRESS worker      a worker
 """
 import subprocess
 import sys
@@ -17,9 +17,10 @@ JOBS, RESULTS = 5, 6
 DEADLY = ", and die"
 
 
-def work(address, client, incarnation):
-    """Takes jobs and tells what came of them, until there are no more."""
-    with Session(address, client, incarnation) as session:
+def work(address):
+    """Tells who it is, takes jobs and tells what came of them, until there are no more."""
+    with Session(address) as session:
+        print(session.client, session.incarnation, flush=True)
         while (job := session.poll(JOBS, timeout=30)) != "no more":
             if job is not None and job.endswith(DEADLY):
                 sys.exit(1)
@@ -31,29 +32,29 @@ class Boss:
     """Offers jobs, collects results, and offers again what a dead worker had."""
 
     def __init__(self, address):
-        self.address, self.workers, self.takers, self.done, self.again = address, {}, {}, [], {}
-        self.session = Session(address, client=30, incarnation=1)
+        self.address, self.workers, self.takers, self.done, self.again = address, {}, {}, [], set()
+        self.session = Session(address)
 
-    def start(self, client, incarnation):
-        """A worker in a greater incarnation than before: its hello ends what the one before had waiting."""
-        words = [sys.executable, __file__, self.address, str(client), str(incarnation)]
-        self.workers[client] = (incarnation, subprocess.Popen(words))
+    def start(self):
+        """A worker, which leases a number that is free: as the number of one that died is. Its client and incarnation are the
+        receipts'."""
+        process = subprocess.Popen([sys.executable, __file__, self.address, "worker"], stdout=subprocess.PIPE, text=True)
+        client, incarnation = map(int, process.stdout.readline().split())
+        self.workers[client, incarnation] = process
 
     def offer(self, job, item):
         """Hands a job over, and keeps whose request got it."""
         self.takers[job] = self.session.transfer(JOBS, item).by
 
     def is_dead(self, taker):
-        """Whether the worker that got a job has ended since, by the incarnation in the receipt."""
-        incarnation, process = self.workers[taker.client]
-        return incarnation > taker.incarnation or process.poll() is not None
+        """Whether the worker that got a job has ended since."""
+        return self.workers[taker.client, taker.incarnation].poll() is not None
 
     def offer_again(self):
-        """Starts the dead anew, and offers what they had."""
-        for job, taker in [(job, taker) for job, taker in self.takers.items() if self.is_dead(taker)]:
-            self.again[job] = f", at another offer: its worker died in incarnation {taker.incarnation}"
-            if self.workers[taker.client][0] == taker.incarnation:
-                self.start(taker.client, taker.incarnation + 1)
+        """Starts a worker for each that died with a job, and offers what it had."""
+        for job in [job for job, taker in self.takers.items() if self.is_dead(taker)]:
+            self.again.add(job)
+            self.start()
             self.offer(job, job)
 
     def collect(self):
@@ -64,8 +65,8 @@ class Boss:
 
     def run(self):
         """All jobs, each until it has a result."""
-        self.start(31, 1)
-        self.start(32, 1)
+        self.start()
+        self.start()
         with self.session:
             for job in ("job 1", "job 2", "job 3"):
                 self.offer(job, job + DEADLY if job == "job 2" else job)
@@ -73,15 +74,16 @@ class Boss:
                 self.collect()
                 self.offer_again()
                 time.sleep(0.05)
-            for _ in self.workers:
-                self.session.transfer(JOBS, "no more")
-            for _, process in self.workers.values():
+            for process in self.workers.values():
+                if process.poll() is None:
+                    self.session.transfer(JOBS, "no more")
+            for process in self.workers.values():
                 process.wait()
         for job in sorted(self.done):
-            print(f"{job} is done{self.again.get(job, '')}")
+            print(f"{job} is done{', at another offer: its first worker died' if job in self.again else ''}")
 
 
 if len(sys.argv) == 2:
     Boss(sys.argv[1]).run()
 else:
-    work(sys.argv[1], int(sys.argv[2]), int(sys.argv[3]))
+    work(sys.argv[1])

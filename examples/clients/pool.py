@@ -1,11 +1,11 @@
 """A pool of two workers, each of which dies once in the middle of a job, and is started anew.
 
 What was received was assigned to one worker: it is never offered again, so it is never done twice. What
-nobody received is still the boss's, who offers it again. By the receipts the boss knows which worker, in
-which of its starts, had a job that was not done.
+nobody received is still the boss's, who offers it again. By the receipts the boss knows which worker had a
+job that was not done.
 
-usage: pool.py ADDRESS                                  the boss, client 10, who starts the workers
-       pool.py ADDRESS CLIENT INCARNATION               a worker
+usage: pool.py ADDRESS                  the boss, who starts the workers
+       pool.py ADDRESS new|again        a worker, which was started the first time, or behind a death
 """
 import subprocess
 import sys
@@ -17,11 +17,14 @@ JOBS, RESULTS = 3, 4
 DEADLY = ("job 2", "job 3")
 
 
-def work(address, client, incarnation):
-    """Takes jobs and tells what came of them, until there are no more."""
-    with Session(address, client, incarnation) as session:
-        while (job := session.take(JOBS)) != "no more":
-            if job in DEADLY and incarnation == 1:
+def work(address, start):
+    """Tells who it is, takes jobs and tells what came of them, until there are no more."""
+    with Session(address) as session:
+        print(session.client, session.incarnation, flush=True)
+        for job in session.items(JOBS):
+            if job == "no more":
+                break
+            if job in DEADLY and start == "new":
                 sys.exit(1)
             session.put(RESULTS, f"{job} is done")
 
@@ -31,19 +34,22 @@ class Boss:
 
     def __init__(self, address):
         self.address, self.workers, self.takers = address, {}, {}
-        self.session = Session(address, client=10, incarnation=1)
+        self.session = Session(address)
 
-    def start(self, client, incarnation):
-        """A worker in a greater incarnation than before."""
-        words = [sys.executable, __file__, self.address, str(client), str(incarnation)]
-        self.workers[client] = (incarnation, subprocess.Popen(words))
+    def start(self, name, start):
+        """A worker, which leases a number that is free. The number of one that died is, and the new hello ends what that one had
+        waiting."""
+        words = [sys.executable, __file__, self.address, start]
+        process = subprocess.Popen(words, stdout=subprocess.PIPE, text=True)
+        client, incarnation = map(int, process.stdout.readline().split())
+        self.workers[client, incarnation] = (name, process)
 
     def restart_the_dead(self):
-        """Starts whoever died. Its hello ends what the old one may have had waiting."""
-        for client, (incarnation, process) in list(self.workers.items()):
-            if process.poll() is not None:
-                print(f"worker {client} died, and is started anew in incarnation {incarnation + 1}")
-                self.start(client, incarnation + 1)
+        """Starts whoever died."""
+        for name, process in list(self.workers.values()):
+            if process.returncode is None and process.poll() is not None:
+                print(f"worker {name} died, and is started anew")
+                self.start(name, "again")
 
     def hand_over(self, job):
         """Offers a job until somebody receives it, and keeps whose request that was."""
@@ -55,12 +61,12 @@ class Boss:
 
     def run(self):
         """All jobs, and what came of them."""
-        self.start(11, 1)
-        self.start(12, 1)
+        self.start(1, "new")
+        self.start(2, "new")
         with self.session:
             for number in range(1, 6):
                 self.hand_over(f"job {number}")
-            for _ in self.workers:
+            for _ in range(2):
                 self.session.transfer(JOBS, "no more")
             for _, process in self.workers.values():
                 process.wait()
@@ -68,10 +74,11 @@ class Boss:
                 print(result)
                 del self.takers[result.removesuffix(" is done")]
         for job, taker in self.takers.items():
-            print(f"{job} was lost with its worker, in incarnation {taker.incarnation}")
+            _, process = self.workers[taker.client, taker.incarnation]
+            print(f"{job} was lost with its worker, which ended by {process.returncode}")
 
 
 if len(sys.argv) == 2:
     Boss(sys.argv[1]).run()
 else:
-    work(sys.argv[1], int(sys.argv[2]), int(sys.argv[3]))
+    work(*sys.argv[1:])

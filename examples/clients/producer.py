@@ -1,13 +1,12 @@
-"""Hands three items over to whoever takes them from queue 3, and tells whose requests took them.
+"""Hands three items over to whoever takes them from queue 3, and tells which requests took them.
 
-usage: producer.py ADDRESS CLIENT INCARNATION
+usage: producer.py ADDRESS
 """
 import sys
 
 from rendezvous import Session
 
-address, client, incarnation = sys.argv[1], int(sys.argv[2]), int(sys.argv[3])
-with Session(address, client, incarnation) as session:
+with Session(sys.argv[1]) as session:
     for item in ("first", "second", "third"):
         receipt = session.transfer(3, item)
-        print(f"{item} was received by client {receipt.by.client}, in its request {receipt.by.number}")
+        print(f"{item} was received, as request {receipt.by.number} of its consumer")

@@ -45,7 +45,9 @@ def the_guide(program):
         (folder / "bin/rv").symlink_to(program)
         path = f"{folder / 'bin'}:{os.environ['PATH']}"
         environment = {**os.environ, "PATH": path, "PYTHONPATH": f"{folder}/clients/python/src"}
-        environment["PYTHONDONTWRITEBYTECODE"], environment["TMPDIR"] = "1", str(folder / "bin")
+        environment["PYTHONDONTWRITEBYTECODE"] = "1"
+        environment["TMPDIR"] = environment["XDG_RUNTIME_DIR"] = str(folder / "bin")
+        environment.pop("RV_CLIENTS", None)
         there = {path.name for path in folder.iterdir()}
         typed = [(text.replace(PORT, port), shown) for info, text, shown in blocks()
                  if "hand" not in info and not ("java" in info and lacking)]
@@ -211,7 +213,7 @@ def the_hand_over(program):
     """What `make run` shows of a hand-over between two programs."""
     ran = subprocess.run([ROOT / "tools/handover.py", program], capture_output=True, text=True, timeout=300)
     demand(ran.returncode == 0 and not ran.stderr, f"{ran.returncode}: {ran.stdout}{ran.stderr}")
-    for line in ["    second was received by client 2, in its request 2", "    took third", "The auditor's word on it: legal"]:
+    for line in ["    second was received, as request 2 of its consumer", "    took third", "The auditor's word on it: legal"]:
         demand(line in ran.stdout.splitlines(), f"{line!r} is not in\n{ran.stdout}")
 
 

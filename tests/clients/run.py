@@ -15,8 +15,8 @@ import time
 ROOT = pathlib.Path(__file__).resolve().parents[2]
 sys.dont_write_bytecode, sys.path[0] = True, str(ROOT)
 from tests.clients import (  # noqa: E402
-    browser, crowds, drains, guide, installed, interrupted, interrupted_judged, java, java_scenes, long_waits, python_tests, receipts,
-    table_cases, wrong_clients)
+    browser, crowds, drains, guide, installed, interrupted, interrupted_judged, java, java_scenes, long_waits, python_page, python_tests,
+    receipts, table_cases, wrong_clients)
 from tests.sockets.wire import Wrong  # noqa: E402
 
 # How many cases that mostly wait run at once.
@@ -92,7 +92,7 @@ def run(program, asked, count):
     count.run(crowds.a_crowd, program, asked.seed, asked.seconds)
     for case in interrupted.CASES:
         count.run(case, program, asked.seed)
-    for case in receipts.CASES + drains.CASES + guide.CASES:
+    for case in receipts.CASES + drains.CASES + python_page.CASES + guide.CASES:
         count.run(case, program)
     if browser.missing():
         print(f"the browser was left out: {browser.missing()}", flush=True)

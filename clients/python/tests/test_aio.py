@@ -573,6 +573,25 @@ class Loops(Case):
                     self.assertEqual((told, len(server.heard)), (["a", True, False], 2))
         run(loops())
 
+    def test_a_stop(self):
+        """It ends the loop's take that waits; while the body has a call of its own, the loop ends behind that."""
+        async def loops():
+            with Scripted(welcome, SILENCE, reply("cancelled"), reply("item", item="a")) as server:
+                async with made(server) as one:
+                    jobs = one.items(3)
+                    asyncio.get_running_loop().create_task(self.when_heard(server, 2, jobs.stop))
+                    self.assertEqual(([job async for job in jobs], jobs.stop()), ([], False))
+                    jobs, told = one.items(3), []
+                    async for job in jobs:
+                        put = asyncio.ensure_future(one.put(4, job))
+                        await comes("the put", lambda: len(server.heard) == 5)
+                        told += [jobs.stop(), put.done()]
+                        server.otherwise = reply("done")
+                        server.open[-1].shutdown(2)
+                        await put
+                    self.assertEqual((told, [call for _, _, call in asked(server)][-2:]), ([True, False], ["put", "put"]))
+        run(loops())
+
     def test_a_task_that_is_cancelled(self):
         """The next loop begins by what had come."""
         async def loops():

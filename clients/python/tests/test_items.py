@@ -110,6 +110,19 @@ class Loops(Case):
                 self.assertEqual((got, one.unclaimed(), tracer.told), (given, [], [True]))
             return tracer.count >= count
 
+    def test_a_stop(self):
+        """It ends the loop's take that waits; while the body has a call of its own, the loop ends behind that."""
+        with Scripted(welcome, SILENCE, reply("cancelled")) as server, session(server) as one:
+            jobs = one.items(3)
+            threading.Thread(target=behind(server, 2, jobs.stop)).start()
+            self.assertEqual((list(jobs), jobs.stop(), list(jobs)), ([], False, []))
+        with Scripted(welcome, reply("item", item="a")) as server, session(server) as one:
+            jobs, told = one.items(3), []
+            server.otherwise = lambda came: (told.append(jobs.stop()), reply("done")(came))[1]
+            for item in jobs:
+                told.append(one.put(4, item))
+            self.assertEqual((told, [call for _, _, call in asked(server)]), ([True, None], [None, "take", "put"]))
+
     def test_other_ends(self):
         """What else ends a take is raised; the body's calls are its own."""
         with Scripted(welcome, reply("item", item="a"), reply("done"), refused(2, current=5)) as server:

@@ -155,9 +155,9 @@ class Session:
         return await self._call(call, item_if_any, timeout, partial(self._kept, queue))
 
     def items(self, queue: int) -> "Items":
-        """The items of a queue, one take behind another, for `async for`: it ends where a `cancel()` ends its take, or comes
-        between two takes. An item that was met before the cancel is still given, and the loop ends behind it. Whatever else
-        ends a take is raised."""
+        """The items of a queue, one take behind another, for `async for`. It ends by its own `stop()`, which is for handlers of
+        `loop.add_signal_handler`, and where a `cancel()` ends its take or comes between two calls. An item that was met before
+        is still given, and the loop ends behind it. Whatever else ends a take is raised."""
         return Items(self, queue)
 
     async def drain(self, queue: int, max: int) -> List[str]:
@@ -189,7 +189,7 @@ class Session:
         return await self._resumed(timeout, True)
 
     def cancel(self) -> bool:
-        """Gives the call up that runs now; where none runs, it ends the loop over `items` that is between two takes. False
+        """Gives the call up that runs now; where none runs, it ends the loop over `items` that is under way. False
         where there is neither. It is called in the session's event loop, by any task or by a handler of
         `loop.add_signal_handler`."""
         running, loop = self.running, self._loop()
@@ -360,6 +360,7 @@ class Items(AsyncIterator[str]):
     def __init__(self, session: Session, queue: int) -> None:
         self._session, self._queue = session, queue
         self._call = made("take", queue, Wait.FOREVER)
+        self._job: Optional[Job] = None
         self._stopped = False
 
     async def __anext__(self) -> str:
@@ -367,7 +368,7 @@ class Items(AsyncIterator[str]):
         session._loop = weakref.ref(self)
         if self._stopped:
             raise StopAsyncIteration
-        job = Job(self._call, None, session.patience)
+        job = self._job = Job(self._call, None, session.patience)
         try:
             return await session._asked(job, item_of, partial(session._kept, self._queue))
         except errors.Cancelled:
@@ -376,8 +377,11 @@ class Items(AsyncIterator[str]):
             self._stopped = self._stopped or job.cancelled
 
     def stop(self) -> bool:
-        """Ends the loop, which is between two takes. False where it has ended."""
+        """Ends this loop: its take that waits, or else before the next one, and no other call of the session. An item that was
+        met before is still given. False where it has ended, or is to end already."""
         stopped, self._stopped = self._stopped, True
+        if not stopped and self._job is not None and self._session._job is self._job:
+            Running(self._job, self._session._course.order).cancel()
         return not stopped
 
 

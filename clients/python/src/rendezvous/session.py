@@ -123,9 +123,10 @@ class Session:
         return self._call(made("take", queue, Wait.NOW if timeout is None else timeout), item_if_any, timeout)
 
     def items(self, queue: int) -> "Items":
-        """The items of a queue, one take behind another, for a loop: it ends where a `cancel()` ends its take, or comes between
-        two takes. An item that was met before the cancel is still given, and the loop ends behind it. What stands in
-        `unclaimed()` for this queue comes first. Whatever else ends a take is raised."""
+        """The items of a queue, one take behind another, for a loop. It ends by its own `stop()`, which is for other threads and
+        signals' handlers, and where a `cancel()` ends its take or comes between two calls. An item that was met before is still
+        given, and the loop ends behind it. What stands in `unclaimed()` for this queue comes first. Whatever else ends a take
+        is raised."""
         return Items(self, queue)
 
     def drain(self, queue: int, max: int) -> List[str]:
@@ -158,7 +159,7 @@ class Session:
 
     def cancel(self) -> bool:
         """Gives the call up that runs now, from any thread and from a signal's handler; where none runs, it ends the loop over
-        `items` that is between two takes. False where there is neither. Whoever means one certain call keeps `running`, and
+        `items` that is under way. False where there is neither. Whoever means one certain call keeps `running`, and
         cancels that."""
         running, loop = self.running, self._loop()
         return running is not None and running.cancel() or loop is not None and loop.stop()
@@ -274,8 +275,9 @@ class Items(Iterator[str]):
             raise StopIteration from None
 
     def stop(self) -> bool:
-        """Ends the loop behind the item that was met, if one was; from any thread and from a signal's handler. False where
-        it has ended."""
+        """Ends this loop, from any thread and from a signal's handler: its take that waits, or else before the next one, and no
+        other call of the session. An item that was met before is still given. False where it has ended, or is to end
+        already."""
         if self._stopped:
             return False
         self._stopped, job = True, self._job
