@@ -106,7 +106,7 @@ def pip_installs_it():
 
 def wheel_and_sources_are_whole():
     """The wheel has the package's modules and no other; the packed sources have the tests too, and make the same wheel."""
-    modules = {f"rendezvous/{path}" for path in files_of(SOURCES / "src/rendezvous") if "__pycache__" not in path}
+    modules = {f"rendezvous/{path}" for path in files_of(SOURCES / "src/rendezvous") if path.endswith((".py", "py.typed"))}
     with tempfile.TemporaryDirectory(prefix="rv-wheel-") as name:
         folder = pathlib.Path(name)
         first = wheel_of(copied(folder), folder / "first")

@@ -15,8 +15,8 @@ import time
 ROOT = pathlib.Path(__file__).resolve().parents[2]
 sys.dont_write_bytecode, sys.path[0] = True, str(ROOT)
 from tests.clients import (  # noqa: E402
-    browser, crowds, drains, guide, installed, interrupted, interrupted_judged, java, java_scenes, long_waits, python_page, python_tests,
-    receipts, table_cases, wrong_clients)
+    browser, cancelled_tasks, crowds, drains, guide, installed, interrupted, interrupted_judged, java, java_scenes, long_waits,
+    python_page, python_tests, receipts, table_cases, wrong_clients)
 from tests.sockets.wire import Wrong  # noqa: E402
 
 # How many cases that mostly wait run at once.
@@ -90,7 +90,7 @@ def run(program, asked, count):
         for case in receipts.WITH_JAVA:
             count.run(case, program)
     count.run(crowds.a_crowd, program, asked.seed, asked.seconds)
-    for case in interrupted.CASES:
+    for case in interrupted.CASES + cancelled_tasks.CASES:
         count.run(case, program, asked.seed)
     for case in receipts.CASES + drains.CASES + python_page.CASES + guide.CASES:
         count.run(case, program)
@@ -143,6 +143,7 @@ def main():
     parser.add_argument("--only", default="", help="only the cases with these words in their name")
     parser.add_argument("--verbose", action="store_true", help="tell also what passed, with its seconds")
     parser.add_argument("--interrupts", type=int, help="in place of all that so many interrupted calls of Python")
+    parser.add_argument("--cancels", type=int, help="in place of all that so many takes in asyncio, about half of them cancelled")
     parser.add_argument("--by-hand", action="store_true", help="in place of all that what takes ten minutes")
     parser.add_argument("--selftest", action="store_true", help="test the cases themselves, on wrong clients")
     asked = parser.parse_args()
@@ -151,6 +152,8 @@ def main():
         wrong_clients.selftest(count)
     elif asked.interrupts:
         count.run(interrupted.interrupted_calls, os.path.abspath(asked.program), asked.seed, asked.interrupts)
+    elif asked.cancels:
+        count.run(cancelled_tasks.cancelled_takes, os.path.abspath(asked.program), asked.seed, asked.cancels)
     elif asked.by_hand:
         for case in long_waits.BY_HAND:
             count.run(case)

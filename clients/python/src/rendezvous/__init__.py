@@ -11,6 +11,16 @@ Programs hand items to each other, and learn whether they were taken:
 A call repeats its request, under one key and over new connections, until it has its one reply. It never
 returns a guess: what is not known is an exception with the request's key, and `Session.again` asks that very
 request again.
+
+A worker is a loop over `Session.items`, which another thread or a signal's handler ends by its `stop`:
+
+    for job in session.items(3):
+        work_at(job)
+
+Each session has a client number of its own, which it leases among the programs of one user on one host. Hosts that share a
+server part the numbers by RV_CLIENTS in their environments: 1-512 and 513-1024, say.
+
+`rendezvous.aio` has the same session for asyncio. `rendezvous.replies` has the types of what a request came to.
 """
 from .errors import (
     AllLeased, Cancelled, EpochEnded, Full, Interrupted, Misused, NotAsked, Refused, RendezvousError, Replaced, TimedOut,
@@ -21,6 +31,6 @@ from .session import Items, Session
 from .unclaimed import Unclaimed
 
 __all__ = [
-    "AllLeased", "Cancelled", "Counted", "EpochEnded", "Full", "Interrupted", "Items", "Key", "Misused", "NotAsked", "Outcome", "Receipt",
-    "Refused", "RendezvousError", "Replaced", "Running", "Session", "TimedOut", "Unclaimed", "Unsettled",
+    "AllLeased", "Cancelled", "Counted", "EpochEnded", "Full", "Interrupted", "Items", "Key", "Misused", "NotAsked", "Outcome",
+    "Receipt", "Refused", "RendezvousError", "Replaced", "Running", "Session", "TimedOut", "Unclaimed", "Unsettled",
 ]
