@@ -110,10 +110,10 @@ def wheel_and_sources_are_whole():
     with tempfile.TemporaryDirectory(prefix="rv-wheel-") as name:
         folder = pathlib.Path(name)
         first = wheel_of(copied(folder), folder / "first")
-        subprocess.run([interpreter("pip"), "-c", PACKS, folder / "packed"], check=True, cwd=folder / "sources", capture_output=True,
-                       timeout=PATIENCE, env=alone())
+        packs = [interpreter("pip"), "-c", PACKS, folder / "packed"]
+        subprocess.run(packs, check=True, cwd=folder / "sources", capture_output=True, timeout=PATIENCE, env=alone())
         [packed] = (folder / "packed").iterdir()
-        demand(packed.name == f"rv_rendezvous-{VERSION}.tar.gz" or packed.name == f"rv-rendezvous-{VERSION}.tar.gz", packed.name)
+        demand(re.sub("-", "_", packed.name, count=1) == f"rv_rendezvous-{VERSION}.tar.gz", packed.name)
         with tarfile.open(packed) as archive:
             archive.extractall(folder / "unpacked")
         [unpacked] = (folder / "unpacked").iterdir()

@@ -28,8 +28,8 @@ class Program:
         environment = {**os.environ, "PYTHONPATH": str(ROOT / "clients/python/src"), "XDG_RUNTIME_DIR": folder,
                        "PYTHONDONTWRITEBYTECODE": "1"}
         environment.pop("RV_CLIENTS", None)
-        self.process = subprocess.Popen([sys.executable, "-u", "-c", text.replace(ADDRESS, address)], env=environment, text=True,
-                                        stdout=subprocess.PIPE, stderr=subprocess.PIPE)
+        words = [sys.executable, "-u", "-c", text.replace(ADDRESS, address)]
+        self.process = subprocess.Popen(words, env=environment, text=True, stdout=subprocess.PIPE, stderr=subprocess.PIPE)
 
     def __enter__(self):
         return self

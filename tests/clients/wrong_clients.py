@@ -19,8 +19,8 @@ from tests.sockets.wire import demand
 
 FOLDERS = ["clients", "examples", "tests"]
 PATIENCE = 1200
-# How many copies run at once.
-AT_ONCE = 8
+# How many copies run at once: those in Python mostly wait.
+AT_ONCE = {"Python": 16, "Java": 8}
 # What tells that a copy does not run at all.
 BROKEN = ("SyntaxError", "NameError", "ImportError", "_FailedTest", "IndentationError", "javac says")
 
@@ -81,7 +81,7 @@ def judge_all(count, language, right, wrongs):
     never comes."""
     named = [(f"a right client in {language}, {cases}", is_right, cases) for cases in right]
     named += [(f"a client in {language} that {wrong.does}", is_found, wrong) for wrong in wrongs]
-    with concurrent.futures.ThreadPoolExecutor(AT_ONCE) as pool:
+    with concurrent.futures.ThreadPoolExecutor(AT_ONCE[language]) as pool:
         tried = [(name, pool.submit(judge, given)) for name, judge, given in named if count.wants(name)]
         for name, one in tried:
             count.judge(name, one.result)

@@ -102,11 +102,12 @@ IN_PYTHON = [
         Edit(LEASES, "            fcntl.lockf(file, fcntl.LOCK_EX | fcntl.LOCK_NB)\n", "            pass\n")]),
     WrongClient("opens the file of a number twice", "test_leases.Programs.test_a_lease_outlasts_others_of_its_process", [
         Edit(LEASES, "LEASES.setdefault(lease.place, lease) is lease and lease", "lease")]),
-    WrongClient("keeps the files of its parent in a forked process", "test_leases.Programs.test_a_number_that_outlives_its_parent", [
-        Edit(LEASES, "    for lease in LEASES.values():\n        lease.drop()\n    LEASES", "    LEASES")]),
+    WrongClient("keeps the files of its parent in a forked process",
+                "test_leases.Programs.test_a_number_that_outlives_its_parent", [
+                    Edit(LEASES, "    for lease in LEASES.values():\n        lease.drop()\n    LEASES", "    LEASES")]),
     WrongClient("leases by the clock alone", "test_leases.Incarnations.test_a_clock_that_stands_or_goes_back", [
         Edit(LEASES, "max(now(), 1 + greatest_leased(path, os.pread(file, 64, 0)))", "now()")]),
-    WrongClient("says its hello before its incarnation is written", "test_leases.Incarnations.test_it_is_written_before_it_is_used", [
+    WrongClient("doesn't write its incarnation", "test_leases.Incarnations.test_it_is_written_before_it_is_used", [
         Edit(LEASES, "        text = b\"%d\\n\" % self.incarnation\n", "        text = b\"\"\n")]),
     WrongClient("gives no number back", "test_leases.Numbers.test_short_sessions_one_after_another", [
         Edit(DRIVER, "            self.name.close()\n", "")]),
@@ -123,10 +124,12 @@ IN_PYTHON = [
         Edit(SESSION, "return running is not None and running.cancel() or loop is not None and loop.stop()",
              "return running is not None and running.cancel()")]),
     WrongClient("loses a cancel as a take begins", "test_items.Loops.test_a_cancel_at_each_line", [
-        Edit(SESSION, "        if job is not None and not job.over:\n            job.cancelled", "        if False:\n            job.cancelled")]),
+        Edit(SESSION, "        if job is not None and not job.over:\n            job.cancelled",
+             "        if False:\n            job.cancelled")]),
     WrongClient("drops the item of a cancelled task", "test_aio.Cancels.test_the_next_take_gives_it", [
         Edit(AIO, "        await left.to_its_end()\n        self._shelf.keep(left.job)\n", "        await left.to_its_end()\n"),
-        Edit(AIO, "        if self._left is not None:\n            self._shelf.keep(self._left.job)\n\n    def _has_room", "    def _has_room")]),
+        Edit(AIO, "        if self._left is not None:\n            self._shelf.keep(self._left.job)\n\n    def _has_room",
+             "    def _has_room")]),
     WrongClient("gives an unclaimed item twice", "test_aio.Cancels.test_at_each_step_of_the_event_loop", [
         Edit(UNCLAIMED, "            self._kept.pop(place, None)\n            return", "            return")]),
     WrongClient("throws away an answer that has come with the cancel", "test_aio.Cancels.test_an_answer_that_is_here", [
@@ -135,6 +138,10 @@ IN_PYTHON = [
         Edit(AIO, "            await self._settled(job)\n", "")]),
     WrongClient("cancels nothing for a cancelled task", "test_aio.Cancels.test_it_goes_on_at_once", [
         Edit(AIO, "            self._settling = self._event_loop.create_task(self._settle(under_way))\n", "            pass\n")]),
+    WrongClient("gives a cancelled request up later than its task may ask on", "test_aio.Cancels.test_a_call_in_the_same_step", [
+        Edit(AIO, "        under_way.go_on(False)\n        self._left = under_way\n", "        self._left = under_way\n")]),
+    WrongClient("keeps its number where its block can't begin", "test_aio.Tasks.test_a_block_that_can_not_begin", [
+        Edit(AIO, "            self._closed = True\n            self._end()\n            raise\n", "            raise\n")]),
     WrongClient("has two tasks ask at once", "test_aio.Tasks.test_a_second_task", [
         Edit(AIO, "        if self._job is not None:\n            raise", "        if False:\n            raise")]),
     WrongClient("closes before a cancelled request is settled", "test_aio.Tasks.test_a_block_that_is_left_by_a_timeout", [

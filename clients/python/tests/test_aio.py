@@ -222,6 +222,24 @@ class Cancels(Case):
                     self.assertEqual((one.last, one.unclaimed()), (rv.replies.Done(key(2)), []))
         run(takes())
 
+    def test_a_call_in_the_same_step(self):
+        """The task that was cancelled asks on at once, as `asyncio.timeout` has it: the cancel is not late for that."""
+        async def asks():
+            with Scripted(welcome, SILENCE, reply("cancelled"), reply("done")) as server:
+                async with made(server, patience=None, answer=100_000) as one:
+                    task = asyncio.current_task()
+                    asyncio.get_running_loop().create_task(self.when_asked(server, task.cancel))
+                    with contextlib.suppress(asyncio.CancelledError):
+                        await one.take(3)
+                    await one.put(3, "a")
+                    self.assertEqual(asked(server)[1:], [("request", 1, "take"), ("cancel", 1, None), ("request", 2, "put")])
+        run(asks())
+
+    async def when_asked(self, server, deed):
+        """Does a deed once a request came."""
+        await comes("a request", lambda: len(server.heard) == 2)
+        deed()
+
     def met(self, call, told, deed):
         """A call whose task is cancelled though it was met; then a deed with the session and the server."""
         async def asks():
@@ -500,6 +518,23 @@ class Tasks(Case):
                 await comes("their ends", lambda: all(each.fileno() < 0 for each in server.open))
         run(asks(False))
         run(asks(True))
+
+    def test_a_block_that_can_not_begin(self):
+        """Its number is given back, whatever ends its hello."""
+        async def begins():
+            with leasing(), Scripted(refused(9)) as server:
+                with self.raises(rv.Refused, number=9):
+                    async with aio.Session(server.address):
+                        pass
+                self.assertEqual(leases.LEASES, {})
+
+                async def enters():
+                    async with aio.Session(server.address):
+                        pass
+                with contextlib.suppress(asyncio.TimeoutError):
+                    await asyncio.wait_for(enters(), 0.01)
+                self.assertEqual(leases.LEASES, {})
+        run(begins())
 
     def test_an_event_loop_that_ends(self):
         """What is left open says nothing, and ends with it; in another loop the session is misuse."""

@@ -12,7 +12,7 @@ from unittest import mock
 
 from context import GENEROUS, Case, leasing, rv, until
 from rendezvous import leases
-from scripted import Scripted, reply, welcome
+from scripted import Scripted, refused, reply, welcome
 
 # A program that leases a number, tells it, and has it until its input ends.
 HOLDER = """
@@ -93,6 +93,14 @@ class Numbers(Case):
             del one
             until("its end", lambda: not leases.LEASES)
             self.assertTrue((folder / "client-1").is_file())
+
+    def test_a_block_that_can_not_begin(self):
+        """Its number is given back."""
+        with leasing(), Scripted(refused(9)) as server:
+            with self.raises(rv.Refused, number=9):
+                with rv.Session(server.address):
+                    pass
+            self.assertEqual(leases.LEASES, {})
 
     def test_a_session_that_can_not_be_made(self):
         """What is refused leases nothing."""
@@ -343,13 +351,15 @@ class Folders(Case):
     def test_no_runtime_folder(self):
         """Then it is the one for temporary files, where each user has a folder."""
         for runtime in (None, "", "/nowhere/at/all", __file__):
-            with tempfile.TemporaryDirectory() as name, mock.patch.dict(os.environ), mock.patch("tempfile.tempdir", name):
+            with tempfile.TemporaryDirectory() as name, mock.patch.dict(os.environ), mock.patch("tempfile.tempdir", name), \
+                    self.subTest(runtime=runtime):
                 os.environ.pop("XDG_RUNTIME_DIR", None)
                 if runtime is not None:
                     os.environ["XDG_RUNTIME_DIR"] = runtime
                 lease(range(1, 2)).close()
                 folder = pathlib.Path(name, f"rendezvous-{os.geteuid()}")
-                self.assertEqual(([path.name for path in folder.iterdir()], folder.stat().st_mode & 0o7777), (["client-1"], 0o700))
+                self.assertEqual([path.name for path in folder.iterdir()], ["client-1"])
+                self.assertEqual(folder.stat().st_mode & 0o7777, 0o700)
 
     def test_folders_that_are_refused(self):
         """What is no folder, or where others may write, is named and not used."""

@@ -66,7 +66,12 @@ class Session:
         weakref.finalize(self, let_go, self._course)
 
     async def __aenter__(self) -> "Session":
-        await self.connect()
+        try:
+            await self.connect()
+        except BaseException:
+            self._closed = True
+            self._end()
+            raise
         return self
 
     async def __aexit__(self, kind: Optional[Type[BaseException]], fault: Optional[BaseException],
@@ -287,6 +292,7 @@ class Session:
         if self._course.has_news():
             under_way.go_on(True)
         under_way.job.given_up = True
+        under_way.go_on(False)
         self._left = under_way
         self._shelf.keep(under_way.job)
         if not under_way.over and not self._closed and self._event_loop and not self._event_loop.is_closed():
@@ -294,7 +300,6 @@ class Session:
 
     async def _settle(self, left: UnderWay) -> None:
         """Goes on with what was left, and keeps what it took."""
-        left.go_on(False)
         await left.to_its_end()
         self._shelf.keep(left.job)
 

@@ -1,4 +1,4 @@
-"""The course of one call, without a wait of its own: over connections that may break at any time, to an outcome or to what is known.
+"""The course of one call over connections that may break at any time, to its outcome or to what is known, without a wait.
 
 A course says until when there is nothing to do, and is told whether the connection is ready; a thread and an asyncio task
 can wait for that alike.

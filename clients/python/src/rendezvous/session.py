@@ -54,7 +54,11 @@ class Session:
         self._closes = weakref.finalize(self, self._driver.close)
 
     def __enter__(self) -> "Session":
-        self.connect()
+        try:
+            self.connect()
+        except BaseException:
+            self.close()
+            raise
         return self
 
     def __exit__(self, *_: object) -> None:

@@ -1,4 +1,4 @@
-"""A course in an asyncio event loop, and its connections. Nothing here has a thread; a host's name is looked up as asyncio does."""
+"""A course in an event loop of asyncio, and its connections. It has no thread; hosts' names are looked up as asyncio does."""
 from __future__ import annotations
 
 import asyncio
