@@ -3,14 +3,13 @@ import java.util.List;
 import rendezvous.RvClients;
 import rendezvous.RvTransferQueue;
 
-/** Puts twenty jobs in queue 3, and takes them eight at a time. Words: host, port, client, incarnation. */
+/** Puts twenty jobs in queue 3, and takes them eight at a time. Words: host, port. */
 public final class Batches {
     private Batches() {}
 
     /** Prints the first and the last job of each batch. */
     public static void main(String[] words) throws InterruptedException {
-        int port = Integer.parseInt(words[1]);
-        try (RvClients clients = new RvClients(words[0], port, Long.parseLong(words[2]), 1, Long.parseLong(words[3]))) {
+        try (RvClients clients = RvClients.builder(words[0], Integer.parseInt(words[1])).build()) {
             RvTransferQueue queue = new RvTransferQueue(clients, 3);
             for (int job = 1; job <= 20; job++) {
                 queue.put("job " + job);

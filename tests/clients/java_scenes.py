@@ -55,10 +55,24 @@ class Program:
             got = self.line()
             demand(got == line, f"it prints {got!r}, not {line!r}")
 
-    def go(self):
+    def go(self, line=""):
         """Gives it the line that it waits for."""
-        self.process.stdin.write("\n")
+        self.process.stdin.write(line + "\n")
         self.process.stdin.flush()
+
+
+class Meeting(Scripted):
+    """A server that is well, and holds each request that gives this item until so many of them are there."""
+
+    def __init__(self, item, count):
+        super().__init__()
+        self.otherwise, self.item, self.barrier = well, item, threading.Barrier(count)
+
+    def deed_for(self, came):
+        deed = super().deed_for(came)
+        if came.get("item") == self.item:
+            self.barrier.wait(LIMIT)
+        return deed
 
 
 @contextlib.contextmanager
@@ -105,13 +119,15 @@ def open_at(server):
 
 
 def a_dead_threads_unsettled_request(_java):
-    """Anybody may settle it, and then its number is used again."""
-    with scripted(otherwise=lost) as server, playing("dead-unsettled", server.port) as program:
+    """Anybody may settle it, and then its number is used again, by whichever threads put at a time."""
+    with Meeting("d", 2) as server, playing("dead-unsettled", server.port) as program:
+        server.otherwise = lost
         program.expect("threw Unsettled of 1/1/1/1", "threw Unsettled of 1/2/1/1", USED_UP, "[1/1/1/1, 1/2/1/1]")
         server.otherwise = well
         program.go()
         program.expect("gave Done[key=1/1/1/1]", "gave Cancelled[key=1/2/1/1]", "[]", *["gave done"] * 3, "ends")
-        demand([one["number"] for one in server.heard[-3:]] == [2, 2, 3], f"{server.heard[-3:]}")
+        asked = sorted((one["client"], one["number"]) for one in server.heard if one["kind"] == "request")
+        demand(asked[-1:] == [(2, 2)] and asked.count((1, 2)) == asked.count((1, 3)) == asked.count((2, 2)) == 1, f"{asked}")
 
 
 def an_ended_session(_java):
@@ -222,12 +238,18 @@ def for_ever(_java):
 
 
 def connections_of_dead_threads(_java):
-    """Are closed when a session is asked for."""
-    with scripted() as server, playing("dead-threads", server.port) as program:
-        program.expect(*["gave done"] * 6)
-        until("one connection", lambda: open_at(server) == 1)
-        demand(server.connections == 6, f"{server.connections} connections came")
-        program.go()
+    """Are used by other threads, and closed where none asks by them for long."""
+    with Meeting("a", 5) as server, playing("dead-threads", server.port) as program:
+        program.expect(*["gave done"] * 5)
+
+        def is_one_left():
+            program.go()
+            program.expect("gave done")
+            return open_at(server) == 1
+
+        until("one connection", is_one_left)
+        demand(server.connections == 5, f"{server.connections} connections came")
+        program.go("ends")
         until("no connection", lambda: open_at(server) == 0)
 
 

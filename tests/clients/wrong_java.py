@@ -3,9 +3,9 @@ from tests.clients.wrong import (
     ANOTHER_NUMBER, NEW_KEY, OTHER_EPOCH, NOBODY, NEWEST_FIRST, TOO_MANY, SHORT_FRAMES, OTHER_WELCOME,
     OLD_HELLO, OWN_NUMBER, PART_OF_A_KEY, OTHER_VERSION, Edit, WrongClient)
 
-MACHINE, REPLIES, SESSION, RUNNING, CLIENTS, QUEUE, BODIES, LINK = (
+MACHINE, REPLIES, SESSION, RUNNING, POOL, QUEUE, BODIES, LINK = (
     f"clients/java/src/main/java/rendezvous/{name}.java"
-    for name in ("Machine", "Replies", "RvSession", "Running", "RvClients", "RvTransferQueue", "Bodies", "SocketLink"))
+    for name in ("Machine", "Replies", "RvSession", "Running", "Pool", "RvTransferQueue", "Bodies", "SocketLink"))
 
 IN_JAVA = [
     WrongClient(ANOTHER_NUMBER, "java, the java process", [
@@ -56,9 +56,9 @@ IN_JAVA = [
     WrongClient("tells the outcome of another request", "java_scenes, the last outcome", [
         Edit(SESSION, '            last = null;\n', '')]),
     WrongClient("gives a thread its unsettled session again", "java_scenes, a pooled thread", [
-        Edit(CLIENTS, 'if (own != null && own.isIdle()) {', 'if (own != null) {')]),
+        Edit(POOL, 'if (own.isPresent() && own.get().isFree()) {', 'if (own.isPresent()) {')]),
     WrongClient("keeps the connections of dead threads", "java_scenes, connections of dead threads", [
-        Edit(CLIENTS, '        left.stream().filter(RvSession::isIdle).forEach(RvSession::rest);\n', '')]),
+        Edit(POOL, '                seat.session.rest();\n            }\n        }\n', '            }\n        }\n')]),
     WrongClient("leaves descriptors behind", "java_scenes, no descriptors", [
         Edit(LINK, 'if (registered == null) {', 'if (registered == null && opened != null) {')]),
 ]

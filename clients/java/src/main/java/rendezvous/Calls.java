@@ -36,11 +36,27 @@ final class Calls {
      *
      * @param call its members
      * @param own its own time in nanoseconds, {@link #FOR_EVER} where it has none
+     * @param abort by which another thread may cancel it
      */
-    record Job(JsonObject call, long own) {
+    record Job(JsonObject call, long own, Abort abort) {
+        /** A call that no other thread cancels. */
+        Job(JsonObject call, long own) {
+            this(call, own, Abort.NEVER);
+        }
+
         /** A call that has no time of its own. */
         Job(JsonObject call) {
             this(call, FOR_EVER);
+        }
+
+        /** The same, which another thread may cancel. */
+        Job with(Abort other) {
+            return new Job(call, own, other);
+        }
+
+        /** The same, of whose own time so many nanoseconds are over. */
+        Job later(long nanos) {
+            return own == FOR_EVER ? this : new Job(call, Math.max(0, own - nanos), abort);
         }
     }
 

@@ -6,7 +6,7 @@ import java.util.concurrent.TimeUnit;
 /** One call while it runs, for the thread that runs it: its times, its interrupts, and who orders that it is given up. */
 final class Running {
     /** Who orders that a request is given up. */
-    enum Order { NOBODY, TIME, INTERRUPT, USER }
+    enum Order { NOBODY, TIME, INTERRUPT, ABORT, USER }
 
     private static final long HALF = TimeUnit.MILLISECONDS.toNanos(500);
     private static final long LEAST_PAUSE = TimeUnit.MILLISECONDS.toNanos(10);
@@ -15,19 +15,22 @@ final class Running {
     private final long began = System.nanoTime();
     private final boolean interruptible;
     private final long patience;
+    private final Abort abort;
     private final long givesUp;
     private long expires;
     private long heard;
     private long pause = LEAST_PAUSE;
     private boolean interrupted;
+    private boolean aborted;
     private boolean due;
     private Order order = Order.NOBODY;
     private String fault = "nothing was heard";
 
     /** A call that begins now, with its own time and a patience, each {@link Calls#FOR_EVER} where it has none. */
-    Running(boolean interruptible, long own, long patience) {
+    Running(boolean interruptible, long own, long patience, Abort abort) {
         this.interruptible = interruptible;
         this.patience = patience;
+        this.abort = abort;
         givesUp = sum(own, HALF);
         expires = sum(givesUp, HALF);
     }
@@ -53,10 +56,22 @@ final class Running {
         }
         interrupted = true;
         if (interruptible) {
-            ordered(Order.INTERRUPT);
-            expires = Math.min(expires, sum(now(), 2 * HALF));
-            due = true;
+            endsSoon(Order.INTERRUPT);
         }
+    }
+
+    /** Takes in that another thread cancels the call, which ends within a second. */
+    private void noteAbort() {
+        if (abort.isAsked() && !aborted) {
+            aborted = true;
+            endsSoon(Order.ABORT);
+        }
+    }
+
+    private void endsSoon(Order who) {
+        ordered(who);
+        expires = Math.min(expires, sum(now(), 2 * HALF));
+        due = true;
     }
 
     private void ordered(Order who) {
@@ -65,9 +80,10 @@ final class Running {
         }
     }
 
-    /** Whether the call has something else to do than to wait: an interrupt is to be obeyed. */
+    /** Whether the call has something else to do than to wait: an interrupt or an abort is to be obeyed. */
     boolean isDue() {
         noteInterrupt();
+        noteAbort();
         return due;
     }
 

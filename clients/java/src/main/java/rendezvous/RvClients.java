@@ -1,139 +1,250 @@
 package rendezvous;
 
 import java.time.Duration;
-import java.util.ArrayList;
-import java.util.HashMap;
-import java.util.Iterator;
 import java.util.List;
-import java.util.Map;
+import java.util.Objects;
+import java.util.Optional;
+import java.util.OptionalLong;
+import java.util.concurrent.Executor;
+import java.util.concurrent.ExecutorService;
+import java.util.concurrent.Executors;
 import java.util.function.LongFunction;
-import java.util.stream.Stream;
 
 /**
- * The sessions of a program, one for each of its threads, under client numbers from a range that nobody else uses. A
- * thread keeps its session as long as both live and nothing is unsettled; then the session, where it is idle, is the next
- * new thread's. One that has ended is nobody's any more, and its number is used up.
+ * The sessions of a program at one server, for all its threads.
+ *
+ * <pre>{@code
+ * try (RvClients clients = RvClients.builder("127.0.0.1", 7411).build()) {
+ *     TransferQueue<String> queue = new RvTransferQueue(clients, 3);
+ *     String item = queue.take();
+ * }
+ * }</pre>
+ *
+ * <p>A call borrows a session and gives it back when its request is settled, so that there are as many sessions as calls
+ * run at a time, however many threads there are. A thread gets the session of its last call again, unless another thread
+ * took it meanwhile. One whose request is unsettled is nobody's, and stands in {@link #unsettled} until it is settled.
+ *
+ * <p>Each session has a client number of its own, which is leased by the lock of a file, so that no two programs of a host
+ * have the same; its incarnation is above each that was leased under that number. Numbers are leased as sessions are needed.
+ * They are given back when the session has ended, when its thread ended and nobody used it for two seconds, and by
+ * {@link #close}; at the latest they are free when the program has ended, however it ends. {@link Builder} tells where and
+ * from which range. Hosts don't see each other's leases: those that share a server need ranges that have no number in common.
  */
 public final class RvClients implements AutoCloseable {
-    private final long first;
-    private final int most;
-    private final LongFunction<RvSession> maker;
-    private final Map<Thread, RvSession> sessions = new HashMap<>();
-    /** Sessions of no thread: idle ones, and those whose request is unsettled. */
-    private final List<RvSession> left = new ArrayList<>();
-    private int made;
+    private final Pool pool;
+    private final ThreadLocal<Outcome> last = new ThreadLocal<>();
+    private final Executor chosen;
+    private ExecutorService own;
     private boolean closed;
 
-    /**
-     * Sessions of version 2, whose receipts name the consumer, that lose their patience after a minute without any answer.
-     *
-     * @param host the server's host
-     * @param port the server's port
-     * @param first the least client number
-     * @param most how many client numbers there are, from the first upwards
-     * @param incarnation one above each that these clients were started with
-     */
-    public RvClients(String host, int port, long first, int most, long incarnation) {
-        this(host, port, first, most, incarnation, RvSession.PATIENCE);
+    private RvClients(Numbers numbers, Pool.Maker maker, long patience, Executor chosen) {
+        // for what it does not allow
+        maker.make(numbers.first(), 1);
+        pool = new Pool(numbers, maker, patience);
+        this.chosen = chosen;
     }
 
-    /** The same, with a patience of one's own; null is for ever. */
-    public RvClients(String host, int port, long first, int most, long incarnation, Duration patience) {
-        this(host, port, first, most, incarnation, patience, RvSession.VERSION);
-    }
-
-    /** The same, with a version of one's own: 1 for a server that knows no other. */
-    public RvClients(String host, int port, long first, int most, long incarnation, Duration patience, int version) {
-        this(first, most, client -> new RvSession(host, port, client, incarnation, patience, RvSession.ANSWER, version));
-    }
-
-    /** The same, with sessions that are made so. A first one is made at once, and thrown away, for what it does not allow. */
+    /** So many clients from the first one on, whose sessions are made so, for tests. */
     RvClients(long first, int most, LongFunction<RvSession> maker) {
-        if (first < 1 || most < 1 || first > Key.GREATEST - most + 1) {
-            throw new IllegalArgumentException("clients are 1 to " + Key.GREATEST);
-        }
-        maker.apply(first);
-        this.first = first;
-        this.most = most;
-        this.maker = maker;
+        this(new Numbers.Given(new ClientRange(first, first + most - 1), 1), (client, incarnation) -> maker.apply(client),
+            RvSession.PATIENCE.toNanos(), null);
     }
 
     /**
-     * The session of the thread that asks. Where its request is unsettled or it has ended, the thread gets another one, as
-     * long as there are client numbers left; {@link #unsettled} has what was unsettled.
+     * What makes the clients of a server.
      *
-     * @throws IllegalStateException if there are more threads than clients, or the clients are closed
+     * @param host the server's host; a name is looked up anew for each connection
+     * @param port the server's port, 1 to 65,535
      */
-    public synchronized RvSession session() {
-        if (closed) {
-            throw new IllegalStateException("the clients are closed");
+    public static Builder builder(String host, int port) {
+        return new Builder(host, port);
+    }
+
+    /** What makes clients; what is not chosen is as each method tells. */
+    public static final class Builder {
+        private final String host;
+        private final int port;
+        private ClientRange range;
+        private boolean leased = true;
+        private OptionalLong incarnation = OptionalLong.empty();
+        private Duration patience = RvSession.PATIENCE;
+        private int version = RvSession.VERSION;
+        private Executor executor;
+
+        private Builder(String host, int port) {
+            this.host = Objects.requireNonNull(host, "a host is a text");
+            this.port = port;
         }
-        leaveTheDead();
-        RvSession own = sessions.get(Thread.currentThread());
-        if (own != null && own.isIdle()) {
-            return own;
+
+        /**
+         * The least and the greatest client number, each 1 to 2<sup>53</sup> - 1. Unless they are chosen here, the
+         * environment variable {@code RV_CLIENTS} names them as FIRST-LAST, and where there is none they are 1 to 1,024:
+         * a server admits 1,024 clients in an epoch.
+         */
+        public Builder clients(long first, long last) {
+            range = new ClientRange(first, last);
+            return this;
         }
-        RvSession other = next();
-        if (other == null && own == null) {
-            throw new IllegalStateException("more threads than the " + most + " clients");
+
+        /**
+         * No number is leased: the caller gives the range to these clients alone. Each number is used by one session, the
+         * least first, and used up when that has ended.
+         */
+        public Builder unleased() {
+            leased = false;
+            return this;
         }
-        if (other == null) {
-            return own;
+
+        /**
+         * The incarnation of all sessions, 1 to 2<sup>53</sup> - 1, above each that the numbers were used in. Each number
+         * is then used by one session of these clients. Unless it is chosen here, a leased number has one of its own, and
+         * one that is not leased has the milliseconds since 1970 at {@link #build}.
+         */
+        public Builder incarnation(long number) {
+            if (number < 1 || number > Key.GREATEST) {
+                throw new IllegalArgumentException("incarnations are 1 to " + Key.GREATEST + ": " + number);
+            }
+            incarnation = OptionalLong.of(number);
+            return this;
         }
-        if (own != null) {
-            left.add(own);
+
+        /** For how long a call goes on while nothing at all is heard; a minute unless it is chosen here. */
+        public Builder patience(Duration time) {
+            patience = Objects.requireNonNull(time, "a patience without end is patientForEver()");
+            return this;
         }
-        sessions.put(Thread.currentThread(), other);
-        return other;
+
+        /** A call goes on for ever while nothing at all is heard. */
+        public Builder patientForEver() {
+            patience = null;
+            return this;
+        }
+
+        /** What the sessions speak: 2, as long as nothing is chosen; 1 for a server that knows no other. */
+        public Builder version(int number) {
+            version = number;
+            return this;
+        }
+
+        /**
+         * What runs the calls of futures, each of which keeps a thread until it ends. Unless it is chosen here, each runs in
+         * a daemon thread of these clients. Where the JDK has virtual threads,
+         * {@code Executors.newVirtualThreadPerTaskExecutor()} is one that fits.
+         */
+        public Builder executor(Executor runs) {
+            executor = Objects.requireNonNull(runs);
+            return this;
+        }
+
+        /**
+         * The clients. Nothing is leased and nothing is sent before the first call.
+         *
+         * @throws IllegalArgumentException if the port, the version, the patience or {@code RV_CLIENTS} is none
+         * @throws IllegalStateException if the folder of leases is not this user's alone; or numbers are not leased, and
+         *     none are chosen
+         * @throws java.io.UncheckedIOException if the folder of leases cannot be made
+         */
+        public RvClients build() {
+            Pool.Maker maker = (client, each) -> new RvSession(host, port, client, each, patience, RvSession.ANSWER, version);
+            return new RvClients(numbers(), maker, RvSession.nanos(patience), executor);
+        }
+
+        private Numbers numbers() {
+            if (leased) {
+                ClientRange from = range == null ? ClientRange.of(System.getenv()) : range;
+                return new Leases(LeaseFolder.of(System.getenv()), from, incarnation);
+            }
+            if (range == null) {
+                throw new IllegalStateException("numbers that are not leased are to be chosen: clients(first, last)");
+            }
+            return new Numbers.Given(range, incarnation.orElseGet(System::currentTimeMillis));
+        }
+    }
+
+    /**
+     * The session that the next call of the thread that asks uses, if no other thread does before. Where the request of
+     * its last one is unsettled or that one has ended, it is another one, as long as there are client numbers left;
+     * {@link #unsettled} has what was unsettled.
+     *
+     * @throws NoClientNumber if all numbers of the range are leased
+     * @throws IllegalStateException if there are more threads than clients, where these are not leased; or the clients are
+     *     closed
+     */
+    public RvSession session() {
+        return pool.session();
+    }
+
+    /**
+     * The outcome of the last call of the thread that asks: of its request, also if the call threw something else than
+     * its result. None before the first call, and where the last one's request was not settled.
+     */
+    public Optional<Outcome> last() {
+        return Optional.ofNullable(last.get());
     }
 
     /**
      * The sessions whose request is unsettled, of living threads and of dead ones. Any thread may ask each of them
      * {@link RvSession#again}, or {@link RvSession#giveUp}; behind that the session is used again.
      */
-    public synchronized List<RvSession> unsettled() {
-        return Stream.concat(sessions.values().stream(), left.stream())
-            .filter(session -> session.isUnsettled() && !session.isOver()).toList();
+    public List<RvSession> unsettled() {
+        return pool.unsettled();
     }
 
-    /** Takes the sessions of dead threads, closes the connections of those that are idle, and drops those that are over. */
-    private void leaveTheDead() {
-        for (Iterator<Map.Entry<Thread, RvSession>> each = sessions.entrySet().iterator(); each.hasNext();) {
-            Map.Entry<Thread, RvSession> entry = each.next();
-            if (!entry.getKey().isAlive()) {
-                left.add(entry.getValue());
-                each.remove();
-            }
+    /** The outcome of a call through interrupts, which are set again at its end. */
+    Outcome ask(Calls.Job job) {
+        try {
+            return ask(job, false);
+        } catch (InterruptedException never) {
+            throw new IllegalStateException(never);
         }
-        left.stream().filter(RvSession::isOver).forEach(RvSession::close);
-        left.removeIf(RvSession::isOver);
-        left.stream().filter(RvSession::isIdle).forEach(RvSession::rest);
     }
 
-    /** A session for a thread that has none: one that is idle, or a new one; null where all numbers are used up. */
-    private RvSession next() {
-        for (RvSession session : left) {
-            if (session.isIdle()) {
-                left.remove(session);
-                return session;
-            }
+    /** The outcome of a call that an interrupt cancels; where it was met before, the thread stays interrupted. */
+    Outcome askInterruptibly(Calls.Job job) throws InterruptedException {
+        return ask(job, true);
+    }
+
+    private Outcome ask(Calls.Job job, boolean interruptible) throws InterruptedException {
+        long began = System.nanoTime();
+        Pool.Seat seat = pool.borrow(job, interruptible);
+        try {
+            return seat.session().ask(job.later(System.nanoTime() - began), interruptible);
+        } finally {
+            last.set(seat.session().last().orElse(null));
+            pool.giveBack(seat);
         }
-        if (made == most) {
-            return null;
+    }
+
+    /** What runs the calls of futures. */
+    synchronized Executor executor() {
+        if (chosen != null) {
+            return chosen;
         }
-        RvSession session = maker.apply(first + made);
-        made++;
-        return session;
+        if (closed) {
+            throw new IllegalStateException("the clients are closed");
+        }
+        if (own == null) {
+            own = Executors.newCachedThreadPool(call -> {
+                Thread thread = new Thread(call, "rendezvous runs a future's call");
+                thread.setDaemon(true);
+                return thread;
+            });
+        }
+        return own;
     }
 
     /**
-     * Closes all sessions for good. Each call that runs ends by what is known: {@link RvException.NotAsked},
-     * {@link RvException.Full} or {@link RvException.Unsettled}.
+     * Closes all sessions for good, and gives their numbers back. Each call that runs ends by what is known:
+     * {@link RvException.NotAsked}, {@link RvException.Full} or {@link RvException.Unsettled}.
      */
     @Override
-    public synchronized void close() {
-        closed = true;
-        sessions.values().forEach(RvSession::close);
-        left.forEach(RvSession::close);
+    public void close() {
+        pool.close();
+        synchronized (this) {
+            closed = true;
+            if (own != null) {
+                own.shutdown();
+            }
+        }
     }
 }

@@ -30,13 +30,13 @@ public final class RvExchanger {
 
     /** The partner's object for this one, waiting for a partner if need be. */
     public String exchange(String item) throws InterruptedException {
-        Outcome outcome = clients.session().askInterruptibly(Calls.waiting(swap(item), "forever"));
+        Outcome outcome = clients.askInterruptibly(Calls.waiting(swap(item), "forever"));
         return ((Outcome.Swapped) outcome).item();
     }
 
     /** The partner's object for this one, or a {@link TimeoutException} where nobody came in time. */
     public String exchange(String item, long timeout, TimeUnit unit) throws InterruptedException, TimeoutException {
-        Outcome outcome = clients.session().askInterruptibly(Calls.waiting(swap(item), timeout, unit));
+        Outcome outcome = clients.askInterruptibly(Calls.waiting(swap(item), timeout, unit));
         if (outcome instanceof Outcome.Swapped swapped) {
             return swapped.item();
         }

@@ -35,10 +35,11 @@ public final class RvSession implements AutoCloseable {
     private volatile Outcome last;
     private volatile Link link;
     private volatile boolean closed;
+    private volatile Runnable whenLeft = () -> { };
     private Running running;
 
     /** A session of version 2 that says hello with its first call, and has a patience of a minute. */
-    public RvSession(String host, int port, long client, long incarnation) {
+    RvSession(String host, int port, long client, long incarnation) {
         this(host, port, client, incarnation, PATIENCE, ANSWER, VERSION);
     }
 
@@ -54,7 +55,7 @@ public final class RvSession implements AutoCloseable {
      * @param version what the session speaks: in version 2 a receipt names the consumer; in version 1, which each
      *     server knows, it does not
      */
-    public RvSession(String host, int port, long client, long incarnation, Duration patience, Duration answerTime,
+    RvSession(String host, int port, long client, long incarnation, Duration patience, Duration answerTime,
             int version) {
         this(linksTo(host, port), client, incarnation, patience, answerTime, version);
     }
@@ -82,7 +83,8 @@ public final class RvSession implements AutoCloseable {
         return isWoken -> new SocketLink(host, port, isWoken);
     }
 
-    private static long nanos(Duration time) {
+    /** A time in nanoseconds; that of null is for ever. */
+    static long nanos(Duration time) {
         if (time == null || time.compareTo(Duration.ofNanos(Calls.FOR_EVER)) > 0) {
             return Calls.FOR_EVER;
         }
@@ -113,6 +115,21 @@ public final class RvSession implements AutoCloseable {
         return caller.get() == null && machine.call() == null && !isOver();
     }
 
+    /** Whether a call runs in it. */
+    boolean isRunning() {
+        return caller.get() != null;
+    }
+
+    /** Has this run at the end of each call. */
+    void whenLeft(Runnable told) {
+        whenLeft = told;
+    }
+
+    /** Tells the outcome of the last request no more, for the session is another thread's now. */
+    void forget() {
+        last = null;
+    }
+
     /** The outcome of the session's last settled request; none before it, and from the next request's begin on. */
     public Optional<Outcome> last() {
         return Optional.ofNullable(last);
@@ -140,7 +157,7 @@ public final class RvSession implements AutoCloseable {
     }
 
     private Outcome goOn(boolean givesUp) throws InterruptedException {
-        enter(true, Calls.FOR_EVER);
+        enter(true, Calls.FOR_EVER, Abort.NEVER);
         try {
             if (machine.call() == null) {
                 throw new IllegalStateException("no request is unsettled");
@@ -168,15 +185,12 @@ public final class RvSession implements AutoCloseable {
     }
 
     /**
-     * The outcome of a call. An interrupt cancels it: where its outcome is that it was cancelled this throws, else the
-     * outcome is given, and the thread stays interrupted.
+     * The outcome of a call. An interrupt cancels it where it is interruptible: if its outcome is that it was cancelled
+     * this throws, else the outcome is given, and the thread stays interrupted. Of a call that is not interruptible the
+     * interrupt is set again at its end. A call that was aborted and cancelled gives {@link Outcome.Cancelled}.
      */
-    Outcome askInterruptibly(Calls.Job job) throws InterruptedException {
-        return ask(job, true);
-    }
-
-    private Outcome ask(Calls.Job job, boolean interruptible) throws InterruptedException {
-        enter(interruptible, job.own());
+    Outcome ask(Calls.Job job, boolean interruptible) throws InterruptedException {
+        enter(interruptible, job.own(), job.abort());
         try {
             take(new Event.Ask(job.call()));
             last = null;
@@ -193,6 +207,9 @@ public final class RvSession implements AutoCloseable {
         if (running.order() == Order.TIME) {
             return new Outcome.TimedOut(key);
         }
+        if (running.order() == Order.ABORT) {
+            return new Outcome.Cancelled(key);
+        }
         throw new CancellationException("the request was cancelled, and not by this call (request " + key + ")");
     }
 
@@ -204,7 +221,7 @@ public final class RvSession implements AutoCloseable {
         }
     }
 
-    private void enter(boolean interruptible, long own) throws InterruptedException {
+    private void enter(boolean interruptible, long own, Abort abort) throws InterruptedException {
         if (!caller.compareAndSet(null, Thread.currentThread())) {
             throw new IllegalStateException("a session asks one request at a time: another thread's call runs");
         }
@@ -216,7 +233,8 @@ public final class RvSession implements AutoCloseable {
             if (interruptible && Thread.interrupted()) {
                 throw new InterruptedException();
             }
-            running = new Running(interruptible, own, patience);
+            running = new Running(interruptible, own, patience, abort);
+            abort.wakes(this::wake);
             enters = true;
         } finally {
             if (!enters) {
@@ -231,6 +249,7 @@ public final class RvSession implements AutoCloseable {
         if (closed) {
             rest();
         }
+        whenLeft.run();
     }
 
     /** What settled the outstanding request; whatever else ends the call is thrown. */
@@ -399,6 +418,12 @@ public final class RvSession implements AutoCloseable {
     @Override
     public void close() {
         closed = true;
+        wake();
+        rest();
+    }
+
+    /** Has the call that runs, if one does, look what it is to do. */
+    private void wake() {
         Thread calling = caller.get();
         if (calling != null) {
             LockSupport.unpark(calling);
@@ -407,6 +432,5 @@ public final class RvSession implements AutoCloseable {
         if (waiting != null) {
             waiting.wake();
         }
-        rest();
     }
 }

@@ -62,12 +62,12 @@ public final class RvTransferQueue extends AbstractQueue<String> implements Tran
 
     /** The outcome of a call whose wait is "now" or "forever", or that has none: a time ends no such call. */
     private Outcome ask(Calls.Job job) {
-        return clients.session().ask(job.call());
+        return clients.ask(job);
     }
 
     /** The outcome of a call that an interrupt cancels. */
     private Outcome askInterruptibly(Calls.Job job) throws InterruptedException {
-        return clients.session().askInterruptibly(job);
+        return clients.askInterruptibly(job);
     }
 
     /** The item that was taken; null where none was. */
@@ -83,7 +83,7 @@ public final class RvTransferQueue extends AbstractQueue<String> implements Tran
     /** The item goes to the tail; nobody is waited for. */
     @Override
     public void put(String item) {
-        clients.session().ask(Calls.giving(call("put"), item));
+        ask(new Calls.Job(Calls.giving(call("put"), item)));
     }
 
     /** Waits until a consumer was assigned the item. */
@@ -140,7 +140,7 @@ public final class RvTransferQueue extends AbstractQueue<String> implements Tran
     /** The oldest item, which stays; or null. */
     @Override
     public String peek() {
-        return clients.session().ask(call("peek")) instanceof Outcome.Peeked peeked ? peeked.item() : null;
+        return ask(new Calls.Job(call("peek"))) instanceof Outcome.Peeked peeked ? peeked.item() : null;
     }
 
     /**
@@ -193,11 +193,11 @@ public final class RvTransferQueue extends AbstractQueue<String> implements Tran
     private List<String> drainedStep(int most) {
         JsonObject call = call("drain");
         call.addProperty("max", most);
-        return ((Outcome.Drained) clients.session().ask(call)).items();
+        return ((Outcome.Drained) ask(new Calls.Job(call))).items();
     }
 
     private Outcome.Counted counted() {
-        return (Outcome.Counted) clients.session().ask(call("count"));
+        return (Outcome.Counted) ask(new Calls.Job(call("count")));
     }
 
     /** How many items there are: of puts, and of transfers that wait. */

@@ -29,7 +29,8 @@ final class BesideJdk {
     public static void main(String[] words) throws Exception {
         int count = Integer.parseInt(words[1]);
         Exchanger<String> own = new Exchanger<>();
-        try (RvClients clients = new RvClients("127.0.0.1", Integer.parseInt(words[0]), 1, 4, 1);
+        try (RvClients clients = RvClients.builder("127.0.0.1", Integer.parseInt(words[0])).clients(1, 4).unleased()
+                    .incarnation(1).build();
                 Side jdk = new Side(new LinkedTransferQueue<>(), (item, ms) -> own.exchange(item, ms, TimeUnit.MILLISECONDS));
                 Side ours = new Side(new RvTransferQueue(clients, 3),
                     (item, ms) -> new RvExchanger(clients, 5).exchange(item, ms, TimeUnit.MILLISECONDS))) {

@@ -34,8 +34,9 @@ final class Crowd {
         long ends = System.nanoTime() + TimeUnit.MILLISECONDS.toNanos((long) (1000 * Double.parseDouble(words[3])));
         List<Thread> threads = new ArrayList<>();
         for (int each = 0; each < count; each++) {
-            RvClients clients = new RvClients("127.0.0.1", Integer.parseInt(words[0]),
-                Long.parseLong(words[1]) + each, 1, 1, Duration.ofSeconds(120), 1 + each % 2);
+            long client = Long.parseLong(words[1]) + each;
+            RvClients clients = RvClients.builder("127.0.0.1", Integer.parseInt(words[0])).clients(client, client).unleased()
+                .incarnation(1).patience(Duration.ofSeconds(120)).version(1 + each % 2).build();
             Crowd one = new Crowd(clients, Long.parseLong(words[4]) * 1000 + each);
             threads.add(new Thread(() -> one.run(ends)));
         }

@@ -66,8 +66,9 @@ final class Driver {
     private Object does(String word, List<String> given) throws Exception {
         switch (word) {
             case "open":
-                clients = new RvClients("127.0.0.1", number(given, 0), number(given, 1), 1, 1,
-                    Duration.ofMillis(number(given, 2)), given.size() > 3 ? number(given, 3) : RvSession.VERSION);
+                clients = RvClients.builder("127.0.0.1", number(given, 0)).clients(number(given, 1), number(given, 1))
+                    .unleased().incarnation(1).patience(Duration.ofMillis(number(given, 2)))
+                    .version(given.size() > 3 ? number(given, 3) : RvSession.VERSION).build();
                 queue = new RvTransferQueue(clients, 3);
                 return "open";
             case "interrupt":

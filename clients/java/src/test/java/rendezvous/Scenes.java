@@ -67,7 +67,12 @@ final class Scenes {
     }
 
     private static RvClients clients(int port, int first, int most, long millis) {
-        return new RvClients(HOST, port, first, most, 1, Duration.ofMillis(millis));
+        return given(HOST, port, first, first + most - 1L).patience(Duration.ofMillis(millis)).build();
+    }
+
+    /** Clients of these numbers, which nobody leases, in incarnation 1. */
+    private static RvClients.Builder given(String host, int port, long first, long last) {
+        return RvClients.builder(host, port).clients(first, last).unleased().incarnation(1);
     }
 
     /** What a call gives or throws, and whether its thread is interrupted then. */
@@ -140,7 +145,7 @@ final class Scenes {
         return clients.unsettled().stream().map(RvSession::key).toList();
     }
 
-    /** Two threads die with unsettled requests; a third one wants a session; then all is settled. */
+    /** Two threads die with unsettled requests; a third one wants a session; then all is settled, and two put at a time. */
     private static void deadUnsettled(int port) throws Exception {
         RvClients clients = clients(port, 1, 2, SHORT);
         threePuts(clients);
@@ -150,7 +155,11 @@ final class Scenes {
         System.out.println(told(left.get(0)::again));
         System.out.println(told(left.get(1)::giveUp));
         System.out.println(keys(clients));
-        threePuts(clients);
+        List<Started> two = List.of(Started.of(put(clients, "d")), Started.of(put(clients, "d")));
+        for (Started each : two) {
+            System.out.println(each.end());
+        }
+        System.out.println(inThread(put(clients, "e")));
     }
 
     /** A thread dies behind the end of its epoch; two more threads come. */
@@ -291,11 +300,11 @@ final class Scenes {
         System.out.println("no time " + told(() -> queue.poll(Long.MIN_VALUE, TimeUnit.DAYS)));
         RvSession session = new RvSession(HOST, port, 2, 1);
         Calls.Job brief = new Calls.Job(Calls.waiting(Calls.at("take", "queue", 3), "forever").call(), 300_000_000L);
-        System.out.println("brief " + told(() -> session.askInterruptibly(brief)));
+        System.out.println("brief " + told(() -> session.ask(brief, true)));
         System.out.println("last " + told(session::last));
     }
 
-    /** Five threads have sessions at once, and die; then a sixth comes. */
+    /** Five threads have sessions at once, and die; then another one puts, as long as lines are empty. */
     private static void deadThreads(int port) throws Exception {
         RvClients clients = clients(port, 1, 5, 60_000);
         CountDownLatch all = new CountDownLatch(5);
@@ -311,8 +320,9 @@ final class Scenes {
         for (Started each : threads) {
             System.out.println(each.end());
         }
-        System.out.println(told(put(clients, "a")));
-        LINES.readLine();
+        while (LINES.readLine().isEmpty()) {
+            System.out.println(told(put(clients, "b")));
+        }
         clients.close();
         LINES.readLine();
     }
@@ -389,7 +399,7 @@ final class Scenes {
     /** A host is not known at first, and is known later. */
     private static void unresolved(int port) throws Exception {
         Security.setProperty("networkaddress.cache.negative.ttl", "0");
-        RvClients clients = new RvClients("rendezvous.test", port, 1, 1, 1, Duration.ofMillis(SHORT));
+        RvClients clients = given("rendezvous.test", port, 1, 1).patience(Duration.ofMillis(SHORT)).build();
         System.out.println("put " + words(put(clients, "a")).replace(":" + port, ""));
         LINES.readLine();
         System.out.println("put " + words(put(clients, "a")));
@@ -408,9 +418,9 @@ final class Scenes {
         for (int each = 0; each < 3; each++) {
             System.out.println(told(put(clients, "a")));
         }
-        System.out.println(told(() -> new RvClients("a", 0, 1, 1, 1)));
-        System.out.println(told(() -> new RvClients("a", 1, Key.GREATEST, 2, 1)));
-        System.out.println(told(() -> new RvClients("a", 1, 1, Integer.MAX_VALUE, 1, null).session().key()));
+        System.out.println(told(() -> given("a", 0, 1, 1).build()));
+        System.out.println(told(() -> given("a", 1, Key.GREATEST, Key.GREATEST + 1).build()));
+        System.out.println(told(() -> given("a", 1, 1, Integer.MAX_VALUE).patientForEver().build().session().key()));
     }
 
     /** What links have open in this program: sockets, and what waits for them. The runtime itself opens files now and then. */

@@ -1,0 +1,263 @@
+package rendezvous;
+
+import java.util.ArrayList;
+import java.util.Comparator;
+import java.util.List;
+import java.util.Optional;
+import java.util.concurrent.TimeUnit;
+import java.util.concurrent.locks.Condition;
+import java.util.concurrent.locks.ReentrantLock;
+import java.util.stream.Stream;
+
+/**
+ * The sessions of a program's threads. A call borrows one that is settled and gives it back: so there are as many as calls
+ * run at a time, and as have a request that is unsettled.
+ */
+final class Pool {
+    /** What makes the session of a client number in an incarnation. */
+    interface Maker {
+        RvSession make(long client, long incarnation);
+    }
+
+    /** For so long the session of a thread that ended keeps its connection, in nanoseconds. */
+    private static final long IDLE = TimeUnit.SECONDS.toNanos(2);
+
+    /** A session, the lease of its number, and the thread that used it last. */
+    static final class Seat {
+        private final RvSession session;
+        private final Lease lease;
+        private Thread owner;
+        private boolean borrowed;
+        private long since = System.nanoTime();
+
+        private Seat(RvSession session, Lease lease) {
+            this.session = session;
+            this.lease = lease;
+        }
+
+        RvSession session() {
+            return session;
+        }
+
+        private boolean isFree() {
+            return !borrowed && session.isIdle();
+        }
+
+        private boolean isRunning() {
+            return borrowed || session.isRunning();
+        }
+
+        private boolean isNobodys() {
+            return owner == null || !owner.isAlive();
+        }
+    }
+
+    private final Numbers numbers;
+    private final Maker maker;
+    private final long patience;
+    private final ReentrantLock lock = new ReentrantLock();
+    private final Condition changed = lock.newCondition();
+    /** By their client numbers. */
+    private final List<Seat> seats = new ArrayList<>();
+    private boolean closed;
+
+    /**
+     * A pool that is empty.
+     *
+     * @param patience for how many nanoseconds a call waits where all numbers are in use, {@link Calls#FOR_EVER} for ever
+     */
+    Pool(Numbers numbers, Maker maker, long patience) {
+        this.numbers = numbers;
+        this.maker = maker;
+        this.patience = patience;
+    }
+
+    /** The session that the next call of the thread that asks borrows, if no other thread does before. */
+    RvSession session() {
+        lock.lock();
+        try {
+            return chosen().or(this::own).orElseThrow(numbers::none).session;
+        } finally {
+            lock.unlock();
+        }
+    }
+
+    /**
+     * Borrows a session for a call of the thread that asks. Where no number is left while calls run, it waits for one of
+     * them to end, as long as the call's own time and the patience last.
+     *
+     * @throws IllegalStateException if there is none
+     */
+    Seat borrow(Calls.Job job, boolean interruptible) throws InterruptedException {
+        boolean interrupted = false;
+        long began = System.nanoTime();
+        long most = Math.min(job.own(), patience);
+        job.abort().wakes(this::signal);
+        lock.lock();
+        try {
+            while (true) {
+                Optional<Seat> seat = chosen();
+                if (seat.isEmpty() && (!anyRuns() || job.abort().isAsked() || System.nanoTime() - began >= most)) {
+                    seat = Optional.of(own().orElseThrow(numbers::none));
+                }
+                if (seat.isPresent()) {
+                    seat.get().borrowed = true;
+                    return seat.get();
+                }
+                try {
+                    changed.awaitNanos(most - (System.nanoTime() - began));
+                } catch (InterruptedException now) {
+                    if (interruptible) {
+                        throw now;
+                    }
+                    interrupted = true;
+                }
+            }
+        } finally {
+            lock.unlock();
+            if (interrupted) {
+                Thread.currentThread().interrupt();
+            }
+        }
+    }
+
+    /** Gives a session back behind its call. One whose request is unsettled has no connection meanwhile. */
+    void giveBack(Seat seat) {
+        lock.lock();
+        try {
+            seat.borrowed = false;
+            seat.since = System.nanoTime();
+            if (closed || seat.session.isOver() && numbers.areUsedAgain()) {
+                end(seat);
+            } else if (seat.session.isUnsettled()) {
+                seat.session.rest();
+            }
+            changed.signalAll();
+        } finally {
+            lock.unlock();
+        }
+    }
+
+    /** The sessions whose request is unsettled. */
+    List<RvSession> unsettled() {
+        lock.lock();
+        try {
+            return seats.stream().map(Seat::session).filter(session -> session.isUnsettled() && !session.isOver()).toList();
+        } finally {
+            lock.unlock();
+        }
+    }
+
+    /** Closes all sessions for good. The number of one whose call runs is given back at the end of that call. */
+    void close() {
+        lock.lock();
+        try {
+            closed = true;
+            seats.forEach(seat -> seat.session.close());
+            List.copyOf(seats).stream().filter(seat -> !seat.isRunning()).forEach(this::end);
+            changed.signalAll();
+        } finally {
+            lock.unlock();
+        }
+    }
+
+    /** The free session for the thread that asks: its own one, a thread's that ended, another thread's, or a new one. */
+    private Optional<Seat> chosen() {
+        if (closed) {
+            throw new IllegalStateException("the clients are closed");
+        }
+        Optional<Seat> own = own();
+        tidy(own);
+        if (own.isPresent() && own.get().isFree()) {
+            return own;
+        }
+        Optional<Seat> other = Stream.concat(free().filter(Seat::isNobodys), free()).findFirst().or(this::made);
+        other.ifPresent(seat -> {
+            own.ifPresent(before -> before.owner = null);
+            seat.owner = Thread.currentThread();
+            seat.session.forget();
+        });
+        return other;
+    }
+
+    private Optional<Seat> own() {
+        return seats.stream().filter(seat -> seat.owner == Thread.currentThread()).findFirst();
+    }
+
+    private Stream<Seat> free() {
+        return seats.stream().filter(Seat::isFree);
+    }
+
+    private boolean anyRuns() {
+        return seats.stream().anyMatch(Seat::isRunning);
+    }
+
+    /** A new session, where there is a number for it. */
+    private Optional<Seat> made() {
+        Optional<Seat> seat = numbers.next().map(this::seated);
+        seat.ifPresent(seats::add);
+        seats.sort(Comparator.comparingLong(each -> each.lease.client()));
+        return seat;
+    }
+
+    private Seat seated(Lease lease) {
+        boolean made = false;
+        try {
+            Seat seat = new Seat(maker.make(lease.client(), lease.incarnation()), lease);
+            seat.session.whenLeft(() -> left(seat));
+            made = true;
+            return seat;
+        } finally {
+            if (!made) {
+                lease.giveBack();
+            }
+        }
+    }
+
+    /** Behind each call of a session, also one that asks again: who waits for a session looks whether it is free. */
+    private void left(Seat seat) {
+        lock.lock();
+        try {
+            if (closed && !seat.borrowed) {
+                end(seat);
+            }
+            changed.signalAll();
+        } finally {
+            lock.unlock();
+        }
+    }
+
+    private void signal() {
+        lock.lock();
+        try {
+            changed.signalAll();
+        } finally {
+            lock.unlock();
+        }
+    }
+
+    /** Of the sessions whose threads ended, drops those that are over, and closes the connections of those that idle for long. */
+    private void tidy(Optional<Seat> own) {
+        long now = System.nanoTime();
+        for (Seat seat : List.copyOf(seats)) {
+            if (!seat.isNobodys() || seat.isRunning() || own.filter(seat::equals).isPresent()) {
+                continue;
+            }
+            boolean idles = seat.isFree() && now - seat.since > IDLE;
+            if (seat.session.isOver() || idles && numbers.areUsedAgain()) {
+                end(seat);
+            } else if (idles) {
+                seat.session.rest();
+            }
+        }
+    }
+
+    /** Ends a session. Its number is given back, unless it has to stay used up. */
+    private void end(Seat seat) {
+        seat.session.close();
+        seats.remove(seat);
+        if (closed || numbers.areUsedAgain()) {
+            seat.lease.giveBack();
+        }
+    }
+}
