@@ -19,8 +19,8 @@ final class Pool {
         RvSession make(long client, long incarnation);
     }
 
-    /** For so long the session of a thread that ended keeps its connection, in nanoseconds. */
-    private static final long IDLE = TimeUnit.SECONDS.toNanos(2);
+    /** For so long the session of a thread that ended keeps its connection, in nanoseconds, where nothing else is chosen. */
+    static final long IDLE = TimeUnit.SECONDS.toNanos(2);
 
     /** A session, the lease of its number, and the thread that used it last. */
     static final class Seat {
@@ -55,6 +55,7 @@ final class Pool {
     private final Numbers numbers;
     private final Maker maker;
     private final long patience;
+    private final long idle;
     private final ReentrantLock lock = new ReentrantLock();
     private final Condition changed = lock.newCondition();
     /** By their client numbers. */
@@ -65,11 +66,13 @@ final class Pool {
      * A pool that is empty.
      *
      * @param patience for how many nanoseconds a call waits where all numbers are in use, {@link Calls#FOR_EVER} for ever
+     * @param idle for how many the session of a thread that ended keeps its connection
      */
-    Pool(Numbers numbers, Maker maker, long patience) {
+    Pool(Numbers numbers, Maker maker, long patience, long idle) {
         this.numbers = numbers;
         this.maker = maker;
         this.patience = patience;
+        this.idle = idle;
     }
 
     /** The session that the next call of the thread that asks borrows, if no other thread does before. */
@@ -167,8 +170,8 @@ final class Pool {
             throw new IllegalStateException("the clients are closed");
         }
         Optional<Seat> own = own();
-        tidy(own);
         if (own.isPresent() && own.get().isFree()) {
+            tidy();
             return own;
         }
         Optional<Seat> other = Stream.concat(free().filter(Seat::isNobodys), free()).findFirst().or(this::made);
@@ -177,6 +180,7 @@ final class Pool {
             seat.owner = Thread.currentThread();
             seat.session.forget();
         });
+        tidy();
         return other;
     }
 
@@ -237,13 +241,10 @@ final class Pool {
     }
 
     /** Of the sessions whose threads ended, drops those that are over, and closes the connections of those that idle for long. */
-    private void tidy(Optional<Seat> own) {
+    private void tidy() {
         long now = System.nanoTime();
-        for (Seat seat : List.copyOf(seats)) {
-            if (!seat.isNobodys() || seat.isRunning() || own.filter(seat::equals).isPresent()) {
-                continue;
-            }
-            boolean idles = seat.isFree() && now - seat.since > IDLE;
+        for (Seat seat : seats.stream().filter(each -> each.isNobodys() && !each.isRunning()).toList()) {
+            boolean idles = seat.session.isIdle() && now - seat.since > idle;
             if (seat.session.isOver() || idles && numbers.areUsedAgain()) {
                 end(seat);
             } else if (idles) {

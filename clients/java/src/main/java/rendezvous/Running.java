@@ -8,13 +8,15 @@ final class Running {
     /** Who orders that a request is given up. */
     enum Order { NOBODY, TIME, INTERRUPT, ABORT, USER }
 
-    private static final long HALF = TimeUnit.MILLISECONDS.toNanos(500);
+    /** Within how many nanoseconds a call that is to end ends by what is known, where nothing else is chosen. */
+    static final long GRACE = TimeUnit.SECONDS.toNanos(1);
     private static final long LEAST_PAUSE = TimeUnit.MILLISECONDS.toNanos(10);
     private static final long GREATEST_PAUSE = TimeUnit.SECONDS.toNanos(5);
 
     private final long began = System.nanoTime();
     private final boolean interruptible;
     private final long patience;
+    private final long grace;
     private final Abort abort;
     private final long givesUp;
     private long expires;
@@ -26,13 +28,17 @@ final class Running {
     private Order order = Order.NOBODY;
     private String fault = "nothing was heard";
 
-    /** A call that begins now, with its own time and a patience, each {@link Calls#FOR_EVER} where it has none. */
-    Running(boolean interruptible, long own, long patience, Abort abort) {
+    /**
+     * A call that begins now, with its own time and a patience, each {@link Calls#FOR_EVER} where it has none. Behind its
+     * time, an interrupt or an abort it ends within its grace.
+     */
+    Running(boolean interruptible, long own, long patience, long grace, Abort abort) {
         this.interruptible = interruptible;
         this.patience = patience;
+        this.grace = grace;
         this.abort = abort;
-        givesUp = sum(own, HALF);
-        expires = sum(givesUp, HALF);
+        givesUp = sum(own, grace / 2);
+        expires = sum(givesUp, grace / 2);
     }
 
     private static long sum(long one, long other) {
@@ -70,7 +76,7 @@ final class Running {
 
     private void endsSoon(Order who) {
         ordered(who);
-        expires = Math.min(expires, sum(now(), 2 * HALF));
+        expires = Math.min(expires, sum(now(), grace));
         due = true;
     }
 

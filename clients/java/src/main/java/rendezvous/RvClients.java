@@ -1,5 +1,6 @@
 package rendezvous;
 
+import java.nio.file.Path;
 import java.time.Duration;
 import java.util.List;
 import java.util.Objects;
@@ -37,17 +38,16 @@ public final class RvClients implements AutoCloseable {
     private ExecutorService own;
     private boolean closed;
 
-    private RvClients(Numbers numbers, Pool.Maker maker, long patience, Executor chosen) {
-        // for what it does not allow
-        maker.make(numbers.first(), 1);
-        pool = new Pool(numbers, maker, patience);
+    private RvClients(Pool pool, Executor chosen) {
+        this.pool = pool;
         this.chosen = chosen;
     }
 
     /** So many clients from the first one on, whose sessions are made so, for tests. */
     RvClients(long first, int most, LongFunction<RvSession> maker) {
-        this(new Numbers.Given(new ClientRange(first, first + most - 1), 1), (client, incarnation) -> maker.apply(client),
-            RvSession.PATIENCE.toNanos(), null);
+        this(new Pool(new Numbers.Given(new ClientRange(first, first + most - 1), 1),
+            (client, incarnation) -> maker.apply(client), RvSession.PATIENCE.toNanos(), Pool.IDLE), null);
+        maker.apply(first);
     }
 
     /**
@@ -70,6 +70,9 @@ public final class RvClients implements AutoCloseable {
         private Duration patience = RvSession.PATIENCE;
         private int version = RvSession.VERSION;
         private Executor executor;
+        private Path folder;
+        private long idle = Pool.IDLE;
+        private long grace = Running.GRACE;
 
         private Builder(String host, int port) {
             this.host = Objects.requireNonNull(host, "a host is a text");
@@ -136,6 +139,24 @@ public final class RvClients implements AutoCloseable {
             return this;
         }
 
+        /** Leases in another folder than the environment tells, for tests. */
+        Builder folder(Path leases) {
+            folder = leases;
+            return this;
+        }
+
+        /** For how many nanoseconds the session of a thread that ended keeps its connection, for tests. */
+        Builder idle(long nanos) {
+            idle = nanos;
+            return this;
+        }
+
+        /** Within how many nanoseconds a call ends that is to end, for tests. */
+        Builder grace(long nanos) {
+            grace = nanos;
+            return this;
+        }
+
         /**
          * The clients. Nothing is leased and nothing is sent before the first call.
          *
@@ -145,14 +166,22 @@ public final class RvClients implements AutoCloseable {
          * @throws java.io.UncheckedIOException if the folder of leases cannot be made
          */
         public RvClients build() {
-            Pool.Maker maker = (client, each) -> new RvSession(host, port, client, each, patience, RvSession.ANSWER, version);
-            return new RvClients(numbers(), maker, RvSession.nanos(patience), executor);
+            Numbers numbers = numbers();
+            // one is made for what it does not allow
+            made(numbers.first(), 1);
+            return new RvClients(new Pool(numbers, this::made, RvSession.nanos(patience), idle), executor);
+        }
+
+        private RvSession made(long client, long each) {
+            RvSession session = new RvSession(host, port, client, each, patience, RvSession.ANSWER, version);
+            session.grace(grace);
+            return session;
         }
 
         private Numbers numbers() {
             if (leased) {
                 ClientRange from = range == null ? ClientRange.of(System.getenv()) : range;
-                return new Leases(LeaseFolder.of(System.getenv()), from, incarnation);
+                return new Leases(folder == null ? LeaseFolder.of(System.getenv()) : folder, from, incarnation);
             }
             if (range == null) {
                 throw new IllegalStateException("numbers that are not leased are to be chosen: clients(first, last)");

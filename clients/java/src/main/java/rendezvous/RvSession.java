@@ -36,6 +36,7 @@ public final class RvSession implements AutoCloseable {
     private volatile Link link;
     private volatile boolean closed;
     private volatile Runnable whenLeft = () -> { };
+    private volatile long grace = Running.GRACE;
     private Running running;
 
     /** A session of version 2 that says hello with its first call, and has a patience of a minute. */
@@ -123,6 +124,11 @@ public final class RvSession implements AutoCloseable {
     /** Has this run at the end of each call. */
     void whenLeft(Runnable told) {
         whenLeft = told;
+    }
+
+    /** Within so many nanoseconds a call ends that is to end, from the next one on: for tests. */
+    void grace(long nanos) {
+        grace = nanos;
     }
 
     /** Tells the outcome of the last request no more, for the session is another thread's now. */
@@ -233,7 +239,7 @@ public final class RvSession implements AutoCloseable {
             if (interruptible && Thread.interrupted()) {
                 throw new InterruptedException();
             }
-            running = new Running(interruptible, own, patience, abort);
+            running = new Running(interruptible, own, patience, grace, abort);
             abort.wakes(this::wake);
             enters = true;
         } finally {

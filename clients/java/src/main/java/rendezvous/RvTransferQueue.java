@@ -2,14 +2,18 @@ package rendezvous;
 
 import com.google.gson.JsonObject;
 import java.util.AbstractQueue;
+import java.util.ArrayDeque;
 import java.util.Collection;
+import java.util.Deque;
 import java.util.Iterator;
 import java.util.List;
 import java.util.Objects;
 import java.util.Optional;
 import java.util.concurrent.CancellationException;
+import java.util.concurrent.CompletableFuture;
 import java.util.concurrent.TimeUnit;
 import java.util.concurrent.TransferQueue;
+import java.util.function.Function;
 
 /**
  * A queue of the rendezvous server, between processes.
@@ -34,6 +38,11 @@ import java.util.concurrent.TransferQueue;
  *     the call ends within a second, {@link RvException.Unsettled}, and the thread stays interrupted. The other calls go
  *     on through an interrupt, and set it again.
  * <li>A cancel that the call did not order is a {@link CancellationException}.
+ * <li>{@link #transferAsync(String)} and {@link #takeAsync()}, and their forms with a time, are futures, whose cancel
+ *     cancels the request. {@link #consumer} gives items to an action, one after another.
+ * <li>An item that was assigned to the take of a future which was completed otherwise is kept by this object: it is the
+ *     next one that this object takes, polls, peeks at or drains, and {@link #size} counts it too; or
+ *     {@link #unclaimed} gives it out.
  * <li>These throw {@link UnsupportedOperationException}: {@link #offer(String)} and its timed form, {@link #add},
  *     {@link #addAll}, {@link #remainingCapacity}, {@link #contains}, {@link #containsAll}, {@link #remove(Object)},
  *     {@link #removeAll}, {@link #retainAll}, {@link #clear}, and {@link #iterator} and with it streams and arrays.
@@ -45,6 +54,8 @@ import java.util.concurrent.TransferQueue;
 public final class RvTransferQueue extends AbstractQueue<String> implements TransferQueue<String> {
     private final RvClients clients;
     private final int queue;
+    /** Items of takes whose futures were completed otherwise. */
+    private final Deque<String> unclaimed = new ArrayDeque<>();
 
     /** Queue 0 to 63 of a server, for the threads of these clients. */
     public RvTransferQueue(RvClients clients, int queue) {
@@ -119,27 +130,142 @@ public final class RvTransferQueue extends AbstractQueue<String> implements Tran
         return receiptOf(askInterruptibly(Calls.waiting(transferOf(item), timeout, unit)));
     }
 
+    /** An item that is kept here for whoever takes the next one; null where none is. */
+    private String claimed() {
+        synchronized (unclaimed) {
+            return unclaimed.poll();
+        }
+    }
+
+    private void keep(Optional<String> item) {
+        synchronized (unclaimed) {
+            item.ifPresent(unclaimed::add);
+        }
+    }
+
+    private int countUnclaimed() {
+        synchronized (unclaimed) {
+            return unclaimed.size();
+        }
+    }
+
+    /**
+     * Gives out the items that were assigned to takes whose futures were cancelled, or completed otherwise, before the
+     * item was there. Each of them is given once: here, or by the next call of this object that takes one.
+     */
+    public List<String> unclaimed() {
+        synchronized (unclaimed) {
+            List<String> all = List.copyOf(unclaimed);
+            unclaimed.clear();
+            return all;
+        }
+    }
+
     /** The oldest item, waiting for one if need be. */
     @Override
     public String take() throws InterruptedException {
-        return itemOf(askInterruptibly(Calls.waiting(call("take"), "forever")));
+        if (Thread.interrupted()) {
+            throw new InterruptedException();
+        }
+        String kept = claimed();
+        return kept != null ? kept : itemOf(askInterruptibly(Calls.waiting(call("take"), "forever")));
+    }
+
+    /** The oldest item, waiting for one if need be; none where this is aborted before there is one. */
+    Optional<String> take(Abort abort) throws InterruptedException {
+        String kept = abort.isAsked() ? null : claimed();
+        if (kept != null || abort.isAsked()) {
+            return Optional.ofNullable(kept);
+        }
+        try {
+            return Optional.ofNullable(itemOf(askInterruptibly(Calls.waiting(call("take"), "forever").with(abort))));
+        } catch (RvException.NotAsked | RvException.Full | NoClientNumber nothing) {
+            if (abort.isAsked()) {
+                return Optional.empty();
+            }
+            throw nothing;
+        }
     }
 
     /** The oldest item, or null. */
     @Override
     public String poll() {
-        return itemOf(ask(Calls.waiting(call("take"), "now")));
+        String kept = claimed();
+        return kept != null ? kept : itemOf(ask(Calls.waiting(call("take"), "now")));
     }
 
     /** The oldest item, or null where none came in time. */
     @Override
     public String poll(long timeout, TimeUnit unit) throws InterruptedException {
-        return itemOf(askInterruptibly(Calls.waiting(call("take"), timeout, unit)));
+        if (Thread.interrupted()) {
+            throw new InterruptedException();
+        }
+        String kept = claimed();
+        return kept != null ? kept : itemOf(askInterruptibly(Calls.waiting(call("take"), timeout, unit)));
+    }
+
+    /**
+     * {@link #take} by a thread of the clients' {@linkplain RvClients.Builder#executor executor}, which it keeps until it
+     * ends. A cancel of the future cancels the request, and so does whatever else completes it, such as
+     * {@link CompletableFuture#orTimeout}: then an item that was assigned before is the next one of this object, or
+     * {@link #unclaimed} gives it out. The future ends by the exceptions of {@link #take}. Where one that was cancelled
+     * has not heard of its request within a second, {@link RvClients#unsettled} has that.
+     */
+    public CompletableFuture<String> takeAsync() {
+        return taken(Calls.waiting(call("take"), "forever"), Optional::orElseThrow, Optional::of);
+    }
+
+    /** As {@link #takeAsync()}; the future's result is empty where no item came in time. */
+    public CompletableFuture<Optional<String>> takeAsync(long timeout, TimeUnit unit) {
+        return taken(Calls.waiting(call("take"), timeout, unit), item -> item, item -> item);
+    }
+
+    private <T> CompletableFuture<T> taken(Calls.Job job, Function<Optional<String>, T> result,
+            Function<T, Optional<String>> item) {
+        RequestFuture.Asking asking = abort -> {
+            String kept = claimed();
+            return kept != null ? new Outcome.Item(null, kept) : askInterruptibly(job.with(abort));
+        };
+        return new RequestFuture<T>().begin(clients.executor(), asking,
+            outcome -> result.apply(Optional.ofNullable(itemOf(outcome))), unused -> keep(item.apply(unused)));
+    }
+
+    /**
+     * {@link #transferReceipt} by a thread of the clients' {@linkplain RvClients.Builder#executor executor}, which it
+     * keeps until it ends. {@link CompletableFuture#cancel} cancels the request and waits for the server's word, a second
+     * at most: it is true where nobody has the item, now or later. Else the future has the receipt, or ends by
+     * {@link RvException.Unsettled} where nothing was heard. Whatever else completes the future cancels the request too;
+     * then what became of the item is told to nobody.
+     *
+     * @throws IllegalArgumentException if the item is none that may be asked, before anything is
+     */
+    public CompletableFuture<Receipt> transferAsync(String item) {
+        return transferred(Calls.waiting(transferOf(item), "forever"), Optional::orElseThrow);
+    }
+
+    /** As {@link #transferAsync(String)}; the future's result is empty where nobody took the item in time. */
+    public CompletableFuture<Optional<Receipt>> transferAsync(String item, long timeout, TimeUnit unit) {
+        return transferred(Calls.waiting(transferOf(item), timeout, unit), receipt -> receipt);
+    }
+
+    private <T> CompletableFuture<T> transferred(Calls.Job job, Function<Optional<Receipt>, T> result) {
+        return new RequestFuture.OfTransfer<T>().begin(clients.executor(), abort -> askInterruptibly(job.with(abort)),
+            outcome -> result.apply(receiptOf(outcome)), unused -> { });
+    }
+
+    /** What takes item after item, and gives each to an action. */
+    public RvConsumer consumer() {
+        return new RvConsumer(this);
     }
 
     /** The oldest item, which stays; or null. */
     @Override
     public String peek() {
+        synchronized (unclaimed) {
+            if (!unclaimed.isEmpty()) {
+                return unclaimed.peek();
+            }
+        }
         return ask(new Calls.Job(call("peek"))) instanceof Outcome.Peeked peeked ? peeked.item() : null;
     }
 
@@ -153,8 +279,8 @@ public final class RvTransferQueue extends AbstractQueue<String> implements Tran
      *
      * <p>Where a step ends by an exception, what finished steps took is in the collection, and the exception says what
      * is known of its own step. Where that is unsettled, it may be {@link RvSession#again asked again}, which gives its
-     * items. Where the collection itself refuses the items of a finished step, {@link RvSession#last} of the thread's
-     * session has them. An interrupt ends no step; the thread stays interrupted.
+     * items. Where the collection itself refuses the items of a finished step, {@link RvClients#last} has them, for
+     * the thread that asked. An interrupt ends no step; the thread stays interrupted.
      *
      * @return how many items were added to the collection
      * @throws IllegalArgumentException if the collection is this queue, before anything is asked
@@ -177,7 +303,7 @@ public final class RvTransferQueue extends AbstractQueue<String> implements Tran
         if (Objects.requireNonNull(into) == this) {
             throw new IllegalArgumentException("a queue is not drained into itself");
         }
-        int drained = 0;
+        int drained = drainedUnclaimed(into, most);
         boolean more = true;
         while (more && drained < most) {
             int step = Math.min(Bodies.GREATEST_DRAIN, most - drained);
@@ -185,6 +311,19 @@ public final class RvTransferQueue extends AbstractQueue<String> implements Tran
             into.addAll(items);
             drained += items.size();
             more = items.size() == step;
+        }
+        return drained;
+    }
+
+    /** Adds what is kept here, so many items at most. One that the collection refuses stays. */
+    private int drainedUnclaimed(Collection<? super String> into, int most) {
+        int drained = 0;
+        synchronized (unclaimed) {
+            while (drained < most && !unclaimed.isEmpty()) {
+                into.add(unclaimed.peek());
+                unclaimed.remove();
+                drained++;
+            }
         }
         return drained;
     }
@@ -203,7 +342,7 @@ public final class RvTransferQueue extends AbstractQueue<String> implements Tran
     /** How many items there are: of puts, and of transfers that wait. */
     @Override
     public int size() {
-        return counted().items();
+        return counted().items() + countUnclaimed();
     }
 
     /** How many consumers wait. */
@@ -306,9 +445,10 @@ public final class RvTransferQueue extends AbstractQueue<String> implements Tran
         throw leftOut("toArray");
     }
 
-    /** Its name, which asks the server nothing. */
+    /** Its name, and how many items are unclaimed, which asks the server nothing. */
     @Override
     public String toString() {
-        return "RvTransferQueue " + queue;
+        int kept = countUnclaimed();
+        return "RvTransferQueue " + queue + (kept > 0 ? ", " + kept + " unclaimed" : "");
     }
 }

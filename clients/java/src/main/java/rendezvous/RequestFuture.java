@@ -1,0 +1,108 @@
+package rendezvous;
+
+import java.util.concurrent.CompletableFuture;
+import java.util.concurrent.CountDownLatch;
+import java.util.concurrent.Executor;
+import java.util.concurrent.atomic.AtomicBoolean;
+import java.util.function.Consumer;
+import java.util.function.Function;
+
+/**
+ * The future of a request that an executor's thread asks. Whatever completes it from outside, by a cancel or otherwise,
+ * cancels the request.
+ */
+class RequestFuture<T> extends CompletableFuture<T> {
+    private final Abort abort = new Abort();
+    private final AtomicBoolean begun = new AtomicBoolean();
+    private final CountDownLatch ended = new CountDownLatch(1);
+
+    /** A future that is completed by a request's outcome, of which nobody has asked yet. */
+    RequestFuture() {
+        whenComplete((result, fault) -> abort.ask());
+    }
+
+    /** What asks a request that the future may cancel. */
+    interface Asking {
+        Outcome ask(Abort abort) throws InterruptedException;
+    }
+
+    /**
+     * Has an executor ask the request, and complete the future by what its outcome is to the user.
+     *
+     * @param given what a result is given to where the future was completed before
+     */
+    RequestFuture<T> begin(Executor executor, Asking asking, Function<Outcome, T> result, Consumer<T> given) {
+        executor.execute(() -> {
+            if (!begun.compareAndSet(false, true)) {
+                return;
+            }
+            try {
+                run(asking, result, given);
+            } finally {
+                ended.countDown();
+            }
+        });
+        return this;
+    }
+
+    private void run(Asking asking, Function<Outcome, T> result, Consumer<T> given) {
+        try {
+            Outcome outcome = asking.ask(abort);
+            if (outcome instanceof Outcome.Cancelled) {
+                super.cancel(false);
+                return;
+            }
+            T told = result.apply(outcome);
+            if (!complete(told)) {
+                given.accept(told);
+            }
+        } catch (InterruptedException cancelled) {
+            super.cancel(false);
+            Thread.currentThread().interrupt();
+        } catch (RvException.NotAsked | RvException.Full | NoClientNumber nothing) {
+            if (!abort.isAsked() || !super.cancel(false)) {
+                completeExceptionally(nothing);
+            }
+        } catch (Throwable fault) {
+            completeExceptionally(fault);
+        }
+    }
+
+    /** Cancels the request, and waits until its end is known, a second at most: whether it was cancelled. */
+    boolean cancelAndWait() {
+        if (isDone() || begun.compareAndSet(false, true)) {
+            return super.cancel(false);
+        }
+        abort.ask();
+        boolean interrupted = false;
+        while (!isEnded()) {
+            interrupted |= Thread.interrupted();
+        }
+        if (interrupted) {
+            Thread.currentThread().interrupt();
+        }
+        return isCancelled();
+    }
+
+    /** Waits until the request has ended: true; or until the thread is interrupted, which is set: false. */
+    private boolean isEnded() {
+        try {
+            ended.await();
+            return true;
+        } catch (InterruptedException later) {
+            Thread.currentThread().interrupt();
+            return false;
+        }
+    }
+
+    /**
+     * The future of a transfer. A cancel of it waits for the server's word, so that it never says of an item which a
+     * consumer has that it was cancelled.
+     */
+    static final class OfTransfer<T> extends RequestFuture<T> {
+        @Override
+        public boolean cancel(boolean mayInterrupt) {
+            return cancelAndWait();
+        }
+    }
+}

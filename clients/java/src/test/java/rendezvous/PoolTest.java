@@ -1,0 +1,401 @@
+package rendezvous;
+
+import static org.junit.jupiter.api.Assertions.assertEquals;
+import static org.junit.jupiter.api.Assertions.assertFalse;
+import static org.junit.jupiter.api.Assertions.assertInstanceOf;
+import static org.junit.jupiter.api.Assertions.assertThrows;
+import static org.junit.jupiter.api.Assertions.assertTrue;
+
+import com.google.gson.JsonObject;
+import java.nio.file.Path;
+import java.time.Duration;
+import java.util.ArrayList;
+import java.util.List;
+import java.util.Optional;
+import java.util.OptionalLong;
+import java.util.concurrent.Callable;
+import java.util.concurrent.CompletableFuture;
+import java.util.concurrent.CountDownLatch;
+import java.util.concurrent.ExecutionException;
+import java.util.concurrent.FutureTask;
+import java.util.concurrent.Semaphore;
+import java.util.concurrent.TimeUnit;
+import java.util.concurrent.atomic.AtomicBoolean;
+import java.util.stream.Stream;
+import org.junit.jupiter.api.Test;
+import org.junit.jupiter.api.Timeout;
+import org.junit.jupiter.api.io.TempDir;
+
+/** Sessions that the threads of a program share, and the numbers that they lease. */
+@Timeout(value = 2, unit = TimeUnit.MINUTES)
+final class PoolTest {
+    private static final long NEVER = Long.MAX_VALUE;
+    /** A patience that ends in a test: long enough for a slow machine to ask. */
+    private static final Duration SHORT = Duration.ofSeconds(3);
+    private static final long SOON = TimeUnit.MILLISECONDS.toNanos(100);
+    private static final String USED_UP = "more threads than the 1 clients";
+
+    @TempDir
+    private Path folder;
+
+    private static RvTransferQueue queue(RvClients clients) {
+        return new RvTransferQueue(clients, 3);
+    }
+
+    private static String item(JsonObject message) {
+        return Bodies.word(message, "item");
+    }
+
+    /** A server that holds each put of "held" until the latch is down. */
+    private static Answering holding(CountDownLatch latch) throws Exception {
+        return new Answering(message -> {
+            if (item(message).equals("held")) {
+                awaited(latch);
+            }
+            return Answering.well(message);
+        });
+    }
+
+    private static void awaited(CountDownLatch latch) {
+        try {
+            latch.await();
+        } catch (InterruptedException later) {
+            throw new IllegalStateException(later);
+        }
+    }
+
+    /** A call in a thread of its own. */
+    private record Calling(Thread thread, FutureTask<String> told) {
+        static Calling of(Callable<String> call) {
+            FutureTask<String> told = new FutureTask<>(call);
+            Thread thread = new Thread(told);
+            thread.setDaemon(true);
+            thread.start();
+            return new Calling(thread, told);
+        }
+
+        static Calling putting(RvClients clients, String item) {
+            return of(() -> {
+                queue(clients).put(item);
+                return Thread.interrupted() ? "done, interrupted" : "done";
+            });
+        }
+
+        /** Waits until the thread waits for a session. */
+        void waits() throws InterruptedException {
+            while (Stream.of(thread.getStackTrace()).noneMatch(frame -> frame.getMethodName().equals("awaitNanos"))) {
+                Thread.sleep(1);
+            }
+        }
+
+        String end() throws Exception {
+            thread.join();
+            return told.get();
+        }
+
+        /** What the call threw. */
+        Throwable thrown() throws InterruptedException {
+            thread.join();
+            return assertThrows(ExecutionException.class, told::get).getCause();
+        }
+    }
+
+    @Test
+    void manyShortThreadsUseAsManySessionsAsRunAtATime() throws Exception {
+        int atATime = 8;
+        int threads = 500;
+        Semaphore turns = new Semaphore(atATime);
+        try (Answering server = new Answering(Answering::well);
+                RvClients clients = server.clients(1, atATime).idle(NEVER).build()) {
+            List<Calling> all = new ArrayList<>();
+            for (int each = 0; each < threads; each++) {
+                turns.acquire();
+                all.add(Calling.of(() -> {
+                    queue(clients).put("a");
+                    turns.release();
+                    return "done";
+                }));
+            }
+            for (Calling each : all) {
+                assertEquals("done", each.end());
+            }
+            assertEquals(threads, server.asked().size());
+            assertTrue(server.hellos().size() <= atATime, server.hellos().size() + " sessions");
+            assertTrue(server.connections() <= atATime, server.connections() + " connections");
+        }
+    }
+
+    @Test
+    void livingThreadsShareSessionsToo() throws Exception {
+        CountDownLatch over = new CountDownLatch(1);
+        try (Answering server = new Answering(Answering::well); RvClients clients = server.clients(1, 1).build()) {
+            List<Calling> all = new ArrayList<>();
+            for (int each = 0; each < 20; each++) {
+                CountDownLatch put = new CountDownLatch(1);
+                all.add(Calling.of(() -> {
+                    queue(clients).put("a");
+                    put.countDown();
+                    over.await();
+                    return "done";
+                }));
+                put.await();
+            }
+            over.countDown();
+            for (Calling each : all) {
+                assertEquals("done", each.end());
+            }
+            assertEquals(1, server.hellos().size());
+        }
+    }
+
+    @Test
+    void aThreadGetsItsSessionAgain() throws Exception {
+        CountDownLatch latch = new CountDownLatch(1);
+        try (Answering server = holding(latch); RvClients clients = server.clients(1, 2).build()) {
+            Calling held = Calling.putting(clients, "held");
+            server.awaitAsked(1);
+            queue(clients).put("own");
+            latch.countDown();
+            held.end();
+            queue(clients).put("own");
+            List<JsonObject> own = server.asked().stream().filter(message -> item(message).equals("own")).toList();
+            assertEquals(List.of(2L, 2L), own.stream().map(message -> Bodies.number(message, "client")).toList());
+        }
+    }
+
+    @Test
+    void aCallWaitsForASessionWhereAllNumbersAreInUse() throws Exception {
+        CountDownLatch latch = new CountDownLatch(1);
+        try (Answering server = holding(latch); RvClients clients = server.clients(1, 1).build()) {
+            Calling held = Calling.putting(clients, "held");
+            server.awaitAsked(1);
+            Calling later = Calling.putting(clients, "b");
+            later.waits();
+            later.thread().interrupt();
+            later.waits();
+            assertEquals(1, server.asked().size());
+            latch.countDown();
+            assertEquals("done", held.end());
+            assertEquals("done, interrupted", later.end());
+            assertEquals(List.of(1L, 2L), server.asked().stream().map(message -> Bodies.number(message, "number")).toList());
+        }
+    }
+
+    @Test
+    void aWaitForASessionEndsByTheCallsTimeByPatienceByAnInterruptAndByClose() throws Exception {
+        CountDownLatch latch = new CountDownLatch(1);
+        try (Answering server = holding(latch);
+                RvClients clients = server.clients(1, 1).patience(SHORT).build()) {
+            Calling held = Calling.putting(clients, "held");
+            server.awaitAsked(1);
+            IllegalStateException late = assertThrows(IllegalStateException.class,
+                () -> queue(clients).poll(20, TimeUnit.MILLISECONDS));
+            assertEquals(USED_UP, late.getMessage());
+            assertEquals(USED_UP, assertThrows(IllegalStateException.class, clients::session).getMessage());
+            Throwable patient = Calling.putting(clients, "b").thrown();
+            assertEquals(USED_UP, assertInstanceOf(IllegalStateException.class, patient).getMessage());
+            latch.countDown();
+            held.thread().join();
+        }
+        CountDownLatch other = new CountDownLatch(1);
+        try (Answering server = holding(other)) {
+            RvClients clients = server.clients(1, 1).patientForEver().build();
+            Calling held = Calling.putting(clients, "held");
+            server.awaitAsked(1);
+            Calling taking = Calling.of(queue(clients)::take);
+            taking.waits();
+            taking.thread().interrupt();
+            assertInstanceOf(InterruptedException.class, taking.thrown());
+            Calling putting = Calling.putting(clients, "b");
+            putting.waits();
+            clients.close();
+            IllegalStateException closed = assertInstanceOf(IllegalStateException.class, putting.thrown());
+            assertEquals("the clients are closed", closed.getMessage());
+            assertInstanceOf(RvException.Unsettled.class, held.thrown());
+            assertEquals(1, server.asked().size());
+            other.countDown();
+        }
+    }
+
+    /** Leaves a take unsettled, at a server that says nothing: its thread is interrupted and ends. */
+    private static Key unsettled(Answering server, RvClients clients) throws Exception {
+        Calling taking = Calling.of(queue(clients)::take);
+        server.awaitAsked(1);
+        taking.thread().interrupt();
+        return assertInstanceOf(RvException.Unsettled.class, taking.thrown()).key();
+    }
+
+    @Test
+    void whatIsAskedAgainGivesItsSessionToWhoWaits() throws Exception {
+        CountDownLatch latch = new CountDownLatch(1);
+        AtomicBoolean silent = new AtomicBoolean(true);
+        try (Answering server = new Answering(message -> {
+            if (silent.get()) {
+                return null;
+            }
+            awaited(latch);
+            return Answering.well(message);
+        }); RvClients clients = server.clients(1, 1).grace(SOON).build()) {
+            Key key = unsettled(server, clients);
+            silent.set(false);
+            RvSession left = clients.unsettled().get(0);
+            Calling givingUp = Calling.of(() -> left.giveUp().toString());
+            while (!left.isRunning()) {
+                Thread.sleep(1);
+            }
+            Calling later = Calling.putting(clients, "b");
+            later.waits();
+            latch.countDown();
+            assertEquals("Cancelled[key=" + key + "]", givingUp.end());
+            assertEquals("done", later.end());
+            assertEquals(List.of(), clients.unsettled());
+        }
+    }
+
+    @Test
+    void theLastOutcomeIsThatOfTheThreadThatAsked() throws Exception {
+        try (Answering server = new Answering(message -> Bodies.word(message, "call").equals("drain")
+                ? Answering.reply(message, key -> new Outcome.Drained(key, List.of("a", "b"))) : Answering.well(message));
+                RvClients clients = server.clients(1, 1).build()) {
+            assertEquals(Optional.empty(), clients.last());
+            assertThrows(IllegalStateException.class,
+                () -> queue(clients).drainTo(new java.util.concurrent.ArrayBlockingQueue<>(1)));
+            Calling other = Calling.of(() -> {
+                queue(clients).put("c");
+                return clients.last().orElseThrow().toString();
+            });
+            assertEquals("Done[key=1/1/1/2]", other.end());
+            assertEquals("Drained[key=1/1/1/1, items=[a, b]]", clients.last().orElseThrow().toString());
+            queue(clients).put("d");
+            assertEquals("Done[key=1/1/1/3]", clients.last().orElseThrow().toString());
+        }
+    }
+
+    private boolean isFree(long client) {
+        Optional<Lease> lease = new Leases(folder, new ClientRange(client, client), OptionalLong.empty()).next();
+        lease.ifPresent(Lease::giveBack);
+        return lease.isPresent();
+    }
+
+    private RvClients.Builder leasing(Answering server) {
+        return RvClients.builder("127.0.0.1", server.port()).clients(1, 9).folder(folder);
+    }
+
+    @Test
+    void numbersAreLeasedAsTheyAreNeededAndGivenBackAtTheEnd() throws Exception {
+        CountDownLatch latch = new CountDownLatch(1);
+        try (Answering server = holding(latch)) {
+            RvClients clients = leasing(server).build();
+            assertEquals(0, folder.toFile().list().length);
+            Calling held = Calling.putting(clients, "held");
+            server.awaitAsked(1);
+            assertFalse(isFree(1));
+            assertTrue(isFree(2));
+            queue(clients).put("a");
+            assertFalse(isFree(2));
+            assertTrue(isFree(3));
+            clients.close();
+            assertInstanceOf(RvException.Unsettled.class, held.thrown());
+            assertTrue(isFree(1));
+            assertTrue(isFree(2));
+            latch.countDown();
+        }
+    }
+
+    @Test
+    void theNumberOfAnEndedThreadIsGivenBackWhereItsSessionIdles() throws Exception {
+        CountDownLatch latch = new CountDownLatch(1);
+        try (Answering server = holding(latch); RvClients clients = leasing(server).idle(0).build()) {
+            Calling held = Calling.putting(clients, "held");
+            server.awaitAsked(1);
+            queue(clients).put("a");
+            latch.countDown();
+            assertEquals("done", held.end());
+            assertFalse(isFree(1));
+            queue(clients).put("b");
+            assertTrue(isFree(1));
+            assertFalse(isFree(2));
+        }
+    }
+
+    @Test
+    void aNumberIsLeasedAnewInAGreaterIncarnationWhereItsSessionHasEnded() throws Exception {
+        JsonObject ended = new JsonObject();
+        ended.addProperty("kind", "refused");
+        ended.addProperty("code", 3);
+        try (Answering server = new Answering(message -> item(message).equals("ends") ? ended : Answering.well(message));
+                RvClients clients = leasing(server).build()) {
+            queue(clients).put("a");
+            assertThrows(RvException.EpochEnded.class, () -> queue(clients).put("ends"));
+            queue(clients).put("b");
+            List<JsonObject> hellos = server.hellos();
+            assertEquals(2, hellos.size());
+            assertEquals(List.of(1L, 1L), hellos.stream().map(hello -> Bodies.number(hello, "client")).toList());
+            assertTrue(Bodies.number(hellos.get(0), "incarnation") < Bodies.number(hellos.get(1), "incarnation"));
+        }
+    }
+
+    @Test
+    void theNumberOfAnUnsettledRequestStaysLeased() throws Exception {
+        AtomicBoolean silent = new AtomicBoolean(true);
+        try (Answering server = new Answering(message -> silent.get() ? null : Answering.well(message));
+                RvClients clients = leasing(server).idle(0).grace(SOON).build()) {
+            Key key = unsettled(server, clients);
+            silent.set(false);
+            while (server.open() > 0) {
+                Thread.sleep(1);
+            }
+            queue(clients).put("a");
+            assertFalse(isFree(1));
+            assertEquals(List.of(key), clients.unsettled().stream().map(RvSession::key).toList());
+            assertEquals(new Outcome.Cancelled(key), clients.unsettled().get(0).giveUp());
+            assertEquals(List.of(), clients.unsettled());
+            queue(clients).put("b");
+            assertTrue(isFree(1));
+        }
+    }
+
+    @Test
+    void twoProgramsOfAHostHaveDifferentNumbers() throws Exception {
+        try (Answering server = new Answering(Answering::well); RvClients one = leasing(server).build();
+                RvClients other = leasing(server).build()) {
+            CompletableFuture<Void> both = CompletableFuture.allOf(CompletableFuture.runAsync(() -> queue(one).put("a")),
+                CompletableFuture.runAsync(() -> queue(other).put("b")));
+            both.join();
+            assertEquals(List.of(1L, 2L),
+                server.hellos().stream().map(hello -> Bodies.number(hello, "client")).sorted().toList());
+        }
+    }
+
+    @Test
+    void whatABuilderCannotMakeIsRefused() {
+        RvClients.Builder builder = RvClients.builder("127.0.0.1", 7411).folder(folder);
+        assertThrows(IllegalArgumentException.class, () -> builder.clients(0, 1));
+        assertThrows(IllegalArgumentException.class, () -> builder.clients(2, 1));
+        assertThrows(IllegalArgumentException.class, () -> builder.clients(1, 1L << 53));
+        assertThrows(IllegalArgumentException.class, () -> builder.incarnation(0));
+        assertThrows(IllegalArgumentException.class, () -> builder.incarnation(1L << 53));
+        assertThrows(NullPointerException.class, () -> builder.patience(null));
+        assertThrows(NullPointerException.class, () -> builder.executor(null));
+        assertThrows(NullPointerException.class, () -> RvClients.builder(null, 7411));
+        assertThrows(IllegalArgumentException.class, () -> RvClients.builder("a", 65_536).folder(folder).build());
+        assertThrows(IllegalArgumentException.class, () -> RvClients.builder("a", 1).folder(folder).version(3).build());
+        assertThrows(IllegalArgumentException.class,
+            () -> RvClients.builder("a", 1).folder(folder).patience(Duration.ofMillis(-1)).build());
+        assertThrows(IllegalStateException.class, () -> RvClients.builder("a", 1).unleased().build());
+    }
+
+    @Test
+    void aChosenIncarnationIsThatOfEachSession() throws Exception {
+        CountDownLatch latch = new CountDownLatch(1);
+        try (Answering server = holding(latch); RvClients clients = leasing(server).incarnation(17).build()) {
+            Calling held = Calling.putting(clients, "held");
+            server.awaitAsked(1);
+            queue(clients).put("a");
+            latch.countDown();
+            held.end();
+            assertEquals(List.of(17L, 17L),
+                server.hellos().stream().map(hello -> Bodies.number(hello, "incarnation")).toList());
+        }
+    }
+}
