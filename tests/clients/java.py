@@ -18,6 +18,10 @@ from tests import ROOT
 from tests.sockets.wire import Wrong, demand, frame, until
 
 FOLDER = ROOT / "clients/java/src"
+# What JUnit's tests import.
+JUNIT = ("import org.junit.", "import static org.junit.")
+# Where Debian's JDKs are, and others that were installed beside them.
+JDKS = pathlib.Path("/usr/lib/jvm")
 GSON = pathlib.Path("/usr/share/java/gson.jar")
 PATIENCE = 300
 # A patience that ends in a case, in milliseconds: long enough for a slow machine to ask.
@@ -38,10 +42,10 @@ def missing():
 
 @functools.lru_cache(maxsize=None)
 def built():
-    """The folder of the built classes, which is gone when this program ends."""
+    """The folder of the built classes but JUnit's tests, which is gone when this program ends."""
     folder = tempfile.TemporaryDirectory(prefix="rv-java-")
-    sources = [str(path) for part in ("main", "test") for path in sorted((FOLDER / part).rglob("*.java"))]
-    sources += [str(path) for path in sorted((ROOT / "examples").rglob("*.java"))]
+    paths = [path for folder in (FOLDER, ROOT / "examples") for path in sorted(folder.rglob("*.java"))]
+    sources = [str(path) for path in paths if not any(word in path.read_text() for word in JUNIT)]
     words = ["javac", "-Xlint:all", "-Werror", "--release", "17", "-cp", str(GSON), "-d", folder.name,
              *sources]
     ran = subprocess.run(words, capture_output=True, text=True, timeout=10 * PATIENCE)
@@ -49,10 +53,10 @@ def built():
     return folder
 
 
-def command(name, *words):
+def command(name, *words, jdk="java"):
     """The words that run a class."""
     path = f"{built().name}:{GSON}"
-    return ["java", "-XX:TieredStopAtLevel=1", "-Xshare:auto", "-cp", path, name, *map(str, words)]
+    return [jdk, "-XX:TieredStopAtLevel=1", "-Xshare:auto", "-cp", path, name, *map(str, words)]
 
 
 def the_java_process():

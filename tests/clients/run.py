@@ -15,8 +15,8 @@ import time
 ROOT = pathlib.Path(__file__).resolve().parents[2]
 sys.dont_write_bytecode, sys.path[0] = True, str(ROOT)
 from tests.clients import (  # noqa: E402
-    browser, cancelled_tasks, crowds, drains, guide, installed, interrupted, interrupted_judged, java, java_scenes, long_waits,
-    python_page, python_tests, receipts, table_cases, wrong_clients)
+    browser, cancelled_tasks, crowds, drains, guide, installed, interrupted, interrupted_judged, java, java_leases,
+    java_packages, java_scenes, long_waits, python_page, python_tests, receipts, table_cases, wrong_clients)
 from tests.sockets.wire import Wrong  # noqa: E402
 
 # How many cases that mostly wait run at once.
@@ -85,7 +85,7 @@ def run(program, asked, count):
     if lacking:
         print(f"Java was left out: {lacking}", flush=True)
     else:
-        run_java(count)
+        run_java(program, count)
         count.run(crowds.beside_the_jdk, program, asked.seed, asked.scripts)
         for case in receipts.WITH_JAVA:
             count.run(case, program)
@@ -114,21 +114,23 @@ def run_python(count):
         count.run_all("python tests", tests.result)
 
 
-def run_java(count):
+def run_java(program, count):
     """Runs the cases of the Java client alone, some at a time: most of them wait."""
     java.built()
     count.run(java.the_java_process)
-    cases = [case for case in java.CASES + java_scenes.CASES if count.wants(name_of(case))]
+    packages, left_out = java_packages.cases()
+    print("\n".join(left_out), end="\n" if left_out else "", flush=True)
+    cases = [case for case in packages + java.CASES + java_leases.CASES + java_scenes.CASES if count.wants(name_of(case))]
     with concurrent.futures.ThreadPoolExecutor(AT_ONCE) as pool:
-        tried = [(name_of(case), pool.submit(in_java, case)) for case in cases]
+        tried = [(name_of(case), pool.submit(in_java, case, program)) for case in cases]
         for name, one in tried:
             count.judge(name, one.result)
 
 
-def in_java(case):
-    """Runs one case; a scene has programs of its own."""
-    if case in java_scenes.CASES:
-        return case(None)
+def in_java(case, program):
+    """Runs one case; a scene, a lease and a package have programs of their own."""
+    if case not in java.CASES:
+        return case(program)
     with java.driver() as driver:
         return case(driver)
 

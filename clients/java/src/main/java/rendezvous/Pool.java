@@ -56,7 +56,8 @@ final class Pool {
     private final Maker maker;
     private final long patience;
     private final long idle;
-    private final ReentrantLock lock = new ReentrantLock();
+    /** Fair, so that who waits for a session has it before a thread that comes again and again. */
+    private final ReentrantLock lock = new ReentrantLock(true);
     private final Condition changed = lock.newCondition();
     /** By their client numbers. */
     private final List<Seat> seats = new ArrayList<>();
@@ -135,7 +136,11 @@ final class Pool {
             } else if (seat.session.isUnsettled()) {
                 seat.session.rest();
             }
-            changed.signalAll();
+            if (seat.isFree()) {
+                changed.signal();
+            } else {
+                changed.signalAll();
+            }
         } finally {
             lock.unlock();
         }
@@ -218,11 +223,14 @@ final class Pool {
         }
     }
 
-    /** Behind each call of a session, also one that asks again: who waits for a session looks whether it is free. */
+    /** Behind a call that nobody borrowed the session for, since it asked again: who waits looks whether it is free. */
     private void left(Seat seat) {
         lock.lock();
         try {
-            if (closed && !seat.borrowed) {
+            if (seat.borrowed) {
+                return;
+            }
+            if (closed) {
                 end(seat);
             }
             changed.signalAll();

@@ -167,15 +167,22 @@ public final class RvClients implements AutoCloseable {
          */
         public RvClients build() {
             Numbers numbers = numbers();
+            Pool.Maker maker = maker();
             // one is made for what it does not allow
-            made(numbers.first(), 1);
-            return new RvClients(new Pool(numbers, this::made, RvSession.nanos(patience), idle), executor);
+            maker.make(numbers.first(), 1);
+            return new RvClients(new Pool(numbers, maker, RvSession.nanos(patience), idle), executor);
         }
 
-        private RvSession made(long client, long each) {
-            RvSession session = new RvSession(host, port, client, each, patience, RvSession.ANSWER, version);
-            session.grace(grace);
-            return session;
+        /** What makes sessions as they are chosen by now, whatever is chosen later. */
+        private Pool.Maker maker() {
+            Duration time = patience;
+            int spoken = version;
+            long nanos = grace;
+            return (client, each) -> {
+                RvSession session = new RvSession(host, port, client, each, time, RvSession.ANSWER, spoken);
+                session.grace(nanos);
+                return session;
+            };
         }
 
         private Numbers numbers() {

@@ -9,6 +9,7 @@ import java.util.Iterator;
 import java.util.List;
 import java.util.Objects;
 import java.util.Optional;
+import java.util.Spliterator;
 import java.util.concurrent.CancellationException;
 import java.util.concurrent.CompletableFuture;
 import java.util.concurrent.TimeUnit;
@@ -45,7 +46,8 @@ import java.util.function.Function;
  *     {@link #unclaimed} gives it out.
  * <li>These throw {@link UnsupportedOperationException}: {@link #offer(String)} and its timed form, {@link #add},
  *     {@link #addAll}, {@link #remainingCapacity}, {@link #contains}, {@link #containsAll}, {@link #remove(Object)},
- *     {@link #removeAll}, {@link #retainAll}, {@link #clear}, and {@link #iterator} and with it streams and arrays.
+ *     {@link #removeAll}, {@link #removeIf}, {@link #retainAll}, {@link #clear}, {@link #iterator}, {@link #spliterator},
+ *     {@link #forEach}, and with these streams and arrays.
  * <li>{@link #drainTo(Collection)} and {@link #drainTo(Collection, int)} take up to 16 items in one step of the
  *     server, and more in several steps, between which others may take and put: up to 16 are one atomic whole, more
  *     are not.
@@ -431,6 +433,12 @@ public final class RvTransferQueue extends AbstractQueue<String> implements Tran
     @Override
     public Iterator<String> iterator() {
         throw leftOut("iterator");
+    }
+
+    /** Left out, and with it streams. */
+    @Override
+    public Spliterator<String> spliterator() {
+        throw leftOut("spliterator");
     }
 
     /** Left out. */

@@ -13,16 +13,15 @@ import java.util.ArrayList;
 import java.util.List;
 import java.util.Optional;
 import java.util.OptionalLong;
-import java.util.concurrent.Callable;
 import java.util.concurrent.CompletableFuture;
 import java.util.concurrent.CountDownLatch;
-import java.util.concurrent.ExecutionException;
-import java.util.concurrent.FutureTask;
 import java.util.concurrent.Semaphore;
 import java.util.concurrent.TimeUnit;
 import java.util.concurrent.atomic.AtomicBoolean;
 import java.util.stream.Stream;
+import org.junit.jupiter.api.DynamicTest;
 import org.junit.jupiter.api.Test;
+import org.junit.jupiter.api.TestFactory;
 import org.junit.jupiter.api.Timeout;
 import org.junit.jupiter.api.io.TempDir;
 
@@ -64,40 +63,11 @@ final class PoolTest {
         }
     }
 
-    /** A call in a thread of its own. */
-    private record Calling(Thread thread, FutureTask<String> told) {
-        static Calling of(Callable<String> call) {
-            FutureTask<String> told = new FutureTask<>(call);
-            Thread thread = new Thread(told);
-            thread.setDaemon(true);
-            thread.start();
-            return new Calling(thread, told);
-        }
-
-        static Calling putting(RvClients clients, String item) {
-            return of(() -> {
-                queue(clients).put(item);
-                return Thread.interrupted() ? "done, interrupted" : "done";
-            });
-        }
-
-        /** Waits until the thread waits for a session. */
-        void waits() throws InterruptedException {
-            while (Stream.of(thread.getStackTrace()).noneMatch(frame -> frame.getMethodName().equals("awaitNanos"))) {
-                Thread.sleep(1);
-            }
-        }
-
-        String end() throws Exception {
-            thread.join();
-            return told.get();
-        }
-
-        /** What the call threw. */
-        Throwable thrown() throws InterruptedException {
-            thread.join();
-            return assertThrows(ExecutionException.class, told::get).getCause();
-        }
+    private static Calling<String> putting(RvClients clients, String item) {
+        return Calling.of(() -> {
+            queue(clients).put(item);
+            return Thread.interrupted() ? "done, interrupted" : "done";
+        });
     }
 
     @Test
@@ -107,7 +77,7 @@ final class PoolTest {
         Semaphore turns = new Semaphore(atATime);
         try (Answering server = new Answering(Answering::well);
                 RvClients clients = server.clients(1, atATime).idle(NEVER).build()) {
-            List<Calling> all = new ArrayList<>();
+            List<Calling<String>> all = new ArrayList<>();
             for (int each = 0; each < threads; each++) {
                 turns.acquire();
                 all.add(Calling.of(() -> {
@@ -116,7 +86,7 @@ final class PoolTest {
                     return "done";
                 }));
             }
-            for (Calling each : all) {
+            for (Calling<String> each : all) {
                 assertEquals("done", each.end());
             }
             assertEquals(threads, server.asked().size());
@@ -125,11 +95,18 @@ final class PoolTest {
         }
     }
 
+    @TestFactory
+    Stream<DynamicTest> tenThousandVirtualThreadsShareSixteenSessions() {
+        String wanted = "11000 requests, 1000 items, no more sessions than 16";
+        return Stream.of("where the JDK has virtual threads").filter(name -> VirtualThreads.areThere())
+            .map(name -> DynamicTest.dynamicTest(name, () -> assertEquals(wanted, VirtualThreads.run())));
+    }
+
     @Test
     void livingThreadsShareSessionsToo() throws Exception {
         CountDownLatch over = new CountDownLatch(1);
         try (Answering server = new Answering(Answering::well); RvClients clients = server.clients(1, 1).build()) {
-            List<Calling> all = new ArrayList<>();
+            List<Calling<String>> all = new ArrayList<>();
             for (int each = 0; each < 20; each++) {
                 CountDownLatch put = new CountDownLatch(1);
                 all.add(Calling.of(() -> {
@@ -141,7 +118,7 @@ final class PoolTest {
                 put.await();
             }
             over.countDown();
-            for (Calling each : all) {
+            for (Calling<String> each : all) {
                 assertEquals("done", each.end());
             }
             assertEquals(1, server.hellos().size());
@@ -152,7 +129,7 @@ final class PoolTest {
     void aThreadGetsItsSessionAgain() throws Exception {
         CountDownLatch latch = new CountDownLatch(1);
         try (Answering server = holding(latch); RvClients clients = server.clients(1, 2).build()) {
-            Calling held = Calling.putting(clients, "held");
+            Calling<String> held = putting(clients, "held");
             server.awaitAsked(1);
             queue(clients).put("own");
             latch.countDown();
@@ -167,12 +144,12 @@ final class PoolTest {
     void aCallWaitsForASessionWhereAllNumbersAreInUse() throws Exception {
         CountDownLatch latch = new CountDownLatch(1);
         try (Answering server = holding(latch); RvClients clients = server.clients(1, 1).build()) {
-            Calling held = Calling.putting(clients, "held");
+            Calling<String> held = putting(clients, "held");
             server.awaitAsked(1);
-            Calling later = Calling.putting(clients, "b");
-            later.waits();
+            Calling<String> later = putting(clients, "b");
+            later.isWithin("awaitNanos");
             later.thread().interrupt();
-            later.waits();
+            later.isWithin("awaitNanos");
             assertEquals(1, server.asked().size());
             latch.countDown();
             assertEquals("done", held.end());
@@ -186,13 +163,13 @@ final class PoolTest {
         CountDownLatch latch = new CountDownLatch(1);
         try (Answering server = holding(latch);
                 RvClients clients = server.clients(1, 1).patience(SHORT).build()) {
-            Calling held = Calling.putting(clients, "held");
+            Calling<String> held = putting(clients, "held");
             server.awaitAsked(1);
             IllegalStateException late = assertThrows(IllegalStateException.class,
                 () -> queue(clients).poll(20, TimeUnit.MILLISECONDS));
             assertEquals(USED_UP, late.getMessage());
             assertEquals(USED_UP, assertThrows(IllegalStateException.class, clients::session).getMessage());
-            Throwable patient = Calling.putting(clients, "b").thrown();
+            Throwable patient = putting(clients, "b").thrown();
             assertEquals(USED_UP, assertInstanceOf(IllegalStateException.class, patient).getMessage());
             latch.countDown();
             held.thread().join();
@@ -200,14 +177,14 @@ final class PoolTest {
         CountDownLatch other = new CountDownLatch(1);
         try (Answering server = holding(other)) {
             RvClients clients = server.clients(1, 1).patientForEver().build();
-            Calling held = Calling.putting(clients, "held");
+            Calling<String> held = putting(clients, "held");
             server.awaitAsked(1);
-            Calling taking = Calling.of(queue(clients)::take);
-            taking.waits();
+            Calling<String> taking = Calling.of(queue(clients)::take);
+            taking.isWithin("awaitNanos");
             taking.thread().interrupt();
             assertInstanceOf(InterruptedException.class, taking.thrown());
-            Calling putting = Calling.putting(clients, "b");
-            putting.waits();
+            Calling<String> putting = putting(clients, "b");
+            putting.isWithin("awaitNanos");
             clients.close();
             IllegalStateException closed = assertInstanceOf(IllegalStateException.class, putting.thrown());
             assertEquals("the clients are closed", closed.getMessage());
@@ -219,7 +196,7 @@ final class PoolTest {
 
     /** Leaves a take unsettled, at a server that says nothing: its thread is interrupted and ends. */
     private static Key unsettled(Answering server, RvClients clients) throws Exception {
-        Calling taking = Calling.of(queue(clients)::take);
+        Calling<String> taking = Calling.of(queue(clients)::take);
         server.awaitAsked(1);
         taking.thread().interrupt();
         return assertInstanceOf(RvException.Unsettled.class, taking.thrown()).key();
@@ -239,12 +216,12 @@ final class PoolTest {
             Key key = unsettled(server, clients);
             silent.set(false);
             RvSession left = clients.unsettled().get(0);
-            Calling givingUp = Calling.of(() -> left.giveUp().toString());
+            Calling<String> givingUp = Calling.of(() -> left.giveUp().toString());
             while (!left.isRunning()) {
                 Thread.sleep(1);
             }
-            Calling later = Calling.putting(clients, "b");
-            later.waits();
+            Calling<String> later = putting(clients, "b");
+            later.isWithin("awaitNanos");
             latch.countDown();
             assertEquals("Cancelled[key=" + key + "]", givingUp.end());
             assertEquals("done", later.end());
@@ -260,7 +237,7 @@ final class PoolTest {
             assertEquals(Optional.empty(), clients.last());
             assertThrows(IllegalStateException.class,
                 () -> queue(clients).drainTo(new java.util.concurrent.ArrayBlockingQueue<>(1)));
-            Calling other = Calling.of(() -> {
+            Calling<String> other = Calling.of(() -> {
                 queue(clients).put("c");
                 return clients.last().orElseThrow().toString();
             });
@@ -287,7 +264,7 @@ final class PoolTest {
         try (Answering server = holding(latch)) {
             RvClients clients = leasing(server).build();
             assertEquals(0, folder.toFile().list().length);
-            Calling held = Calling.putting(clients, "held");
+            Calling<String> held = putting(clients, "held");
             server.awaitAsked(1);
             assertFalse(isFree(1));
             assertTrue(isFree(2));
@@ -306,7 +283,7 @@ final class PoolTest {
     void theNumberOfAnEndedThreadIsGivenBackWhereItsSessionIdles() throws Exception {
         CountDownLatch latch = new CountDownLatch(1);
         try (Answering server = holding(latch); RvClients clients = leasing(server).idle(0).build()) {
-            Calling held = Calling.putting(clients, "held");
+            Calling<String> held = putting(clients, "held");
             server.awaitAsked(1);
             queue(clients).put("a");
             latch.countDown();
@@ -389,7 +366,7 @@ final class PoolTest {
     void aChosenIncarnationIsThatOfEachSession() throws Exception {
         CountDownLatch latch = new CountDownLatch(1);
         try (Answering server = holding(latch); RvClients clients = leasing(server).incarnation(17).build()) {
-            Calling held = Calling.putting(clients, "held");
+            Calling<String> held = putting(clients, "held");
             server.awaitAsked(1);
             queue(clients).put("a");
             latch.countDown();

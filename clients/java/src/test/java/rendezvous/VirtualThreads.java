@@ -1,0 +1,61 @@
+package rendezvous;
+
+import com.google.gson.JsonObject;
+import java.util.ArrayList;
+import java.util.List;
+import java.util.concurrent.CompletableFuture;
+import java.util.concurrent.ExecutorService;
+import java.util.concurrent.Executors;
+import java.util.concurrent.Future;
+
+/**
+ * Ten thousand virtual threads that put an item each, all at once, and futures of takes on virtual threads: prints how many
+ * were asked, and whether they used no more sessions and connections than there are numbers. It needs JDK 21 or later.
+ */
+final class VirtualThreads {
+    private static final int THREADS = 10_000;
+    private static final int TAKES = 1_000;
+    private static final int NUMBERS = 16;
+
+    private VirtualThreads() {}
+
+    public static void main(String[] words) throws Exception {
+        System.out.println(run());
+    }
+
+    /** Whether this JDK has virtual threads. */
+    static boolean areThere() {
+        return Runtime.version().feature() >= 21;
+    }
+
+    /** What came of it. */
+    static String run() throws Exception {
+        ExecutorService executor = (ExecutorService) Executors.class.getMethod("newVirtualThreadPerTaskExecutor").invoke(null);
+        try (Answering server = new Answering(VirtualThreads::answer);
+                RvClients clients = server.clients(1, NUMBERS).executor(executor).idle(Long.MAX_VALUE).build()) {
+            RvTransferQueue queue = new RvTransferQueue(clients, 3);
+            List<Future<?>> puts = new ArrayList<>();
+            for (int each = 0; each < THREADS; each++) {
+                puts.add(executor.submit(() -> queue.put("a")));
+            }
+            for (Future<?> each : puts) {
+                each.get();
+            }
+            List<CompletableFuture<String>> takes = new ArrayList<>();
+            for (int each = 0; each < TAKES; each++) {
+                takes.add(queue.takeAsync());
+            }
+            long got = takes.stream().map(CompletableFuture::join).filter("taken"::equals).count();
+            return server.asked().size() + " requests, " + got + " items, "
+                + (server.hellos().size() <= NUMBERS && server.connections() <= NUMBERS ? "no more" : "more") + " sessions than "
+                + NUMBERS;
+        } finally {
+            executor.shutdown();
+        }
+    }
+
+    private static JsonObject answer(JsonObject message) {
+        return Bodies.word(message, "call").equals("take")
+            ? Answering.reply(message, key -> new Outcome.Item(key, "taken")) : Answering.well(message);
+    }
+}

@@ -1,0 +1,162 @@
+"""The Java client as Maven makes it, its tests of JUnit, and what only a later JDK has."""
+import contextlib
+import functools
+import os
+import pathlib
+import re
+import shutil
+import subprocess
+import tempfile
+import xml.etree.ElementTree
+import zipfile
+
+from tests import ROOT
+from tests.clients import java
+from tests.sockets.wire import demand
+
+SETTINGS = pathlib.Path("/etc/maven/settings-debian.xml")
+# What the JUnit tests of a client need of Debian's packages, and what starts them.
+JARS = [pathlib.Path("/usr/share/java") / f"{name}.jar" for name in (
+    "junit-jupiter-api", "junit-jupiter-params", "junit-platform-commons", "opentest4j", "apiguardian-api")]
+STARTS = [pathlib.Path("/usr/share/java") / f"{name}.jar" for name in (
+    "junit-jupiter-engine", "junit-platform-console", "junit-platform-engine", "junit-platform-launcher",
+    "junit-platform-reporting", "picocli", "univocity-parsers", "opentest4j-reporting-events", "opentest4j-reporting-schema")]
+LIMIT = 1_800
+# A program of a new user's, with nothing but the jars.
+USER = """
+import rendezvous.*;
+public class User {
+    public static void main(String[] words) throws Exception {
+        try (RvClients clients = RvClients.builder("127.0.0.1", Integer.parseInt(words[0])).build()) {
+            RvTransferQueue queue = new RvTransferQueue(clients, 3);
+            var taken = queue.takeAsync();
+            System.out.println(queue.transferReceipt("a").by().isPresent() + " " + taken.join());
+        }
+    }
+}
+"""
+
+
+def maven_missing():
+    """What Maven's build lacks on this machine, if something."""
+    if not shutil.which("mvn"):
+        return "mvn is missing"
+    if not SETTINGS.exists():
+        return "maven-debian-helper is missing"
+    return junit_missing(JARS)
+
+
+def junit_missing(jars):
+    """Which of these jars is missing, if one is."""
+    lacking = [path.name for path in jars if not path.exists()]
+    return f"{lacking[0]} is missing" if lacking else None
+
+
+def console_missing():
+    """What is missing to start JUnit's tests without Maven."""
+    return junit_missing(JARS + STARTS)
+
+
+@functools.lru_cache(maxsize=None)
+def later_jdk():
+    """The `java` of a JDK of 21 or later; None where there is none."""
+    for release in sorted(java.JDKS.glob("*/release")):
+        version = re.search(r'JAVA_VERSION="(\d+)', release.read_text())
+        program = release.parent / "bin/java"
+        if version and int(version[1]) >= 21 and program.exists():
+            return str(program)
+    return None
+
+
+@contextlib.contextmanager
+def runtime(program):
+    """The environment of tests: client numbers are leased in a folder of their own, and the program is this one."""
+    with tempfile.TemporaryDirectory(prefix="rv-runtime-") as folder:
+        kept = {name: value for name, value in os.environ.items() if name != "RV_CLIENTS"}
+        yield {**kept, "XDG_RUNTIME_DIR": folder, "RV_PROGRAM": program}
+
+
+def maven_builds_it(program):
+    """Maven builds the client with no network and without a word, runs its tests, and makes the jars of its classes, its
+    sources and its Javadoc, with which a program runs."""
+    with tempfile.TemporaryDirectory(prefix="rv-maven-") as name, runtime(program) as environment:
+        folder = pathlib.Path(name) / "java"
+        shutil.copytree(ROOT / "clients/java", folder, ignore=shutil.ignore_patterns("target"))
+        ran = subprocess.run(["mvn", "-o", "-q", "-B", "package"], cwd=folder, capture_output=True, text=True, timeout=LIMIT,
+                             env=environment)
+        demand((ran.returncode, ran.stderr) == (0, "") and "WARNING" not in ran.stdout, f"{ran.stdout[-3000:]} {ran.stderr[-3000:]}")
+        count = tests_of(folder)
+        for kind, wanted in [("", ".class"), ("-sources", ".java"), ("-javadoc", ".html")]:
+            [jar] = (path for path in folder.glob("target/*.jar") if re.fullmatch(rf"rendezvous-[\d.]+{kind}\.jar", path.name))
+            files = zipfile.ZipFile(jar).namelist()
+            demand(f"rendezvous/RvTransferQueue{wanted}" in files, f"{jar.name} has {files}")
+            demand(not any("Test" in file for file in files), f"{jar.name} has tests")
+        used(folder, program, environment)
+    return f"{count} tests"
+
+
+def tests_of(folder):
+    """How many tests Maven ran: those of each file that has some."""
+    ran = 0
+    for report in folder.glob("target/surefire-reports/*.xml"):
+        suite = xml.etree.ElementTree.parse(report).getroot()
+        demand(not int(suite.get("skipped")), f"{report.name} has tests that were skipped")
+        ran += int(suite.get("tests"))
+    named = {path.stem for path in folder.glob("src/test/java/rendezvous/*Test.java")}
+    reports = {path.stem.rpartition(".")[2] for path in folder.glob("target/surefire-reports/*.xml")}
+    demand(named == reports, f"Maven ran {sorted(reports)}, and not {sorted(named)}")
+    return ran
+
+
+def used(folder, program, environment):
+    """A program that has nothing but the jars runs at a server."""
+    from tests.sockets.programs import Server
+    (folder / "User.java").write_text(USER)
+    [jar] = (path for path in folder.glob("target/*.jar") if re.fullmatch(r"rendezvous-[\d.]+\.jar", path.name))
+    with Server(program, 8, 4) as server:
+        words = ["java", "-cp", f"{jar}:{java.GSON}", str(folder / "User.java"), str(server.port)]
+        ran = subprocess.run(words, capture_output=True, text=True, timeout=LIMIT, env=environment)
+        demand((ran.stdout, ran.stderr) == ("true a\n", ""), f"{ran.stdout} {ran.stderr}")
+
+
+def tests_of_junit(program):
+    """The tests of JUnit, where there is no Maven."""
+    with tempfile.TemporaryDirectory(prefix="rv-junit-") as name, runtime(program) as environment:
+        path = ":".join(map(str, [java.GSON, *JARS]))
+        sources = [str(path) for path in sorted(java.FOLDER.rglob("*.java"))]
+        built = subprocess.run(["javac", "-Xlint:all,-path", "-Werror", "--release", "17", "-cp", path, "-d", name, *sources],
+                               capture_output=True, text=True, timeout=LIMIT)
+        demand(built.returncode == 0, f"javac says {built.stdout} {built.stderr}")
+        words = ["java", "-cp", f"{name}:{path}:{':'.join(map(str, STARTS))}", "org.junit.platform.console.ConsoleLauncher",
+                 "--disable-banner", "--details", "tree", "--scan-classpath", name]
+        ran = subprocess.run(words, cwd=ROOT / "clients/java", capture_output=True, text=True, timeout=LIMIT, env=environment)
+        found = re.search(r"\[ +(\d+) tests successful", ran.stdout)
+        demand(ran.returncode == 0 and found and int(found[1]) > 0, f"{ran.stdout[-5000:]} {ran.stderr[-2000:]}")
+        demand("[         0 tests skipped" in ran.stdout, "tests were skipped")
+    return f"{found[1]} tests"
+
+
+def virtual_threads(_program):
+    """Ten thousand virtual threads share sixteen sessions and connections, and futures run on virtual threads."""
+    words = java.command("rendezvous.VirtualThreads", jdk=later_jdk())
+    ran = subprocess.run(words, capture_output=True, text=True, timeout=LIMIT)
+    wanted = "11000 requests, 1000 items, no more sessions than 16\n"
+    demand((ran.stdout, ran.stderr) == (wanted, ""), f"{ran.stdout} {ran.stderr}")
+
+
+def cases():
+    """The cases that this machine has what they need for, and what is left out of the others."""
+    chosen, left_out = [], []
+    if not maven_missing():
+        chosen.append(maven_builds_it)
+    else:
+        left_out.append(f"Maven was left out: {maven_missing()}")
+        if console_missing():
+            left_out.append(f"JUnit was left out: {console_missing()}")
+        else:
+            chosen.append(tests_of_junit)
+    if later_jdk():
+        chosen.append(virtual_threads)
+    else:
+        left_out.append("virtual threads were left out: there is no JDK of 21 or later")
+    return chosen, left_out
