@@ -358,6 +358,59 @@ def no_descriptors(_java):
         demand(told[4] == "put with 4 gave done", f"{told}")
 
 
+def heard_of(server, count):
+    """Waits until so many messages came beside the hellos."""
+    until(f"message {count}", lambda: sum(one["kind"] != "hello" for one in server.heard) >= count)
+
+
+def silent_then(*cancels):
+    """A deed: requests have no answer, and the cancels these in turn."""
+    left = list(cancels)
+    return lambda asked: welcome(asked) if asked["kind"] == "hello" else SILENCE if asked["kind"] == "request" else left.pop(0)(asked)
+
+
+@java.in_time
+def a_cancelled_take(_java):
+    """Of a future takes nothing; an item that reached it is the next one, or stands in what is unclaimed."""
+    late = [reply("item", item="late"), reply("item", item="later")]
+    with scripted() as server, playing("cancelled-take", server.port) as program:
+        server.otherwise = silent_then(*late)
+        for count, told in [(1, "cancel true, take gave late"), (3, "poll gave later, unclaimed []")]:
+            heard_of(server, count)
+            program.go()
+            program.expect(told)
+        program.expect("ends")
+        demand(len(server.heard) == 5, f"{server.heard}")
+
+
+@java.in_time
+def a_cancelled_transfer(_java):
+    """Of a future tells what became of it: cancelled, received, or nothing where nothing is heard."""
+    with scripted() as server, playing("cancelled-transfer", server.port) as program:
+        server.otherwise = silent_then(reply("cancelled"), received_by(2, 3, 4), lambda asked: SILENCE)
+        for count, told in [(1, "cancel true, threw CancellationException"),
+                            (3, "cancel false, gave Receipt[key=1/1/1/2, by=Optional[1/2/3/4]]"),
+                            (5, "cancel false, threw Unsettled of 1/1/1/3")]:
+            heard_of(server, count)
+            program.go()
+            program.expect(told)
+        program.expect("[1/1/1/3]", "ends")
+
+
+@java.in_time
+def a_consumer(_java):
+    """Ends by a close and by an interrupt, behind the item that reached it before."""
+    with scripted(welcome, reply("item", item="a")) as server, playing("consumer", server.port) as program:
+        server.otherwise = silent_then(reply("item", item="b"), reply("cancelled"))
+        program.expect("does a")
+        heard_of(server, 2)
+        program.go()
+        program.expect("does b", "gave an end")
+        heard_of(server, 4)
+        program.go()
+        program.expect("gave an end, interrupted", "ends")
+
+
 @java.in_time
 def times(_java):
     """A call with a time ends behind it and a second, long before the patience of 100 seconds, with a silent server and none."""
@@ -374,4 +427,4 @@ CASES = [
     full_memory, two_threads, cancelled_though_nobody_asked, replies_that_a_call_cannot_have, for_ever,
     connections_of_dead_threads, a_pooled_thread, an_interrupt_in_the_hello, an_interrupt_while_the_server_is_away,
     an_interrupt_in_again, a_nested_answer, exceptions_read_back, an_unresolved_host, numbers_of_sessions,
-    no_descriptors, times]
+    no_descriptors, times, a_cancelled_take, a_cancelled_transfer, a_consumer]

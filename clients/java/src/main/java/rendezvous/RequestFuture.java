@@ -4,7 +4,6 @@ import java.util.concurrent.CompletableFuture;
 import java.util.concurrent.CountDownLatch;
 import java.util.concurrent.Executor;
 import java.util.concurrent.atomic.AtomicBoolean;
-import java.util.function.Consumer;
 import java.util.function.Function;
 
 /**
@@ -15,29 +14,31 @@ class RequestFuture<T> extends CompletableFuture<T> {
     private final Abort abort = new Abort();
     private final AtomicBoolean begun = new AtomicBoolean();
     private final CountDownLatch ended = new CountDownLatch(1);
+    private final Unclaimed unclaimed;
 
-    /** A future that is completed by a request's outcome, of which nobody has asked yet. */
-    RequestFuture() {
+    /**
+     * A future that is completed by a request's outcome, which nobody has asked yet.
+     *
+     * @param unclaimed what has the item of a take that was completed before it came
+     */
+    RequestFuture(Unclaimed unclaimed) {
+        this.unclaimed = unclaimed;
         whenComplete((result, fault) -> abort.ask());
     }
 
     /** What asks a request that the future may cancel. */
     interface Asking {
-        Outcome ask(Abort abort) throws InterruptedException;
+        Outcome ask(CompletableFuture<?> future, Abort abort) throws InterruptedException;
     }
 
-    /**
-     * Has an executor ask the request, and complete the future by what its outcome is to the user.
-     *
-     * @param given what a result is given to where the future was completed before
-     */
-    RequestFuture<T> begin(Executor executor, Asking asking, Function<Outcome, T> result, Consumer<T> given) {
+    /** Has an executor ask the request, and complete the future by what its outcome is to the user. */
+    RequestFuture<T> begin(Executor executor, Asking asking, Function<Outcome, T> result) {
         executor.execute(() -> {
             if (!begun.compareAndSet(false, true)) {
                 return;
             }
             try {
-                run(asking, result, given);
+                run(asking, result);
             } finally {
                 ended.countDown();
             }
@@ -45,16 +46,13 @@ class RequestFuture<T> extends CompletableFuture<T> {
         return this;
     }
 
-    private void run(Asking asking, Function<Outcome, T> result, Consumer<T> given) {
+    private void run(Asking asking, Function<Outcome, T> result) {
         try {
-            Outcome outcome = asking.ask(abort);
+            Outcome outcome = outcome(asking);
             if (outcome instanceof Outcome.Cancelled) {
                 super.cancel(false);
-                return;
-            }
-            T told = result.apply(outcome);
-            if (!complete(told)) {
-                given.accept(told);
+            } else {
+                unclaimed.completed(this, complete(result.apply(outcome)));
             }
         } catch (InterruptedException cancelled) {
             super.cancel(false);
@@ -65,6 +63,16 @@ class RequestFuture<T> extends CompletableFuture<T> {
             }
         } catch (Throwable fault) {
             completeExceptionally(fault);
+        }
+    }
+
+    private Outcome outcome(Asking asking) throws InterruptedException {
+        Outcome outcome = null;
+        try {
+            outcome = asking.ask(this, abort);
+            return outcome;
+        } finally {
+            unclaimed.ends(this, outcome);
         }
     }
 
@@ -100,6 +108,10 @@ class RequestFuture<T> extends CompletableFuture<T> {
      * consumer has that it was cancelled.
      */
     static final class OfTransfer<T> extends RequestFuture<T> {
+        OfTransfer() {
+            super(new Unclaimed());
+        }
+
         @Override
         public boolean cancel(boolean mayInterrupt) {
             return cancelAndWait();

@@ -2,9 +2,7 @@ package rendezvous;
 
 import com.google.gson.JsonObject;
 import java.util.AbstractQueue;
-import java.util.ArrayDeque;
 import java.util.Collection;
-import java.util.Deque;
 import java.util.Iterator;
 import java.util.List;
 import java.util.Objects;
@@ -57,7 +55,7 @@ public final class RvTransferQueue extends AbstractQueue<String> implements Tran
     private final RvClients clients;
     private final int queue;
     /** Items of takes whose futures were completed otherwise. */
-    private final Deque<String> unclaimed = new ArrayDeque<>();
+    private final Unclaimed unclaimed = new Unclaimed();
 
     /** Queue 0 to 63 of a server, for the threads of these clients. */
     public RvTransferQueue(RvClients clients, int queue) {
@@ -132,35 +130,12 @@ public final class RvTransferQueue extends AbstractQueue<String> implements Tran
         return receiptOf(askInterruptibly(Calls.waiting(transferOf(item), timeout, unit)));
     }
 
-    /** An item that is kept here for whoever takes the next one; null where none is. */
-    private String claimed() {
-        synchronized (unclaimed) {
-            return unclaimed.poll();
-        }
-    }
-
-    private void keep(Optional<String> item) {
-        synchronized (unclaimed) {
-            item.ifPresent(unclaimed::add);
-        }
-    }
-
-    private int countUnclaimed() {
-        synchronized (unclaimed) {
-            return unclaimed.size();
-        }
-    }
-
     /**
      * Gives out the items that were assigned to takes whose futures were cancelled, or completed otherwise, before the
      * item was there. Each of them is given once: here, or by the next call of this object that takes one.
      */
     public List<String> unclaimed() {
-        synchronized (unclaimed) {
-            List<String> all = List.copyOf(unclaimed);
-            unclaimed.clear();
-            return all;
-        }
+        return unclaimed.all();
     }
 
     /** The oldest item, waiting for one if need be. */
@@ -169,13 +144,13 @@ public final class RvTransferQueue extends AbstractQueue<String> implements Tran
         if (Thread.interrupted()) {
             throw new InterruptedException();
         }
-        String kept = claimed();
+        String kept = unclaimed.next();
         return kept != null ? kept : itemOf(askInterruptibly(Calls.waiting(call("take"), "forever")));
     }
 
     /** The oldest item, waiting for one if need be; none where this is aborted before there is one. */
     Optional<String> take(Abort abort) throws InterruptedException {
-        String kept = abort.isAsked() ? null : claimed();
+        String kept = abort.isAsked() ? null : unclaimed.next();
         if (kept != null || abort.isAsked()) {
             return Optional.ofNullable(kept);
         }
@@ -192,7 +167,7 @@ public final class RvTransferQueue extends AbstractQueue<String> implements Tran
     /** The oldest item, or null. */
     @Override
     public String poll() {
-        String kept = claimed();
+        String kept = unclaimed.nextThroughInterrupts();
         return kept != null ? kept : itemOf(ask(Calls.waiting(call("take"), "now")));
     }
 
@@ -202,8 +177,10 @@ public final class RvTransferQueue extends AbstractQueue<String> implements Tran
         if (Thread.interrupted()) {
             throw new InterruptedException();
         }
-        String kept = claimed();
-        return kept != null ? kept : itemOf(askInterruptibly(Calls.waiting(call("take"), timeout, unit)));
+        long began = System.nanoTime();
+        String kept = unclaimed.next();
+        Calls.Job job = Calls.waiting(call("take"), timeout, unit).later(System.nanoTime() - began);
+        return kept != null ? kept : itemOf(askInterruptibly(job));
     }
 
     /**
@@ -214,22 +191,25 @@ public final class RvTransferQueue extends AbstractQueue<String> implements Tran
      * has not heard of its request within a second, {@link RvClients#unsettled} has that.
      */
     public CompletableFuture<String> takeAsync() {
-        return taken(Calls.waiting(call("take"), "forever"), Optional::orElseThrow, Optional::of);
+        return taken(Calls.waiting(call("take"), "forever"), Optional::orElseThrow);
     }
 
     /** As {@link #takeAsync()}; the future's result is empty where no item came in time. */
     public CompletableFuture<Optional<String>> takeAsync(long timeout, TimeUnit unit) {
-        return taken(Calls.waiting(call("take"), timeout, unit), item -> item, item -> item);
+        return taken(Calls.waiting(call("take"), timeout, unit), item -> item);
     }
 
-    private <T> CompletableFuture<T> taken(Calls.Job job, Function<Optional<String>, T> result,
-            Function<T, Optional<String>> item) {
-        RequestFuture.Asking asking = abort -> {
-            String kept = claimed();
-            return kept != null ? new Outcome.Item(null, kept) : askInterruptibly(job.with(abort));
+    private <T> CompletableFuture<T> taken(Calls.Job job, Function<Optional<String>, T> result) {
+        RequestFuture.Asking asking = (future, abort) -> {
+            String kept = unclaimed.next();
+            if (kept != null) {
+                return new Outcome.Item(null, kept);
+            }
+            unclaimed.begins(future);
+            return askInterruptibly(job.with(abort));
         };
-        return new RequestFuture<T>().begin(clients.executor(), asking,
-            outcome -> result.apply(Optional.ofNullable(itemOf(outcome))), unused -> keep(item.apply(unused)));
+        return new RequestFuture<T>(unclaimed).begin(clients.executor(), asking,
+            outcome -> result.apply(Optional.ofNullable(itemOf(outcome))));
     }
 
     /**
@@ -251,8 +231,8 @@ public final class RvTransferQueue extends AbstractQueue<String> implements Tran
     }
 
     private <T> CompletableFuture<T> transferred(Calls.Job job, Function<Optional<Receipt>, T> result) {
-        return new RequestFuture.OfTransfer<T>().begin(clients.executor(), abort -> askInterruptibly(job.with(abort)),
-            outcome -> result.apply(receiptOf(outcome)), unused -> { });
+        return new RequestFuture.OfTransfer<T>().begin(clients.executor(), (future, abort) -> askInterruptibly(job.with(abort)),
+            outcome -> result.apply(receiptOf(outcome)));
     }
 
     /** What takes item after item, and gives each to an action. */
@@ -263,10 +243,9 @@ public final class RvTransferQueue extends AbstractQueue<String> implements Tran
     /** The oldest item, which stays; or null. */
     @Override
     public String peek() {
-        synchronized (unclaimed) {
-            if (!unclaimed.isEmpty()) {
-                return unclaimed.peek();
-            }
+        String kept = unclaimed.first();
+        if (kept != null) {
+            return kept;
         }
         return ask(new Calls.Job(call("peek"))) instanceof Outcome.Peeked peeked ? peeked.item() : null;
     }
@@ -320,12 +299,21 @@ public final class RvTransferQueue extends AbstractQueue<String> implements Tran
     /** Adds what is kept here, so many items at most. One that the collection refuses stays. */
     private int drainedUnclaimed(Collection<? super String> into, int most) {
         int drained = 0;
-        synchronized (unclaimed) {
-            while (drained < most && !unclaimed.isEmpty()) {
-                into.add(unclaimed.peek());
-                unclaimed.remove();
-                drained++;
+        while (drained < most) {
+            String kept = unclaimed.nextThroughInterrupts();
+            if (kept == null) {
+                return drained;
             }
+            boolean added = false;
+            try {
+                into.add(kept);
+                added = true;
+            } finally {
+                if (!added) {
+                    unclaimed.putBack(kept);
+                }
+            }
+            drained++;
         }
         return drained;
     }
@@ -344,7 +332,7 @@ public final class RvTransferQueue extends AbstractQueue<String> implements Tran
     /** How many items there are: of puts, and of transfers that wait. */
     @Override
     public int size() {
-        return counted().items() + countUnclaimed();
+        return counted().items() + unclaimed.count();
     }
 
     /** How many consumers wait. */
@@ -456,7 +444,7 @@ public final class RvTransferQueue extends AbstractQueue<String> implements Tran
     /** Its name, and how many items are unclaimed, which asks the server nothing. */
     @Override
     public String toString() {
-        int kept = countUnclaimed();
+        int kept = unclaimed.count();
         return "RvTransferQueue " + queue + (kept > 0 ? ", " + kept + " unclaimed" : "");
     }
 }

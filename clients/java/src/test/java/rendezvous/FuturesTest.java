@@ -146,6 +146,44 @@ final class FuturesTest {
     }
 
     @Test
+    void aTakeBehindACancelWaitsForWhatBecameOfThatTake() throws Exception {
+        CountDownLatch answers = new CountDownLatch(1);
+        try (Answering server = silentUntilCancel(message -> {
+            awaited(answers);
+            return item(message, "late");
+        }); RvClients clients = server.clients(1, 8).build()) {
+            RvTransferQueue queue = new RvTransferQueue(clients, 3);
+            CompletableFuture<String> first = queue.takeAsync();
+            server.awaitAsked(1);
+            first.cancel(true);
+            Calling<String> next = Calling.of(queue::take);
+            next.isWithin("awaitEnds");
+            answers.countDown();
+            assertEquals("late", next.end());
+            assertEquals(2, server.asked().size());
+        }
+    }
+
+    private static void awaited(CountDownLatch latch) {
+        try {
+            latch.await();
+        } catch (InterruptedException later) {
+            throw new IllegalStateException(later);
+        }
+    }
+
+    @Test
+    void whatIsDoneBehindAnItemMayTakeTheNextOne() throws Exception {
+        try (Answering server = new Answering(message -> item(message, Bodies.number(message, "number") + ""));
+                RvClients clients = server.clients(1, 1).build()) {
+            RvTransferQueue queue = new RvTransferQueue(clients, 3);
+            CompletableFuture<String> both = queue.takeAsync().thenApply(first -> first + " and " + queue.poll());
+            assertEquals("1 and 2", both.join());
+            assertEquals(List.of(), queue.unclaimed());
+        }
+    }
+
+    @Test
     void anItemThatReachedACancelledTakeStandsInUnclaimed() throws Exception {
         try (Answering server = silentUntilCancel(message -> item(message, "late"));
                 RvClients clients = server.clients(1, 8).build()) {

@@ -19,6 +19,8 @@ import java.util.ArrayList;
 import java.util.List;
 import java.util.Map;
 import java.util.concurrent.Callable;
+import java.util.concurrent.CompletableFuture;
+import java.util.concurrent.CompletionException;
 import java.util.concurrent.CountDownLatch;
 import java.util.concurrent.ExecutionException;
 import java.util.concurrent.ExecutorService;
@@ -53,7 +55,8 @@ final class Scenes {
         Map.entry("interrupted-again", Scenes::interruptedAgain), Map.entry("nested", Scenes::nested),
         Map.entry("serialized", Scenes::serialized), Map.entry("unresolved", Scenes::unresolved),
         Map.entry("used-up", Scenes::usedUp), Map.entry("no-descriptors", Scenes::noDescriptors),
-        Map.entry("times", Scenes::times));
+        Map.entry("times", Scenes::times), Map.entry("cancelled-take", Scenes::cancelledTake),
+        Map.entry("cancelled-transfer", Scenes::cancelledTransfer), Map.entry("consumer", Scenes::consumer));
 
     /** A patience that ends in a scene, in milliseconds: long enough for a slow machine to ask. */
     private static final long SHORT = 3_000;
@@ -433,6 +436,61 @@ final class Scenes {
         }
         open.removeIf(name -> name.startsWith("/"));
         return open;
+    }
+
+    /** A future of a take is cancelled where its request is asked, and its item comes nonetheless. */
+    private static void cancelledTake(int port) throws Exception {
+        RvTransferQueue queue = new RvTransferQueue(clients(port, 1, 1, 60_000), 3);
+        CompletableFuture<String> taken = queue.takeAsync();
+        LINES.readLine();
+        System.out.println("cancel " + taken.cancel(true) + ", take " + told(queue::take));
+        CompletableFuture<String> late = queue.takeAsync();
+        LINES.readLine();
+        late.cancel(true);
+        System.out.println("poll " + told(queue::poll) + ", unclaimed " + queue.unclaimed());
+    }
+
+    /** Futures of transfers are cancelled: one that nobody met, one that was received, and one of which nothing is heard. */
+    private static void cancelledTransfer(int port) throws Exception {
+        RvClients clients = clients(port, 1, 2, 60_000);
+        RvTransferQueue queue = new RvTransferQueue(clients, 3);
+        for (int each = 0; each < 3; each++) {
+            CompletableFuture<Receipt> future = queue.transferAsync("a");
+            LINES.readLine();
+            System.out.println("cancel " + future.cancel(true) + ", " + ended(future));
+        }
+        System.out.println(keys(clients));
+    }
+
+    /** What a future that is complete tells. */
+    private static String ended(CompletableFuture<?> future) {
+        return told(() -> {
+            try {
+                return future.join();
+            } catch (CompletionException fault) {
+                throw (Exception) fault.getCause();
+            }
+        });
+    }
+
+    /** A consumer gives items to an action, until it is closed while an item is under way, and another until an interrupt. */
+    private static void consumer(int port) throws Exception {
+        RvTransferQueue queue = new RvTransferQueue(clients(port, 1, 2, 60_000), 3);
+        RvConsumer jobs = queue.consumer();
+        Started working = Started.of(() -> {
+            jobs.forEach(job -> System.out.println("does " + job));
+            return "an end";
+        });
+        LINES.readLine();
+        jobs.close();
+        System.out.println(working.end());
+        Started other = Started.of(() -> {
+            queue.consumer().forEach(job -> System.out.println("does " + job));
+            return "an end";
+        });
+        LINES.readLine();
+        other.thread.interrupt();
+        System.out.println(other.end());
     }
 
     /** There are descriptors for all of a link but its socket; then there are some again. */
