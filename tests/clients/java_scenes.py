@@ -369,7 +369,6 @@ def silent_then(*cancels):
     return lambda asked: welcome(asked) if asked["kind"] == "hello" else SILENCE if asked["kind"] == "request" else left.pop(0)(asked)
 
 
-@java.in_time
 def a_cancelled_take(_java):
     """Of a future takes nothing; an item that reached it is the next one, or stands in what is unclaimed."""
     late = [reply("item", item="late"), reply("item", item="later")]
@@ -383,21 +382,19 @@ def a_cancelled_take(_java):
         demand(len(server.heard) == 5, f"{server.heard}")
 
 
-@java.in_time
 def a_cancelled_transfer(_java):
     """Of a future tells what became of it: cancelled, received, or nothing where nothing is heard."""
     with scripted() as server, playing("cancelled-transfer", server.port) as program:
         server.otherwise = silent_then(reply("cancelled"), received_by(2, 3, 4), lambda asked: SILENCE)
         for count, told in [(1, "cancel true, threw CancellationException"),
                             (3, "cancel false, gave Receipt[key=1/1/1/2, by=Optional[1/2/3/4]]"),
-                            (5, "cancel false, threw Unsettled of 1/1/1/3")]:
+                            (5, "cancel false, threw Unsettled of 1/2/1/1")]:
             heard_of(server, count)
             program.go()
             program.expect(told)
-        program.expect("[1/1/1/3]", "ends")
+        program.expect("[1/2/1/1]", "ends")
 
 
-@java.in_time
 def a_consumer(_java):
     """Ends by a close and by an interrupt, behind the item that reached it before."""
     with scripted(welcome, reply("item", item="a")) as server, playing("consumer", server.port) as program:

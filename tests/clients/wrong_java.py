@@ -3,9 +3,10 @@ from tests.clients.wrong import (
     ANOTHER_NUMBER, NEW_KEY, OTHER_EPOCH, NOBODY, NEWEST_FIRST, TOO_MANY, SHORT_FRAMES, OTHER_WELCOME,
     OLD_HELLO, OWN_NUMBER, PART_OF_A_KEY, OTHER_VERSION, Edit, WrongClient)
 
-MACHINE, REPLIES, SESSION, RUNNING, POOL, QUEUE, BODIES, LINK = (
+MACHINE, REPLIES, SESSION, RUNNING, POOL, LEASES, QUEUE, FUTURE, UNCLAIMED, CONSUMER, BODIES, LINK = (
     f"clients/java/src/main/java/rendezvous/{name}.java"
-    for name in ("Machine", "Replies", "RvSession", "Running", "Pool", "RvTransferQueue", "Bodies", "SocketLink"))
+    for name in ("Machine", "Replies", "RvSession", "Running", "Pool", "Leases", "RvTransferQueue", "RequestFuture", "Unclaimed",
+                 "RvConsumer", "Bodies", "SocketLink"))
 
 IN_JAVA = [
     WrongClient(ANOTHER_NUMBER, "java, the java process", [
@@ -59,6 +60,23 @@ IN_JAVA = [
         Edit(POOL, 'if (own.isPresent() && own.get().isFree()) {', 'if (own.isPresent()) {')]),
     WrongClient("keeps the connections of dead threads", "java_scenes, connections of dead threads", [
         Edit(POOL, '                seat.session.rest();\n            }\n        }\n', '            }\n        }\n')]),
+    WrongClient("has a session for each thread", "java_scenes, connections of dead threads", [
+        Edit(POOL, 'Stream.concat(free().filter(Seat::isNobodys), free()).findFirst().or(this::made)', 'made()')]),
+    WrongClient("leases a number that another process holds", "java_leases, beside another language", [
+        Edit(LEASES, 'locked = file.getChannel().tryLock() != null;', 'locked = file.getChannel().isOpen();')]),
+    WrongClient("leases in an incarnation of a clock that went back", "java_leases, beside another language", [
+        Edit(LEASES, 'Math.max(System.currentTimeMillis(), before + 1)', 'System.currentTimeMillis()'),
+        Edit(LEASES, 'if (incarnation <= before || incarnation > Key.GREATEST) {', 'if (incarnation > Key.GREATEST) {')]),
+    WrongClient("keeps what it leased for itself alone", "java_leases, beside another language", [
+        Edit(LEASES, '        file.write(line);\n', '')]),
+    WrongClient("drops an item that reached a cancelled future", "java_scenes, a cancelled take", [
+        Edit(UNCLAIMED, 'if (outcome instanceof Outcome.Item taken) {', 'if (outcome instanceof Outcome.Item taken && !future.isDone()) {')]),
+    WrongClient("takes no heed of a take that is being cancelled", "java_scenes, a cancelled take", [
+        Edit(UNCLAIMED, 'while (count() == 0 && running', 'while (count() > 0 && running')]),
+    WrongClient("tells a transfer as cancelled that was received", "java_scenes, a cancelled transfer", [
+        Edit(FUTURE, 'return cancelAndWait();', 'return super.cancel(mayInterrupt);')]),
+    WrongClient("drops the item that came with a consumer's end", "java_scenes, a consumer", [
+        Edit(CONSUMER, '                item.ifPresent(action);\n', '                if (!closed) {\n                    item.ifPresent(action);\n                }\n')]),
     WrongClient("leaves descriptors behind", "java_scenes, no descriptors", [
         Edit(LINK, 'if (registered == null) {', 'if (registered == null && opened != null) {')]),
 ]

@@ -440,7 +440,7 @@ final class Scenes {
 
     /** A future of a take is cancelled where its request is asked, and its item comes nonetheless. */
     private static void cancelledTake(int port) throws Exception {
-        RvTransferQueue queue = new RvTransferQueue(clients(port, 1, 1, 60_000), 3);
+        RvTransferQueue queue = new RvTransferQueue(patient(port, 1), 3);
         CompletableFuture<String> taken = queue.takeAsync();
         LINES.readLine();
         System.out.println("cancel " + taken.cancel(true) + ", take " + told(queue::take));
@@ -452,14 +452,19 @@ final class Scenes {
 
     /** Futures of transfers are cancelled: one that nobody met, one that was received, and one of which nothing is heard. */
     private static void cancelledTransfer(int port) throws Exception {
-        RvClients clients = clients(port, 1, 2, 60_000);
-        RvTransferQueue queue = new RvTransferQueue(clients, 3);
-        for (int each = 0; each < 3; each++) {
-            CompletableFuture<Receipt> future = queue.transferAsync("a");
+        RvClients patient = patient(port, 1);
+        RvClients other = clients(port, 2, 1, 60_000);
+        for (RvClients each : List.of(patient, patient, other)) {
+            CompletableFuture<Receipt> future = new RvTransferQueue(each, 3).transferAsync("a");
             LINES.readLine();
             System.out.println("cancel " + future.cancel(true) + ", " + ended(future));
         }
-        System.out.println(keys(clients));
+        System.out.println(keys(other));
+    }
+
+    /** Clients of one number, whose cancels a slow machine has time for. */
+    private static RvClients patient(int port, long client) {
+        return given(HOST, port, client, client).grace(Answering.LONG).build();
     }
 
     /** What a future that is complete tells. */
@@ -475,7 +480,7 @@ final class Scenes {
 
     /** A consumer gives items to an action, until it is closed while an item is under way, and another until an interrupt. */
     private static void consumer(int port) throws Exception {
-        RvTransferQueue queue = new RvTransferQueue(clients(port, 1, 2, 60_000), 3);
+        RvTransferQueue queue = new RvTransferQueue(patient(port, 1), 3);
         RvConsumer jobs = queue.consumer();
         Started working = Started.of(() -> {
             jobs.forEach(job -> System.out.println("does " + job));
