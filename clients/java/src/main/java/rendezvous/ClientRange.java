@@ -19,7 +19,8 @@ record ClientRange(long first, long last) {
 
     ClientRange {
         if (first < 1 || last > Key.GREATEST || first > last) {
-            throw new IllegalArgumentException("clients are 1 to " + Key.GREATEST + ", the least first: " + first + " to " + last);
+            throw new IllegalArgumentException(
+                "clients are 1 to " + Key.GREATEST + ", the least first: " + first + " to " + last);
         }
     }
 

@@ -53,8 +53,8 @@ final class LeaseFolder {
             throw new UncheckedIOException("client numbers cannot be leased in " + folder + ": " + fault.getMessage(), fault);
         }
         if (!isOwn(folder)) {
-            throw new IllegalStateException(
-                "client numbers cannot be leased in " + folder + ": it is no folder of this user's that nobody else may write in");
+            throw new IllegalStateException("client numbers cannot be leased in " + folder
+                + ": it is no folder of this user's that nobody else may write in");
         }
         return folder;
     }

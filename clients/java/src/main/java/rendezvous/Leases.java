@@ -50,7 +50,8 @@ final class Leases implements Numbers {
 
     @Override
     public IllegalStateException none() {
-        return new NoClientNumber("all client numbers " + range.first() + " to " + range.last() + " of " + folder + " are leased");
+        return new NoClientNumber(
+            "all client numbers " + range.first() + " to " + range.last() + " of " + folder + " are leased");
     }
 
     @Override

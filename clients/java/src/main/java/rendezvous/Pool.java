@@ -99,29 +99,32 @@ final class Pool {
         job.abort().wakes(this::signal);
         lock.lock();
         try {
-            while (true) {
-                Optional<Seat> seat = chosen();
-                if (seat.isEmpty() && (!anyRuns() || job.abort().isAsked() || System.nanoTime() - began >= most)) {
-                    seat = Optional.of(own().orElseThrow(numbers::none));
-                }
-                if (seat.isPresent()) {
-                    seat.get().borrowed = true;
-                    return seat.get();
-                }
-                try {
-                    changed.awaitNanos(most - (System.nanoTime() - began));
-                } catch (InterruptedException now) {
-                    if (interruptible) {
-                        throw now;
-                    }
-                    interrupted = true;
-                }
+            Optional<Seat> seat = chosen();
+            while (seat.isEmpty() && anyRuns() && !job.abort().isAsked() && System.nanoTime() - began < most) {
+                interrupted |= awaitChange(most - (System.nanoTime() - began), interruptible);
+                seat = chosen();
             }
+            Seat found = seat.or(this::own).orElseThrow(numbers::none);
+            found.borrowed = true;
+            return found;
         } finally {
             lock.unlock();
             if (interrupted) {
                 Thread.currentThread().interrupt();
             }
+        }
+    }
+
+    /** Waits until something changed, at most so long; whether an interrupt came through which the call goes on. */
+    private boolean awaitChange(long nanos, boolean interruptible) throws InterruptedException {
+        try {
+            changed.awaitNanos(nanos);
+            return false;
+        } catch (InterruptedException now) {
+            if (interruptible) {
+                throw now;
+            }
+            return true;
         }
     }
 
@@ -248,7 +251,7 @@ final class Pool {
         }
     }
 
-    /** Of the sessions whose threads ended, drops those that are over, and closes the connections of those that idle for long. */
+    /** Of the sessions whose threads ended, drops what is over, and closes the connections of what idles for long. */
     private void tidy() {
         long now = System.nanoTime();
         for (Seat seat : seats.stream().filter(each -> each.isNobodys() && !each.isRunning()).toList()) {

@@ -57,7 +57,8 @@ class RequestFuture<T> extends CompletableFuture<T> {
         } catch (InterruptedException cancelled) {
             super.cancel(false);
             Thread.currentThread().interrupt();
-        } catch (RvException.NotAsked | RvException.Full | NoClientNumber nothing) {
+        } catch (RvException.NotAsked | RvException.Full | IllegalStateException nothing) {
+            // nobody has or will have the item, and none was taken
             if (!abort.isAsked() || !super.cancel(false)) {
                 completeExceptionally(nothing);
             }

@@ -60,7 +60,7 @@ public final class RvConsumer implements AutoCloseable {
         }
     }
 
-    /** Has each {@link #forEach} that runs return, behind the item that it has. Any thread may say this, and it waits for none. */
+    /** Has each {@link #forEach} that runs return, behind the item that it has. Any thread may say this; it does not wait. */
     @Override
     public void close() {
         closed = true;

@@ -156,7 +156,7 @@ public final class RvTransferQueue extends AbstractQueue<String> implements Tran
         }
         try {
             return Optional.ofNullable(itemOf(askInterruptibly(Calls.waiting(call("take"), "forever").with(abort))));
-        } catch (RvException.NotAsked | RvException.Full | NoClientNumber nothing) {
+        } catch (RvException.NotAsked | RvException.Full | IllegalStateException nothing) {
             if (abort.isAsked()) {
                 return Optional.empty();
             }
