@@ -12,6 +12,7 @@ import zipfile
 
 from tests import ROOT
 from tests.clients import java
+from tests.sockets.programs import Server
 from tests.sockets.wire import demand
 
 SETTINGS = pathlib.Path("/etc/maven/settings-debian.xml")
@@ -73,7 +74,7 @@ def runtime(program):
     """The environment of tests: client numbers are leased in a folder of their own, and the program is this one."""
     with tempfile.TemporaryDirectory(prefix="rv-runtime-") as folder:
         kept = {name: value for name, value in os.environ.items() if name != "RV_CLIENTS"}
-        yield {**kept, "XDG_RUNTIME_DIR": folder, "RV_PROGRAM": program}
+        yield {**kept, "XDG_RUNTIME_DIR": folder, "RV_PROGRAM": program, "MAVEN_OPTS": "-XX:TieredStopAtLevel=1 -Xshare:auto"}
 
 
 def maven_builds_it(program):
@@ -110,7 +111,6 @@ def tests_of(folder):
 
 def used(folder, program, environment):
     """A program that has nothing but the jars runs at a server."""
-    from tests.sockets.programs import Server
     (folder / "User.java").write_text(USER)
     [jar] = (path for path in folder.glob("target/*.jar") if re.fullmatch(r"rendezvous-[\d.]+\.jar", path.name))
     with Server(program, 8, 4) as server:

@@ -2,10 +2,10 @@ package rendezvous;
 
 import java.io.IOException;
 import java.net.InetAddress;
-import java.net.ServerSocket;
 import java.net.Socket;
 import java.nio.file.Files;
 import java.nio.file.Path;
+import java.util.concurrent.ThreadLocalRandom;
 import java.util.concurrent.atomic.AtomicLong;
 import java.util.stream.Stream;
 
@@ -15,26 +15,34 @@ import java.util.stream.Stream;
  */
 final class Served implements AutoCloseable {
     private static final AtomicLong CLIENT = new AtomicLong(1);
-    private final Process process;
-    private final int port;
+    /** How often another port is tried, where somebody takes the one that was free. */
+    private static final int TRIES = 5;
+    private Process process;
+    private int port;
 
     Served() throws IOException, InterruptedException {
-        port = free();
-        process = new ProcessBuilder(program(), "serve", "--listen", "127.0.0.1:" + port, "--epoch", "1", "--workers", "32",
-            "--connections", "100000").redirectErrorStream(true).redirectOutput(ProcessBuilder.Redirect.DISCARD).start();
-        Runtime.getRuntime().addShutdownHook(new Thread(process::destroyForcibly));
-        while (!listens()) {
-            if (!process.isAlive()) {
-                throw new IOException("the server ended with " + process.exitValue());
-            }
-            Thread.sleep(10);
+        boolean serves = false;
+        for (int tried = 0; tried < TRIES && !serves; tried++) {
+            serves = serves();
+        }
+        if (!serves) {
+            throw new IOException("no server listens: " + program());
         }
     }
 
-    private static int free() throws IOException {
-        try (ServerSocket probe = new ServerSocket(0, 1, InetAddress.getLoopbackAddress())) {
-            return probe.getLocalPort();
+    /** Starts the server at a port that is free, below those that the system gives to clients; whether it listens there. */
+    private boolean serves() throws IOException, InterruptedException {
+        port = ThreadLocalRandom.current().nextInt(20_000, 32_000);
+        if (listens()) {
+            return false;
         }
+        process = new ProcessBuilder(program(), "serve", "--listen", "127.0.0.1:" + port, "--epoch", "1", "--workers", "32",
+            "--connections", "100000").redirectErrorStream(true).redirectOutput(ProcessBuilder.Redirect.DISCARD).start();
+        Runtime.getRuntime().addShutdownHook(new Thread(process::destroyForcibly));
+        while (process.isAlive() && !listens()) {
+            Thread.sleep(10);
+        }
+        return process.isAlive();
     }
 
     private boolean listens() {
