@@ -23,6 +23,8 @@ STARTS = [pathlib.Path("/usr/share/java") / f"{name}.jar" for name in (
     "junit-jupiter-engine", "junit-platform-console", "junit-platform-engine", "junit-platform-launcher",
     "junit-platform-reporting", "picocli", "univocity-parsers", "opentest4j-reporting-events", "opentest4j-reporting-schema")]
 LIMIT = 1_800
+# What a terminal takes for colours, which Maven writes at its end wherever it writes to.
+COLOURS = re.compile(r"\x1b\[[\d;]*m")
 # A program of a new user's, with nothing but the jars.
 USER = """
 import rendezvous.*;
@@ -85,7 +87,8 @@ def maven_builds_it(program):
         shutil.copytree(ROOT / "clients/java", folder, ignore=shutil.ignore_patterns("target"))
         ran = subprocess.run(["mvn", "-o", "-q", "-B", "package"], cwd=folder, capture_output=True, text=True, timeout=LIMIT,
                              env=environment)
-        demand((ran.returncode, ran.stderr) == (0, "") and "WARNING" not in ran.stdout, f"{ran.stdout[-3000:]} {ran.stderr[-3000:]}")
+        said = COLOURS.sub("", ran.stdout + ran.stderr).strip()
+        demand(ran.returncode == 0 and not said, f"Maven says {said[-3000:]}")
         count = tests_of(folder)
         for kind, wanted in [("", ".class"), ("-sources", ".java"), ("-javadoc", ".html")]:
             [jar] = (path for path in folder.glob("target/*.jar") if re.fullmatch(rf"rendezvous-[\d.]+{kind}\.jar", path.name))
