@@ -67,12 +67,15 @@ class Boss:
             for number in range(1, 6):
                 self.hand_over(f"job {number}")
             for _ in range(2):
-                self.session.transfer(JOBS, "no more")
+                while not self.session.try_transfer(JOBS, "no more", timeout=1):
+                    self.restart_the_dead()
             for _, process in self.workers.values():
                 process.wait()
+            results = []
             while result := self.session.poll(RESULTS):
-                print(result)
+                results.append(result)
                 del self.takers[result.removesuffix(" is done")]
+        print(*sorted(results), sep="\n")
         for job, taker in self.takers.items():
             _, process = self.workers[taker.client, taker.incarnation]
             print(f"{job} was lost with its worker, which ended by {process.returncode}")

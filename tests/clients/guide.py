@@ -19,6 +19,10 @@ GUIDE = ROOT / "docs/GUIDE.md"
 PORT = "7411"
 # What is printed behind each block.
 END = "---- end of a block"
+# The block of the pool, its jobs, and those that kill a worker; what its lines may say in between, and of a lost job.
+POOL, JOBS, DEADLY = "pool.py", [f"job {number}" for number in range(1, 6)], ("job 2", "job 3")
+OFFERED = re.compile("job [1-5] was received by nobody, and is offered again|worker [12] died, and is started anew")
+LOST = re.compile("was lost with its worker, which ended by 1")
 PICTURES = {
     "link": [["play", "examples/demo.play", "examples/demo.out"], None],
     "account": [["account"], "examples/day.account"],
@@ -55,13 +59,26 @@ def the_guide(program):
         demand({path.name for path in folder.iterdir()} == there, f"the guide leaves {sorted(folder.iterdir())}")
 
 
+def is_of_pool(text):
+    """Whether the pool may print this. It tells each job as received, in order, and then once as done or lost. Which worker
+    comes back first is the system's: so a job may be offered more often, and one of those that kill may go to a worker that was
+    started anew."""
+    lines = [line for line in text.splitlines() if not OFFERED.fullmatch(line)]
+    received, ends, verdict = lines[:5], lines[5:-1], lines[-1:]
+    ended = {line[:5]: LOST.sub("lost", line[6:]) for line in ends}
+    kinds = [{"is done"} | ({"lost"} if job in DEADLY else set()) for job in JOBS]
+    return received == [f"{job} was received" for job in JOBS] and verdict == ["legal"] and len(ends) == len(JOBS) and all(
+        ended.get(job) in kind for job, kind in zip(JOBS, kinds))
+
+
 def run_script(typed, folder, environment):
     """The blocks, in one shell, must print what is shown behind each, and say nothing on standard error."""
     script = "".join(f"{text}echo '{END}'\n" for text, _ in typed)
     ran = subprocess.run(["bash", "-c", script], cwd=folder, env=environment, capture_output=True, text=True,
                          timeout=1_200)
     for (text, shown), printed in zip(typed, ran.stdout.split(f"{END}\n")):
-        demand(printed == shown, f"{text}\nprinted\n{printed}\nand not\n{shown}\n{ran.stderr}")
+        alike = is_of_pool(printed) and is_of_pool(shown) if POOL in text else printed == shown
+        demand(alike, f"{text}\nprinted\n{printed}\nand not\n{shown}\n{ran.stderr}")
     demand(ran.stdout.count(END) == len(typed) and not ran.stderr, f"the script said {ran.stderr}")
 
 
