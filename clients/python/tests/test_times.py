@@ -32,7 +32,9 @@ class OwnTimes(Case):
                     server.otherwise = lambda came: told(came) if came["kind"] == "cancel" else late
                     with self.within(SOON):
                         self.assertEqual(one.poll(3, 0.05), result)
-                    self.assertEqual((asked(server)[1], asked(server)[-1]), (("request", 1, "take"), ("cancel", 1, None)))
+                    # a copy over a connection that was thrown away may be read behind the cancel
+                    self.assertEqual(asked(server)[1], ("request", 1, "take"))
+                    self.assertEqual(set(asked(server)[1:]), {("request", 1, "take"), ("cancel", 1, None)})
 
     def test_an_exchange_that_is_late(self):
         """Nobody came: that is also a TimeoutError, whether the server said it or the cancel."""
