@@ -1,5 +1,4 @@
-"""The state of an account: all of it that the future hangs on, with no entry among it (docs/MODEL.md, sections 5 to
-8)."""
+"""The state of an account: all that its future hangs on, without its entries (docs/MODEL.md, sections 5 to 8)."""
 from dataclasses import dataclass, field
 
 from tests.model.account import OTHER_SIDE, Call, Key

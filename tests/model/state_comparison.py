@@ -1,5 +1,4 @@
-"""The comparison of states with accounts, over random walks: each step, each entry behind it, and accounts with the same
-state."""
+"""The comparison of states with accounts over random walks: steps, entries behind them, and accounts with one state."""
 from collections import Counter
 from contextlib import contextmanager
 
@@ -33,8 +32,8 @@ def room_for(entries, clients):
 
 
 class Comparison:
-    """What was compared so far: how often each kind of thing, answer and verdict was met. So many entries are tried
-    for each step."""
+    """What was compared so far: how often each thing, answer and verdict was met. For each step so many entries are
+    tried, which may be less than one."""
 
     def __init__(self, share):
         self.share = share

@@ -1,12 +1,12 @@
 """What the states of accounts are compared with: the same things told by the formulas over places of account.py, and
 by the rules of audit.py and the steps of steps.py over accounts."""
 from tests.model.account import (
-    OTHER_SIDE, Hello, Key, Request, Tick, arrival_of, arrivals, hellos, incarnation, is_open, last_number, limit,
-    reply, version, waiting)
+    OTHER_SIDE, Hello, Key, Request, Tick, arrival_of, arrivals, incarnation, is_open, last_number, limit, reply, version,
+    waiting)
 from tests.model.audit import broken_rule
-from tests.model.state_rules import NOT_OPEN
 from tests.model.state import CancelledFirst, ClientState, Fresh, OpenPlace, Replied, State, Waits
 from tests.model.state_after import CANCELLED
+from tests.model.state_rules import NOT_OPEN
 from tests.model.steps import step
 
 
@@ -67,14 +67,14 @@ def rank(before, after, r):
 
 
 def step_by_formulas(account, now, message):
-    """The account after a step over accounts; with its entries, its answer and what it settles."""
+    """The account after a step; with the step's entries, its answer and what it settles."""
     after, answer = step(account, now, message)
     return after, (after.entries[len(account.entries) :], answer, settled_by_formulas(account, after))
 
 
 def follow_by_formulas(account, entry):
-    """What an entry settles behind an account, and its own key's reply; or the rule that it breaks, as a state has to
-    tell it."""
+    """What an entry settles behind an account, and its own key's reply; or the rule that it breaks, as a state tells
+    it."""
     after = account.with_entry(entry)
     rule = broken_rule(after, len(account.entries))
     if rule:

@@ -1,9 +1,8 @@
-"""States written by hand: of small accounts the state, what a step settles, and what an entry is told that may not
-follow."""
+"""States by hand: of small accounts the state, what a step settles, and which rule an entry breaks that may not follow."""
 from tests.model.account import Account, Call, Cancel, Entry, Hello, Key, Request, Tick
-from tests.model.state_rules import NOT_OPEN, follow
 from tests.model.state import CancelledFirst, ClientState, OpenPlace, Replied, State, Waits
 from tests.model.state_after import state_of
+from tests.model.state_rules import NOT_OPEN, follow
 from tests.model.state_steps import step
 
 OFFER, SECOND, THIRD = Call("transfer", 5, "x", 10), Call("transfer", 5, "y", 5), Call("transfer", 5, "z", "forever")

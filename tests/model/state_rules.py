@@ -1,5 +1,4 @@
-"""Which entry may follow a state: the twelve rules, each asked of the state alone, in their order (docs/MODEL.md, section
-7)."""
+"""Which entry may follow a state: the twelve rules in their order, each asked of the state (docs/MODEL.md, section 7)."""
 from tests.model.account import OTHER_SIDE, Cancel, Hello, Request, Tick
 from tests.model.state_after import followed_by
 

@@ -2,8 +2,7 @@
 entries to try behind them. What comes next is chosen by the state that the formulas over the account tell."""
 from dataclasses import replace
 
-from tests.model.account import (
-    MAX_MOMENT, OTHER_SIDE, Account, Call, Cancel, Entry, Hello, Key, Request, Tick)
+from tests.model.account import MAX_MOMENT, OTHER_SIDE, Account, Call, Cancel, Entry, Hello, Key, Request, Tick
 from tests.model.calls import KINDS
 from tests.model.state import CancelledFirst, Fresh
 from tests.model.state_formulas import state_by_formulas, step_by_formulas
