@@ -23,7 +23,7 @@ OUTSIDE = [
     ["tests/model/compare.py", "--play", "--seed", SEED, "--lines", "5000", "--program", PROGRAM],
     ["tests/model/compare.py", "--audit", "--seed", SEED, "--accounts", "2000", "--program", PROGRAM],
     ["tests/model/states.py", "--selftest"],
-    ["tests/model/states.py", "--seed", SEED, "--steps", "6000", "--entries", "1200"],
+    ["tests/model/states.py", "--seed", SEED, "--steps", "10000", "--entries", "2000"],
     ["tests/sockets/serve.py", "--seed", SEED, PROGRAM],
     ["tests/sockets/serve.py", "--selftest"],
     ["tests/faults/devices.py", PROGRAM],

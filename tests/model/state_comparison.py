@@ -115,7 +115,7 @@ class Comparison:
     def together_fault(self, walk, twin):
         """What differs in some steps that a walk's account and its twin go on together, if something does."""
         for _ in range(TOGETHER):
-            now, message, before = walk.now(), walk.message(), walk.account
+            (now, message), before = walk.probe(), walk.account
             one = walk.step(now, message)
             after, other = step_by_formulas(twin, now, message)
             if one != other:

@@ -35,23 +35,26 @@ class Twins:
         """An account with one change."""
         if not account.entries:
             return account
-        changes = [self.opening, self.moment, self.item, self.version, self.keys, self.call]
-        return self.chance.choice([*changes, *[self.order] * 3])(account)
+        changes = [self.opening, self.moment, self.moment, self.item, self.version, self.keys, self.call]
+        return self.chance.choice([*changes, self.order, self.order])(account)
 
     def opening(self, account):
         """Another opening moment."""
         return replace(account, opened=max(0, account.entries[0].moment - self.chance.choice([0, 0, 1, 2])))
 
     def place(self, account, kind):
-        """The place of an entry of a kind; none where none is there."""
+        """The place of an entry of a kind, often of the last; none where none is there."""
         places = [j for j, entry in enumerate(account.entries) if isinstance(entry.act, kind)]
-        return self.chance.choice(places) if places else None
+        return self.chance.choice([places[-1], self.chance.choice(places)]) if places else None
 
     def moment(self, account):
-        """Another moment of an entry."""
-        j = self.chance.randrange(len(account.entries))
-        moment = account.entries[j].moment + self.chance.choice([-1, 1])
-        return with_entry_at(account, j, moment=max(0, moment))
+        """Another moment of an entry, often of the last arrival: that of a neighbour, or the next to its own."""
+        j = self.place(account, self.chance.choice([object, Request, Request]))
+        if j is None:
+            return account
+        moments = [account.opened, *(entry.moment for entry in account.entries)]
+        near = [*moments[j : j + 3 : 2] * 2, moments[j + 1] - 1, moments[j + 1] + 1]
+        return with_entry_at(account, j, moment=max(0, self.chance.choice(near)))
 
     def order(self, account):
         """Two neighbours change places."""

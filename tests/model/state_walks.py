@@ -71,6 +71,15 @@ class Walk:
             call = self.call()
         return Request(key, self.other_call(call) if self.odds(0.05) else call)
 
+    def probe(self):
+        """A moment and a message that tell much of a state: often a limit of what waits, and the last request of a session
+        again."""
+        asked = [(number, client) for number, client in self.state.clients.items() if hasattr(client.request, "call")]
+        if not asked or self.odds(0.4):
+            return self.now(0.6), self.message()
+        number, client = self.chance.choice(asked)
+        return self.now(0.6), Request(Key(self.state.epoch, number, client.incarnation, client.last), client.request.call)
+
     def hello(self, number, client):
         """A hello of a newer, the same or an older incarnation, now and then of another version."""
         if client is None:

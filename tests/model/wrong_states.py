@@ -14,7 +14,7 @@ from tests.model.state_walks import Walk
 
 # How many walks are tried, at most, until a wrong definition is found, and how many for the right one; and how many
 # changes of a walk's account are tried.
-WALKS, RIGHT_WALKS, CHANGES = 600, 30, 25
+WALKS, RIGHT_WALKS, CHANGES = 1_000, 30, 25
 
 
 def forgets_call(call, reply):
@@ -65,8 +65,10 @@ def by_steps(_, chance):
 
 
 def by_twins(comparison, chance):
-    """How accounts with the state of a walk's account go on otherwise, if one does."""
+    """How accounts with the state of a walk's account go on otherwise, if one does. Moments rise often, so that limits
+    differ."""
     walk = Walk(chance)
+    walk.pace = [0, 1]
     for _ in range(chance.randint(2, 10)):
         walk.step(walk.now(), walk.message())
     twins = Twins(chance, walk.account)
