@@ -379,9 +379,10 @@ def a_closed_connection_is_made_anew(java):
         demand(server.connections == 3, f"{server.connections} connections came")
 
 
+@in_time
 def nobody_listens(java):
     """What was not sent is told so, with the address and the system's reason."""
-    java.expect("open 1 1 200", "result open")
+    java.expect("open 1 1 1000", "result open")
     java.expect("put a", "threw NotAsked null")
     java.expect("words", "result nothing was sent: 127.0.0.1:1: connection refused")
     java.expect("poll 1000", "threw NotAsked null")

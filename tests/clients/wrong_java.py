@@ -30,9 +30,10 @@ IN_JAVA = [
     WrongClient(SHORT_FRAMES, "java, a drain is asked under one key", [
         Edit(LINK, 'if (length == 0) {', 'if (length < 1 || length > 4096) {')]),
     WrongClient("loses what finished steps of a drain took", "java, a step that fails", [
-        Edit(QUEUE, 'int drained = 0;', 'int drained = 0;\n        var all = new java.util.ArrayList<String>();'),
+        Edit(QUEUE, 'int drained = drainedUnclaimed(into, most);',
+             'int drained = drainedUnclaimed(into, most);\n        var all = new java.util.ArrayList<String>();'),
         Edit(QUEUE, 'into.addAll(items);', 'all.addAll(items);'),
-        Edit(QUEUE, 'return drained;', 'into.addAll(all);\n        return drained;')]),
+        Edit(QUEUE, 'more = items.size() == step;\n        }', 'more = items.size() == step;\n        }\n        into.addAll(all);')]),
     WrongClient("drains more than it was asked for", "java, drains by steps", [
         Edit(QUEUE, 'Math.min(Bodies.GREATEST_DRAIN, most - drained)', 'Bodies.GREATEST_DRAIN')]),
     WrongClient(OTHER_WELCOME, "java, the java process", [
