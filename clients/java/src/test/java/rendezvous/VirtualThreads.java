@@ -32,7 +32,7 @@ final class VirtualThreads {
     static String run() throws Exception {
         ExecutorService executor = (ExecutorService) Executors.class.getMethod("newVirtualThreadPerTaskExecutor").invoke(null);
         try (Answering server = new Answering(VirtualThreads::answer);
-                RvClients clients = server.clients(1, NUMBERS).executor(executor).idle(Long.MAX_VALUE).build()) {
+                RvClients clients = server.clients(1, NUMBERS).executor(executor).idle(Long.MAX_VALUE).patientForEver().build()) {
             RvTransferQueue queue = new RvTransferQueue(clients, 3);
             List<Future<?>> puts = new ArrayList<>();
             for (int each = 0; each < THREADS; each++) {
