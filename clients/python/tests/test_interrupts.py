@@ -11,9 +11,10 @@ import os
 import sys
 import unittest
 
-from book import PLACE, Book, counted, named, waits
+from book import PLACE, Book, counted, named, place_of, waits
 from context import GENEROUS, Case, raised_by, rv
 from let_in import line_of
+from rendezvous.course import Running
 from rendezvous.driver import Job, let_go
 
 FOLDER = os.path.dirname(rv.__file__)
@@ -74,14 +75,22 @@ class Untouched(Case):
             gc.collect()
 
 
+def script_of(session):
+    """The job that runs, if it is a script's. A copy of a script's request may be read when the next call runs already."""
+    job = session._jobs.get("job")
+    return job if job is not None and place_of(job.asked or {}) == PLACE else None
+
+
 def cancels(session):
-    """Cancels the call that runs."""
-    session.cancel()
+    """Cancels the call of a script that runs."""
+    job = script_of(session)
+    if job is not None:
+        Running(job, lambda: session._driver.order(job)).cancel()
 
 
 def expires(session):
-    """Has the patience of the call that runs end now, so that it is unsettled."""
-    job = session._jobs.get("job")
+    """Has the patience of the call of a script that runs end now, so that it is unsettled."""
+    job = script_of(session)
     if job is not None:
         job.patience = 0.0
         session._driver.order(job)
