@@ -29,7 +29,12 @@ def counted_in(file):
         return 0, 1, f"{file.name}: {done.stdout[-2000:]}{done.stderr[-4000:]}"
     failed = sum(map(int, re.findall(r"(?:failures|errors|skipped|unexpected successes)=(\d+)", done.stderr.splitlines()[-1])))
     failed = failed or int(done.returncode != 0)
-    return int(total[1]) - failed, failed, f"{done.stdout[-2000:]}{done.stderr[-8000:]}" if failed else ""
+    return int(total[1]) - failed, failed, f"{file.name}: {what_failed(done.stderr)[-8000:]}" if failed else ""
+
+
+def what_failed(told):
+    """What the runner says of tests that failed, behind what it says of each."""
+    return told[max(0, told.find("\n" + "=" * 70 + "\n")):].lstrip("=\n")
 
 
 def counted():
