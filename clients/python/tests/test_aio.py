@@ -304,6 +304,7 @@ class Cancels(Case):
             self.assertEqual((await one.again(), one.unclaimed(), await one.poll(3)), (rv.replies.Item(key(1), "a"), [], None))
         self.met(lambda one: one.take(3), ("item", {"item": "a"}), of_a_take)
 
+    @in_time
     def test_it_is_asked_again_while_it_is_settled(self):
         """`again` waits for what comes; its own task may be cancelled too, and nothing is lost."""
         async def asks():
@@ -387,6 +388,7 @@ class Cancels(Case):
 class Limits(Case):
     """How long what was left is waited for."""
 
+    @in_time
     def test_a_call_with_a_time(self):
         """It ends within that and a second, was not asked, and says why; the session goes on with what was left."""
         async def asks():
@@ -401,6 +403,7 @@ class Limits(Case):
                     self.assertEqual((await one.take(3), {number for _, number, _ in asked(server)[1:]}), ("a", {1}))
         run(asks())
 
+    @in_time
     def test_a_patience_that_ends(self):
         """What was left is unsettled then; the next call goes on with it, as long as it may wait itself."""
         async def asks():

@@ -10,6 +10,7 @@ import itertools
 import os
 import sys
 import unittest
+import weakref
 
 from book import PLACE, Book, counted, named, place_of, waits
 from context import GENEROUS, Case, raised_by, rv
@@ -32,8 +33,7 @@ class Thrown:
         self.places, self.times = [], {}
 
     def __call__(self, frame, event, _):
-        # what a finalizer throws goes nowhere, and its moment is the runtime's
-        if not frame.f_code.co_filename.startswith(FOLDER) or frame.f_code is let_go.__code__:
+        if not frame.f_code.co_filename.startswith(FOLDER) or event == "call" and is_of_a_finalizer(frame):
             return None
         if event == "line":
             self.came_by(frame)
@@ -50,6 +50,13 @@ class Thrown:
             if place[:2] == WAITS:
                 self.late()
             raise self.kind("thrown here")
+
+
+def is_of_a_finalizer(frame):
+    """Whether a finalizer runs this: what it throws goes nowhere, and its moment is the runtime's."""
+    while frame is not None and frame.f_code is not let_go.__code__ and frame.f_code.co_filename != weakref.__file__:
+        frame = frame.f_back
+    return frame is not None
 
 
 class Script:
