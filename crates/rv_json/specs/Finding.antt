@@ -3,6 +3,8 @@ use Rattle.std.specs.Prelude.{◌≡◌, ℕ, List, [], ◌∷◌, codes, if◌t
 use Rattle.std.specs.Prelude.{Option, Some, None, option_and_then, nat_le, Result, Ok, Err, String}
 use Rattle.std.specs.declared.alloc.Global.{Global}
 use Rattle.std.specs.BTreeMap.{BTreeMap}
+use Rattle.std.specs.Ordering.{match_ordering, nat_cmp}
+use Rattle.std.specs.Cmp.Lexicographic.{slice_cmp}
 use Rattle.serde_json.specs.Data.{Data, Items, Members}
 use Rattle.serde_json.specs.Data as json
 use Rattle.serde_json.specs.Events.{items_len}
@@ -47,6 +49,19 @@ text_among name members = option_and_then as_str (get_member name members)
 
 abbrev pub item_among : Members → Option (List ℕ)
 item_among = text_among (codes "item")
+
+-- the members without that of this name; a map has each name once
+abbrev pub without : List ℕ → Members → Members
+without name json.no_members = json.no_members
+without name (json.member other value members) =
+    match_ordering (slice_cmp nat_cmp name other)
+    (json.member other value (without name members))
+    members
+    (json.member other value (without name members))
+
+-- behind a reader, a map has all that it had but the member of this name
+abbrev pub Leaves : List ℕ → Map → Map → Type 0
+Leaves name before after = members_view after.entries ≡ without name (members_view before.entries)
 
 -- ---- a list of texts
 

@@ -1,9 +1,9 @@
 //! Reads members of a JSON object, each by its name. The only limit is that of a list: 16 texts.
-ghost use Rattle.std.specs.Prelude.{◌≡◌, option_map, Err};
+ghost use Rattle.std.specs.Prelude.{◌≡◌, codes, option_map, Err};
 ghost use Rattle.serde_json.specs.Find.{get_member, as_str};
 ghost use Rattle.serde_json.specs.View.{view, items_view, members_view};
 ghost use Rattle.rv_json.specs.Finding.{Finds, FindsAmong, FindsSeenAmong, whole_among, text_among, few_of};
-ghost use Rattle.rv_json.specs.Finding.{few_in, texts_of, texts_among, item_among};
+ghost use Rattle.rv_json.specs.Finding.{few_in, texts_of, texts_among, item_among, Leaves};
 ghost use Rattle.rv_json.specs.declared.fault.TextFault.TheVariants as fault;
 
 use crate::fault::TextFault;
@@ -48,25 +48,29 @@ pub fn read_text<'v>(members: &'v Members, name: &str) -> Result<&'v str, TextFa
 
 // Takes the value at the name out of the members.
 fn take_member(members: &mut Members, name: &str) -> Option<Value>
-    ensures { option_map view result ≡ get_member name.now (members_view members.old.entries) }
+    ensures found { option_map view result ≡ get_member name.now (members_view members.old.entries) }
+    ensures left { Leaves name.now members.old members.new }
 {
     members.remove(name)
 }
 
 /// The text of the member `item`, taken out without a copy. The only fault is [`TextFault::NotMessage`],
-/// if no text stands there.
+/// if no text stands there. The other members stay, and no `item` does.
 pub fn take_item(members: &mut Members) -> Result<Item, TextFault>
     ensures found { FindsAmong members.old result item_among }
     ensures sure { ¬ (result ≡ Err fault.NoMemory) }
+    ensures left { Leaves (codes "item") members.old members.new }
 {
     let value = take_member(members, "item").ok_or(TextFault::NotMessage)?;
     item_of(value)
 }
 
 /// The texts of the member `texts`, taken out without a copy. [`TextFault::NotMessage`] comes only if no
-/// list of at most 16 texts stands there, and [`TextFault::NoMemory`] only if a growth was refused.
+/// list of at most 16 texts stands there, and [`TextFault::NoMemory`] only if a growth was refused. The other
+/// members stay, and no `texts` does.
 pub fn take_texts(alloc: Global, members: &mut Members) -> Result<Items, TextFault>
-    ensures { FindsAmong members.old result texts_among }
+    ensures found { FindsAmong members.old result texts_among }
+    ensures left { Leaves (codes "texts") members.old members.new }
 {
     let value = take_member(members, "texts").ok_or(TextFault::NotMessage)?;
     take_each_text(alloc, values_of(value)?)
