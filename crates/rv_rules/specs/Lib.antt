@@ -1,0 +1,7 @@
+-- What a reader must agree with: what an account says, which are legal, and what a step is.
+pub mod Counting
+pub mod Waiting
+pub mod Sessions
+pub mod Legal
+pub mod Replies
+pub mod Steps

@@ -1,0 +1,236 @@
+-- One step of the book: the answer to a message, and which accounts may stand after it.
+use Rattle.std.specs.Prelude.{◌≡◌, ◌≢◌, ◌⊎◌, ◌<◌, ◌≤◌, ◌+◌, ℕ, length, Some}
+use Rattle.std.specs.Prelude.{min, max}
+use Rattle.rv_text.specs.declared.version.Version.{Version}
+use Rattle.rv_text.specs.declared.message.Key.{Key}
+use Rattle.rv_text.specs.declared.call.Call.{Call}
+use Rattle.rv_text.specs.declared.message.Message.{Message}
+use Rattle.rv_text.specs.declared.message.Message.TheVariants.{Hello, Request, Cancel}
+use Rattle.rv_text.specs.declared.answer.Reply.TheVariants.{Cancelled}
+use Rattle.rv_text.specs.declared.answer.Reply.{Reply}
+use Rattle.rv_text.specs.declared.answer.Refusal.{Refusal}
+use Rattle.rv_text.specs.declared.answer.Refusal.TheVariants.{OtherEpoch, NoSession, OldIncarnation}
+use Rattle.rv_text.specs.declared.answer.Refusal.TheVariants.{OldNumber, OtherCall, Busy, Gap, ClientsFull}
+use Rattle.rv_text.specs.declared.answer.Refusal.TheVariants.{EpochFull, NoMemory, OtherVersion}
+use Rattle.rv_text.specs.declared.answer.Answer.{Answer}
+use Rattle.rv_text.specs.declared.answer.Answer.TheVariants.{Welcome, Replied, Refused}
+use Rattle.rv_text.specs.declared.answer.Answer as answer
+pub use Rattle.rv_session.specs.Standings.{max_clients}
+use Rattle.rv_account.specs.declared.entry.Entry.{Entry}
+use Rattle.rv_account.specs.declared.entry.Act.{Act}
+use Rattle.rv_account.specs.declared.entry.Act as act
+use Rattle.rv_account.specs.Account.{Account, act_at, with_entry}
+use Rattle.rv_account.specs.Calls.{need_of}
+pub use Rattle.rv_account.specs.Account.{own_moment}
+pub use Rattle.rv_account.specs.Limits.{max_moment}
+use Rattle.rv_rules.specs.Counting.{NumberOf}
+use Rattle.rv_rules.specs.Sessions.{HasIncarnation, HasOnlyLower, HasOpened, LastNumber, SaidHello}
+use Rattle.rv_rules.specs.Waiting.{Waiting}
+use Rattle.rv_rules.specs.Legal.{HasWaiting, Legal, SomethingDue, WaitsUnder}
+use Rattle.rv_rules.specs.Replies.{HasReply}
+
+-- ---- the step's moment
+
+-- a greater moment counts as that
+abbrev pub capped_moment : ℕ → ℕ
+capped_moment now = min now max_moment
+
+-- a lower moment counts as the book's own
+abbrev pub step_moment : Account → ℕ → ℕ
+step_moment a now = max (own_moment a) (capped_moment now)
+
+-- ---- when each refusal is due
+
+-- the key's epoch isn't the book's
+abbrev pub OtherEpochDue : Account → Key → Refusal → Type 0
+OtherEpochDue a key refusal = (key.epoch ≢ a.epoch) × (refusal ≡ OtherEpoch a.epoch)
+
+-- in this epoch the client said no hello of so great an incarnation, nor of a greater one
+abbrev pub NoSessionDue : Account → Key → Refusal → Type 0
+NoSessionDue a key refusal = HasOnlyLower a.entries key.client key.incarnation × (refusal ≡ NoSession)
+
+-- the session has a greater incarnation
+pub record OldIncarnationDue (a : Account) (client incarnation : ℕ) (refusal : Refusal) : Type 0 where
+  pub current : ℕ
+  pub has : HasIncarnation a.entries client current
+  pub lower : incarnation < current
+  pub is : refusal ≡ OldIncarnation current
+
+-- the session has this incarnation, and another version
+pub record OtherVersionDue (a : Account) (client incarnation : ℕ) (version : Version) (refusal : Refusal)
+    : Type 0 where
+  pub current : Version
+  pub has : HasOpened a.entries client incarnation current
+  pub other : current ≢ version
+  pub is : refusal ≡ OtherVersion current
+
+-- the number is below the session's last; 0, which no request has, counts as below
+pub record OldNumberDue (a : Account) (key : Key) (refusal : Refusal) : Type 0 where
+  pub last : ℕ
+  pub is_last : LastNumber a.entries key.client last
+  pub old : (key.number < last) ⊎ (key.number ≡ 0)
+  pub is : refusal ≡ OldNumber last
+
+-- the request with this key arrived, and it arrived with another call
+pub record OtherCallDue (a : Account) (key : Key) (call : Call) (refusal : Refusal) : Type 0 where
+  pub place : ℕ
+  pub other : Call
+  pub arrived : act_at a.entries place ≡ Some (act.TheVariants.Arrive key other)
+  pub differs : other ≢ call
+  pub is : refusal ≡ OtherCall
+
+-- a request of the session waits, whatever the key's number is; the refusal tells the session's last number
+pub record BusyDue (a : Account) (key : Key) (refusal : Refusal) : Type 0 where
+  pub last : ℕ
+  pub is_last : LastNumber a.entries key.client last
+  pub waits : HasWaiting a.entries key.client
+  pub is : refusal ≡ Busy last
+
+-- the number is above the last plus one
+pub record GapDue (a : Account) (key : Key) (refusal : Refusal) : Type 0 where
+  pub last : ℕ
+  pub is_last : LastNumber a.entries key.client last
+  pub above : last + 1 < key.number
+  pub is : refusal ≡ Gap last
+
+-- the client is new, and as many clients said a hello as an epoch can have
+pub record ClientsFullDue (a : Account) (client : ℕ) (refusal : Refusal) : Type 0 where
+  pub is_new : ¬ SaidHello a.entries client
+  pub clients : ℕ
+  pub count : NumberOf (SaidHello a.entries) clients
+  pub full : max_clients ≤ clients
+  pub is : refusal ≡ ClientsFull
+
+-- the most entries of an epoch
+abbrev pub max_entries : ℕ
+max_entries = 100000
+
+-- the entries, those that the waiting requests may come to need and those that are needed now are more than
+-- 100,000
+pub record EpochFullDue (a : Account) (need : ℕ) (refusal : Refusal) : Type 0 where
+  pub waiting : ℕ
+  pub count : NumberOf (Waiting a.entries) waiting
+  pub full : max_entries < length a.entries + waiting + need
+  pub is : refusal ≡ EpochFull
+
+-- ---- the lines of a step, of which the first that applies decides
+
+-- a refusal is due, and it refuses
+pub record RefusesDue (due refuses : Refusal → Type 0) : Type 0 where
+  pub refusal : Refusal
+  pub is_due : due refusal
+  pub refuses_it : refuses refusal
+
+-- a refusal that is due refuses; else the step goes on
+abbrev pub RefuseOr : (Refusal → Type 0) → (Refusal → Type 0) → Type 0 → Type 0
+RefuseOr due refuses otherwise = RefusesDue due refuses ⊎ (((refusal : Refusal) → ¬ due refusal) × otherwise)
+
+-- where the condition holds, this; else that
+abbrev pub WhereElse : Type 0 → Type 0 → Type 0 → Type 0
+WhereElse condition this that = (condition × this) ⊎ ((¬ condition) × that)
+
+-- the lines for a key, by what a refusal does, what happens at the last number and what at one above it
+abbrev pub KeyLines : Account → Key → (Refusal → Type 0) → Type 0 → Type 0 → Type 0
+KeyLines a key refuses at_last above =
+    RefuseOr (OtherEpochDue a key) refuses
+    (RefuseOr (NoSessionDue a key) refuses
+    (RefuseOr (OldIncarnationDue a key.client key.incarnation) refuses
+    (RefuseOr (OldNumberDue a key) refuses
+    (WhereElse (LastNumber a.entries key.client key.number) at_last
+    (RefuseOr (BusyDue a key) refuses
+    (RefuseOr (GapDue a key) refuses
+    above))))))
+
+-- the lines for a request: also what happens where it is a repeat
+abbrev pub RequestLines : Account → Key → Call → (Refusal → Type 0) → Type 0 → Type 0 → Type 0
+RequestLines a key call refuses repeats enters =
+    KeyLines a key refuses
+    (RefuseOr (OtherCallDue a key call) refuses
+    repeats)
+    (RefuseOr (EpochFullDue a (need_of call)) refuses
+    enters)
+
+-- the lines for a cancel: also what happens where its request waits, and where the last number is settled
+abbrev pub CancelLines : Account → Key → (Refusal → Type 0) → Type 0 → Type 0 → Type 0 → Type 0
+CancelLines a key refuses ends repeats enters =
+    KeyLines a key refuses
+    (WhereElse (WaitsUnder a.entries key) ends
+    repeats)
+    (RefuseOr (EpochFullDue a 1) refuses
+    enters)
+
+-- the lines for a hello: also what happens where it is a repeat
+abbrev pub HelloLines : Account → ℕ → ℕ → Version → (Refusal → Type 0) → Type 0 → Type 0 → Type 0
+HelloLines a client incarnation version refuses repeats enters =
+    RefuseOr (OldIncarnationDue a client incarnation) refuses
+    (RefuseOr (OtherVersionDue a client incarnation version) refuses
+    (WhereElse (HasIncarnation a.entries client incarnation) repeats
+    (RefuseOr (ClientsFullDue a client) refuses
+    (RefuseOr (EpochFullDue a 1) refuses
+    enters))))
+
+-- ---- the accounts after a step
+
+-- the account stays, and the refusal is the answer
+abbrev pub Refuses : Account → Account → Answer → Refusal → Type 0
+Refuses a b answer refusal = (b ≡ a) × (answer ≡ Refused refusal)
+
+-- the second account is legal, and it is the first with one entry more, of this moment and act
+pub record Adds (a : Account) (moment : ℕ) (does : Act) (b : Account) : Type 0 where
+  pub entry : Entry
+  pub moment_is : entry.moment ≡ moment
+  pub act_is : entry.act ≡ does
+  pub follows : b ≡ with_entry a entry
+  pub legal : Legal b
+
+-- the answer is the reply of the request with this key
+pub record Replies (b : Account) (key : Key) (answer : Answer) : Type 0 where
+  pub reply : Reply
+  pub has : HasReply b.entries key reply
+  pub is : answer ≡ Replied key reply
+
+-- the answer is the reply of the request with this key, or that it waits
+abbrev pub Answers : Account → Key → Answer → Type 0
+Answers b key said =
+    Replies b key said ⊎ (WaitsUnder b.entries key × (said ≡ answer.TheVariants.Waiting key))
+
+-- the account stays, and the answer is what the request with this key is told, and nothing else
+pub record Repeats (a b : Account) (key : Key) (answer : Answer) : Type 0 where
+  pub account : b ≡ a
+  pub answers : Answers a key answer
+  pub only : (other : Answer) → Answers a key other → other ≡ answer
+
+-- where a growth was refused the account stays; else it gets the message's own entry
+abbrev pub EntersOrNoMemory : Account → ℕ → Act → Account → Answer → Type 0 → Type 0
+EntersOrNoMemory a moment does b answer answers =
+    Refuses a b answer NoMemory ⊎ (Adds a moment does b × answers)
+
+-- the step of a message at a moment: the accounts before and after, and the answer
+abbrev pub NextAt : Account → ℕ → Message → Account → Answer → Type 0
+NextAt a moment (Hello client incarnation version) b answer =
+    HelloLines a client incarnation version (Refuses a b answer)
+    ((b ≡ a) × (answer ≡ Welcome a.epoch client incarnation version))
+    (EntersOrNoMemory a moment (act.TheVariants.Hello client incarnation version) b answer
+    (answer ≡ Welcome a.epoch client incarnation version))
+NextAt a moment (Request key call) b answer =
+    RequestLines a key call (Refuses a b answer)
+    (Repeats a b key answer)
+    (EntersOrNoMemory a moment (act.TheVariants.Arrive key call) b answer
+    (Answers b key answer))
+NextAt a moment (Cancel key) b answer =
+    CancelLines a key (Refuses a b answer)
+    (Adds a moment (act.TheVariants.Cancel key) b × (answer ≡ Replied key Cancelled))
+    (Repeats a b key answer)
+    (EntersOrNoMemory a moment (act.TheVariants.Cancel key) b answer
+    (Replies b key answer))
+
+-- the account after the time-outs of a step: where something is due at its moment, with one tick of that
+-- moment more, which ends all that is due; else the same
+abbrev pub Ticks : Account → ℕ → Account → Type 0
+Ticks a moment b = WhereElse (SomethingDue a.entries moment) (Adds a moment act.TheVariants.Tick b) (b ≡ a)
+
+-- one step: the account before, the moment that is handed in, the message, the account after and the answer
+pub record Next (a : Account) (now : ℕ) (m : Message) (b : Account) (answer : Answer) : Type 0 where
+  pub ticked : Account
+  pub ticks : Ticks a (step_moment a now) ticked
+  pub steps : NextAt ticked (step_moment a now) m b answer
