@@ -2,7 +2,7 @@
 use Rattle.std.proofs.Common.{◌≡◌, ◌⊎◌, inl, inr, ℕ, ◌-◌, ◌<◌, true, List, Option, Some, None, IfSome, IfNone, sym, subst, ◌∙◌, arith}
 use Rattle.std.proofs.lemmas.Bool.{cases_lt, false≢true}
 use Rattle.rv_account.specs.Account.{Among}
-use Rattle.rv_book.proofs.Numbers.{same_or_not}
+use Rattle.rv_rules.proofs.Numbers.{same_or_not}
 use Rattle.rv_audit.specs.Marks.{GoesOnAt, IsLowest, IsNextMark, NoneBehind, NoneUnder, is_marked_under}
 use Rattle.rv_audit.specs.declared.marks.Marks.{Marks}
 

@@ -7,7 +7,7 @@ use Rattle.std.proofs.lemmas.Option.{same_Some}
 use Rattle.rv_account.specs.declared.entry.Entry.{Entry}
 use Rattle.rv_account.specs.Account.{Account}
 use Rattle.rv_book.specs.Legal.{before, Legal, MayFollow}
-use Rattle.rv_book.proofs.Fronts.{Legal-before, read_whole}
+use Rattle.rv_rules.proofs.Fronts.{Legal-before, read_whole}
 use Rattle.rv_audit.specs.declared.rule.Audit.TheVariants as tells
 use Rattle.rv_audit.specs.declared.rule.Rule.{Rule}
 use Rattle.rv_audit.specs.declared.rule.Rule.TheVariants.{M1, M2, M3, N1, N2, N3, P1, P2, P3, P4, S1, S2}

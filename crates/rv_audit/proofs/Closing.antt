@@ -8,12 +8,12 @@ use Rattle.rv_account.specs.declared.entry.Entry.{Entry}
 use Rattle.rv_account.specs.Account.{Account, Among}
 use Rattle.rv_book.specs.Legal.{IsDueAt}
 use Rattle.rv_book.specs.Waiting.{SideAt, limit_at, limit_in}
-use Rattle.rv_book.proofs.Deciding.{same_side}
-use Rattle.rv_book.proofs.Fronts.{read_whole}
-use Rattle.rv_book.proofs.Growing.{call_read}
-use Rattle.rv_book.proofs.Numbers.{same_or_not}
-use Rattle.rv_book.proofs.Places.{get-take}
-use Rattle.rv_book.proofs.Sides.{one_side}
+use Rattle.rv_rules.proofs.Deciding.{same_side}
+use Rattle.rv_rules.proofs.Fronts.{read_whole}
+use Rattle.rv_rules.proofs.Growing.{call_read}
+use Rattle.rv_rules.proofs.Numbers.{same_or_not}
+use Rattle.rv_rules.proofs.Places.{get-take}
+use Rattle.rv_rules.proofs.Sides.{one_side}
 use Rattle.rv_audit.proofs.Named.{all_first, first_back, first_on, first_own, none_first, one_at}
 use Rattle.rv_audit.specs.Lines.{Closes, stands_in}
 use Rattle.rv_audit.specs.Marks.{IsLeast, Loses, is_marked_under}

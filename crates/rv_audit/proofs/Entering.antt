@@ -12,13 +12,13 @@ use Rattle.rv_account.specs.Calls.{IsPut}
 use Rattle.rv_book.specs.Legal.{IsNextNumber, Legal, MayFollow, NamesFreePartners, WaitsUnder}
 use Rattle.rv_book.specs.Sessions.{HasIncarnation, HasOpened, LastNumber, NamesKey, SaidHello}
 use Rattle.rv_book.specs.Waiting.{Waiting}
-use Rattle.rv_book.proofs.Growing.{act_read, call_read, reads_back, reads_within}
-use Rattle.rv_book.proofs.Keys.{NamesKey-back, NamesKey-on, act_called, client_of, key_read}
-use Rattle.rv_book.proofs.Numbers.{same_or_not}
-use Rattle.rv_book.proofs.Places.{get-append_end}
+use Rattle.rv_rules.proofs.Growing.{act_read, call_read, reads_back, reads_within}
+use Rattle.rv_rules.proofs.Keys.{NamesKey-back, NamesKey-on, act_called, client_of, key_read}
+use Rattle.rv_rules.proofs.Numbers.{same_or_not}
+use Rattle.rv_rules.proofs.Places.{get-append_end}
 use Rattle.rv_book.proofs.SessionTable.{IsApart, IsAt, IsAt-on, greeted_at, named_at, other_apart}
-use Rattle.rv_book.proofs.Sides.{ComesToWait, Waiting-back, WasWaiting, cancel_stops, hello_stops}
-use Rattle.rv_book.proofs.Waits.{one_waits, waiting_is_last}
+use Rattle.rv_rules.proofs.Sides.{ComesToWait, Waiting-back, WasWaiting, cancel_stops, hello_stops}
+use Rattle.rv_rules.proofs.Waits.{one_waits, waiting_is_last}
 use Rattle.rv_audit.specs.Passed.{AreAuditSessions, EntersIf, IsAuditSession, IsAuditSessionOf, session_after}
 use Rattle.rv_audit.specs.Sessions.{EntersSession, session_in}
 use Rattle.rv_audit.specs.declared.sessions.AuditSession.{AuditSession}

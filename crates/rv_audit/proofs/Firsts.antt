@@ -6,8 +6,8 @@ use Rattle.std.proofs.lemmas.Option.{none-some, same_Some}
 use Rattle.rv_account.specs.declared.entry.Entry.{Entry}
 use Rattle.rv_account.specs.Account.{Account, Stored}
 use Rattle.rv_book.specs.Legal.{Legal, MayFollow, before}
-use Rattle.rv_book.proofs.Fronts.{Legal-before}
-use Rattle.rv_book.proofs.Places.{get-take}
+use Rattle.rv_rules.proofs.Fronts.{Legal-before}
+use Rattle.rv_rules.proofs.Places.{get-take}
 use Rattle.rv_audit.specs.Breaking.{BreaksBehind, FirstFault, KeepsRules, rank_of}
 use Rattle.rv_audit.specs.Passed.{BreaksFirst, BreaksFirstOf, BreaksNone, BreaksNoneOf, IsFront, MayPass, passed_account}
 use Rattle.rv_audit.specs.declared.front.Front.{Front}

@@ -14,12 +14,12 @@ use Rattle.rv_account.specs.Calls.{Stays, opposite}
 use Rattle.rv_book.specs.Legal.{Legal, MayFollow, NamesFreePartners, before}
 use Rattle.rv_book.specs.Steps.{own_moment}
 use Rattle.rv_book.specs.Waiting.{Met, Open, OpenAt, StoppedAt, Waiting, limit_at, limit_in}
-use Rattle.rv_book.proofs.Deciding.{same_side}
-use Rattle.rv_book.proofs.Growing.{Met-back, Met-on, NamesAt-last, call_read, limit_on, moment_read}
-use Rattle.rv_book.proofs.Keys.{act_called}
-use Rattle.rv_book.proofs.Numbers.{same_or_not}
-use Rattle.rv_book.proofs.Places.{get-append, get-append_cases, get-append_end}
-use Rattle.rv_book.proofs.Sides.{OpenAt-back, OpenAt-last, OpenAt-on, Waiting-back, Waiting-last, Waiting-on, last_unmet, names_last, waiting_is_open}
+use Rattle.rv_rules.proofs.Deciding.{same_side}
+use Rattle.rv_rules.proofs.Growing.{Met-back, Met-on, NamesAt-last, call_read, limit_on, moment_read}
+use Rattle.rv_rules.proofs.Keys.{act_called}
+use Rattle.rv_rules.proofs.Numbers.{same_or_not}
+use Rattle.rv_rules.proofs.Places.{get-append, get-append_cases, get-append_end}
+use Rattle.rv_rules.proofs.Sides.{OpenAt-back, OpenAt-last, OpenAt-on, Waiting-back, Waiting-last, Waiting-on, last_unmet, names_last, waiting_is_open}
 use Rattle.rv_book.proofs.WaitersBySide.{met_last, open_inside}
 use Rattle.rv_audit.specs.Lines.{IsOpenable, stands_in}
 use Rattle.rv_audit.specs.Marks.{is_marked_under}
@@ -28,7 +28,7 @@ use Rattle.rv_audit.specs.Passed.{AreTables, HasPassed, IsReadyFor, passed_accou
 use Rattle.rv_audit.specs.declared.front.Front.{Front}
 use Rattle.rv_audit.proofs.Entering.{sessions_joined}
 use Rattle.rv_audit.proofs.Named.{is_any_or_none, some_among}
-use Rattle.rv_book.proofs.Legality.{Legal-with_entry}
+use Rattle.rv_rules.proofs.Legality.{Legal-with_entry}
 use Rattle.rv_audit.specs.declared.lines.OpenLines.{OpenLines}
 use Rattle.rv_audit.specs.declared.marks.Marks.{Marks}
 

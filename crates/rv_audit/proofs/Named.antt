@@ -7,8 +7,8 @@ use Rattle.std.proofs.lemmas.Bool.{cases_lt, false≢true}
 use Rattle.std.proofs.lemmas.Bool.Decides.{nat_tests}
 use Rattle.std.proofs.lemmas.Option.{get_or_from_slice_get, slice_get-get_or}
 use Rattle.rv_account.specs.Account.{Among}
-use Rattle.rv_book.proofs.Numbers.{same_or_not}
-use Rattle.rv_book.proofs.Places.{get-set_other, get-set_same, within}
+use Rattle.rv_rules.proofs.Numbers.{same_or_not}
+use Rattle.rv_rules.proofs.Places.{get-set_other, get-set_same, within}
 use Rattle.rv_audit.specs.Passed.{AmongFirst, AreWithin, HasAmong, NoneBefore, SetsFlags, is_any}
 
 module _ (places : List ℕ) (n : ℕ) where

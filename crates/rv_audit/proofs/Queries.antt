@@ -15,11 +15,11 @@ use Rattle.rv_account.specs.Calls.{IsPut, Stays}
 use Rattle.rv_book.specs.Legal.{HasWaiting, Legal, SomethingDue}
 use Rattle.rv_book.specs.Sessions.{NamesKey}
 use Rattle.rv_book.specs.Waiting.{OpenAt, Waiting}
-use Rattle.rv_book.proofs.Fronts.{read_whole}
-use Rattle.rv_book.proofs.Growing.{call_read}
-use Rattle.rv_book.proofs.Keys.{act_called}
-use Rattle.rv_book.proofs.Sides.{waiting_is_open}
-use Rattle.rv_book.proofs.Waits.{waiting_is_last}
+use Rattle.rv_rules.proofs.Fronts.{read_whole}
+use Rattle.rv_rules.proofs.Growing.{call_read}
+use Rattle.rv_rules.proofs.Keys.{act_called}
+use Rattle.rv_rules.proofs.Sides.{waiting_is_open}
+use Rattle.rv_rules.proofs.Waits.{waiting_is_last}
 use Rattle.rv_audit.specs.Lines.{IsFirstBeside, NobodyBeside, stands_in}
 use Rattle.rv_audit.specs.Marks.{IsLeast, NoneUntil}
 use Rattle.rv_audit.specs.Passed.{AreLimits, AreLines, IsAuditSessionOf, IsOldestBeside, WaitsOf, none_gone}

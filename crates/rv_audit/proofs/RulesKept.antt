@@ -15,8 +15,8 @@ use Rattle.rv_book.specs.Waiting.{Met, NamesPartner}
 use Rattle.rv_book.specs.Legal.{CancelsInTurn, CountsUp, IsNextNumber, IsOfSession, KeepsLimits, KeepsTime, Legal, MayFollow, NamesFreePartners}
 use Rattle.rv_book.specs.Legal.{PairsOldest, PairsOpposites, PairsWherePossible, RaisesIncarnation, SomethingDue}
 use Rattle.rv_book.specs.Steps.{own_moment}
-use Rattle.rv_book.proofs.Growing.{call_read}
-use Rattle.rv_book.proofs.Histories.{one_last_number}
+use Rattle.rv_rules.proofs.Growing.{call_read}
+use Rattle.rv_rules.proofs.Histories.{one_last_number}
 use Rattle.rv_audit.specs.declared.rule.Rule.{Rule}
 use Rattle.rv_audit.specs.declared.rule.Rule.TheVariants.{M1, M2, M3, N1, N2, N3, P1, P2, P3, P4, S1, S2}
 use Rattle.rv_audit.specs.Breaking.{BreaksBehind, BreaksCount, FallsBack, IsNoFreePlace, IsOfNoSession, IsOutOfOrder, IsPaired, IsSwapped}

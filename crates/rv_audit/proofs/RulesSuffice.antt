@@ -23,16 +23,16 @@ use Rattle.rv_book.specs.Legal.{CancelsInTurn, CountsUp, IsFreePartner, IsNextNu
 use Rattle.rv_book.specs.Legal.{MayFollow, NamesFreePartners, NothingDue, PairsOldest, PairsOpposites, PairsWherePossible, RaisesIncarnation}
 use Rattle.rv_book.specs.Legal.{SomethingDue, WaitsUnder}
 use Rattle.rv_book.specs.Steps.{own_moment}
-use Rattle.rv_book.proofs.Deciding.{find_hello, find_last, key_or_other, open_by, waits_or_not}
+use Rattle.rv_rules.proofs.Deciding.{find_hello, find_last, key_or_other, open_by, waits_or_not}
 use Rattle.rv_book.proofs.Entering.{step_keeps_time}
-use Rattle.rv_book.proofs.Fronts.{open_in_front, read_front}
-use Rattle.rv_book.proofs.Growing.{act_read, call_read, read_there, reads_within}
-use Rattle.rv_book.proofs.Histories.{one_incarnation}
-use Rattle.rv_book.proofs.Keys.{act_called}
-use Rattle.rv_book.proofs.Naming.{among_none, among_or_not}
-use Rattle.rv_book.proofs.Numbers.{first_below, same_or_not}
-use Rattle.rv_book.proofs.Opposites.{looks_alone}
-use Rattle.rv_book.proofs.Sides.{one_side}
+use Rattle.rv_rules.proofs.Fronts.{open_in_front, read_front}
+use Rattle.rv_rules.proofs.Growing.{act_read, call_read, read_there, reads_within}
+use Rattle.rv_rules.proofs.Histories.{one_incarnation}
+use Rattle.rv_rules.proofs.Keys.{act_called}
+use Rattle.rv_rules.proofs.Naming.{among_none, among_or_not}
+use Rattle.rv_rules.proofs.Numbers.{first_below, same_or_not}
+use Rattle.rv_rules.proofs.Opposites.{looks_alone}
+use Rattle.rv_rules.proofs.Sides.{one_side}
 use Rattle.rv_book.proofs.Ticking.{something_or_nothing}
 use Rattle.rv_audit.specs.declared.rule.Rule.{Rule}
 use Rattle.rv_audit.specs.declared.rule.Rule.TheVariants.{M1, M2, M3, N1, N2, N3, P1, P2, P3, P4, S1, S2}

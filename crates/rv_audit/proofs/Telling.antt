@@ -16,11 +16,11 @@ use Rattle.rv_account.specs.Calls.{may_name, opposite}
 use Rattle.rv_book.specs.Legal.{HasWaiting, IsOpenOpposite, Legal, SomethingDue, WaitsUnder}
 use Rattle.rv_book.specs.Sessions.{LastNumber, NamesKey, SaidHello}
 use Rattle.rv_book.specs.Waiting.{Met, OpenAt, SideAt, Waiting}
-use Rattle.rv_book.proofs.Fronts.{read_front, read_whole}
-use Rattle.rv_book.proofs.Growing.{act_read, call_read}
-use Rattle.rv_book.proofs.Histories.{hellos_at_most, one_last_number}
-use Rattle.rv_book.proofs.Sides.{one_side}
-use Rattle.rv_book.proofs.Waits.{one_waits}
+use Rattle.rv_rules.proofs.Fronts.{read_front, read_whole}
+use Rattle.rv_rules.proofs.Growing.{act_read, call_read}
+use Rattle.rv_rules.proofs.Histories.{hellos_at_most, one_last_number}
+use Rattle.rv_rules.proofs.Sides.{one_side}
+use Rattle.rv_rules.proofs.Waits.{one_waits}
 use Rattle.rv_audit.specs.Breaking.{ArrivesAs, ArrivesToMeet, CountsTo, IsNoFreePlace, IsNotNext, IsOutOfOrder, IsPaired, MeetsWrongly, MissesPartner, NamesTaken, NamesTooMany, PassesOver, StartsNoNewer, TicksForNothing}
 use Rattle.rv_audit.specs.Passed.{ArrivesWith, FindsOne, HasAmong, HasOlder, HasOne, IsAuditSession, IsOldestBeside, IsPassedBy, LeavesPartner, Misses, WaitsOf, is_any}
 use Rattle.rv_audit.proofs.Named.{any_among, some_among}

@@ -15,11 +15,11 @@ use Rattle.rv_account.specs.Calls.{IsPut}
 use Rattle.rv_book.specs.Legal.{HasWaiting, Legal, MayFollow, WaitsUnder}
 use Rattle.rv_book.specs.Sessions.{NamesKey}
 use Rattle.rv_book.specs.Waiting.{Open, Waiting}
-use Rattle.rv_book.proofs.Fronts.{read_front, read_whole}
-use Rattle.rv_book.proofs.Growing.{act_read, call_read}
-use Rattle.rv_book.proofs.Keys.{act_called}
-use Rattle.rv_book.proofs.Sides.{IsRequestOf, IsRequestUnder, arrival_stops_nobody, cancel_stops, due_until, hello_stops, stopped_by_cancel, stopped_by_hello, stopped_by_tick, tick_stops, until_due}
-use Rattle.rv_book.proofs.Waits.{one_waits}
+use Rattle.rv_rules.proofs.Fronts.{read_front, read_whole}
+use Rattle.rv_rules.proofs.Growing.{act_read, call_read}
+use Rattle.rv_rules.proofs.Keys.{act_called}
+use Rattle.rv_rules.proofs.Sides.{IsRequestOf, IsRequestUnder, arrival_stops_nobody, cancel_stops, due_until, hello_stops, stopped_by_cancel, stopped_by_hello, stopped_by_tick, tick_stops, until_due}
+use Rattle.rv_rules.proofs.Waits.{one_waits}
 use Rattle.rv_audit.specs.Marks.{NoneUntil}
 use Rattle.rv_audit.specs.Passed.{AreTables, AreTouched, ArrivesWith, Gone, IsArrived, IsFront, IsTakingOut, SameRest, TakesEach, TakesTouched, WaitsOf, WaitsWith, gone_at, passed_account}
 use Rattle.rv_audit.specs.declared.front.Front.{Front}

@@ -20,10 +20,10 @@ use Rattle.rv_account.specs.declared.entry.Act.TheVariants.{Arrive}
 use Rattle.rv_account.specs.declared.entry.Entry.{Entry}
 use Rattle.rv_book.proofs.DeadlineTable.{ButDuty, due_on, due_same, due_with, due_without_duty, limit_waits}
 use Rattle.rv_book.proofs.Lasting.{lasting_deadline}
-use Rattle.rv_book.proofs.Naming.{just_none, names_it, names_only}
+use Rattle.rv_rules.proofs.Naming.{just_none, names_it, names_only}
 use Rattle.rv_book.proofs.Owing.{goes_on, unowed_waits_not}
-use Rattle.rv_book.proofs.Places.{get-append_end}
-use Rattle.rv_book.proofs.Sides.{ComesToWait, Waiting-back, Waiting-last, Waiting-on, arrival_stops_nobody, waiting_is_open}
+use Rattle.rv_rules.proofs.Places.{get-append_end}
+use Rattle.rv_rules.proofs.Sides.{ComesToWait, Waiting-back, Waiting-last, Waiting-on, arrival_stops_nobody, waiting_is_open}
 use Rattle.rv_book.proofs.WaitersBySide.{met_last}
 use Rattle.rv_book.proofs.Withdrawn.{owed_place}
 

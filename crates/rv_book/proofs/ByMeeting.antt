@@ -20,10 +20,10 @@ use Rattle.rv_book.specs.Sessions.{AskedIn}
 use Rattle.rv_book.specs.Operations.{kept_at_once, partners_reply}
 use Rattle.rv_book.specs.Verdicts.{reply_of}
 use Rattle.rv_book.specs.Waiting.{Met, NamesPartner, Waiting}
-use Rattle.rv_book.proofs.Deciding.{met_or_not}
-use Rattle.rv_book.proofs.Growing.{call_read, reads_within}
+use Rattle.rv_rules.proofs.Deciding.{met_or_not}
+use Rattle.rv_rules.proofs.Growing.{call_read, reads_within}
 use Rattle.rv_book.proofs.ReplyLaws.{FitsIn, ReplyLaws}
-use Rattle.rv_book.proofs.Sides.{last_unmet}
+use Rattle.rv_rules.proofs.Sides.{last_unmet}
 use Rattle.rv_book.proofs.Unmet.{kept_told, lasting_told, one_unmet, passes_by, passing_told, same_at_once, still_unmet, told_at_once, unmet_exists, unmet_has, unmet_stays, unmet_waits_not}
 
 -- a request is told this: by whom it met; or it met nobody, and is told by its wait

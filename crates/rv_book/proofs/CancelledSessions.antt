@@ -12,17 +12,17 @@ use Rattle.rv_session.specs.Table.{Table, OnlyAdvances, OnlySettles, session_for
 use Rattle.rv_account.specs.declared.entry.Act.TheVariants.{Arrive, Cancel}
 use Rattle.rv_account.specs.declared.entry.Entry.{Entry}
 use Rattle.rv_account.specs.Account.{Account, act_at, key_in, with_entry}
-use Rattle.rv_book.proofs.NextKeys.{IsNext}
+use Rattle.rv_rules.proofs.NextKeys.{IsNext}
 use Rattle.rv_book.specs.Legal.{IsNextNumber, Legal, WaitsUnder}
 use Rattle.rv_book.specs.Replies.{CancelledFirst}
 use Rattle.rv_book.specs.Sessions.{LastNumber}
 use Rattle.rv_book.specs.Tables.{AreSessions, IsSession, last_key}
 use Rattle.rv_book.specs.Waiting.{Waiting}
-use Rattle.rv_book.proofs.Growing.{act_read, reads_on}
-use Rattle.rv_book.proofs.Keys.{client_of}
-use Rattle.rv_book.proofs.Naming.{just_none}
+use Rattle.rv_rules.proofs.Growing.{act_read, reads_on}
+use Rattle.rv_rules.proofs.Keys.{client_of}
+use Rattle.rv_rules.proofs.Naming.{just_none}
 use Rattle.rv_book.proofs.SessionTable.{StillWaits, named_at, sessions_changed, set_changes}
-use Rattle.rv_book.proofs.Sides.{Waiting-on, stopped_by_cancel}
+use Rattle.rv_rules.proofs.Sides.{Waiting-on, stopped_by_cancel}
 use Rattle.rv_book.proofs.ToldCancelled.{cancelled_first, ended_reply}
 use Rattle.rv_book.proofs.WaitingTable.{opened_in_table, waiting_there, waits_in_table}
 

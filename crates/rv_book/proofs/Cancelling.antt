@@ -9,7 +9,7 @@ use Rattle.rv_session.specs.Table.{OnlyAdvances, OnlySettles}
 use Rattle.rv_session.specs.declared.kept.Kept.TheVariants as kept
 use Rattle.rv_account.specs.Account.{Account, call_in, key_in, with_entry}
 use Rattle.rv_book.specs.Arriving.{IsCancelled, entry}
-use Rattle.rv_book.proofs.NextKeys.{IsNext}
+use Rattle.rv_rules.proofs.NextKeys.{IsNext}
 use Rattle.rv_account.specs.Calls.{IsPut}
 use Rattle.rv_account.specs.declared.entry.Act.TheVariants.{Cancel}
 use Rattle.rv_account.specs.declared.entry.Entry.{Entry}
@@ -18,17 +18,17 @@ use Rattle.rv_book.specs.Legal.{MayFollow}
 use Rattle.rv_book.specs.Operations.{Comes, EndsAt, HasSpace}
 use Rattle.rv_book.specs.Tables.{IsSound, account_of}
 use Rattle.rv_book.specs.Waiting.{Open, Waiting}
-use Rattle.rv_book.proofs.FewClients.{few_still}
+use Rattle.rv_rules.proofs.FewClients.{few_still}
 use Rattle.rv_book.proofs.Following.{cancel_follows}
-use Rattle.rv_book.proofs.Keys.{cancel_no_hello}
+use Rattle.rv_rules.proofs.Keys.{cancel_no_hello}
 use Rattle.rv_book.proofs.Marking.{Marks, legal_after, marked_ended, marked_idle}
-use Rattle.rv_book.proofs.OnePartner.{arrives_once}
+use Rattle.rv_rules.proofs.OnePartner.{arrives_once}
 use Rattle.rv_book.proofs.Owing.{waiting_owed}
 use Rattle.rv_book.proofs.CancelledSessions.{sessions_buried, sessions_ended}
-use Rattle.rv_book.proofs.Sides.{IsRequestUnder, cancel_stops, stopped_by_cancel}
+use Rattle.rv_rules.proofs.Sides.{IsRequestUnder, cancel_stops, stopped_by_cancel}
 use Rattle.rv_book.proofs.Standing.{is_next, waits}
 use Rattle.rv_book.proofs.ToldCancelled.{next_replies, waiting_replies}
-use Rattle.rv_book.proofs.Waits.{waiting_is_last}
+use Rattle.rv_rules.proofs.Waits.{waiting_is_last}
 
 module _ (old : BookState) (moment : ℕ) (key : Key) (comes : Comes old moment (Cancel key)) where
   abbrev pub before : Account

@@ -12,9 +12,9 @@ use Rattle.rv_account.specs.Account.{Names, call_at, call_in}
 use Rattle.rv_account.specs.Calls.{IsPut, Stays}
 use Rattle.rv_book.specs.TakingOut.{Left}
 use Rattle.rv_book.specs.Waiting.{Open, OpenAt, Waiting}
-use Rattle.rv_book.proofs.Growing.{Open-back, Open-on, call_read, reads_back, reads_on}
-use Rattle.rv_book.proofs.Naming.{just_none}
-use Rattle.rv_book.proofs.Sides.{SideAt-on, arrival_stops_nobody, names_last}
+use Rattle.rv_rules.proofs.Growing.{Open-back, Open-on, call_read, reads_back, reads_on}
+use Rattle.rv_rules.proofs.Naming.{just_none}
+use Rattle.rv_rules.proofs.Sides.{SideAt-on, arrival_stops_nobody, names_last}
 use Rattle.rv_book.proofs.WaitersBySide.{Stops}
 
 -- of the arrivals that were open these alone are so no more, and the entry is none

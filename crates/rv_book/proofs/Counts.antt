@@ -16,12 +16,12 @@ use Rattle.rv_book.specs.Legal.{before}
 use Rattle.rv_book.specs.Limits.{FitsAccount}
 use Rattle.rv_book.specs.Replies.{Counts, RepliesAt}
 use Rattle.rv_book.specs.Waiting.{OpenAt}
-use Rattle.rv_book.proofs.Counting.{number_below, one_number}
-use Rattle.rv_book.proofs.Deciding.{find_waiting}
-use Rattle.rv_book.proofs.FrontPairs.{find_open}
-use Rattle.rv_book.proofs.Growing.{call_read, reads_within}
-use Rattle.rv_book.proofs.Looking.{looks_waits_not, same_before}
-use Rattle.rv_book.proofs.Opposites.{looks_alone}
+use Rattle.rv_rules.proofs.Counting.{number_below, one_number}
+use Rattle.rv_rules.proofs.Deciding.{find_waiting}
+use Rattle.rv_rules.proofs.FrontPairs.{find_open}
+use Rattle.rv_rules.proofs.Growing.{call_read, reads_within}
+use Rattle.rv_rules.proofs.Looking.{looks_waits_not, same_before}
+use Rattle.rv_rules.proofs.Opposites.{looks_alone}
 use Rattle.rv_book.proofs.ReplyLaws.{FitsIn, ReplyLaws}
 
 -- ---- what is kept

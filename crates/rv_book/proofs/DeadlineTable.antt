@@ -14,8 +14,8 @@ use Rattle.rv_book.specs.Elapsing.{AreDeadlinesOf, with_deadline, without_deadli
 use Rattle.rv_account.specs.Account.{act_at}
 use Rattle.rv_account.specs.declared.entry.Act.TheVariants.{Arrive}
 use Rattle.rv_book.specs.Waiting.{Waiting, limit_at}
-use Rattle.rv_book.proofs.Growing.{limit_on}
-use Rattle.rv_book.proofs.Keys.{act_called}
+use Rattle.rv_rules.proofs.Growing.{limit_on}
+use Rattle.rv_rules.proofs.Keys.{act_called}
 
 -- ---- sets of deadlines
 

@@ -26,7 +26,7 @@ use Rattle.rv_account.specs.Calls.{IsPut, Lasts, MayMeet, Stays, may_name, need_
 use Rattle.rv_book.specs.declared.state.BookState.{BookState}
 use Rattle.rv_book.specs.Arriving.{IsKept, IsRecorded, WillTell}
 use Rattle.rv_book.proofs.Parking.{none_beside}
-use Rattle.rv_book.proofs.NextKeys.{IsNext}
+use Rattle.rv_rules.proofs.NextKeys.{IsNext}
 use Rattle.rv_book.specs.Counting.{NumberOf}
 use Rattle.rv_book.specs.Draining.{IsDraining, MayDrain, items_in, taken_by}
 use Rattle.rv_book.specs.Elapsing.{AreDeadlines, deadline_after, deadline_beside, with_deadline}
@@ -39,21 +39,21 @@ use Rattle.rv_book.specs.Sessions.{HasOpened}
 use Rattle.rv_book.specs.TakingOut.{IsLeft, Left}
 use Rattle.rv_book.specs.Waiting.{NamesPartner, Waiting}
 use Rattle.rv_book.proofs.Closing.{ClosesThose, names_closes, waits_on}
-use Rattle.rv_book.proofs.Counting.{number_at_most}
-use Rattle.rv_book.proofs.FewClients.{few_still}
-use Rattle.rv_book.proofs.Growing.{NamesAt-last, act_read, call_read, reads_on}
+use Rattle.rv_rules.proofs.Counting.{number_at_most}
+use Rattle.rv_rules.proofs.FewClients.{few_still}
+use Rattle.rv_rules.proofs.Growing.{NamesAt-last, act_read, call_read, reads_on}
 use Rattle.rv_book.proofs.Keeping.{sound_same, sound_with}
-use Rattle.rv_book.proofs.Keys.{no_hello}
-use Rattle.rv_book.proofs.Legality.{Legal-with_entry}
+use Rattle.rv_rules.proofs.Keys.{no_hello}
+use Rattle.rv_rules.proofs.Legality.{Legal-with_entry}
 use Rattle.rv_book.proofs.NamingFront.{front_follows, named_open}
-use Rattle.rv_book.proofs.Places.{get-append_end}
+use Rattle.rv_rules.proofs.Places.{get-append_end}
 use Rattle.rv_book.proofs.Replying.{recorded_kept, reply_laws}
 use Rattle.rv_book.proofs.SessionTable.{Changes, IsAt, named_at}
 use Rattle.rv_book.proofs.Standing.{is_next}
 use Rattle.rv_book.proofs.TakenSessions.{Tells, opened_while_left, sessions_changed_at_last}
 use Rattle.rv_book.proofs.TakenTables.{due_at_last, number_at_last, waiters_at_last}
 use Rattle.rv_book.proofs.TakingOut.{same_state}
-use Rattle.rv_book.proofs.Versions.{asked_last}
+use Rattle.rv_rules.proofs.Versions.{asked_last}
 use Rattle.rv_book.proofs.WaitingTable.{version_told}
 
 -- ---- what an arrival that names the first of the other side tells them

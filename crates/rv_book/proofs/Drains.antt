@@ -21,13 +21,13 @@ use Rattle.rv_book.specs.Legal.{Legal}
 use Rattle.rv_book.specs.Limits.{FitsAccount}
 use Rattle.rv_book.specs.Replies.{Drains}
 use Rattle.rv_book.specs.Waiting.{NamesPartner}
-use Rattle.rv_book.proofs.CallKinds.{gives_item}
-use Rattle.rv_book.proofs.Fronts.{read_whole}
-use Rattle.rv_book.proofs.Growing.{call_read, read_there, reads_on}
-use Rattle.rv_book.proofs.Limits.{act_fits, act_there, call_of_act}
-use Rattle.rv_book.proofs.OnePartner.{goes_unnamed, partner_open}
-use Rattle.rv_book.proofs.Opposites.{one_opposite}
-use Rattle.rv_book.proofs.Places.{get-append_end}
+use Rattle.rv_rules.proofs.CallKinds.{gives_item}
+use Rattle.rv_rules.proofs.Fronts.{read_whole}
+use Rattle.rv_rules.proofs.Growing.{call_read, read_there, reads_on}
+use Rattle.rv_rules.proofs.Limits.{act_fits, act_there, call_of_act}
+use Rattle.rv_rules.proofs.OnePartner.{goes_unnamed, partner_open}
+use Rattle.rv_rules.proofs.Opposites.{one_opposite}
+use Rattle.rv_rules.proofs.Places.{get-append_end}
 use Rattle.rv_book.proofs.ReplyLaws.{FitsIn, ReplyLaws}
 
 -- ---- the items of a list of places

@@ -5,8 +5,8 @@ use Rattle.rv_account.specs.declared.entry.Act.TheVariants.{Arrive, Cancel, Hell
 use Rattle.rv_account.specs.declared.entry.Act.{Act}
 use Rattle.rv_book.specs.Replies.{CancelledFirst, HasReply}
 use Rattle.rv_text.specs.declared.answer.Reply.TheVariants.{Cancelled}
-use Rattle.rv_book.proofs.Numbers.{first_below}
-use Rattle.rv_book.proofs.Waits.{waiting_is_last}
+use Rattle.rv_rules.proofs.Numbers.{first_below}
+use Rattle.rv_rules.proofs.Waits.{waiting_is_last}
 use Rattle.rv_book.proofs.ToldCancelled.{next_replies, waiting_replies}
 use Rattle.rv_text.specs.declared.call.Call.{Call}
 use Rattle.rv_book.specs.Laws.{CanCancel, CanEnter, CancelsCanEnter, HellosCanEnter, RequestsCanEnter, TicksCanEnter}
@@ -14,39 +14,39 @@ use Rattle.rv_account.specs.declared.entry.Entry.{Entry}
 use Rattle.rv_text.specs.declared.answer.Refusal.TheVariants.{EpochFull}
 use Rattle.rv_book.specs.Sessions.{HasIncarnation, HasOnlyLower, HasOpened, LastHello, LastNumber, SaidHello}
 use Rattle.rv_book.specs.Arriving.{entry}
-use Rattle.rv_book.proofs.NextKeys.{IsNext}
+use Rattle.rv_rules.proofs.NextKeys.{IsNext}
 use Rattle.rv_book.specs.Legal.{KeepsTime, Legal, MayFollow, WaitsUnder}
 use Rattle.rv_text.specs.declared.message.Key.{Key}
 use Rattle.rv_text.specs.declared.version.Version.{Version}
 use Rattle.rv_text.specs.declared.version.Version.TheVariants.{One, Two}
-use Rattle.rv_book.proofs.Legality.{Legal-with_entry}
+use Rattle.rv_rules.proofs.Legality.{Legal-with_entry}
 use Rattle.std.proofs.Common.{None, Option, Some, ap, arith, ◌⊎◌, inl, inr, [], length, option_map, refl, subst, sym, ℕ, ◌+◌, ◌-◌, ◌<◌, ◌∙◌, ◌≡◌, ◌≤◌, List, option_and_then, take}
 use Rattle.rv_text.specs.declared.answer.Answer.TheVariants.{Replied, Waiting}
-use Rattle.rv_book.proofs.FrontPairs.{find_pairs}
+use Rattle.rv_rules.proofs.FrontPairs.{find_pairs}
 use Rattle.rv_book.proofs.Following.{arrival_by_pairs, cancel_follows, hello_follows, next_number}
 use Rattle.std.proofs.lemmas.Bool.{cases_lt, cases_order}
-use Rattle.rv_book.proofs.Deciding.{arrives_no_cancel, arrives_no_tick, find_hello, find_last, key_or_other, same_key, find_clients, find_waiting, has_waiting_or_not, said_or_not}
-use Rattle.rv_book.proofs.Histories.{hellos_at_most, one_incarnation}
-use Rattle.rv_book.proofs.Lines.{line_again, line_busy, line_gap, line_newer, line_next, line_no_session, line_old_hello, line_old_incarnation, line_old_number, line_other_epoch, line_other_version, no_room, room_left}
-use Rattle.rv_book.proofs.Growing.{moment_read, reads_within, act_read, read_there}
+use Rattle.rv_rules.proofs.Deciding.{arrives_no_cancel, arrives_no_tick, find_hello, find_last, key_or_other, same_key, find_clients, find_waiting, has_waiting_or_not, said_or_not}
+use Rattle.rv_rules.proofs.Histories.{hellos_at_most, one_incarnation}
+use Rattle.rv_rules.proofs.Lines.{line_again, line_busy, line_gap, line_newer, line_next, line_no_session, line_old_hello, line_old_incarnation, line_old_number, line_other_epoch, line_other_version, no_room, room_left}
+use Rattle.rv_rules.proofs.Growing.{moment_read, reads_within, act_read, read_there}
 use Rattle.rv_account.specs.Calls.{need_of}
 use Rattle.std.proofs.lemmas.Option.{none-some, same_Some, slice_get_cases}
-use Rattle.rv_book.proofs.Keys.{act_named, key_read, no_hello}
-use Rattle.rv_book.proofs.Places.{get-append_end}
+use Rattle.rv_rules.proofs.Keys.{act_named, key_read, no_hello}
+use Rattle.rv_rules.proofs.Places.{get-append_end}
 use Rattle.rv_book.proofs.Replying.{reply_laws}
-use Rattle.rv_book.proofs.Fronts.{read_front, read_whole}
+use Rattle.rv_rules.proofs.Fronts.{read_front, read_whole}
 use Rattle.std.specs.List.{slice_get}
 use Rattle.std.specs.Prelude.{unwrap_or}
 use Rattle.rv_text.proofs.Kept.{same_call}
 use Rattle.rv_text.specs.declared.answer.Refusal.TheVariants.{OtherCall, ClientsFull}
-use Rattle.rv_book.proofs.Lines.{line_last}
+use Rattle.rv_rules.proofs.Lines.{line_last}
 use Rattle.rv_text.specs.declared.answer.Answer.{Answer}
 use Rattle.rv_text.specs.declared.answer.Refusal.{Refusal}
-use Rattle.rv_book.proofs.OnePartner.{arrives_once}
+use Rattle.rv_rules.proofs.OnePartner.{arrives_once}
 use Rattle.rv_book.proofs.Ticking.{IsTicked, can_tick, ticked}
 use Rattle.rv_book.proofs.Staying.{one_call, reply_or_waits}
-use Rattle.rv_book.proofs.Counting.{one_number}
-use Rattle.rv_book.proofs.Versions.{has_version}
+use Rattle.rv_rules.proofs.Counting.{one_number}
+use Rattle.rv_rules.proofs.Versions.{has_version}
 
 -- ---- the step's moment
 

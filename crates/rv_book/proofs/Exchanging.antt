@@ -13,7 +13,7 @@ use Rattle.rv_account.specs.Calls.{Lasts}
 use Rattle.rv_book.specs.Meeting.{ArrivedOn, Exchanged, FindsNobody, SwappedNothing, SwappedWith, WaitsAlone}
 use Rattle.rv_book.specs.Parked.{AreParked, IsParked, owed_at}
 use Rattle.rv_book.specs.Views.{AllFree, OnlyExchanger, SameWaiters, Waiters, exchanger_at, place_of_duty, queue_at, takers_places, waiting_on}
-use Rattle.rv_book.proofs.Numbers.{same_or_not}
+use Rattle.rv_rules.proofs.Numbers.{same_or_not}
 
 -- ---- one exchanger
 

@@ -18,15 +18,15 @@ use Rattle.std.proofs.Common.{option_and_then, Some, ap, arith, inl, inr, subst,
 use Rattle.rv_text.specs.declared.message.Message.{Message}
 use Rattle.rv_text.specs.declared.answer.Refusal.{Refusal}
 use Rattle.rv_text.specs.declared.answer.Refusal.TheVariants.{OtherVersion}
-use Rattle.rv_book.proofs.Limits.{act_fits, act_there, key_of_act}
-use Rattle.rv_book.proofs.Lines.{RefuseOr-elim, WhereElse-elim}
+use Rattle.rv_rules.proofs.Limits.{act_fits, act_there, key_of_act}
+use Rattle.rv_rules.proofs.Lines.{RefuseOr-elim, WhereElse-elim}
 use Rattle.rv_book.proofs.Replying.{reply_laws}
 use Rattle.rv_book.proofs.ReplyLaws.{FitsIn}
 use Rattle.rv_text.specs.declared.answer.Answer.TheVariants.{Replied, Welcome}
 use Rattle.rv_text.specs.declared.answer.Reply.TheVariants.{Cancelled}
 use Rattle.rv_book.specs.Legal.{HasWaiting, Legal, before}
-use Rattle.rv_book.proofs.Keys.{act_arrives, no_hello}
-use Rattle.rv_book.proofs.Waits.{arrival, no_hello_behind}
+use Rattle.rv_rules.proofs.Keys.{act_arrives, no_hello}
+use Rattle.rv_rules.proofs.Waits.{arrival, no_hello_behind}
 use Rattle.std.proofs.lemmas.Bool.{cases_order}
 use Rattle.rv_text.specs.declared.call.Call.{Call}
 

@@ -13,13 +13,13 @@ use Rattle.rv_text.specs.Calls.{side_of}
 use Rattle.rv_book.specs.Sessions.{HasIncarnation, HasOnlyLower}
 use Rattle.rv_book.specs.Legal.{IsFreePartner, IsNextNumber, IsOpenOpposite, KeepsLimits, KeepsMoments, KeepsNumbers, KeepsPairs, KeepsTime, MayFollow, NothingDue, SomethingDue, WaitsUnder}
 use Rattle.rv_book.specs.Arriving.{entry}
-use Rattle.rv_book.proofs.NextKeys.{IsNext}
-use Rattle.rv_book.proofs.OldestMet.{MeetsOldest}
+use Rattle.rv_rules.proofs.NextKeys.{IsNext}
+use Rattle.rv_rules.proofs.OldestMet.{MeetsOldest}
 use Rattle.rv_account.specs.Calls.{MayMeet, may_name}
 use Rattle.rv_book.specs.Waiting.{OpenAt, SideAt}
-use Rattle.rv_book.proofs.Growing.{call_read, reads_within}
-use Rattle.rv_book.proofs.Naming.{just_few, just_none, just_rises, named_just}
-use Rattle.rv_book.proofs.Sides.{one_side}
+use Rattle.rv_rules.proofs.Growing.{call_read, reads_within}
+use Rattle.rv_rules.proofs.Naming.{just_few, just_none, just_rises, named_just}
+use Rattle.rv_rules.proofs.Sides.{one_side}
 use Rattle.std.specs.List.Sorted.{IsStrictlyIncreasing}
 
 -- ---- moments

@@ -21,16 +21,16 @@ use Rattle.rv_book.specs.Steps.{ClientsFullDue}
 use Rattle.rv_book.specs.Operations.{Comes, EndsIf, HasRoomReady, HasSpace}
 use Rattle.rv_book.specs.Tables.{AreSessions, IsSound, account_of}
 use Rattle.rv_book.specs.Waiting.{Open, Waiting}
-use Rattle.rv_book.proofs.FewClients.{few_with}
+use Rattle.rv_rules.proofs.FewClients.{few_with}
 use Rattle.rv_book.proofs.Following.{hello_follows}
 use Rattle.rv_book.proofs.Keeping.{sound_same}
 use Rattle.rv_session.specs.declared.session.Session.{Session}
-use Rattle.rv_book.proofs.Numbers.{same_or_not}
+use Rattle.rv_rules.proofs.Numbers.{same_or_not}
 use Rattle.rv_book.proofs.Owing.{waiting_owed}
 use Rattle.rv_book.proofs.SessionTable.{Changes, sessions_greeted, set_changes, settled_then_entered}
-use Rattle.rv_book.proofs.Sides.{IsRequestOf, hello_stops, stopped_by_hello}
+use Rattle.rv_rules.proofs.Sides.{IsRequestOf, hello_stops, stopped_by_hello}
 use Rattle.rv_book.proofs.Marking.{Marks, legal_after, marked_ended, marked_idle}
-use Rattle.rv_book.proofs.Waits.{one_waits}
+use Rattle.rv_rules.proofs.Waits.{one_waits}
 use Rattle.rv_book.proofs.WaitingTable.{none_waits, waiting_there}
 
 -- ---- the requests of a client

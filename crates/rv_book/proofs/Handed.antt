@@ -21,14 +21,14 @@ use Rattle.rv_book.specs.Operations.{partners_reply}
 use Rattle.rv_book.specs.Verdicts.{item_at, reply_of}
 use Rattle.rv_book.specs.Waiting.{Met, NamesPartner}
 use Rattle.rv_book.proofs.ByMeeting.{ByMeeting, RepliesByMeeting, laws_by}
-use Rattle.rv_book.proofs.Fronts.{read_whole}
-use Rattle.rv_book.proofs.Getting.{gets_met, gets_on, given_fits, one_item}
-use Rattle.rv_book.proofs.Growing.{NamesAt-last, call_read, reads_on}
-use Rattle.rv_book.proofs.Legality.{follows_itself}
-use Rattle.rv_book.proofs.Naming.{just_names}
-use Rattle.rv_book.proofs.OnePartner.{partner_open}
-use Rattle.rv_book.proofs.Opposites.{one_opposed, one_opposite}
-use Rattle.rv_book.proofs.Places.{get-append_end}
+use Rattle.rv_rules.proofs.Fronts.{read_whole}
+use Rattle.rv_rules.proofs.Getting.{gets_met, gets_on, given_fits, one_item}
+use Rattle.rv_rules.proofs.Growing.{NamesAt-last, call_read, reads_on}
+use Rattle.rv_rules.proofs.Legality.{follows_itself}
+use Rattle.rv_rules.proofs.Naming.{just_names}
+use Rattle.rv_rules.proofs.OnePartner.{partner_open}
+use Rattle.rv_rules.proofs.Opposites.{one_opposed, one_opposite}
+use Rattle.rv_rules.proofs.Places.{get-append_end}
 use Rattle.rv_book.proofs.ReplyLaws.{FitsIn, ReplyLaws}
 
 -- it meets one that hands over an item, and is told so

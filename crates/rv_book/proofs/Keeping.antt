@@ -21,10 +21,10 @@ use Rattle.rv_book.specs.Operations.{IsSame}
 use Rattle.rv_book.specs.Tables.{AreSessions, IsSessionOf, IsSound, account_of}
 use Rattle.rv_book.specs.Views.{NobodyWaits}
 use Rattle.rv_book.specs.Waiting.{Waiting}
-use Rattle.rv_book.proofs.Counting.{one_number}
-use Rattle.rv_book.proofs.FewClients.{FewClients, few_none}
+use Rattle.rv_rules.proofs.Counting.{one_number}
+use Rattle.rv_rules.proofs.FewClients.{FewClients, few_none}
 use Rattle.rv_book.proofs.Owing.{waiting_inside}
-use Rattle.rv_book.proofs.Places.{get-append_cases}
+use Rattle.rv_rules.proofs.Places.{get-append_cases}
 use Rattle.rv_book.proofs.SessionTable.{no_sessions}
 use Rattle.rv_book.proofs.WaitersBySide.{no_waiters, waiters_as_before}
 

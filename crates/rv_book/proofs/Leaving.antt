@@ -9,13 +9,13 @@ use Rattle.rv_book.specs.Waiting.{NamesPartner, OpenAt, SideAt}
 use Rattle.rv_book.specs.Order.{MayTakeSeveral, PairAt, TakesInTurn}
 use Rattle.rv_text.specs.declared.call.Side.{Side}
 use Rattle.rv_account.specs.Calls.{Stays, may_name, opposite}
-use Rattle.rv_book.proofs.Growing.{call_read, read_there}
+use Rattle.rv_rules.proofs.Growing.{call_read, read_there}
 use Rattle.std.proofs.lemmas.Bool.{cases_lt, cases_order}
-use Rattle.rv_book.proofs.OnePartner.{named_once, names_and_named, names_both, partner_open}
-use Rattle.rv_book.proofs.CallKinds.{staying_single}
-use Rattle.rv_book.proofs.Naming.{among_none, first_among, two_among}
-use Rattle.rv_book.proofs.Fronts.{named_in_front, naming, open_in_shorter, read_front, read_whole}
-use Rattle.rv_book.proofs.Sides.{one_side, partner_before}
+use Rattle.rv_rules.proofs.OnePartner.{named_once, names_and_named, names_both, partner_open}
+use Rattle.rv_rules.proofs.CallKinds.{staying_single}
+use Rattle.rv_rules.proofs.Naming.{among_none, first_among, two_among}
+use Rattle.rv_rules.proofs.Fronts.{named_in_front, naming, open_in_shorter, read_front, read_whole}
+use Rattle.rv_rules.proofs.Sides.{one_side, partner_before}
 use Rattle.std.proofs.lemmas.Option.{same_Some}
 use Rattle.std.specs.List.{slice_get}
 

@@ -1,19 +1,4 @@
-pub mod Numbers
-pub mod Places
-pub mod Naming
-pub mod Counting
 pub mod Capacity
-pub mod Growing
-pub mod CallKinds
-pub mod Opposites
-pub mod Legality
-pub mod Fronts
-pub mod Histories
-pub mod Keys
-pub mod Waits
-pub mod Versions
-pub mod Sides
-pub mod Slots
 pub mod Tabled
 pub mod Withdrawn
 pub mod Exchanging
@@ -21,24 +6,18 @@ pub mod WaitersBySide
 pub mod Owing
 pub mod Parking
 pub mod Following
-pub mod Lines
-pub mod OnePartner
 pub mod Leaving
-pub mod Limits
 pub mod Lasting
-pub mod FirstStops
 pub mod Ticking
 pub mod ReplyLaws
 pub mod Unmet
 pub mod Puts
-pub mod Getting
 pub mod Receipts
 pub mod ByMeeting
 pub mod Handed
 pub mod Takes
 pub mod Transfers
 pub mod Swaps
-pub mod Looking
 pub mod Drains
 pub mod Counts
 pub mod Peeks
@@ -47,14 +26,10 @@ pub mod WaitingTable
 pub mod SessionTable
 pub mod CancelledSessions
 pub mod Settling
-pub mod Deciding
-pub mod FewClients
 pub mod Staying
 pub mod StoppedReplies
 pub mod ToldCancelled
 pub mod Entering
-pub mod SamePartners
-pub mod FrontPairs
 pub mod OneStep
 pub mod Fitting
 pub mod Stamping
@@ -71,8 +46,6 @@ mod Opening
 pub mod Cancelling
 pub mod Standing
 pub mod Repeating
-pub mod NextKeys
-pub mod OldestMet
 mod DeadlineTable
 mod Closing
 mod TakenTables

@@ -17,9 +17,9 @@ use Rattle.rv_book.specs.Operations.{EndsAt, HasSpace}
 use Rattle.rv_book.specs.Tables.{AreSessions, IsSound, account_of}
 use Rattle.rv_book.specs.Waiting.{Open, SideAt, Waiting, limit_at}
 use Rattle.rv_book.proofs.Closing.{ClosesThose, closes_same, stops_closes}
-use Rattle.rv_book.proofs.FewClients.{FewClients}
+use Rattle.rv_rules.proofs.FewClients.{FewClients}
 use Rattle.rv_book.proofs.Keeping.{sound_with}
-use Rattle.rv_book.proofs.Legality.{Legal-with_entry}
+use Rattle.rv_rules.proofs.Legality.{Legal-with_entry}
 use Rattle.rv_book.proofs.TakenTables.{OneMore, due_at_first, due_at_last, due_turn, number_at_first, number_at_last, number_turn, waiters_at_first, waiters_at_last, waiters_turn}
 use Rattle.rv_book.proofs.WaitersBySide.{Stops}
 

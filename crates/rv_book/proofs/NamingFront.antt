@@ -14,13 +14,13 @@ use Rattle.rv_account.specs.declared.entry.Act.TheVariants.{Arrive}
 use Rattle.rv_account.specs.declared.entry.Entry.{Entry}
 use Rattle.rv_account.specs.Account.{Account, Among, entry}
 use Rattle.rv_account.specs.Calls.{MayMeet, may_name, opposite}
-use Rattle.rv_book.proofs.NextKeys.{IsNext}
+use Rattle.rv_rules.proofs.NextKeys.{IsNext}
 use Rattle.rv_book.specs.Legal.{IsOpenOpposite, KeepsPairs, KeepsTime, MayFollow, NothingDue}
 use Rattle.rv_book.specs.Parked.{IsLine, IsLineOf}
 use Rattle.rv_book.specs.Waiting.{OpenAt}
 use Rattle.rv_book.proofs.Following.{arrival_numbers, keeps_moments}
-use Rattle.rv_book.proofs.Places.{get-take, within}
-use Rattle.rv_book.proofs.Sides.{one_side}
+use Rattle.rv_rules.proofs.Places.{get-take, within}
+use Rattle.rv_rules.proofs.Sides.{one_side}
 use Rattle.rv_book.proofs.WaitersBySide.{open_inside}
 
 -- ---- the first so many of a line

@@ -16,11 +16,11 @@ use Rattle.std.proofs.Common.{List, ap, inl, inr, subst, sym, ℕ, ◌∙◌, �
 use Rattle.rv_book.specs.Laws.{OneNext}
 use Rattle.rv_text.specs.declared.answer.Refusal.{Refusal}
 use Rattle.rv_text.specs.declared.answer.Answer.TheVariants.{Refused}
-use Rattle.rv_book.proofs.Legality.{follows_itself}
-use Rattle.rv_book.proofs.Histories.{one_incarnation, one_last_number}
-use Rattle.rv_book.proofs.SamePartners.{same_partners}
+use Rattle.rv_rules.proofs.Legality.{follows_itself}
+use Rattle.rv_rules.proofs.Histories.{one_incarnation, one_last_number}
+use Rattle.rv_rules.proofs.SamePartners.{same_partners}
 use Rattle.rv_book.proofs.Staying.{one_told}
-use Rattle.rv_book.proofs.Versions.{one_opened}
+use Rattle.rv_rules.proofs.Versions.{one_opened}
 
 -- ---- the lines
 

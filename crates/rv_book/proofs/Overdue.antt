@@ -13,7 +13,7 @@ use Rattle.rv_account.specs.declared.entry.Act.TheVariants.{Tick}
 use Rattle.rv_account.specs.declared.entry.Entry.{Entry}
 use Rattle.rv_book.proofs.Closing.{ClosesThose, closes_same, stops_closes}
 use Rattle.rv_book.proofs.DeadlineTable.{left_in, stays_in, taken_out}
-use Rattle.rv_book.proofs.Sides.{IsRequestUntil, due_until, stopped_by_tick, tick_stops, until_due}
+use Rattle.rv_rules.proofs.Sides.{IsRequestUntil, due_until, stopped_by_tick, tick_stops, until_due}
 use Rattle.rv_book.proofs.TakenTables.{OneMore}
 use Rattle.rv_book.proofs.WaitersBySide.{Stops}
 

@@ -8,7 +8,7 @@ use Rattle.rv_text.specs.Calls.{side_of, wait_of}
 use Rattle.rv_session.specs.OwedDuty.{OwedDuty}
 use Rattle.rv_account.specs.Account.{Account, act_at, call_in, just}
 use Rattle.rv_book.specs.Arriving.{GoesOnWaiting}
-use Rattle.rv_book.proofs.OldestMet.{MeetsOldest}
+use Rattle.rv_rules.proofs.OldestMet.{MeetsOldest}
 use Rattle.rv_account.specs.Calls.{IsPut, MayMeet, Stays}
 use Rattle.rv_book.specs.Counting.{NumberOf}
 use Rattle.rv_account.specs.declared.entry.Act.TheVariants.{Arrive}
@@ -17,10 +17,10 @@ use Rattle.rv_book.specs.Legal.{Legal, NamesFreePartners}
 use Rattle.rv_book.specs.Meeting.{OwnDuty, PartnersDuty, ends_waiting, starts_waiting}
 use Rattle.rv_book.specs.Parked.{owed_at, owed_by, owed_in}
 use Rattle.rv_book.specs.Waiting.{Open, StoppedAt, Waiting}
-use Rattle.rv_book.proofs.Counting.{number_drop, number_push, same_number}
-use Rattle.rv_book.proofs.Keys.{act_called}
-use Rattle.rv_book.proofs.Naming.{just_none, names_it, names_only}
-use Rattle.rv_book.proofs.Sides.{Waiting-back, Waiting-last, Waiting-on, arrival_stops_nobody, waiting_is_open}
+use Rattle.rv_rules.proofs.Counting.{number_drop, number_push, same_number}
+use Rattle.rv_rules.proofs.Keys.{act_called}
+use Rattle.rv_rules.proofs.Naming.{just_none, names_it, names_only}
+use Rattle.rv_rules.proofs.Sides.{Waiting-back, Waiting-last, Waiting-on, arrival_stops_nobody, waiting_is_open}
 use Rattle.rv_book.proofs.WaitersBySide.{met_last, open_inside}
 
 -- ---- one arrival

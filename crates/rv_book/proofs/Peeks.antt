@@ -20,13 +20,13 @@ use Rattle.rv_book.specs.Limits.{FitsAccount}
 use Rattle.rv_book.specs.Replies.{HasNoItem, IsFrontItem, RepliesAt}
 use Rattle.rv_book.specs.Verdicts.{item_at}
 use Rattle.rv_book.specs.Waiting.{IsOldest}
-use Rattle.rv_book.proofs.CallKinds.{gives_item}
-use Rattle.rv_book.proofs.Deciding.{find_oldest}
-use Rattle.rv_book.proofs.Fronts.{read_whole}
-use Rattle.rv_book.proofs.Growing.{call_read, reads_on}
-use Rattle.rv_book.proofs.Limits.{act_fits, act_there, call_of_act}
-use Rattle.rv_book.proofs.Looking.{looks_waits_not, same_before}
-use Rattle.rv_book.proofs.Opposites.{looks_alone}
+use Rattle.rv_rules.proofs.CallKinds.{gives_item}
+use Rattle.rv_rules.proofs.Deciding.{find_oldest}
+use Rattle.rv_rules.proofs.Fronts.{read_whole}
+use Rattle.rv_rules.proofs.Growing.{call_read, reads_on}
+use Rattle.rv_rules.proofs.Limits.{act_fits, act_there, call_of_act}
+use Rattle.rv_rules.proofs.Looking.{looks_waits_not, same_before}
+use Rattle.rv_rules.proofs.Opposites.{looks_alone}
 use Rattle.rv_book.proofs.ReplyLaws.{FitsIn, ReplyLaws}
 
 -- the oldest item of a queue is its front

@@ -22,14 +22,14 @@ use Rattle.rv_book.specs.Limits.{FitsAccount}
 use Rattle.rv_book.specs.Replies.{Meet, MeetsKey, RepliesMet}
 use Rattle.rv_book.specs.Sessions.{AskedIn}
 use Rattle.rv_book.specs.Waiting.{Met, NamesPartner}
-use Rattle.rv_book.proofs.Fronts.{read_whole}
-use Rattle.rv_book.proofs.Getting.{Meet-on, meet_met}
-use Rattle.rv_book.proofs.Growing.{call_read, read_there, reads_on}
-use Rattle.rv_book.proofs.Keys.{act_called, key_read}
-use Rattle.rv_book.proofs.Limits.{act_fits, act_there, key_of_act}
-use Rattle.rv_book.proofs.OnePartner.{meets_one, partner_open}
+use Rattle.rv_rules.proofs.Fronts.{read_whole}
+use Rattle.rv_rules.proofs.Getting.{Meet-on, meet_met}
+use Rattle.rv_rules.proofs.Growing.{call_read, read_there, reads_on}
+use Rattle.rv_rules.proofs.Keys.{act_called, key_read}
+use Rattle.rv_rules.proofs.Limits.{act_fits, act_there, key_of_act}
+use Rattle.rv_rules.proofs.OnePartner.{meets_one, partner_open}
 use Rattle.rv_book.proofs.ReplyLaws.{FitsIn}
-use Rattle.rv_book.proofs.Versions.{asked_back, asked_on, call_asked, one_version}
+use Rattle.rv_rules.proofs.Versions.{asked_back, asked_on, call_asked, one_version}
 
 one_or_two : (v : Version) → (v ≡ One) ⊎ (v ≡ Two)
 one_or_two One = inl refl

@@ -17,8 +17,8 @@ use Rattle.rv_session.specs.declared.session.Session.{Session}
 use Rattle.rv_session.specs.declared.kept.Kept.{Kept}
 use Rattle.rv_account.specs.Account.{Account, just, with_entry}
 use Rattle.rv_book.specs.Arriving.{GoesOnWaiting, IsKept, IsRecorded, WillReply, entry}
-use Rattle.rv_book.proofs.NextKeys.{IsNext}
-use Rattle.rv_book.proofs.OldestMet.{MeetsOldest}
+use Rattle.rv_rules.proofs.NextKeys.{IsNext}
+use Rattle.rv_rules.proofs.OldestMet.{MeetsOldest}
 use Rattle.rv_account.specs.Calls.{MayMeet, may_name, need_of, opposite}
 use Rattle.rv_book.specs.Elapsing.{AreDeadlines, deadline_among, deadline_beside, deadline_of, without_duty}
 use Rattle.rv_book.specs.Counting.{NumberOf}
@@ -35,19 +35,19 @@ use Rattle.rv_book.specs.Tables.{AreSessions, IsSound, account_of}
 use Rattle.rv_book.specs.Sessions.{HasOpened}
 use Rattle.rv_book.specs.Waiting.{Waiting}
 use Rattle.rv_book.proofs.ArrivedDeadlines.{due_arrived}
-use Rattle.rv_book.proofs.FewClients.{few_still}
+use Rattle.rv_rules.proofs.FewClients.{few_still}
 use Rattle.rv_book.proofs.Following.{arrival_follows}
 use Rattle.rv_book.proofs.Keeping.{fit_with, sound_with}
-use Rattle.rv_book.proofs.Keys.{no_hello}
-use Rattle.rv_book.proofs.CallKinds.{waiting_meets}
+use Rattle.rv_rules.proofs.Keys.{no_hello}
+use Rattle.rv_rules.proofs.CallKinds.{waiting_meets}
 use Rattle.rv_book.proofs.Lasting.{deadline_lasts, lasting_need, need_positive}
-use Rattle.rv_book.proofs.Legality.{Legal-with_entry}
+use Rattle.rv_rules.proofs.Legality.{Legal-with_entry}
 use Rattle.rv_book.proofs.Owing.{Waits-after, goes_not_on, goes_on}
 use Rattle.rv_book.proofs.Parking.{among_is, nobody_beside, nobody_opposed}
 use Rattle.rv_book.proofs.Replying.{recorded_kept, recorded_waits}
 use Rattle.rv_book.proofs.Settling.{own_stays, sessions_recorded}
 use Rattle.rv_book.proofs.Standing.{is_next}
-use Rattle.rv_book.proofs.Versions.{asked_last}
+use Rattle.rv_rules.proofs.Versions.{asked_last}
 use Rattle.rv_book.proofs.WaitersBySide.{meets_partner, waiters_after, waiters_as_before}
 use Rattle.rv_book.proofs.WaitingTable.{opened_in_table}
 use Rattle.rv_book.specs.Views.{Waiters, waiting_on}

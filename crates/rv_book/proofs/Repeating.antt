@@ -9,7 +9,7 @@ use Rattle.rv_session.specs.Table.{Table, session_of, session_count}
 use Rattle.rv_session.specs.Meanings.{HasNext, HasLast, RefusalMeans, IsOlder, IsNewer}
 use Rattle.rv_session.specs.Meanings as means
 use Rattle.rv_book.proofs.Standing.{settled, cancelled_first, waits, refused_lines, last_lines, is_next, of_incarnation, not_new, room_for_client, clients_full, none_lower, newer_lower}
-use Rattle.rv_book.proofs.Lines.{line_next, line_old_hello, line_other_version, line_again, line_newer}
+use Rattle.rv_rules.proofs.Lines.{line_next, line_old_hello, line_other_version, line_again, line_newer}
 use Rattle.rv_account.specs.Account.{Account, act_at, call_in}
 use Rattle.rv_text.specs.declared.answer.Answer.{Answer}
 use Rattle.rv_book.specs.Operations.{Becomes, IsRepeat}
@@ -29,7 +29,7 @@ use Rattle.rv_text.specs.declared.version.Version.{Version}
 use Rattle.rv_book.specs.Legal.{Legal, WaitsUnder}
 use Rattle.std.proofs.Common.{None, Option, Some, ap, inl, inr, option_and_then, option_map, refl, subst, sym, ℕ, ◌<◌, ◌∙◌, ◌≡◌, ◌≤◌}
 use Rattle.rv_text.specs.declared.answer.Refusal.{Refusal}
-use Rattle.rv_book.proofs.OnePartner.{arrives_once}
+use Rattle.rv_rules.proofs.OnePartner.{arrives_once}
 use Rattle.rv_book.proofs.WaitingTable.{known}
 use Rattle.rv_account.specs.Calls.{need_of}
 use Rattle.rv_book.proofs.Staying.{one_call, one_told}

@@ -13,15 +13,15 @@ use Rattle.rv_book.specs.Arriving.{GoesOnWaiting, IsKept, IsRecorded, WillTell, 
 use Rattle.rv_book.specs.Legal.{Legal}
 use Rattle.rv_book.specs.Replies.{HasReply}
 use Rattle.rv_book.specs.Sessions.{AskedIn}
-use Rattle.rv_book.proofs.Growing.{act_read}
-use Rattle.rv_book.proofs.Places.{get-append_end}
+use Rattle.rv_rules.proofs.Growing.{act_read}
+use Rattle.rv_rules.proofs.Places.{get-append_end}
 use Rattle.rv_book.proofs.Counts.{counts}
 use Rattle.rv_book.proofs.Peeks.{peeks}
 use Rattle.rv_book.proofs.Drains.{drains}
 use Rattle.rv_book.proofs.Puts.{puts}
 use Rattle.rv_book.proofs.Swaps.{swaps}
 use Rattle.rv_book.proofs.Transfers.{transfers}
-use Rattle.rv_book.proofs.Sides.{Waiting-last}
+use Rattle.rv_rules.proofs.Sides.{Waiting-last}
 use Rattle.rv_text.specs.declared.answer.Answer as answer
 use Rattle.rv_book.proofs.ReplyLaws.{ReplyLaws}
 use Rattle.rv_book.proofs.Takes.{takes}

@@ -16,19 +16,19 @@ use Rattle.rv_account.specs.declared.entry.Entry.{Entry}
 use Rattle.rv_book.specs.Sessions.{HasOpened, LastHello, LastNumber, SaidHello}
 use Rattle.rv_book.specs.Arriving.{IsKept}
 use Rattle.rv_book.specs.Waiting.{Waiting}
-use Rattle.rv_book.proofs.Sides.{Waiting-on, stopped_by_hello}
+use Rattle.rv_rules.proofs.Sides.{Waiting-on, stopped_by_hello}
 use Rattle.rv_text.specs.declared.message.Key.{Key}
 use Rattle.rv_book.specs.Legal.{Legal, before}
 use Rattle.std.proofs.Common.{List, None, Option, Some, [], ap, arith, inl, inr, length, option_and_then, refl, subst, sym, ℕ, ◌++◌, ◌<◌, ◌∙◌, ◌∷◌, ◌≡◌, ◌≤◌}
-use Rattle.rv_book.proofs.Growing.{act_read, reads_back, reads_on, reads_within}
-use Rattle.rv_book.proofs.Places.{get-append_end}
+use Rattle.rv_rules.proofs.Growing.{act_read, reads_back, reads_on, reads_within}
+use Rattle.rv_rules.proofs.Places.{get-append_end}
 use Rattle.rv_book.proofs.Staying.{kept_stays}
 use Rattle.std.proofs.lemmas.Option.{none-some, same_Some}
-use Rattle.rv_book.proofs.Naming.{just_none}
-use Rattle.rv_book.proofs.Numbers.{same_or_not}
-use Rattle.rv_book.proofs.Keys.{LastHello-on, NamesKey-back, NamesKey-on, client_of, hello_is_own, key_is_own, key_read}
+use Rattle.rv_rules.proofs.Naming.{just_none}
+use Rattle.rv_rules.proofs.Numbers.{same_or_not}
+use Rattle.rv_rules.proofs.Keys.{LastHello-on, NamesKey-back, NamesKey-on, client_of, hello_is_own, key_is_own, key_read}
 use Rattle.rv_book.proofs.Replying.{reply_laws}
-use Rattle.rv_book.proofs.Versions.{HasOpened-on}
+use Rattle.rv_rules.proofs.Versions.{HasOpened-on}
 pub use Rattle.rv_book.proofs.WaitingTable.{waits_in_table}
 
 -- the session of the client has this incarnation, this version and this last number

@@ -17,8 +17,8 @@ use Rattle.rv_account.specs.declared.entry.Entry.{Entry}
 use Rattle.rv_account.specs.declared.entry.Act.TheVariants.{Arrive}
 use Rattle.rv_account.specs.Account.{Account, act_at, call_at, call_in, just, key_in, with_entry}
 use Rattle.rv_book.specs.Arriving.{IsKept}
-use Rattle.rv_book.proofs.NextKeys.{IsNext}
-use Rattle.rv_book.proofs.OldestMet.{MeetsOldest}
+use Rattle.rv_rules.proofs.NextKeys.{IsNext}
+use Rattle.rv_rules.proofs.OldestMet.{MeetsOldest}
 use Rattle.rv_account.specs.Calls.{opposite}
 use Rattle.rv_book.specs.Legal.{Legal}
 use Rattle.rv_book.specs.Meeting.{OwnDuty, PartnersDuty}
@@ -27,15 +27,15 @@ use Rattle.rv_book.specs.Operations.{IsOwedIn, SettlesIf, partners_reply}
 use Rattle.rv_book.specs.Tables.{AreSessions, IsSession, IsSessionOf, last_key}
 use Rattle.rv_book.specs.Sessions.{AskedIn, HasOpened}
 use Rattle.rv_book.specs.Waiting.{NamesPartner, Waiting}
-use Rattle.rv_book.proofs.Growing.{NamesAt-last, act_read, call_read, reads_on}
-use Rattle.rv_book.proofs.Keys.{act_called, client_of}
-use Rattle.rv_book.proofs.Naming.{names_it, names_only}
-use Rattle.rv_book.proofs.Numbers.{same_or_not}
-use Rattle.rv_book.proofs.Places.{get-append_end}
+use Rattle.rv_rules.proofs.Growing.{NamesAt-last, act_read, call_read, reads_on}
+use Rattle.rv_rules.proofs.Keys.{act_called, client_of}
+use Rattle.rv_rules.proofs.Naming.{names_it, names_only}
+use Rattle.rv_rules.proofs.Numbers.{same_or_not}
+use Rattle.rv_rules.proofs.Places.{get-append_end}
 use Rattle.rv_book.proofs.Replying.{reply_laws}
 use Rattle.rv_book.proofs.SessionTable.{IsAt, IsAt-on, StillWaits, named_at, other_apart, session_on}
-use Rattle.rv_book.proofs.Sides.{Waiting-last, Waiting-on, arrival_stops_nobody}
-use Rattle.rv_book.proofs.Versions.{asked_on, waiting_asked}
+use Rattle.rv_rules.proofs.Sides.{Waiting-last, Waiting-on, arrival_stops_nobody}
+use Rattle.rv_rules.proofs.Versions.{asked_on, waiting_asked}
 use Rattle.rv_book.proofs.WaitingTable.{opened_in_table, version_told, waiting_there, waits_in_table}
 
 -- ---- the request that an arrival meets

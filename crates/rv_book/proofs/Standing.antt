@@ -11,7 +11,7 @@ use Rattle.rv_book.specs.Replies.{CancelledFirst}
 use Rattle.rv_session.specs.declared.standing.Greeting.TheVariants as greeting
 use Rattle.rv_session.specs.Standings.{Enters, MayEnter, greeting_for}
 use Rattle.rv_session.specs.Table.{Table, session_of, session_count}
-use Rattle.rv_book.proofs.Lines.{line_other_epoch, line_no_session, line_old_incarnation, line_old_number, line_last, line_gap, line_busy}
+use Rattle.rv_rules.proofs.Lines.{line_other_epoch, line_no_session, line_old_incarnation, line_old_number, line_last, line_gap, line_busy}
 use Rattle.rv_session.specs.Meanings.{HasNext, HasLast, RefusalMeans}
 use Rattle.rv_session.proofs.Clients.{clients_of, clients_rise, clients_are, length-clients}
 use Rattle.rv_account.specs.Account.{Account, act_at}
@@ -21,7 +21,7 @@ use Rattle.rv_book.specs.Steps.{ClientsFullDue, KeyLines}
 use Rattle.rv_book.specs.Sessions.{HasIncarnation, HasOnlyLower, LastNumber, SaidHello}
 use Rattle.rv_book.specs.Legal.{Legal}
 use Rattle.rv_book.specs.Arriving.{IsKept}
-use Rattle.rv_book.proofs.NextKeys.{IsNext}
+use Rattle.rv_rules.proofs.NextKeys.{IsNext}
 use Rattle.std.specs.Prelude.{IsSome}
 use Rattle.rv_text.specs.declared.message.Key.{Key}
 use Rattle.rv_text.specs.declared.version.Version.{Version}
@@ -29,10 +29,10 @@ use Rattle.std.proofs.Common.{Bool, None, Option, Some, ap, arith, cond, false, 
 use Rattle.std.proofs.lemmas.Bool.{ltb-true}
 use Rattle.std.proofs.lemmas.Option.{none-some}
 use Rattle.rv_text.specs.declared.answer.Refusal.{Refusal}
-use Rattle.rv_book.proofs.Histories.{hellos_at_most}
+use Rattle.rv_rules.proofs.Histories.{hellos_at_most}
 use Rattle.rv_book.proofs.WaitingTable.{has_waiting, known, none_waits, same_parts, unknown}
 use Rattle.rv_book.specs.Waiting.{Waiting}
-use Rattle.rv_book.proofs.Counting.{one_number}
+use Rattle.rv_rules.proofs.Counting.{one_number}
 
 -- ---- a new client
 

@@ -18,17 +18,17 @@ use Rattle.rv_text.specs.declared.message.Key.{Key}
 use Rattle.rv_book.specs.Legal.{Legal, before, WaitsUnder}
 use Rattle.std.proofs.Common.{List, None, Option, Some, [], ap, append_assoc, append-nil, arith, inl, inr, length, option_and_then, option_map, refl, subst, sym, ℕ, ◌++◌, ◌<◌, ◌∙◌, ◌∷◌, ◌≡◌}
 use Rattle.rv_text.specs.declared.message.Message.{Message}
-use Rattle.rv_book.proofs.Growing.{act_read, call_read, reads_on, reads_within}
+use Rattle.rv_rules.proofs.Growing.{act_read, call_read, reads_on, reads_within}
 use Rattle.rv_text.specs.declared.answer.Refusal.{Refusal}
-use Rattle.rv_book.proofs.Keys.{key_read}
-use Rattle.rv_book.proofs.Lines.{RefuseOr-elim, WhereElse-elim}
+use Rattle.rv_rules.proofs.Keys.{key_read}
+use Rattle.rv_rules.proofs.Lines.{RefuseOr-elim, WhereElse-elim}
 use Rattle.rv_book.specs.Laws.{RepliesStay, StepsExtend}
 use Rattle.rv_text.specs.declared.answer.Reply.{Reply}
 use Rattle.rv_book.specs.Verdicts.{IsAsKept, item_at, reply_of}
-use Rattle.rv_book.proofs.OnePartner.{arrives_first, arrives_once}
+use Rattle.rv_rules.proofs.OnePartner.{arrives_first, arrives_once}
 use Rattle.rv_book.proofs.Replying.{reply_laws}
 use Rattle.rv_text.specs.Calls.{item_of}
-use Rattle.rv_book.proofs.Places.{get-append_within}
+use Rattle.rv_rules.proofs.Places.{get-append_within}
 use Rattle.std.proofs.lemmas.Bool.{cases_lt}
 use Rattle.std.proofs.lemmas.Option.{none-some}
 use Rattle.std.specs.List.{slice_get}

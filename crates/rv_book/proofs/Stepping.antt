@@ -10,7 +10,7 @@ use Rattle.rv_book.specs.Counting.{NumberOf}
 use Rattle.rv_book.specs.Waiting.{Waiting}
 use Rattle.rv_book.specs.Operations.{Becomes, NoEntryDue}
 use Rattle.std.proofs.Common.{IsErrAnd, IfErr, IfOk, OnOk, OnErr, ap, inl, inr, length, refl, ℕ, ◌+◌, ◌≡◌, ◌≤◌}
-use Rattle.rv_book.proofs.Lines.{room_left}
+use Rattle.rv_rules.proofs.Lines.{room_left}
 use Rattle.rv_text.specs.declared.message.Message.{Message}
 use Rattle.rv_text.specs.declared.answer.Refusal.{Refusal}
 

@@ -9,10 +9,10 @@ use Rattle.rv_account.specs.Account.{Names, call_at, just}
 use Rattle.rv_account.specs.Calls.{IsPut, Stays}
 use Rattle.rv_book.specs.Replies.{RepliesAt, told_by}
 use Rattle.rv_book.specs.Waiting.{StoppedAt, Waiting}
-use Rattle.rv_book.proofs.FirstStops.{told_by_last}
-use Rattle.rv_book.proofs.Growing.{Met-back, call_read, reads_within}
-use Rattle.rv_book.proofs.Naming.{just_none}
-use Rattle.rv_book.proofs.Sides.{IsRequestUntil, tick_stops}
+use Rattle.rv_rules.proofs.FirstStops.{told_by_last}
+use Rattle.rv_rules.proofs.Growing.{Met-back, call_read, reads_within}
+use Rattle.rv_rules.proofs.Naming.{just_none}
+use Rattle.rv_rules.proofs.Sides.{IsRequestUntil, tick_stops}
 use Rattle.rv_book.proofs.Replying.{reply_laws}
 
 -- a waiting request that the last entry stops is told by it

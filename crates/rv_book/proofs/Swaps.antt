@@ -11,7 +11,7 @@ use Rattle.rv_account.specs.Account.{Account}
 use Rattle.rv_book.specs.Arriving.{GoesOnWaiting, WillReply}
 use Rattle.rv_book.specs.Operations.{kept_at_once}
 use Rattle.rv_book.proofs.ByMeeting.{unmet_by}
-use Rattle.rv_book.proofs.CallKinds.{exchanges_item}
+use Rattle.rv_rules.proofs.CallKinds.{exchanges_item}
 use Rattle.rv_book.proofs.Handed.{IsHanded, TellsItem, handed_by, handed_laws, handed_replies}
 use Rattle.rv_book.proofs.ReplyLaws.{ReplyLaws}
 

@@ -17,9 +17,9 @@ use Rattle.rv_account.specs.Calls.{Lasts}
 use Rattle.rv_book.specs.Meeting.{ArrivedOn, FindsNobody, Gave, GaveNobody, GaveTo, LaysDown, LeavesFirst, LeftFront, OwnDuty, StandsBy, Took, TookFrom, TookNothing, offer_by, own_by}
 use Rattle.rv_book.specs.Parked.{AreParked, IsParked, owed_at}
 use Rattle.rv_book.specs.Views.{AllEmpty, AreBelow, OnlyQueue, SameWaiters, Waiters, exchanger_at, place_of_duty, queue_at, takers_places, waiting_on}
-use Rattle.rv_book.proofs.Numbers.{same_or_not}
-use Rattle.rv_book.proofs.Opposites.{one_opposite}
-use Rattle.rv_book.proofs.Places.{get-append_cases}
+use Rattle.rv_rules.proofs.Numbers.{same_or_not}
+use Rattle.rv_rules.proofs.Opposites.{one_opposite}
+use Rattle.rv_rules.proofs.Places.{get-append_cases}
 use Rattle.std.proofs.lemmas.List.{map-append}
 
 -- ---- one queue

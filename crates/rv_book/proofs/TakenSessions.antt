@@ -21,16 +21,16 @@ use Rattle.rv_book.specs.Tables.{AreSessions, IsSession, IsSessionOf, IsSettledA
 use Rattle.rv_book.specs.TakingOut.{AreSessionsLeft, IsSessionLeft, IsSessionLeftOf, IsToldAt, Left, StandsLeft}
 use Rattle.rv_book.specs.Sessions.{AskedIn, HasIncarnation, HasOpened}
 use Rattle.rv_book.specs.Waiting.{Waiting}
-use Rattle.rv_book.proofs.Growing.{act_read, reads_on}
-use Rattle.rv_book.proofs.Histories.{one_incarnation, one_last_number}
-use Rattle.rv_book.proofs.Keys.{client_of}
-use Rattle.rv_book.proofs.Numbers.{same_or_not}
-use Rattle.rv_book.proofs.OnePartner.{arrives_once}
+use Rattle.rv_rules.proofs.Growing.{act_read, reads_on}
+use Rattle.rv_rules.proofs.Histories.{one_incarnation, one_last_number}
+use Rattle.rv_rules.proofs.Keys.{client_of}
+use Rattle.rv_rules.proofs.Numbers.{same_or_not}
+use Rattle.rv_rules.proofs.OnePartner.{arrives_once}
 use Rattle.rv_book.proofs.SessionTable.{CancelledFirst-on, Changes, IsApart, IsAt-on, SaidHello-back, other_apart, settled_on}
 use Rattle.rv_book.proofs.TakenTables.{OneMore}
-use Rattle.rv_book.proofs.Versions.{asked_on, waiting_asked}
+use Rattle.rv_rules.proofs.Versions.{asked_on, waiting_asked}
 use Rattle.rv_book.proofs.WaitingTable.{opened_as, same_parts, settled_not, version_told}
-use Rattle.rv_book.proofs.Waits.{arrival, waiting_is_last}
+use Rattle.rv_rules.proofs.Waits.{arrival, waiting_is_last}
 
 -- ---- while nothing was taken out
 

@@ -13,10 +13,10 @@ use Rattle.rv_book.specs.TakingOut.{AreWaitersLeft, Left}
 use Rattle.rv_book.specs.Views.{Waiters, waiting_on}
 use Rattle.rv_book.specs.Waiting.{OpenAt, SideAt, Waiting, limit_at}
 use Rattle.rv_book.proofs.Closing.{ClosesThose, opened_back, opened_on, waits_back, waits_on}
-use Rattle.rv_book.proofs.Counting.{number_drop, same_number}
-use Rattle.rv_book.proofs.Deciding.{same_side}
+use Rattle.rv_rules.proofs.Counting.{number_drop, same_number}
+use Rattle.rv_rules.proofs.Deciding.{same_side}
 use Rattle.rv_book.proofs.DeadlineTable.{But, due_on, due_same, due_without, limit_waits}
-use Rattle.rv_book.proofs.Sides.{one_side}
+use Rattle.rv_rules.proofs.Sides.{one_side}
 use Rattle.rv_book.proofs.WaitersBySide.{line_but, line_front, line_to, open_inside, parked_below}
 
 -- ---- while nothing was taken out

@@ -24,9 +24,9 @@ use Rattle.rv_book.specs.Tables.{account_of}
 use Rattle.rv_book.specs.TakingOut.{AreSessionsLeft, IsLeft, Left}
 use Rattle.rv_book.specs.Views.{SameWaiters, Waiters}
 use Rattle.rv_book.specs.Waiting.{OpenAt, Waiting, limit_at}
-use Rattle.rv_book.proofs.Keys.{act_called}
+use Rattle.rv_rules.proofs.Keys.{act_called}
 use Rattle.rv_book.proofs.Owing.{owed_waits, some_has, unowed_waits_not, waiting_owed}
-use Rattle.rv_book.proofs.Places.{get-append, get-append_cases, get-append_end}
+use Rattle.rv_rules.proofs.Places.{get-append, get-append_cases, get-append_end}
 use Rattle.rv_book.proofs.Tabled.{same_parked, same_waiting}
 use Rattle.rv_book.proofs.TakenSessions.{sessions_turn, sessions_turn_put, waits_and_left}
 use Rattle.rv_book.proofs.TakenTables.{OneMore, due_turn, due_turn_put, number_turn, number_turn_put, waiters_front}

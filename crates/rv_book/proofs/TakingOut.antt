@@ -19,9 +19,9 @@ use Rattle.rv_book.specs.Tables.{IsSound, account_of}
 use Rattle.rv_book.specs.TakingOut.{IsLeft, Left}
 use Rattle.rv_book.specs.Views.{Waiters, waiting_on}
 use Rattle.rv_book.specs.Waiting.{OpenAt, SideAt, Waiting, limit_at}
-use Rattle.rv_book.proofs.Keys.{act_called}
+use Rattle.rv_rules.proofs.Keys.{act_called}
 use Rattle.rv_book.proofs.Owing.{some_has, waiting_owed}
-use Rattle.rv_book.proofs.Sides.{one_side, waiting_is_open}
+use Rattle.rv_rules.proofs.Sides.{one_side, waiting_is_open}
 use Rattle.rv_book.proofs.TakenSessions.{sessions_at_first, sessions_turn, waits_and_left}
 use Rattle.rv_book.proofs.TakenTables.{OneMore, due_at_first, due_turn, number_at_first, number_turn, waiters_at_first, waiters_turn}
 

@@ -9,13 +9,13 @@ use Rattle.rv_book.specs.Arriving.{entry}
 use Rattle.rv_book.specs.Legal.{IsDueAt, KeepsTime, Legal, NamesFreePartners, NothingDue, SomethingDue}
 use Rattle.rv_book.specs.Steps.{Ticks}
 use Rattle.rv_book.specs.Waiting.{limit_at}
-use Rattle.rv_book.proofs.Deciding.{waits_or_not}
+use Rattle.rv_rules.proofs.Deciding.{waits_or_not}
 use Rattle.rv_book.proofs.Following.{tick_follows}
-use Rattle.rv_book.proofs.Growing.{call_read, limit_on, moment_read, reads_back, reads_within}
-use Rattle.rv_book.proofs.Keys.{act_called}
-use Rattle.rv_book.proofs.Legality.{Legal-with_entry, follows_itself}
-use Rattle.rv_book.proofs.Numbers.{first_below}
-use Rattle.rv_book.proofs.Sides.{Waiting-back, due_until, tick_stops}
+use Rattle.rv_rules.proofs.Growing.{call_read, limit_on, moment_read, reads_back, reads_within}
+use Rattle.rv_rules.proofs.Keys.{act_called}
+use Rattle.rv_rules.proofs.Legality.{Legal-with_entry, follows_itself}
+use Rattle.rv_rules.proofs.Numbers.{first_below}
+use Rattle.rv_rules.proofs.Sides.{Waiting-back, due_until, tick_stops}
 
 -- ---- whether something is due
 

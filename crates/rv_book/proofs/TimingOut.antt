@@ -23,14 +23,14 @@ use Rattle.rv_book.specs.TakingOut.{IsLeft, Left}
 use Rattle.rv_book.specs.Waiting.{Waiting, limit_at}
 use Rattle.rv_book.proofs.Closing.{ClosesThose, waits_on}
 use Rattle.rv_book.proofs.DeadlineTable.{taken_out}
-use Rattle.rv_book.proofs.FewClients.{few_still}
+use Rattle.rv_rules.proofs.FewClients.{few_still}
 use Rattle.rv_book.proofs.Following.{tick_follows}
 use Rattle.rv_book.proofs.Keeping.{sound_with}
-use Rattle.rv_book.proofs.Keys.{tick_no_hello}
-use Rattle.rv_book.proofs.Legality.{Legal-with_entry}
+use Rattle.rv_rules.proofs.Keys.{tick_no_hello}
+use Rattle.rv_rules.proofs.Legality.{Legal-with_entry}
 use Rattle.rv_book.proofs.Overdue.{nothing_taken, one_overdue, tick_closes}
 use Rattle.rv_book.proofs.SessionTable.{IsApart}
-use Rattle.rv_book.proofs.Sides.{due_until}
+use Rattle.rv_rules.proofs.Sides.{due_until}
 use Rattle.rv_book.proofs.StoppedReplies.{timed_out_reply}
 use Rattle.rv_book.proofs.TakenSessions.{Tells, sessions_at_last}
 use Rattle.rv_book.proofs.TakenTables.{due_at_last, number_at_last, waiters_at_last}

@@ -13,11 +13,11 @@ use Rattle.rv_book.specs.Legal.{IsNextNumber, Legal, WaitsUnder}
 use Rattle.rv_book.specs.Replies.{CancelledFirst, RepliesAt, told_by}
 use Rattle.rv_book.specs.Sessions.{HasIncarnation}
 use Rattle.rv_book.specs.Steps.{Replies}
-use Rattle.rv_book.proofs.Growing.{act_read, reads_back, reads_on}
-use Rattle.rv_book.proofs.OnePartner.{named_not_next}
-use Rattle.rv_book.proofs.Places.{get-append_end}
-use Rattle.rv_book.proofs.Naming.{just_none}
-use Rattle.rv_book.proofs.Sides.{IsRequestUnder, cancel_stops}
+use Rattle.rv_rules.proofs.Growing.{act_read, reads_back, reads_on}
+use Rattle.rv_rules.proofs.OnePartner.{named_not_next}
+use Rattle.rv_rules.proofs.Places.{get-append_end}
+use Rattle.rv_rules.proofs.Naming.{just_none}
+use Rattle.rv_rules.proofs.Sides.{IsRequestUnder, cancel_stops}
 use Rattle.rv_book.proofs.StoppedReplies.{told_stopped}
 
 -- ---- a request that waited

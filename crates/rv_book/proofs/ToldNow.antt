@@ -10,7 +10,7 @@ use Rattle.rv_book.specs.Parked.{AreWaiters, IsLine}
 use Rattle.rv_book.specs.Replies.{HasNoItem}
 use Rattle.rv_book.specs.Views.{Waiters, waiting_on}
 use Rattle.rv_book.specs.Waiting.{IsOldest, OpenAt}
-use Rattle.rv_book.proofs.Counting.{line_number}
+use Rattle.rv_rules.proofs.Counting.{line_number}
 use Rattle.rv_book.proofs.WaitersBySide.{front_is_oldest}
 
 pub seen_number : (es : List Entry) (waiters : Waiters) (side : Side) (n : ℕ) → AreWaiters es waiters → n ≡ length (waiting_on waiters side) → NumberOf (OpenAt es side) n

@@ -18,10 +18,10 @@ use Rattle.rv_book.specs.Replies.{RepliesMet}
 use Rattle.rv_book.specs.Operations.{kept_at_once, partners_reply}
 use Rattle.rv_book.specs.Waiting.{Met, NamesPartner}
 use Rattle.rv_book.proofs.ByMeeting.{RepliesByMeeting, laws_by, unmet_by}
-use Rattle.rv_book.proofs.Growing.{Met-on, NamesAt-last, call_read}
-use Rattle.rv_book.proofs.Naming.{just_names}
-use Rattle.rv_book.proofs.Opposites.{one_opposed}
-use Rattle.rv_book.proofs.Places.{get-append_end}
+use Rattle.rv_rules.proofs.Growing.{Met-on, NamesAt-last, call_read}
+use Rattle.rv_rules.proofs.Naming.{just_names}
+use Rattle.rv_rules.proofs.Opposites.{one_opposed}
+use Rattle.rv_rules.proofs.Places.{get-append_end}
 use Rattle.rv_book.proofs.Receipts.{one_receipt, receipt_exists, receipt_fits, receipt_on, receipt_replies}
 use Rattle.rv_book.proofs.ReplyLaws.{ReplyLaws}
 

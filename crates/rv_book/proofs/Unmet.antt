@@ -23,12 +23,12 @@ use Rattle.rv_account.specs.Calls.{Lasts, MayMeet}
 use Rattle.rv_book.specs.Legal.{Legal}
 use Rattle.rv_book.specs.Replies.{RepliesUnmet, ToldStopped, told_by}
 use Rattle.rv_book.specs.Waiting.{EndsWait, Met, NamesPartner, Open, Stopped, StoppedAt, Waiting, limit_at, limit_in}
-use Rattle.rv_book.proofs.Growing.{StoppedAt-on, act_read, call_read, reads_on, reads_within}
-use Rattle.rv_book.proofs.Deciding.{lasts_or_not}
-use Rattle.rv_book.proofs.FirstStops.{one_told_stopped, told_on, told_or_not}
-use Rattle.rv_book.proofs.Fronts.{read_front}
-use Rattle.rv_book.proofs.OnePartner.{goes_unnamed, partner_open}
-use Rattle.rv_book.proofs.Places.{get-append_within, get-take, within}
+use Rattle.rv_rules.proofs.Growing.{StoppedAt-on, act_read, call_read, reads_on, reads_within}
+use Rattle.rv_rules.proofs.Deciding.{lasts_or_not}
+use Rattle.rv_rules.proofs.FirstStops.{one_told_stopped, told_on, told_or_not}
+use Rattle.rv_rules.proofs.Fronts.{read_front}
+use Rattle.rv_rules.proofs.OnePartner.{goes_unnamed, partner_open}
+use Rattle.rv_rules.proofs.Places.{get-append_within, get-take, within}
 
 -- ---- by whether the wait lasts
 

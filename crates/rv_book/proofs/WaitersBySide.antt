@@ -13,7 +13,7 @@ use Rattle.rv_text.specs.Calls.{side_of, wait_of}
 use Rattle.rv_session.specs.OwedDuty.{OwedDuty}
 use Rattle.rv_dual.specs.Offers.{place_of, places_of}
 use Rattle.rv_account.specs.Account.{Account, Names, act_at, call_at, call_in, just}
-use Rattle.rv_book.proofs.OldestMet.{MeetsOldest}
+use Rattle.rv_rules.proofs.OldestMet.{MeetsOldest}
 use Rattle.rv_account.specs.Calls.{Stays}
 use Rattle.rv_account.specs.declared.entry.Act.TheVariants.{Arrive}
 use Rattle.rv_account.specs.declared.entry.Entry.{Entry}
@@ -23,11 +23,11 @@ use Rattle.rv_book.specs.Meeting.{ArrivedOn, FindsNobody, StaysBy, MeetsOrWaits,
 use Rattle.rv_book.specs.Parked.{AreParked, AreWaiters, IsLine, IsLineOf, owed_at, owed_by, owed_in}
 use Rattle.rv_book.specs.Views.{AreBelow, NobodyWaits, SameWaiters, Waiters, place_of_duty, takers_places, waiting_on}
 use Rattle.rv_book.specs.Waiting.{OpenAt, StoppedAt, IsOldest}
-use Rattle.rv_book.proofs.Deciding.{same_side}
-use Rattle.rv_book.proofs.Growing.{NamesAt-last, act_read, call_read, reads_within}
-use Rattle.rv_book.proofs.Naming.{just_none, names_it, names_only}
-use Rattle.rv_book.proofs.Places.{get-append_cases, get-append, get-append_end, get-append_within}
-use Rattle.rv_book.proofs.Sides.{ComesOn, OpenAt-back, OpenAt-last, OpenAt-on, arrival_stops_nobody, one_side}
+use Rattle.rv_rules.proofs.Deciding.{same_side}
+use Rattle.rv_rules.proofs.Growing.{NamesAt-last, act_read, call_read, reads_within}
+use Rattle.rv_rules.proofs.Naming.{just_none, names_it, names_only}
+use Rattle.rv_rules.proofs.Places.{get-append_cases, get-append, get-append_end, get-append_within}
+use Rattle.rv_rules.proofs.Sides.{ComesOn, OpenAt-back, OpenAt-last, OpenAt-on, arrival_stops_nobody, one_side}
 use Rattle.rv_book.proofs.Tabled.{same_parked, same_waiting}
 use Rattle.rv_book.proofs.Withdrawn.{differs, filter_get, get_filter}
 

@@ -15,12 +15,12 @@ use Rattle.rv_account.specs.declared.entry.Entry.{Entry}
 use Rattle.rv_book.specs.Legal.{HasWaiting, Legal}
 use Rattle.rv_book.specs.Tables.{AreSessions, IsSession, IsSessionOf, IsSettledAt, IsWaitingAt, StandsInAccount, last_key}
 use Rattle.rv_book.specs.Waiting.{Waiting}
-use Rattle.rv_book.proofs.Histories.{one_incarnation, one_last_number}
-use Rattle.rv_book.proofs.Keys.{act_called}
-use Rattle.rv_book.proofs.OnePartner.{arrives_once}
+use Rattle.rv_rules.proofs.Histories.{one_incarnation, one_last_number}
+use Rattle.rv_rules.proofs.Keys.{act_called}
+use Rattle.rv_rules.proofs.OnePartner.{arrives_once}
 use Rattle.rv_book.proofs.Replying.{reply_laws}
 use Rattle.rv_book.specs.Sessions.{HasIncarnation, HasOpened, SaidHello}
-use Rattle.rv_book.proofs.Waits.{arrival, waiting_is_last}
+use Rattle.rv_rules.proofs.Waits.{arrival, waiting_is_last}
 
 -- what the table says of a client
 pub known : (a : Account) (t : Table) (client : ℕ) (s : Session) → AreSessions a t → session_of t client ≡ Some s → IsSession a client s

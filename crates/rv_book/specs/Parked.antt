@@ -1,5 +1,5 @@
 -- What those who wait are to a list of entries: who is open, in which order, and whose duties are parked.
-use Rattle.std.specs.Prelude.{◌≡◌, ◌<◌, ℕ, List, Option, Some, None, option_and_then, slice_get}
+use Rattle.std.specs.Prelude.{◌≡◌, ℕ, List, Option, Some, None, option_and_then, slice_get}
 use Rattle.rv_text.specs.declared.message.Key.{Key}
 use Rattle.rv_text.specs.declared.call.Wait.{Wait}
 use Rattle.rv_text.specs.declared.call.Side.{Side}
@@ -13,7 +13,7 @@ use Rattle.rv_account.specs.declared.entry.Act.TheVariants.{Hello, Arrive, Cance
 use Rattle.rv_account.specs.declared.entry.Entry.{Entry}
 use Rattle.rv_account.specs.Account.{act_at}
 use Rattle.rv_book.specs.Views.{Waiters, exchanger_at, queue_at, waiting_on}
-use Rattle.rv_book.specs.Waiting.{OpenAt}
+pub use Rattle.rv_rules.specs.Lines.{IsLineOf, IsLine}
 
 -- ---- who is owed what
 
@@ -45,16 +45,6 @@ pub record AreParked (entries : List Entry) (waiters : Waiters) : Type 0 where
       → owed_at entries duty.place ≡ Some duty
 
 -- ---- who waits where
-
--- the places are those with a property, the lowest first
-pub record IsLineOf (P : ℕ → Type 0) (places : List ℕ) : Type 0 where
-  pub are : (i r : ℕ) → slice_get places i ≡ Some r → P r
-  pub each : (r : ℕ) → P r → (i : ℕ) × (slice_get places i ≡ Some r)
-  pub rising : (i j p q : ℕ) → i < j → slice_get places i ≡ Some p → slice_get places j ≡ Some q → p < q
-
--- the places are those of a side's open arrivals, the oldest first
-abbrev pub IsLine : List Entry → Side → List ℕ → Type 0
-IsLine entries side places = IsLineOf (OpenAt entries side) places
 
 -- each side's open arrivals wait, and parked with them are the duties to settle them
 pub record AreWaiters (entries : List Entry) (waiters : Waiters) : Type 0 where

@@ -14,8 +14,8 @@ use Rattle.rv_account.specs.Calls.{may_name}
 use Rattle.rv_book.specs.Legal.{Legal, NamesFreePartners}
 use Rattle.rv_book.specs.Limits.{FitsAct}
 use Rattle.rv_book.specs.Steps.{max_entries}
-use Rattle.rv_book.proofs.Deciding.{find_waiting}
-use Rattle.rv_book.proofs.Places.{within}
+use Rattle.rv_rules.proofs.Deciding.{find_waiting}
+use Rattle.rv_rules.proofs.Places.{within}
 use Rattle.rv_lines.specs.Laws.{BookFitsLines, WrittenAccount}
 use Rattle.rv_lines.specs.Written.{FitPartners, max_partners}
 use Rattle.rv_lines.proofs.ReadBack.{lines_again}

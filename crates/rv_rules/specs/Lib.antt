@@ -5,3 +5,6 @@ pub mod Sessions
 pub mod Legal
 pub mod Replies
 pub mod Steps
+pub mod Limits
+pub mod Order
+pub mod Lines

@@ -19,11 +19,11 @@ use Rattle.rv_account.specs.Calls.{need_of}
 use Rattle.rv_book.specs.Legal.{Legal, WaitsUnder}
 use Rattle.rv_book.specs.Replies.{HasReply}
 use Rattle.rv_book.specs.Steps.{Adds, Answers, ClientsFullDue, EntersOrNoMemory, EpochFullDue, KeyLines, Next, NextAt, RefuseOr, Refuses, Replies, Ticks, step_moment}
-use Rattle.rv_book.proofs.Growing.{act_read, reads_back}
-use Rattle.rv_book.proofs.Legality.{follows_itself}
-use Rattle.rv_book.proofs.Lines.{RefuseOr-elim, WhereElse-elim}
-use Rattle.rv_book.proofs.Naming.{first_among}
-use Rattle.rv_book.proofs.Numbers.{same_or_not}
+use Rattle.rv_rules.proofs.Growing.{act_read, reads_back}
+use Rattle.rv_rules.proofs.Legality.{follows_itself}
+use Rattle.rv_rules.proofs.Lines.{RefuseOr-elim, WhereElse-elim}
+use Rattle.rv_rules.proofs.Naming.{first_among}
+use Rattle.rv_rules.proofs.Numbers.{same_or_not}
 use Rattle.rv_book.proofs.ToldCancelled.{waiting_replies}
 
 -- ---- what is new in the account

@@ -14,8 +14,8 @@ use Rattle.rv_account.proofs.Items.{item_among}
 use Rattle.rv_book.specs.Legal.{Legal}
 use Rattle.rv_book.specs.Replies.{Drains, Meet}
 use Rattle.rv_book.proofs.Drains.{has_items, items_count}
-use Rattle.rv_book.proofs.Keys.{act_called}
-use Rattle.rv_book.proofs.OnePartner.{goes_unnamed}
+use Rattle.rv_rules.proofs.Keys.{act_called}
+use Rattle.rv_rules.proofs.OnePartner.{goes_unnamed}
 use Rattle.rv_world.specs.Headline.{ArrivesAt, HandsOverAt, IsToldAmong}
 
 -- ---- the entry of a drain

@@ -7,7 +7,7 @@ use Rattle.rv_text.specs.declared.message.Key.{Key}
 use Rattle.rv_text.specs.declared.call.Call.{Call}
 use Rattle.rv_account.specs.Account.{Account}
 use Rattle.rv_book.specs.Legal.{Legal}
-use Rattle.rv_book.proofs.Places.{get-append, get-append_cases, get-append_end, within}
+use Rattle.rv_rules.proofs.Places.{get-append, get-append_cases, get-append_end, within}
 use Rattle.rv_world.specs.World.{World, accounts, empty_account, WasAsked}
 use Rattle.rv_world.specs.Headline.{ArrivesAt, LegalAccounts}
 use Rattle.rv_world.specs.Sound.{EpochsRise}

@@ -25,9 +25,9 @@ use Rattle.rv_book.specs.Laws.{CanCancel, CanEnter}
 use Rattle.rv_book.specs.Legal.{Legal, WaitsUnder}
 use Rattle.rv_book.specs.Sessions.{HasIncarnation, LastNumber}
 use Rattle.rv_book.specs.Steps.{Adds, Answers, BusyDue, ClientsFullDue, EntersOrNoMemory, EpochFullDue, GapDue, KeyLines, Next, NextAt, NoSessionDue, OldIncarnationDue, OldNumberDue, OtherCallDue, OtherEpochDue, OtherVersionDue, RefuseOr, Refuses, Repeats, Replies, Ticks, WhereElse, HelloLines, step_moment}
-use Rattle.rv_book.proofs.Deciding.{key_or_other}
+use Rattle.rv_rules.proofs.Deciding.{key_or_other}
 use Rattle.rv_book.proofs.Entering.{cancels_can_enter, hellos_can_enter, requests_can_enter, ticks_can_enter}
-use Rattle.rv_book.proofs.Numbers.{same_or_not}
+use Rattle.rv_rules.proofs.Numbers.{same_or_not}
 use Rattle.rv_book.proofs.Staying.{one_told}
 use Rattle.rv_client.specs.Process.{Process, New, Idle, Outstanding, Starting, Asking, Hears, first_key, key_after}
 use Rattle.rv_client.specs.Process.{cancel_of, hello_of, request_of, SaysNothingFinal}

@@ -13,9 +13,9 @@ use Rattle.rv_text.specs.Limits.{FitsAnswer, FitsIdentifier, FitsKey, FitsMessag
 use Rattle.rv_book.specs.Legal.{Legal}
 use Rattle.rv_book.specs.Limits.{FitsAccount}
 use Rattle.rv_book.specs.Waiting.{Waiting}
-use Rattle.rv_book.proofs.Counting.{number_below}
-use Rattle.rv_book.proofs.FewClients.{few_none}
-use Rattle.rv_book.proofs.Numbers.{same_or_not}
+use Rattle.rv_rules.proofs.Counting.{number_below}
+use Rattle.rv_rules.proofs.FewClients.{few_none}
+use Rattle.rv_rules.proofs.Numbers.{same_or_not}
 use Rattle.rv_text.specs.Members.{max_identifier}
 use Rattle.rv_client.specs.Process.{Process, New, Idle, Outstanding, Starting, cancel_of, first_key, hello_of, key_after, request_of}
 use Rattle.rv_client.specs.Process.{Hears, Outcome, Welcomed, TurnedAway, Settled, EpochEnded, Replaced, Ignored}

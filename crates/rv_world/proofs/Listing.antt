@@ -4,7 +4,7 @@ use Rattle.std.specs.List.{Contains, slice_get}
 use Rattle.std.proofs.lemmas.List.Elements.{Contains-append_left}
 use Rattle.std.proofs.lemmas.Option.{get_or_from_slice_get, none-some, slice_get-get_or}
 use Rattle.rv_text.specs.declared.message.Key.{Key}
-use Rattle.rv_book.proofs.Places.{get-append_cases, within}
+use Rattle.rv_rules.proofs.Places.{get-append_cases, within}
 use Rattle.rv_world.specs.Headline.{GoesOn, HasEachKeyOnce}
 
 pub place_of : {X : Type 0} (xs : List X) (x : X) → Contains xs x → (i : ℕ) × (slice_get xs i ≡ Some x)

@@ -19,10 +19,10 @@ use Rattle.rv_account.specs.Calls.{may_name, opposite}
 use Rattle.rv_book.specs.Legal.{Legal}
 use Rattle.rv_book.specs.Replies.{Drains, GetsItem, HasReply, Meet, RepliesAt, RepliesMet, RepliesUnmet, ToldStopped, told_by}
 use Rattle.rv_book.specs.Waiting.{Met, NamesPartner}
-use Rattle.rv_book.proofs.Fronts.{read_whole}
-use Rattle.rv_book.proofs.Growing.{act_read, call_read, read_there}
-use Rattle.rv_book.proofs.Opposites.{opposite_back}
-use Rattle.rv_book.proofs.OnePartner.{arrives_once, meets_one, partner_open}
+use Rattle.rv_rules.proofs.Fronts.{read_whole}
+use Rattle.rv_rules.proofs.Growing.{act_read, call_read, read_there}
+use Rattle.rv_rules.proofs.Opposites.{opposite_back}
+use Rattle.rv_rules.proofs.OnePartner.{arrives_once, meets_one, partner_open}
 use Rattle.rv_book.proofs.Receipts.{one_taker}
 use Rattle.rv_world.specs.Headline.{ArrivesAt, IsNo, IsPair, IsReceipt, IsToldItem, NamesTaker}
 use Rattle.rv_world.proofs.Drained.{told_among}

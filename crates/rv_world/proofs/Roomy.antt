@@ -22,16 +22,16 @@ use Rattle.rv_book.specs.Legal.{Legal}
 use Rattle.rv_book.specs.Limits.{FitsAccount, FitsAct, FitsEntry}
 use Rattle.rv_book.specs.Steps.{Adds, Next, Ticks, max_moment, own_moment, step_moment}
 use Rattle.rv_book.specs.Waiting.{StoppedAt, Waiting}
-use Rattle.rv_book.proofs.Counting.{number_at_most, number_drop, number_push}
-use Rattle.rv_book.proofs.Deciding.{find_waiting, waits_or_not}
-use Rattle.rv_book.proofs.FewClients.{FewClients, few_still, few_with}
+use Rattle.rv_rules.proofs.Counting.{number_at_most, number_drop, number_push}
+use Rattle.rv_rules.proofs.Deciding.{find_waiting, waits_or_not}
+use Rattle.rv_rules.proofs.FewClients.{FewClients, few_still, few_with}
 use Rattle.rv_book.proofs.Fitting.{step_fits}
-use Rattle.rv_book.proofs.Growing.{call_read, reads_within}
-use Rattle.rv_book.proofs.Keys.{cancel_no_hello, no_hello, tick_no_hello}
+use Rattle.rv_rules.proofs.Growing.{call_read, reads_within}
+use Rattle.rv_rules.proofs.Keys.{cancel_no_hello, no_hello, tick_no_hello}
 use Rattle.rv_book.proofs.Lasting.{lasting_need, need_positive}
-use Rattle.rv_book.proofs.Legality.{follows_itself}
-use Rattle.rv_book.proofs.Places.{get-append_cases}
-use Rattle.rv_book.proofs.Sides.{IsRequestUntil, Waiting-back, cancel_stops, due_until, tick_stops}
+use Rattle.rv_rules.proofs.Legality.{follows_itself}
+use Rattle.rv_rules.proofs.Places.{get-append_cases}
+use Rattle.rv_rules.proofs.Sides.{IsRequestUntil, Waiting-back, cancel_stops, due_until, tick_stops}
 use Rattle.rv_book.proofs.ToldCancelled.{is_under}
 use Rattle.rv_world.proofs.Answered.{HasRoom, HasRoomToHandle, act_of, became_at, next_legal}
 

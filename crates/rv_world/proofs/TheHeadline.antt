@@ -13,10 +13,10 @@ use Rattle.rv_account.specs.Account.{Account, act_at, call_at, call_in, key_in}
 use Rattle.rv_account.specs.Calls.{may_name, opposite}
 use Rattle.rv_book.specs.Legal.{Legal}
 use Rattle.rv_book.specs.Replies.{GetsItem, HasReply, Meet, RepliesAt, RepliesMet}
-use Rattle.rv_book.proofs.CallKinds.{exchanges_item, gives_item}
-use Rattle.rv_book.proofs.Keys.{act_called}
+use Rattle.rv_rules.proofs.CallKinds.{exchanges_item, gives_item}
+use Rattle.rv_rules.proofs.Keys.{act_called}
 use Rattle.rv_book.proofs.Leaving.{items_leave_in_order}
-use Rattle.rv_book.proofs.OnePartner.{arrives_once}
+use Rattle.rv_rules.proofs.OnePartner.{arrives_once}
 use Rattle.rv_world.specs.World.{World, IsAccountOf, WasAsked, first_world}
 use Rattle.rv_world.specs.Headline.{ArrivesAt, Headline, IsExchanged, IsAnswered, IsAssigned, IsDrained, IsGiven, IsReceipt, IsReplyOf, NeverHandedOver, OrderOfArrival, ReceivedMeansAssigned, TrueExchange}
 use Rattle.rv_world.specs.Laws.{HeadlineHolds}

@@ -6,7 +6,7 @@ use Rattle.std.specs.List.{Contains}
 use Rattle.rv_text.specs.declared.message.Key.{Key}
 use Rattle.rv_text.specs.declared.call.Call.{Call}
 use Rattle.rv_text.specs.declared.answer.Reply.{Reply}
-use Rattle.rv_book.proofs.Numbers.{same_or_not}
+use Rattle.rv_rules.proofs.Numbers.{same_or_not}
 use Rattle.rv_client.specs.Process.{Process, New, Idle, Outstanding}
 use Rattle.rv_world.specs.World.{World, IsHeld, WasAsked, process_of}
 use Rattle.rv_world.specs.Events.{OnlyChangesProcess}

@@ -2,7 +2,7 @@ use Rattle.std.proofs.Common.{◌≡◌, sym, ap, ◌∙◌, subst, arith}
 use Rattle.std.proofs.Common.{◌<◌, get_or, inl, inr, length}
 use Rattle.std.proofs.lemmas.Bool.{cases_lt, false≢true}
 use Rattle.std.proofs.lemmas.Option.{get_or_from_slice_get}
-use Rattle.rv_book.proofs.Places.{within}
+use Rattle.rv_rules.proofs.Places.{within}
 use Rattle.rv_audit.specs.Breaking.{BreaksBehind}
 use Rattle.rv_audit.specs.Passed.{passed_account}
 use Rattle.rv_audit.specs.declared.rule.Rule.TheVariants.{M1}

@@ -1,5 +1,5 @@
 use Rattle.rv_audit.proofs.Telling.{taken}
-use Rattle.rv_book.proofs.Deciding.{met_or_not}
+use Rattle.rv_rules.proofs.Deciding.{met_or_not}
 use Rattle.rv_audit.specs.Passed.{passed_account}
 use Rattle.rv_audit.proofs.rules.is_taken.Goals as goal
 

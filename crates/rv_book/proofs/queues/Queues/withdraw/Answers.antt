@@ -4,7 +4,7 @@ use Rattle.std.specs.Prelude.{slice_set}
 use Rattle.rv_dual.specs.Queue.{Queue}
 use Rattle.rv_dual.specs.Withdrawing.{Withdraws}
 use Rattle.rv_book.specs.Views.{OnlyQueue, empty_queue, queue_at}
-use Rattle.rv_book.proofs.Slots.{indexed, set_elsewhere, set_here}
+use Rattle.rv_rules.proofs.Slots.{indexed, set_elsewhere, set_here}
 use Rattle.rv_book.proofs.queues.Queues.withdraw.Goals as goal
 
 pub returns-clause-withdrew : goal.returns-clause-withdrew

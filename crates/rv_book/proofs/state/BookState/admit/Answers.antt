@@ -10,7 +10,7 @@ use Rattle.rv_book.specs.Operations.{EndsIf, NoEntryDue, OpensSession}
 use Rattle.rv_book.specs.Tables.{IsSound, account_of}
 use Rattle.rv_book.proofs.Greeting.{comes_ready, sound_renewed, space_ready, still_known}
 use Rattle.rv_book.proofs.Keeping.{sessions_same, sound_same}
-use Rattle.rv_book.proofs.Lines.{room_left}
+use Rattle.rv_rules.proofs.Lines.{room_left}
 use Rattle.rv_book.proofs.Opening.{may_enter, on_err_any, opens_lower, opens_room, waits_in, waits_there}
 use Rattle.rv_book.proofs.Stepping.{err_gives}
 use Rattle.rv_book.proofs.state.BookState.admit.Goals as goal

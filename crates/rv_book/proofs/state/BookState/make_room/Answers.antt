@@ -2,7 +2,7 @@
 use Rattle.std.proofs.Common.{inl, inr, ◌+◌, ◌<◌, ◌≤◌, length, option_map, arith}
 use Rattle.rv_book.specs.Operations.{LacksRoom, NoEntryDue, OnlyFor}
 use Rattle.rv_book.specs.Tables.{account_of}
-use Rattle.rv_book.proofs.Lines.{room_left}
+use Rattle.rv_rules.proofs.Lines.{room_left}
 use Rattle.rv_book.proofs.Stepping.{err_gives}
 use Rattle.rv_book.proofs.state.BookState.make_room.Goals as goal
 

@@ -4,7 +4,7 @@ use Rattle.rv_account.specs.Calls.{need_of}
 use Rattle.rv_book.specs.Operations.{HasSpace, LacksRoom, LacksRoomFor, NoEntryDue, OnlyFor}
 use Rattle.rv_book.specs.Tables.{account_of}
 use Rattle.rv_book.proofs.Lacking.{deadline_lacking, names_lacking}
-use Rattle.rv_book.proofs.Lines.{room_left}
+use Rattle.rv_rules.proofs.Lines.{room_left}
 use Rattle.rv_book.proofs.Stepping.{err_gives}
 use Rattle.rv_book.proofs.state.BookState.prepare.Goals as goal
 

@@ -10,7 +10,7 @@ use Rattle.rv_book.specs.Tables.{account_of}
 use Rattle.rv_account.specs.Account.{just}
 use Rattle.rv_book.proofs.Counts.{count_replies}
 use Rattle.rv_book.proofs.Drains.{will_drain}
-use Rattle.rv_book.proofs.Opposites.{looks_alone}
+use Rattle.rv_rules.proofs.Opposites.{looks_alone}
 use Rattle.rv_book.proofs.Peeks.{peek_finds_none, peek_replies}
 use Rattle.rv_book.proofs.Puts.{put_replies}
 use Rattle.rv_book.proofs.Swaps.{swap_replies, swap_unmet}

@@ -8,13 +8,13 @@ use Rattle.std.proofs.lemmas.List.{get_or_append_left, get_or_default, get_or_pu
 use Rattle.std.proofs.lemmas.List.Elements.{Contains-append_left, Contains-get_or, Contains-push, Contains-push_cases}
 use Rattle.std.proofs.lemmas.List.Kept.{AllPairs-from_increasing}
 use Rattle.std.proofs.lemmas.Option.{get_or_from_slice_get, none-some, same_Some, slice_get-get_or}
-use Rattle.rv_book.proofs.Numbers.{first_below, same_or_not}
+use Rattle.rv_rules.proofs.Numbers.{first_below, same_or_not}
 use Rattle.rv_text.specs.declared.call.Side.{Side}
 use Rattle.rv_account.specs.declared.entry.Entry.{Entry}
-use Rattle.rv_book.specs.Counting.{NumberOf}
-use Rattle.rv_book.specs.Parked.{IsLine}
-use Rattle.rv_book.specs.Waiting.{OpenAt}
-use Rattle.rv_book.proofs.Places.{within}
+use Rattle.rv_rules.specs.Counting.{NumberOf}
+use Rattle.rv_rules.specs.Lines.{IsLine}
+use Rattle.rv_rules.specs.Waiting.{OpenAt}
+use Rattle.rv_rules.proofs.Places.{within}
 
 -- ---- a property that has the same places
 

@@ -10,15 +10,15 @@ use Rattle.rv_text.specs.declared.call.Call.{Call}
 use Rattle.rv_account.specs.declared.entry.Entry.{Entry}
 use Rattle.rv_account.specs.declared.entry.Act.TheVariants.{Arrive, Hello}
 use Rattle.rv_account.specs.Account.{Account, act_at, call_at, key_at, key_in}
-use Rattle.rv_book.specs.Legal.{Legal}
-use Rattle.rv_book.specs.Sessions.{AskedIn, HasIncarnation, HasOpened}
-use Rattle.rv_book.specs.Waiting.{Waiting}
-use Rattle.rv_book.proofs.Fronts.{read_front, read_whole}
-use Rattle.rv_book.proofs.Growing.{act_read, reads_on, reads_within}
-use Rattle.rv_book.proofs.Histories.{one_last_hello}
-use Rattle.rv_book.proofs.Keys.{LastHello-on, act_called, key_read}
-use Rattle.rv_book.proofs.Places.{get-append_end, get-append_within}
-use Rattle.rv_book.proofs.Waits.{arrival, no_hello_behind}
+use Rattle.rv_rules.specs.Legal.{Legal}
+use Rattle.rv_rules.specs.Sessions.{AskedIn, HasIncarnation, HasOpened}
+use Rattle.rv_rules.specs.Waiting.{Waiting}
+use Rattle.rv_rules.proofs.Fronts.{read_front, read_whole}
+use Rattle.rv_rules.proofs.Growing.{act_read, reads_on, reads_within}
+use Rattle.rv_rules.proofs.Histories.{one_last_hello}
+use Rattle.rv_rules.proofs.Keys.{LastHello-on, act_called, key_read}
+use Rattle.rv_rules.proofs.Places.{get-append_end, get-append_within}
+use Rattle.rv_rules.proofs.Waits.{arrival, no_hello_behind}
 
 -- ---- a session's version
 

@@ -8,14 +8,14 @@ use Rattle.rv_text.specs.declared.version.Version.{Version}
 use Rattle.rv_account.specs.declared.entry.Act.TheVariants.{Hello}
 use Rattle.rv_account.specs.declared.entry.Entry.{Entry}
 use Rattle.rv_account.specs.Account.{Account, act_at}
-use Rattle.rv_book.specs.Counting.{NumberOf}
-use Rattle.rv_book.specs.Sessions.{SaidHello}
-use Rattle.rv_book.specs.Steps.{ClientsFullDue, max_clients}
-use Rattle.rv_book.proofs.Counting.{number_at_most, number_below, number_drop}
-use Rattle.rv_book.proofs.Deciding.{find_clients, said_or_not}
-use Rattle.rv_book.proofs.Growing.{act_read, reads_back, reads_on}
-use Rattle.rv_book.proofs.Keys.{hello_is_own}
-use Rattle.rv_book.proofs.Places.{get-append_end}
+use Rattle.rv_rules.specs.Counting.{NumberOf}
+use Rattle.rv_rules.specs.Sessions.{SaidHello}
+use Rattle.rv_rules.specs.Steps.{ClientsFullDue, max_clients}
+use Rattle.rv_rules.proofs.Counting.{number_at_most, number_below, number_drop}
+use Rattle.rv_rules.proofs.Deciding.{find_clients, said_or_not}
+use Rattle.rv_rules.proofs.Growing.{act_read, reads_back, reads_on}
+use Rattle.rv_rules.proofs.Keys.{hello_is_own}
+use Rattle.rv_rules.proofs.Places.{get-append_end}
 
 abbrev pub FewClients : List Entry → Type 0
 FewClients es = (clients : ℕ) → NumberOf (SaidHello es) clients → clients ≤ max_clients

@@ -7,15 +7,15 @@ use Rattle.rv_account.specs.declared.entry.Entry.{Entry}
 use Rattle.rv_text.specs.declared.call.Side.{Side}
 use Rattle.std.proofs.lemmas.Option.{same_Some}
 use Rattle.rv_text.specs.Calls.{side_of}
-use Rattle.rv_book.specs.Legal.{IsDueAt, Legal, NamesFreePartners}
-use Rattle.rv_book.specs.Waiting.{EndsWait, HasElapsed, Met, NamesPartner, Open, OpenAt, SideAt, Stopped, StoppedAt, Waiting, limit_at}
-use Rattle.rv_book.proofs.Growing.{NamesAt-last, NamesPartner-back, Open-back, Open-on, act_read, call_read, limit_on, reads_back, reads_on, reads_within}
+use Rattle.rv_rules.specs.Legal.{IsDueAt, Legal, NamesFreePartners}
+use Rattle.rv_rules.specs.Waiting.{EndsWait, HasElapsed, Met, NamesPartner, Open, OpenAt, SideAt, Stopped, StoppedAt, Waiting, limit_at}
+use Rattle.rv_rules.proofs.Growing.{NamesAt-last, NamesPartner-back, Open-back, Open-on, act_read, call_read, limit_on, reads_back, reads_on, reads_within}
 use Rattle.rv_account.specs.Calls.{IsPut, Stays}
 use Rattle.rv_account.specs.declared.entry.Act.TheVariants.{Arrive, Cancel, Hello, Tick}
 use Rattle.rv_text.specs.declared.message.Key.{Key}
-use Rattle.rv_book.proofs.Keys.{act_called}
-use Rattle.rv_book.proofs.Naming.{just_none}
-use Rattle.rv_book.proofs.Places.{get-append_cases, get-append_end}
+use Rattle.rv_rules.proofs.Keys.{act_called}
+use Rattle.rv_rules.proofs.Naming.{just_none}
+use Rattle.rv_rules.proofs.Places.{get-append_cases, get-append_end}
 
 pub SideAt-on : (es more : List Entry) (side : Side) (r : ℕ) → SideAt es side r → SideAt (es ++ more) side r
 SideAt-on es more side r h = record { call = h.call; arrived = reads_on call_read refl es more r h.call h.arrived; is = h.is }

@@ -5,12 +5,12 @@ use Rattle.std.proofs.lemmas.Bool.{cases_order}
 use Rattle.std.proofs.lemmas.Option.{same_Some}
 use Rattle.rv_text.specs.declared.answer.Reply.{Reply}
 use Rattle.rv_account.specs.declared.entry.Entry.{Entry}
-use Rattle.rv_book.specs.Replies.{FirstStop, ToldStopped, told_by}
-use Rattle.rv_book.specs.Waiting.{Stopped, StoppedAt}
-use Rattle.rv_book.proofs.Deciding.{stops_or_not}
-use Rattle.rv_book.proofs.Growing.{StoppedAt-back, StoppedAt-on}
-use Rattle.rv_book.proofs.Numbers.{first_below}
-use Rattle.rv_book.proofs.Places.{get-append_end, within}
+use Rattle.rv_rules.specs.Replies.{FirstStop, ToldStopped, told_by}
+use Rattle.rv_rules.specs.Waiting.{Stopped, StoppedAt}
+use Rattle.rv_rules.proofs.Deciding.{stops_or_not}
+use Rattle.rv_rules.proofs.Growing.{StoppedAt-back, StoppedAt-on}
+use Rattle.rv_rules.proofs.Numbers.{first_below}
+use Rattle.rv_rules.proofs.Places.{get-append_end, within}
 
 -- ---- it is there, if anything stops the request
 

@@ -5,20 +5,20 @@ use Rattle.rv_account.specs.declared.entry.Act.TheVariants.{Arrive, Hello}
 use Rattle.rv_text.specs.declared.call.Call.{Call}
 use Rattle.rv_text.specs.declared.version.Version.{Version}
 use Rattle.rv_account.specs.declared.entry.Entry.{Entry}
-use Rattle.rv_book.specs.Sessions.{HasIncarnation}
-use Rattle.rv_book.specs.Legal.{IsNextNumber, IsOpenOpposite, Legal, before}
+use Rattle.rv_rules.specs.Sessions.{HasIncarnation}
+use Rattle.rv_rules.specs.Legal.{IsNextNumber, IsOpenOpposite, Legal, before}
 use Rattle.rv_text.specs.declared.message.Key.{Key}
 use Rattle.std.proofs.Common.{Option, Some, ap, arith, inl, inr, length, option_and_then, refl, subst, sym, take, ℕ, ◌+◌, ◌<◌, ◌∙◌, ◌≡◌, ◌≤◌}
-use Rattle.rv_book.specs.Replies.{Meet}
-use Rattle.rv_book.specs.Waiting.{Met, NamesPartner}
+use Rattle.rv_rules.specs.Replies.{Meet}
+use Rattle.rv_rules.specs.Waiting.{Met, NamesPartner}
 use Rattle.rv_account.specs.Calls.{Stays, may_name}
-use Rattle.rv_book.proofs.Growing.{act_read, call_read, read_there}
+use Rattle.rv_rules.proofs.Growing.{act_read, call_read, read_there}
 use Rattle.std.proofs.lemmas.Bool.{cases_order}
-use Rattle.rv_book.proofs.Keys.{key_read}
-use Rattle.rv_book.proofs.Naming.{one_among}
-use Rattle.rv_book.proofs.Fronts.{Legal-before, names_in_front, naming, read_front, read_whole}
-use Rattle.rv_book.proofs.Histories.{one_last_hello}
-use Rattle.rv_book.proofs.Sides.{partner_before}
+use Rattle.rv_rules.proofs.Keys.{key_read}
+use Rattle.rv_rules.proofs.Naming.{one_among}
+use Rattle.rv_rules.proofs.Fronts.{Legal-before, names_in_front, naming, read_front, read_whole}
+use Rattle.rv_rules.proofs.Histories.{one_last_hello}
+use Rattle.rv_rules.proofs.Sides.{partner_before}
 use Rattle.std.proofs.lemmas.Option.{none-some, same_Some}
 use Rattle.std.specs.List.{slice_get}
 

@@ -5,10 +5,10 @@ use Rattle.rv_account.specs.declared.entry.Act.TheVariants.{Arrive, Cancel, Hell
 use Rattle.rv_text.specs.declared.call.Call.{Call}
 use Rattle.rv_text.specs.declared.version.Version.{Version}
 use Rattle.rv_account.specs.declared.entry.Entry.{Entry}
-use Rattle.rv_book.specs.Sessions.{LastHello, NamesKey}
+use Rattle.rv_rules.specs.Sessions.{LastHello, NamesKey}
 use Rattle.rv_text.specs.declared.message.Key.{Key}
 use Rattle.std.proofs.Common.{List, None, Option, Some, [], ap, inl, inr, length, option_and_then, refl, ℕ, ◌++◌, ◌∙◌, ◌∷◌, ◌≡◌, ◌⊎◌}
-use Rattle.rv_book.proofs.Growing.{act_read, reads_back, reads_on}
+use Rattle.rv_rules.proofs.Growing.{act_read, reads_back, reads_on}
 use Rattle.std.proofs.lemmas.Option.{none-some, same_Some}
 
 abbrev pub key_read : Option Entry → Option Key

@@ -3,11 +3,11 @@ use Rattle.std.proofs.Common.{◌≡◌, ℕ, zero, suc, ◌<◌, ◌≤◌, Lis
 use Rattle.std.specs.List.{slice_get}
 use Rattle.rv_account.specs.declared.entry.Entry.{Entry}
 use Rattle.rv_account.specs.Account.{Account, Names, NamesAt}
-use Rattle.rv_book.specs.Waiting.{Met, NamesPartner, Open, Stopped, Waiting}
-use Rattle.rv_book.specs.Legal.{Legal, MayFollow, before}
-use Rattle.rv_book.proofs.Places.{get-take}
+use Rattle.rv_rules.specs.Waiting.{Met, NamesPartner, Open, Stopped, Waiting}
+use Rattle.rv_rules.specs.Legal.{Legal, MayFollow, before}
+use Rattle.rv_rules.proofs.Places.{get-take}
 use Rattle.std.proofs.lemmas.List.{take-append-drop}
-use Rattle.rv_book.proofs.Growing.{Met-on, Open-back, Stopped-on, call_read, reads_within}
+use Rattle.rv_rules.proofs.Growing.{Met-on, Open-back, Stopped-on, call_read, reads_within}
 
 -- a front and what follows it up to a longer front
 pub longer_front : {X : Type 0} (xs : List X) (m n : ℕ) → m ≤ n → take m xs ++ drop m (take n xs) ≡ take n xs

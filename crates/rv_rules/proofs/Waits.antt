@@ -9,12 +9,12 @@ use Rattle.rv_text.specs.declared.version.Version.{Version}
 use Rattle.rv_account.specs.declared.entry.Act.TheVariants.{Hello, Arrive, Cancel}
 use Rattle.rv_account.specs.Account.{Account, act_at, key_in, call_in}
 use Rattle.rv_account.specs.Calls.{IsPut}
-use Rattle.rv_book.specs.Sessions.{HasIncarnation, LastHello, LastNumber, NamesKey}
-use Rattle.rv_book.specs.Legal.{IsNextNumber, Legal, WaitsUnder, before}
-use Rattle.rv_book.specs.Waiting.{EndsWait, Waiting, limit_at}
-use Rattle.rv_book.proofs.Growing.{act_read, read_there}
-use Rattle.rv_book.proofs.Keys.{act_arrives, act_named, key_read, no_hello}
-use Rattle.rv_book.proofs.Fronts.{Legal-before, read_front, read_whole, waiting_in_front}
+use Rattle.rv_rules.specs.Sessions.{HasIncarnation, LastHello, LastNumber, NamesKey}
+use Rattle.rv_rules.specs.Legal.{IsNextNumber, Legal, WaitsUnder, before}
+use Rattle.rv_rules.specs.Waiting.{EndsWait, Waiting, limit_at}
+use Rattle.rv_rules.proofs.Growing.{act_read, read_there}
+use Rattle.rv_rules.proofs.Keys.{act_arrives, act_named, key_read, no_hello}
+use Rattle.rv_rules.proofs.Fronts.{Legal-before, read_front, read_whole, waiting_in_front}
 
 -- what a legal account says of the arrival at r, of those before it
 pub record IsArrival (a : Account) (r : ℕ) (key : Key) : Type 0 where

@@ -4,8 +4,8 @@ use Rattle.std.proofs.lemmas.List.{take-append-le}
 use Rattle.std.proofs.Math.Seq.{take-append_seam}
 use Rattle.rv_account.specs.declared.entry.Entry.{Entry}
 use Rattle.rv_account.specs.Account.{Account, with_entry}
-use Rattle.rv_book.specs.Legal.{Legal, MayFollow}
-use Rattle.rv_book.proofs.Places.{get-append_cases, get-append_end}
+use Rattle.rv_rules.specs.Legal.{Legal, MayFollow}
+use Rattle.rv_rules.proofs.Places.{get-append_cases, get-append_end}
 
 pub Legal-with_entry : (a : Account) (e : Entry) → Legal a → MayFollow a e → Legal (with_entry a e)
 Legal-with_entry a e legal follows j x there =

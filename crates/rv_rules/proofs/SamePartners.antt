@@ -11,13 +11,13 @@ use Rattle.rv_text.specs.declared.call.Call.{Call}
 use Rattle.rv_account.specs.declared.entry.Entry.{Entry}
 use Rattle.rv_account.specs.Account.{Account, Among, Names, call_in}
 use Rattle.rv_account.specs.Calls.{MayMeet, may_name}
-use Rattle.rv_book.specs.Counting.{NumberOf}
-use Rattle.rv_book.specs.Legal.{IsOpenOpposite, MayFollow}
-use Rattle.rv_book.specs.Waiting.{OpenAt}
-use Rattle.rv_book.proofs.Counting.{no_earlier, number_at_most, number_push}
-use Rattle.rv_book.proofs.Naming.{among_or_not}
-use Rattle.rv_book.proofs.Numbers.{same_or_not}
-use Rattle.rv_book.proofs.Places.{within}
+use Rattle.rv_rules.specs.Counting.{NumberOf}
+use Rattle.rv_rules.specs.Legal.{IsOpenOpposite, MayFollow}
+use Rattle.rv_rules.specs.Waiting.{OpenAt}
+use Rattle.rv_rules.proofs.Counting.{no_earlier, number_at_most, number_push}
+use Rattle.rv_rules.proofs.Naming.{among_or_not}
+use Rattle.rv_rules.proofs.Numbers.{same_or_not}
+use Rattle.rv_rules.proofs.Places.{within}
 
 -- ---- places that rise
 

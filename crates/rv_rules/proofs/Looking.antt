@@ -10,8 +10,8 @@ use Rattle.rv_text.specs.Calls.{side_of}
 use Rattle.rv_account.specs.declared.entry.Entry.{Entry}
 use Rattle.rv_account.specs.Account.{call_at}
 use Rattle.rv_account.specs.Calls.{opposite}
-use Rattle.rv_book.specs.Waiting.{Waiting}
-use Rattle.rv_book.proofs.Growing.{call_read, reads_within}
+use Rattle.rv_rules.specs.Waiting.{Waiting}
+use Rattle.rv_rules.proofs.Growing.{call_read, reads_within}
 
 pub same_before : (es more : List Entry) (r : ℕ) (call : Call) → call_at es r ≡ Some call → take r es ≡ take r (es ++ more)
 same_before es more r call arrived =

@@ -7,8 +7,8 @@ use Rattle.rv_account.specs.declared.entry.Entry.{Entry}
 use Rattle.rv_account.specs.declared.entry.Act.{Act}
 use Rattle.rv_account.specs.declared.entry.Act.TheVariants.{Arrive}
 use Rattle.rv_account.specs.Account.{Names, NamesAt, act_at, call_at, call_in}
-use Rattle.rv_book.specs.Waiting.{NamesPartner, Met, limit_in, limit_at, EndsWait, StoppedAt, Stopped, Open}
-use Rattle.rv_book.proofs.Places.{get-append, get-append_within, get-append_cases, get-append_end, within}
+use Rattle.rv_rules.specs.Waiting.{NamesPartner, Met, limit_in, limit_at, EndsWait, StoppedAt, Stopped, Open}
+use Rattle.rv_rules.proofs.Places.{get-append, get-append_within, get-append_cases, get-append_end, within}
 
 -- ---- what is read at a place, by a reading that gives nothing where nothing stands
 

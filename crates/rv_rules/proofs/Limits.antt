@@ -2,14 +2,14 @@
 use Rattle.rv_account.specs.declared.entry.Act as act
 use Rattle.rv_account.specs.declared.entry.Act.{Act}
 use Rattle.rv_account.specs.Account.{Account, act_at, call_in, key_in}
-use Rattle.rv_book.specs.Limits.{FitsAccount, FitsAct}
+use Rattle.rv_rules.specs.Limits.{FitsAccount, FitsAct}
 use Rattle.rv_text.specs.declared.call.Call.{Call}
 use Rattle.rv_text.specs.declared.message.Key.{Key}
 use Rattle.rv_text.specs.Limits.{FitsCall, FitsKey}
 use Rattle.std.proofs.Common.{None, Option, Some, option_and_then, refl, subst, ℕ, ◌≡◌}
 use Rattle.std.proofs.lemmas.Option.{none-some, same_Some}
 use Rattle.std.specs.List.{slice_get}
-use Rattle.rv_book.proofs.Growing.{act_read, read_there}
+use Rattle.rv_rules.proofs.Growing.{act_read, read_there}
 
 pub act_fits : (a : Account) (r : ℕ) (does : Act) → FitsAccount a → act_at a.entries r ≡ Some does → FitsAct does
 act_fits a r does fits there =

@@ -1,19 +1,19 @@
 -- Which line of a step decides.
 use Rattle.rv_account.specs.Account.{Account}
 use Rattle.rv_text.specs.declared.answer.Refusal.TheVariants.{EpochFull, Gap, NoSession, OldIncarnation, OldNumber, OtherEpoch, OtherVersion, Busy}
-use Rattle.rv_book.specs.Steps.{EpochFullDue, GapDue, KeyLines, NoSessionDue, OldIncarnationDue, OldNumberDue, OtherEpochDue, OtherVersionDue, RefuseOr, WhereElse, BusyDue}
-use Rattle.rv_book.specs.Sessions.{HasIncarnation, HasOnlyLower, HasOpened, LastNumber}
+use Rattle.rv_rules.specs.Steps.{EpochFullDue, GapDue, KeyLines, NoSessionDue, OldIncarnationDue, OldNumberDue, OtherEpochDue, OtherVersionDue, RefuseOr, WhereElse, BusyDue}
+use Rattle.rv_rules.specs.Sessions.{HasIncarnation, HasOnlyLower, HasOpened, LastNumber}
 use Rattle.rv_text.specs.declared.message.Key.{Key}
 use Rattle.rv_text.specs.declared.version.Version.{Version}
 use Rattle.rv_text.specs.declared.answer.Refusal.{Refusal}
 use Rattle.std.proofs.Common.{arith, inl, length, refl, ℕ, ◌+◌, ◌<◌, ◌≡◌, ◌≤◌, inr, ◌⊎◌}
-use Rattle.rv_book.specs.Counting.{NumberOf}
-use Rattle.rv_book.specs.Waiting.{Waiting}
-use Rattle.rv_book.proofs.Counting.{one_number}
-use Rattle.rv_book.proofs.Histories.{one_incarnation, one_last_number}
-use Rattle.rv_book.proofs.Versions.{one_opened}
-use Rattle.rv_book.specs.Legal.{HasWaiting}
-use Rattle.rv_book.proofs.NextKeys.{IsNext}
+use Rattle.rv_rules.specs.Counting.{NumberOf}
+use Rattle.rv_rules.specs.Waiting.{Waiting}
+use Rattle.rv_rules.proofs.Counting.{one_number}
+use Rattle.rv_rules.proofs.Histories.{one_incarnation, one_last_number}
+use Rattle.rv_rules.proofs.Versions.{one_opened}
+use Rattle.rv_rules.specs.Legal.{HasWaiting}
+use Rattle.rv_rules.proofs.NextKeys.{IsNext}
 
 not_other_epoch : (a : Account) (key : Key) → key.epoch ≡ a.epoch → (refusal : Refusal) → OtherEpochDue a key refusal → ⊥
 not_other_epoch a key same refusal due = due.0 same

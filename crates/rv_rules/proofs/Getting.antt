@@ -8,13 +8,13 @@ use Rattle.rv_text.specs.Limits.{FitsItem}
 use Rattle.rv_text.proofs.Kept.{item_fits}
 use Rattle.rv_account.specs.declared.entry.Entry.{Entry}
 use Rattle.rv_account.specs.Account.{Account, act_at, call_at, call_in}
-use Rattle.rv_book.specs.Legal.{Legal}
-use Rattle.rv_book.specs.Limits.{FitsAccount}
-use Rattle.rv_book.specs.Replies.{GetsItem, Meet}
-use Rattle.rv_book.specs.Waiting.{Met}
-use Rattle.rv_book.proofs.Growing.{NamesPartner-on, call_read, reads_on}
-use Rattle.rv_book.proofs.Limits.{act_fits, act_there, call_of_act}
-use Rattle.rv_book.proofs.OnePartner.{meets_one}
+use Rattle.rv_rules.specs.Legal.{Legal}
+use Rattle.rv_rules.specs.Limits.{FitsAccount}
+use Rattle.rv_rules.specs.Replies.{GetsItem, Meet}
+use Rattle.rv_rules.specs.Waiting.{Met}
+use Rattle.rv_rules.proofs.Growing.{NamesPartner-on, call_read, reads_on}
+use Rattle.rv_rules.proofs.Limits.{act_fits, act_there, call_of_act}
+use Rattle.rv_rules.proofs.OnePartner.{meets_one}
 
 pub Meet-on : (es more : List Entry) (r s : ℕ) → Meet es r s → Meet (es ++ more) r s
 Meet-on es more r s (inl names) = inl (NamesPartner-on es more r s names)

@@ -14,16 +14,16 @@ use Rattle.rv_account.specs.declared.entry.Act.TheVariants.{Arrive}
 use Rattle.rv_account.specs.declared.entry.Entry.{Entry}
 use Rattle.rv_account.specs.Account.{Among, call_at, entry}
 use Rattle.rv_account.specs.Calls.{may_name, opposite}
-use Rattle.rv_book.specs.Counting.{NumberOf}
-use Rattle.rv_book.specs.Legal.{IsFreePartner, IsOpenOpposite, KeepsPairs}
-use Rattle.rv_book.specs.Waiting.{OpenAt, SideAt}
-use Rattle.rv_book.proofs.Counting.{find_number, later_is_greater}
-use Rattle.rv_book.proofs.Deciding.{open_by}
-use Rattle.rv_book.proofs.Growing.{call_read, reads_within}
-use Rattle.rv_book.proofs.Naming.{among_none, just_rises}
-use Rattle.rv_book.proofs.Places.{get-take, within}
-use Rattle.rv_book.proofs.SamePartners.{among_contains, contains_among}
-use Rattle.rv_book.proofs.Sides.{one_side}
+use Rattle.rv_rules.specs.Counting.{NumberOf}
+use Rattle.rv_rules.specs.Legal.{IsFreePartner, IsOpenOpposite, KeepsPairs}
+use Rattle.rv_rules.specs.Waiting.{OpenAt, SideAt}
+use Rattle.rv_rules.proofs.Counting.{find_number, later_is_greater}
+use Rattle.rv_rules.proofs.Deciding.{open_by}
+use Rattle.rv_rules.proofs.Growing.{call_read, reads_within}
+use Rattle.rv_rules.proofs.Naming.{among_none, just_rises}
+use Rattle.rv_rules.proofs.Places.{get-take, within}
+use Rattle.rv_rules.proofs.SamePartners.{among_contains, contains_among}
+use Rattle.rv_rules.proofs.Sides.{one_side}
 
 -- ---- fronts of places that rise
 

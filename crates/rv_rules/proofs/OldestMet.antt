@@ -3,7 +3,7 @@ use Rattle.std.specs.Prelude.{◌≡◌, ℕ, List, Option, Some, None}
 use Rattle.rv_text.specs.declared.call.Side.{Side}
 use Rattle.rv_account.specs.declared.entry.Entry.{Entry}
 use Rattle.rv_account.specs.Calls.{opposite}
-use Rattle.rv_book.specs.Waiting.{IsOldest, OpenAt}
+use Rattle.rv_rules.specs.Waiting.{IsOldest, OpenAt}
 
 -- the partner is the oldest open arrival of the side that a call of this side meets; none where none is open
 abbrev pub MeetsOldest : List Entry → Side → Option ℕ → Type 0

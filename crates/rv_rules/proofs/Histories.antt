@@ -7,10 +7,10 @@ use Rattle.rv_text.specs.declared.version.Version.{Version}
 use Rattle.rv_account.specs.declared.entry.Entry.{Entry}
 use Rattle.rv_account.specs.declared.entry.Act.TheVariants.{Hello}
 use Rattle.rv_account.specs.Account.{Account, act_at}
-use Rattle.rv_book.specs.Sessions.{LastHello, HasIncarnation, LastNumber}
-use Rattle.rv_book.specs.Legal.{Legal}
-use Rattle.rv_book.proofs.Places.{get-take}
-use Rattle.rv_book.proofs.Growing.{read_there, act_read}
+use Rattle.rv_rules.specs.Sessions.{LastHello, HasIncarnation, LastNumber}
+use Rattle.rv_rules.specs.Legal.{Legal}
+use Rattle.rv_rules.proofs.Places.{get-take}
+use Rattle.rv_rules.proofs.Growing.{read_there, act_read}
 
 pub one_last_hello : (es : List Entry) (c i j g h : ℕ) → LastHello es c i g → LastHello es c j h → g ≡ h
 one_last_hello es c i j g h first second =

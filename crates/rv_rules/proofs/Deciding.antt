@@ -6,27 +6,27 @@ use Rattle.rv_text.specs.declared.call.Call.{Call}
 use Rattle.rv_text.specs.declared.version.Version.{Version}
 use Rattle.rv_account.specs.declared.entry.Entry.{Entry}
 use Rattle.rv_text.specs.declared.call.Side.TheVariants.{Exchanges, Gives, Looks, Takes}
-use Rattle.rv_book.specs.Sessions.{HasIncarnation, LastHello, LastNumber, NamesKey, SaidHello}
+use Rattle.rv_rules.specs.Sessions.{HasIncarnation, LastHello, LastNumber, NamesKey, SaidHello}
 use Rattle.rv_text.specs.declared.message.Key.{Key}
 use Rattle.rv_account.specs.Calls.{IsPut, Lasts, MayMeet, Stays, opposite}
-use Rattle.rv_book.specs.Waiting.{EndsWait, HasElapsed, IsOldest, Met, NamesPartner, Open, OpenAt, Stopped, StoppedAt, Waiting, limit_at}
+use Rattle.rv_rules.specs.Waiting.{EndsWait, HasElapsed, IsOldest, Met, NamesPartner, Open, OpenAt, Stopped, StoppedAt, Waiting, limit_at}
 use Rattle.rv_text.specs.declared.call.Wait.TheVariants.{Now, Millis, Forever}
 use Rattle.rv_text.specs.declared.call.Side.{Side}
 use Rattle.rv_text.specs.declared.call.Wait.{Wait}
 use Rattle.rv_account.specs.Account.{Among, act_at, call_at, key_at}
-use Rattle.rv_book.proofs.Growing.{act_read, call_read, reads_within}
+use Rattle.rv_rules.proofs.Growing.{act_read, call_read, reads_within}
 use Rattle.std.proofs.lemmas.Bool.{cases_lt}
-use Rattle.rv_book.proofs.Places.{within}
-use Rattle.rv_book.proofs.Numbers.{first_below, last_below, same_or_not}
+use Rattle.rv_rules.proofs.Places.{within}
+use Rattle.rv_rules.proofs.Numbers.{first_below, last_below, same_or_not}
 use Rattle.std.specs.Prelude.{is_some}
-use Rattle.rv_book.proofs.Naming.{among_named, among_none, among_or_not, first_among, named_among, partners_of}
-use Rattle.rv_book.proofs.Keys.{key_read, client_of, hello_is_own, cancel_no_hello, no_hello, same_hello, tick_no_hello}
+use Rattle.rv_rules.proofs.Naming.{among_named, among_none, among_or_not, first_among, named_among, partners_of}
+use Rattle.rv_rules.proofs.Keys.{key_read, client_of, hello_is_own, cancel_no_hello, no_hello, same_hello, tick_no_hello}
 use Rattle.std.proofs.lemmas.Option.{none-some, same_Some}
 use Rattle.rv_text.specs.Calls.{side_of, wait_of}
-use Rattle.rv_book.specs.Legal.{HasWaiting}
+use Rattle.rv_rules.specs.Legal.{HasWaiting}
 use Rattle.std.specs.List.{slice_get}
-use Rattle.rv_book.specs.Counting.{NumberOf}
-use Rattle.rv_book.proofs.Counting.{find_number}
+use Rattle.rv_rules.specs.Counting.{NumberOf}
+use Rattle.rv_rules.proofs.Counting.{find_number}
 
 -- ---- sessions
 
