@@ -33,16 +33,6 @@ key_behind_on key n = let same : key.number + n + 1 ≡ key.number + (n + 1) = o
 pub key_next : (key : Key) → key.number < max_identifier → key_after key ≡ Some (key_behind key 1)
 key_next key less = ap (λ b. if b then Some (key_behind key 1) else None) (lt-ltb key.number max_identifier less)
 
--- a welcome in an epoch leaves numbers for an input's lines
-pub first_numbers : (starting : Starting) (epoch bytes : ℕ) (idle : Option Key) → FitsIdentifier starting.client → FitsIdentifier starting.incarnation → FitsIdentifier epoch
-    → idle ≡ Some (first_key starting epoch) → bytes ≤ 536870912 → HasNumbers idle bytes
-first_numbers starting epoch bytes idle client incarnation fits is few = record {
-  key = first_key starting epoch;
-  is_next = is;
-  fits = (fits, client, incarnation, (omega arith, omega arith));
-  room = omega (arith, few);
-}
-
 -- a request that is settled leaves them for fewer
 pub numbers_more : (idle next : Option Key) (bytes fewer : ℕ) → HasNumbers idle bytes → IfSome idle (λ key. next ≡ key_after key) → fewer < bytes → HasNumbers next fewer
 numbers_more idle next bytes fewer has after less =

@@ -38,7 +38,3 @@ module _ (m : Marks) (number : ℕ) (places : List ℕ) where
         | inr behind ↦ absurd (false≢true (sym (some.next p behind less) ∙ there))
       ],
     )
-
-    pub fewer_left : (found : Option ℕ) → place < 18446744073709551616 → IfSome found (IsNextMark m number place) → left_from found < left_from (Some place)
-    fewer_left None fits some = omega arith
-    fewer_left (Some q) fits some = let behind : place < q = some.behind in omega arith

@@ -153,9 +153,6 @@ took_out start old new moment place is out due =
 
 -- ---- one place at most
 
-gone_none : (r : ℕ) → none_gone r ≡ gone_at None r
-gone_none r = refl
-
 pub gone_one : (place r : ℕ) → with_gone none_gone place r ≡ gone_at (Some place) r
 gone_one place r = by_value (nat_eq r place)
   where

@@ -167,28 +167,10 @@ taken a p false legal met free = (λ t. by_met met, λ no_free. refl)
     by_met (inl is) = inr (met_is_named a.entries p is)
     by_met (inr unmet) = past (cases_lt p (length a.entries)) unmet
 
--- who meets names what is taken, and who doesn't names anything
-pub who_meets : (es : List Entry) (e : Entry) (b : Bool) → ArrivesToMeet e → Iff (IsTrue b) (HasAmong (IsNoFreePlace es) e.partners) → Iff (IsTrue b) (NamesTaken es e)
-who_meets es e b meets is = (
-  λ t. let has = is.0 t in record { partner = has.0; names = has.1; wrong = inr has.2 },
-  λ breaks. is.1 (breaks.partner, breaks.names, elim breaks.wrong [ inl meets_not ↦ absurd (meets_not meets) | inr no_free ↦ no_free ]),
-)
-
 pub who_meets_not : (es : List Entry) (e : Entry) → (ArrivesToMeet e → ⊥) → Iff (IsTrue (is_any e.partners)) (NamesTaken es e)
 who_meets_not es e meets_not = (
   λ t. let one = some_among e.partners t in record { partner = one.0; names = one.1; wrong = inl meets_not },
   λ breaks. any_among e.partners breaks.partner breaks.names,
-)
-
-pub too_many : (e : Entry) (call : Call) (b : Bool) → call_in e.act ≡ Some call → nat_lt (may_name call) (length e.partners) ≡ b → Iff (IsTrue b) (NamesTooMany e)
-too_many e call true arrives is = (λ t. record { call = call; arrives = arrives; many = grind (arith, nat_tests) }, λ breaks. refl)
-too_many e call false arrives is = (
-  λ t. absurd (false≢true t),
-  λ breaks.
-      let same : breaks.call ≡ call = same_Some _ _ (sym breaks.arrives ∙ arrives) in
-      let many : may_name call < length e.partners = subst (λ c. may_name c < length e.partners) same breaks.many in
-      let few : length e.partners ≤ may_name call = grind (arith, nat_tests) in
-      absurd (omega arith),
 )
 
 -- ---- moments

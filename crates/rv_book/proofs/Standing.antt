@@ -36,19 +36,6 @@ use Rattle.rv_rules.proofs.Counting.{one_number}
 
 -- ---- a new client
 
-new_room : (b : Bool) (count : ℕ) → nat_lt count 1024 ≡ b → (cond b greeting.Unknown greeting.Full ≡ greeting.Unknown) ⊎ (cond b greeting.Unknown greeting.Full ≡ greeting.Newer None) → count < 1024
-new_room true count is may = ltb-true count 1024 is
-new_room false count is (inl may) = absurd (let no : ⊥ = cc in no)
-new_room false count is (inr may) = absurd (let no : ⊥ = cc in no)
-
-may_count : (o : Option Session) (count incarnation : ℕ) (version : Version) → o ≡ None → Enters (greeting_for o count incarnation version) → count < 1024
-may_count None count incarnation version none may = new_room (nat_lt count 1024) count refl may
-may_count (Some s) count incarnation version none may = absurd (none-some s (sym none))
-
--- where the table lets a new client enter, it has room
-pub may_new : (t : Table) (client incarnation : ℕ) (version : Version) → session_of t client ≡ None → MayEnter t client incarnation version → session_count t < 1024
-may_new t client incarnation version none may = may_count (session_of t client) (session_count t) incarnation version none may
-
 -- ---- keys
 
 module _ (a : Account) (t : Table) (are : AreSessions a t) (legal : Legal a) where

@@ -32,10 +32,6 @@ pub on_ok_both : {X : Type 0} (result : Result X Refusal) (P Q R : Type 0) → O
 on_ok_both (Ok x) P Q R h k f = f h k
 on_ok_both (Err refusal) P Q R h k f = tt
 
-pub ok_gives : {X E : Type 0} (result : Result X E) (P : Type 0) → IsOk result → OnOk result P → P
-ok_gives (Ok x) P ok h = h
-ok_gives (Err e) P ok h = absurd (let no : ⊥ = cc in no)
-
 -- ---- the last lines
 
 -- an entry that was refused, and one that was recorded

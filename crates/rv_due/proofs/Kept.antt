@@ -27,9 +27,6 @@ any_found (e ∷ es) q = or_first (is_eq (by_moment q e.0)) e.1 _ _ (any_found e
 pub contains_kept : (kept : BTreeMap Deadline (Unit {0})) (q : Deadline) → contains (set_kept kept) q ≡ is_some (get by_moment kept q)
 contains_kept kept q = contains-from_list by_moment_total (keys kept) q ∙ any_found kept.entries q
 
-pub set_unchanged : (old new : BTreeMap Deadline (Unit {0})) → IsUnchanged old new → set_kept new ≡ set_kept old
-set_unchanged old new same = ap (λ (es : List (Deadline × Unit {0})). set.from_list (keys_of es)) same
-
 -- ---- what changes it
 
 put_or_there : (own : Bool) (there : Option (Unit {0})) → is_some (cond own (Some tt) there) ≡ (own || is_some there)

@@ -34,9 +34,6 @@ front_bodies bytes whole front =
 
 -- ---- fronts that grow
 
-pub front_none : (bytes : List ℕ) → FrontIsRow bytes 0
-front_none bytes = record { bodies = []; within = omega arith; row = refl; fit = All-nil IsFrameBody }
-
 pub fronts_join : (bytes : List ℕ) (whole more : ℕ) → FrontIsRow bytes whole → FrontIsRow (drop whole bytes) more → FrontIsRow bytes (whole + more)
 fronts_join bytes whole more front next = record {
   bodies = front.bodies ++ next.bodies;
@@ -159,13 +156,6 @@ pub body_in : (bytes : List ℕ) (whole size : ℕ) → size ≤ whole → (fram
 body_in bytes whole size within frame =
     let both : 2 + (size - 2) ≡ size = omega (arith, frame.size_is) in
     sym (drop-take 2 (size - 2) bytes) ∙ ap (λ n. drop 2 (take n bytes)) both ∙ ap (drop 2) (sym (take-take size whole bytes within) ∙ frame.front)
-
-none_by : (bytes : List ℕ) (bodies : List (List ℕ)) → bytes ≡ row_bytes bodies → All IsFrameBody bodies → IsUnfinished bytes → bodies ≡ []
-none_by bytes [] row fit unfinished = refl
-none_by bytes (body ∷ bodies) row fit unfinished = absurd (unfinished.no_frame body (row_bytes bodies) (All-head IsFrameBody body bodies fit) row)
-
-pub front_is_none : (bytes : List ℕ) (whole : ℕ) (front : FrontIsRow bytes whole) → IsUnfinished (take whole bytes) → front.bodies ≡ []
-front_is_none bytes whole front unfinished = none_by (take whole bytes) front.bodies front.row front.fit unfinished
 
 never_bad : (bytes : List ℕ) (bodies : List (List ℕ)) (n : ℕ) → bytes ≡ row_bytes bodies → All IsFrameBody bodies → BeginsBad bytes n → ⊥
 never_bad bytes [] n row fit bad = let none : [] ≡ length_bytes n ++ bad.more = sym row ∙ bad.parts in absurd (cc)

@@ -51,9 +51,6 @@ pub record ListsPlaces (field rest places : List ℕ) : Type 0 where
   pub joined : (more : List ℕ) → SaysSomePlaces rest more → SaysSomePlaces field (places ++ more)
   pub none : ((more : List ℕ) → ¬ SaysSomePlaces rest more) → (all : List ℕ) → ¬ SaysSomePlaces field all
 
-pub listed_nothing : (field : List ℕ) → ListsPlaces field field []
-listed_nothing field = record { joined = λ more says. says; none = λ nothing. nothing }
-
 module _ {field rest places : List ℕ} (so_far : ListsPlaces field rest places) where
   pub listed_more : (piece after : List ℕ) (place : ℕ) → rest ≡ piece ++ 44 ∷ after → Lacks 44 piece → WritesUpTo max_partner piece place → ListsPlaces field after (places ++ place ∷ [])
   listed_more piece after place parts lacks says = record {

@@ -29,9 +29,6 @@ pub record Read (input rest : List ℕ) (entries : List Entry) : Type 0 where
   pub cut : lines input ≡ front ++ lines rest
   pub read : ReadsEntries front entries
 
-pub read_none : (input : List ℕ) → Read input input []
-read_none input = record { front = []; cut = refl; read = record { one_by_one = tt; not_too_many = omega arith } }
-
 module _ {input rest : List ℕ} {entries : List Entry} (so_far : Read input rest entries) where
   pub so_many : length entries ≤ 100000
   so_many = omega (arith, zip_length so_far.front entries so_far.read.one_by_one, so_far.read.not_too_many)
@@ -45,11 +42,6 @@ module _ {input rest : List ℕ} {entries : List Entry} (so_far : Read input res
       not_too_many = omega (arith, length-append so_far.front (line ∷ []), zip_length so_far.front entries so_far.read.one_by_one);
     };
   }
-
-  pub read_all : rest ≡ [] → ReadsEntries (lines input) entries
-  read_all none =
-      let all : lines input ≡ so_far.front = so_far.cut ∙ ap (λ bytes. so_far.front ++ lines bytes) none ∙ append-nil so_far.front in
-      subst (λ l. ReadsEntries l entries) (sym all) so_far.read
 
   pub stops_at : (line after : List ℕ) (n : ℕ) → lines rest ≡ line ∷ lines after → IsNoNext (length entries) line → n ≡ length entries + 2 → StopsAtLine (lines input) n
   stops_at line after n cut stops counted =

@@ -63,15 +63,6 @@ nothing_told number body share old new told same tells = record {
   tells = tells;
 }
 
-pub one_got : (number : ℕ) (body : List ℕ) (share share' : ℕ) (old : List Numbered) (stamp : Stamped) → IsFor number body (number, stamp)
-    → share' ≡ share + added_by stamp → share' ≤ stamp.length → GetsStamps number body share old share' (old ++ (number, stamp) ∷ []) ((number, stamp) ∷ [])
-one_got number body share share' old stamp own adds within = record {
-  behind = refl;
-  own = record { each = All-cons (IsFor number body) (number, stamp) [] own (All-nil (IsFor number body)); waited = tt };
-  adds = adds ∙ ap (λ (n : ℕ). share + n) (sym (sum_by-cons (λ (s : Numbered). added_by s.1) (number, stamp) [] ∙ add-zero (added_by stamp)));
-  cover = (subst (λ (n : ℕ). n ≤ stamp.length) adds within, tt);
-}
-
 join_got : (number : ℕ) (body : List ℕ) (share share' share'' : ℕ) (old mid new got more : List Numbered)
     → All AnswerWaits got → GetsStamps number body share old share' mid got → GetsStamps number body share' mid share'' new more → GetsStamps number body share old share'' new (got ++ more)
 join_got number body share share' share'' old mid new got more waited first second = record {

@@ -97,13 +97,3 @@ module _ {R : Type 0} (remaining : R → Option (List ℕ)) where
   unsent_then a b s t sent (Ok took) is zero none first = absurd is
   unsent_then a b s t sent (Err fault) is zero none first =
       subst (λ (f : WorkFault). TakesFrame remaining a b s t (Err f)) (sym is) (zero, record { reads = first; all_taken = none; left = tt })
-
--- a fault of reading is none of the sink
-read_fault : {R : Type 0} (remaining : R → Option (List ℕ)) (a b : Source R) (s t : Stream) (failed : Bool) (fault : WorkFault) → ReadsPiece remaining a b s t (Err fault)
-    → FailsAtSink failed fault
-read_fault remaining a b s t failed (WriteFault sent) read = absurd read
-read_fault remaining a b s t failed ReadFault read = tt
-read_fault remaining a b s t failed CutFrame read = tt
-read_fault remaining a b s t failed (BadLength n) read = tt
-read_fault remaining a b s t failed NoMemory read = tt
-read_fault remaining a b s t failed TooLong read = tt

@@ -21,10 +21,6 @@ abbrev pub Each : (Member → Type 0) → List Member → Type 0
 Each P [] = Unit {0}
 Each P (m ∷ row) = P m × Each P row
 
-pub Each-append : (P : Member → Type 0) (a b : List Member) → Each P a → Each P b → Each P (a ++ b)
-Each-append P [] b h k = k
-Each-append P (m ∷ a) b h k = (h.0, Each-append P a b h.1 k)
-
 pub Each-parts : (P : Member → Type 0) (a b : List Member) → Each P (a ++ b) → Each P a × Each P b
 Each-parts P [] b h = (tt, h)
 Each-parts P (m ∷ a) b h = let rest = Each-parts P a b h.1 in ((h.0, rest.0), rest.1)

@@ -16,14 +16,6 @@ use Rattle.rv_text.specs.Reading.{Shape, IsAlone, IsAloneIn, HasNone, FindsIn}
 use Rattle.rv_text.proofs.Steps.{IsReader}
 use Rattle.rv_text.proofs.Objects.{IsSorted-entries, with_fields-found, found-with_fields, members_len-with_fields}
 
-pub as_object_is : (d : Data) (ms : Members) → as_object d ≡ Some ms → d ≡ object ms
-as_object_is (object ms) ns e = ap object (cc)
-as_object_is null ns e = absurd (cc)
-as_object_is (boolean b) ns e = absurd (cc)
-as_object_is (number n) ns e = absurd (cc)
-as_object_is (string s) ns e = absurd (cc)
-as_object_is (array ds) ns e = absurd (cc)
-
 module _ (A : Type 0) (shape : Shape A) (reader : IsReader A shape) where
   abbrev fields_of : A → List Field
   fields_of x = map field_of (shape.row x)

@@ -30,16 +30,6 @@ item_fits call item fits is =
     let rest = (Each-parts IsWithin (side_row n.side) (max_or_wait ++ item_row n.item) (each_within (call_row call) fits.0).1).1 in
     item_alone n.item item is (Each-parts IsWithin max_or_wait (item_row n.item) rest).1
 
-side_alone : (at : Side) → Each IsWithin (side_row at) → FitsSide at
-side_alone (side.Exchanges exchanger) h = h.0
-side_alone _ h = h.0
-
--- the queue or exchanger of a call that fits fits
-pub side_fits : (call : Call) → FitsCall call → FitsSide (side_of call)
-side_fits call fits =
-    let n = nature_of call in
-    side_alone n.side (Each-parts IsWithin (side_row n.side) (max_or_wait_row n.drains n.wait ++ item_row n.item) (each_within (call_row call) fits.0).1).0
-
 max_alone : (drains : Option ℕ) (waits : Option Wait) (max : ℕ) → drains ≡ Some max → Each IsWithin (max_or_wait_row drains waits) → FitsMax max
 max_alone None waits max is h = absurd (none-some max is)
 max_alone (Some other) waits max is h = subst FitsMax (same_Some _ _ is) h.0
@@ -56,10 +46,6 @@ max_fits call max fits is =
 pub may_wait : (call : Call) → FitsCall call → MayWait (side_of call) (wait_of call)
 may_wait call fits = fits.1
 
--- a reply of an item that fits fits
-pub item_reply_fits : (item : List ℕ) → FitsItem item → FitsReply (reply.Item item)
-item_reply_fits item fits = fits
-
 -- replies of a word alone fit
 pub done_fits : FitsReply reply.Done
 done_fits = tt
@@ -69,10 +55,6 @@ empty_fits = tt
 
 pub received_fits : FitsReply reply.Received
 received_fits = tt
-
--- a receipt that names a consumer fits where its key does
-pub received_by_fits : (taker : Key) → FitsKey taker → FitsReply (reply.ReceivedBy taker)
-received_by_fits taker fits = (fits.1, (fits.2, fits.3))
 
 pub nobody_fits : FitsReply reply.Nobody
 nobody_fits = tt
@@ -90,10 +72,6 @@ cancelled_fits = tt
 -- a peek's item that fits fits
 pub peeked_fits : (item : List ℕ) → FitsItem item → FitsReply (reply.Peeked item)
 peeked_fits item fits = fits
-
--- a drain's items, at most 16 that fit, fit
-pub drained_fits : (items : List (List ℕ)) → FitsItems items → FitsReply (reply.Drained items)
-drained_fits items fits = fits
 
 -- ---- whether two calls are the same
 
