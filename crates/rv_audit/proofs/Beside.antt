@@ -1,10 +1,8 @@
 -- Of the places under a number those that are none of some others: one looks from each to the next.
-use Rattle.std.proofs.Common.{◌≡◌, ◌⊎◌, inl, inr, ℕ, ◌-◌, ◌<◌, true, List, Option, Some, None, IfSome, IfNone, sym, subst, ◌∙◌, arith}
-use Rattle.std.proofs.lemmas.Bool.{cases_lt, false≢true}
-use Rattle.rv_account.specs.Account.{Among}
-use Rattle.rv_rules.proofs.Numbers.{same_or_not}
-use Rattle.rv_audit.specs.Marks.{GoesOnAt, IsLowest, IsNextMark, NoneBehind, NoneUnder, is_marked_under}
-use Rattle.rv_audit.specs.declared.marks.Marks.{Marks}
+use Rattle.rv_audit.proofs.Words.{◌≡◌, ◌⊎◌, ◌-◌, ◌<◌, ◌∙◌, inl, inr, ℕ, true, List, Option, Some, None}
+use Rattle.rv_audit.proofs.Words.{IfSome, IfNone, sym, subst, arith, cases_lt, false≢true, Among, same_or_not}
+use Rattle.rv_audit.proofs.Words.{IsLowest, IsNextMark, NoneBehind, NoneUnder, is_marked_under, Marks}
+use Rattle.rv_audit.specs.Marks.{GoesOnAt}
 
 -- how many places are left to be looked at
 abbrev pub left_from : Option ℕ → ℕ
@@ -12,9 +10,14 @@ left_from None = 0
 left_from (Some p) = 18446744073709551616 - p
 
 module _ (m : Marks) (number : ℕ) (places : List ℕ) where
-  pub goes_first : (found : Option ℕ) → IfSome found (IsLowest m number) → IfNone found (NoneUnder m number) → GoesOnAt m number places found
+  pub goes_first : (found : Option ℕ) → IfSome found (IsLowest m number) → IfNone found (NoneUnder m number)
+      → GoesOnAt m number places found
   goes_first None some none = λ p there. absurd (false≢true (sym (none p) ∙ there))
-  goes_first (Some q) some none = (some.there, λ p less there. absurd (false≢true (sym (some.lowest p less) ∙ there)))
+  goes_first (Some q) some none = (
+    some.there,
+    λ p less there. absurd (false≢true (sym (some.lowest p less)
+        ∙ there)),
+  )
 
   module _ (place : ℕ) (at : GoesOnAt m number places (Some place)) (own : Among places place) where
     up_to : (p : ℕ) → is_marked_under m number p ≡ true → Among places p ⊎ (place < p)
@@ -22,11 +25,16 @@ module _ (m : Marks) (number : ℕ) (places : List ℕ) where
       | inl below ↦ inl (at.1 p below there)
       | inr above ↦ elim (same_or_not p place) [
         | inl same ↦ inl (subst (Among places) (sym same) own)
-        | inr apart ↦ inr (elim (cases_lt place p) [ inl behind ↦ behind | inr most ↦ absurd (apart (omega arith)) ])
+        | inr apart ↦ inr (elim (cases_lt place p) [
+          | inl behind ↦ behind
+          | inr most ↦ absurd
+              (apart (omega arith))
+        ])
       ]
     ]
 
-    pub goes_on : (found : Option ℕ) → IfSome found (IsNextMark m number place) → IfNone found (NoneBehind m number place) → GoesOnAt m number places found
+    pub goes_on : (found : Option ℕ) → IfSome found (IsNextMark m number place)
+        → IfNone found (NoneBehind m number place) → GoesOnAt m number places found
     goes_on None some none = λ p there. elim (up_to p there) [
       | inl among ↦ among
       | inr behind ↦ absurd (false≢true (sym (none p behind) ∙ there))

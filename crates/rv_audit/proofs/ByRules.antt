@@ -1,23 +1,19 @@
 -- An account is legal exactly where no rule is broken at any place, and an audit tells one thing of it.
-use Rattle.std.proofs.Common.{◌≡◌, inl, inr, ℕ, zero, suc, ◌<◌, List, [], ◌∷◌, Some, refl, sym, ap, subst, ◌∙◌, arith}
-use Rattle.std.specs.List.{slice_get}
-use Rattle.std.proofs.lemmas.Bool.{cases_lt, cases_order}
+use Rattle.rv_audit.proofs.Words.{◌≡◌, ◌<◌, ◌∷◌, ◌∙◌, inl, inr, ℕ, zero, suc, List, [], Some, refl, sym, ap}
+use Rattle.rv_audit.proofs.Words.{subst, arith, slice_get, cases_lt, same_Some, Entry, Account, before, Legal}
+use Rattle.rv_audit.proofs.Words.{MayFollow, read_whole, Rule, M1, M2, M3, N1, N2, N3, P1, P2, P3, P4, S1, S2}
+use Rattle.std.proofs.lemmas.Bool.{cases_order}
 use Rattle.std.proofs.lemmas.List.{take-take}
-use Rattle.std.proofs.lemmas.Option.{same_Some}
-use Rattle.rv_account.specs.declared.entry.Entry.{Entry}
-use Rattle.rv_account.specs.Account.{Account}
-use Rattle.rv_book.specs.Legal.{before, Legal, MayFollow}
-use Rattle.rv_rules.proofs.Fronts.{Legal-before, read_whole}
-use Rattle.rv_audit.specs.declared.rule.Audit.TheVariants as tells
-use Rattle.rv_audit.specs.declared.rule.Rule.{Rule}
-use Rattle.rv_audit.specs.declared.rule.Rule.TheVariants.{M1, M2, M3, N1, N2, N3, P1, P2, P3, P4, S1, S2}
+use Rattle.rv_rules.proofs.Fronts.{Legal-before}
 use Rattle.rv_audit.specs.Breaking.{FirstFault, KeepsRules, rank_of}
 use Rattle.rv_audit.specs.Laws.{LegalByRules, OneAudit}
 use Rattle.rv_audit.proofs.RulesKept.{breaks_nothing}
 use Rattle.rv_audit.proofs.RulesSuffice.{may_follow}
+use Rattle.rv_audit.specs.declared.rule.Audit.TheVariants as tells
 
 pub keeps_rules : (a : Account) → Legal a → (place : ℕ) → KeepsRules a place
-keeps_rules a legal place rule broken = breaks_nothing (before a place) broken.entry (Legal-before a place legal) (legal place broken.entry broken.there) rule broken.breaks
+keeps_rules a legal place rule broken = breaks_nothing (before a place) broken.entry (Legal-before a place
+    legal) (legal place broken.entry broken.there) rule broken.breaks
 
 -- each entry before the bound may follow those before it
 abbrev FollowsBelow : Account → ℕ → Type 0
@@ -27,7 +23,9 @@ front_by : (a : Account) (n : ℕ) → FollowsBelow a n → Legal (before a n)
 front_by a n follows j e there =
     let whole = read_whole (λ o. o) refl a.entries n j e there in
     let less : j < n = whole.0 in
-    let P : List Entry → Type 0 = λ entries. MayFollow (record { epoch = a.epoch; opened = a.opened; entries = entries }) e in
+    let P : List Entry
+    → Type 0 = λ entries. MayFollow (record { epoch = a.epoch; opened = a.opened; entries = entries }) e
+    in
     subst P (sym (take-take j n a.entries (omega arith))) (follows j e less whole.1)
 
 follows_below : (a : Account) (n : ℕ) → ((r : ℕ) → r < n → KeepsRules a r) → FollowsBelow a n
@@ -39,11 +37,16 @@ follows_below a (suc n) keeps j e less there =
       | inr above ↦
           let is : j ≡ n = omega arith in
           let legal : Legal (before a j) = front_by a j (subst (FollowsBelow a) (sym is) earlier) in
-          may_follow (before a j) e legal (λ rule breaks. keeps j less rule (record { entry = e; there = there; breaks = breaks }))
+          may_follow (before a j) e legal (λ rule breaks. keeps j less rule
+          (record { entry = e; there = there; breaks = breaks }))
     ]
 
 pub legal_by_rules : LegalByRules
-legal_by_rules a = (keeps_rules a, λ keeps j e there. follows_below a (suc j) (λ r less. keeps r) j e (omega arith) there)
+legal_by_rules a = (
+  keeps_rules a,
+  λ keeps j e there. follows_below a (suc j) (λ r less. keeps r) j e
+      (omega arith) there,
+)
 
 -- ---- one audit
 
@@ -87,7 +90,8 @@ one_rule a p r s first second = elim (cases_order (rank_of r) (rank_of s)) [
   ]
 ]
 
-one_fault : (a : Account) (p q : ℕ) (r s : Rule) → FirstFault a p r → FirstFault a q s → tells.Fault p r ≡ tells.Fault q s
+one_fault : (a : Account) (p q : ℕ) (r s : Rule) → FirstFault a p r → FirstFault a q s
+    → tells.Fault p r ≡ tells.Fault q s
 one_fault a p q r s first second =
     let place : p ≡ q = one_place a p q r s first second in
     let rule : r ≡ s = one_rule a q r s (subst (λ n. FirstFault a n r) place first) second in

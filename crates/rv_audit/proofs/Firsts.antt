@@ -1,21 +1,17 @@
 -- From the first rule that an entry breaks to an account's first fault.
-use Rattle.std.proofs.Common.{◌≡◌, ℕ, zero, suc, ◌<◌, List, [], ◌∷◌, length, take, Option, Some, None, IfSome, IfNone, refl, sym, ap, subst, ◌∙◌, arith}
-use Rattle.std.specs.List.{slice_get}
+use Rattle.rv_audit.proofs.Words.{◌≡◌, ◌<◌, ◌∷◌, ◌∙◌, ℕ, zero, suc, List, [], length, take, Option, Some}
+use Rattle.rv_audit.proofs.Words.{None, IfSome, IfNone, refl, sym, ap, subst, arith, slice_get, none-some}
+use Rattle.rv_audit.proofs.Words.{same_Some, Entry, Account, Legal, MayFollow, before, BreaksBehind, IsFront}
+use Rattle.rv_audit.proofs.Words.{passed_account, Front, Rule, M1, M2, M3, N1, N2, N3, P1, P2, P3, P4, S1, S2}
 use Rattle.std.proofs.lemmas.List.{take-take}
-use Rattle.std.proofs.lemmas.Option.{none-some, same_Some}
-use Rattle.rv_account.specs.declared.entry.Entry.{Entry}
-use Rattle.rv_account.specs.Account.{Account, Stored}
-use Rattle.rv_book.specs.Legal.{Legal, MayFollow, before}
+use Rattle.rv_account.specs.Account.{Stored}
 use Rattle.rv_rules.proofs.Fronts.{Legal-before}
 use Rattle.rv_rules.proofs.Places.{get-take}
-use Rattle.rv_audit.specs.Breaking.{BreaksBehind, FirstFault, KeepsRules, rank_of}
-use Rattle.rv_audit.specs.Passed.{BreaksFirst, BreaksFirstOf, BreaksNone, BreaksNoneOf, IsFront, MayPass, passed_account}
-use Rattle.rv_audit.specs.declared.front.Front.{Front}
-use Rattle.rv_audit.specs.declared.rule.Audit.TheVariants as tells
-use Rattle.rv_audit.specs.declared.rule.Rule.{Rule}
-use Rattle.rv_audit.specs.declared.rule.Rule.TheVariants.{M1, M2, M3, N1, N2, N3, P1, P2, P3, P4, S1, S2}
+use Rattle.rv_audit.specs.Breaking.{FirstFault, KeepsRules, rank_of}
+use Rattle.rv_audit.specs.Passed.{BreaksFirst, BreaksFirstOf, BreaksNone, BreaksNoneOf, MayPass}
 use Rattle.rv_audit.proofs.RulesKept.{breaks_nothing}
 use Rattle.rv_audit.proofs.RulesSuffice.{may_follow}
+use Rattle.rv_audit.specs.declared.rule.Audit.TheVariants as tells
 
 -- the rules in their order
 abbrev pub rules : List Rule
@@ -46,12 +42,17 @@ rank_at (suc (suc (suc (suc (suc zero))))) rule is = ap rank_of (sym (same_Some 
 rank_at (suc (suc (suc (suc (suc (suc zero)))))) rule is = ap rank_of (sym (same_Some _ _ is))
 rank_at (suc (suc (suc (suc (suc (suc (suc zero))))))) rule is = ap rank_of (sym (same_Some _ _ is))
 rank_at (suc (suc (suc (suc (suc (suc (suc (suc zero)))))))) rule is = ap rank_of (sym (same_Some _ _ is))
-rank_at (suc (suc (suc (suc (suc (suc (suc (suc (suc zero))))))))) rule is = ap rank_of (sym (same_Some _ _ is))
-rank_at (suc (suc (suc (suc (suc (suc (suc (suc (suc (suc zero)))))))))) rule is = ap rank_of (sym (same_Some _ _ is))
-rank_at (suc (suc (suc (suc (suc (suc (suc (suc (suc (suc (suc zero))))))))))) rule is = ap rank_of (sym (same_Some _ _ is))
-rank_at (suc (suc (suc (suc (suc (suc (suc (suc (suc (suc (suc (suc n)))))))))))) rule is = absurd (none-some rule is)
+rank_at (suc (suc (suc (suc (suc (suc (suc (suc (suc zero))))))))) rule is =
+    ap rank_of (sym (same_Some _ _ is))
+rank_at (suc (suc (suc (suc (suc (suc (suc (suc (suc (suc zero)))))))))) rule is =
+    ap rank_of (sym (same_Some _ _ is))
+rank_at (suc (suc (suc (suc (suc (suc (suc (suc (suc (suc (suc zero))))))))))) rule is =
+    ap rank_of (sym (same_Some _ _ is))
+rank_at (suc (suc (suc (suc (suc (suc (suc (suc (suc (suc (suc (suc n)))))))))))) rule is =
+    absurd (none-some rule is)
 
-pub first_by_rank : (a : Account) (e : Entry) (o : Option Rule) → IfSome o (BreaksFirstOf rules a e) → IfSome o (BreaksFirst a e)
+pub first_by_rank : (a : Account) (e : Entry) (o : Option Rule) → IfSome o (BreaksFirstOf rules a e)
+    → IfSome o (BreaksFirst a e)
 first_by_rank a e None some = tt
 first_by_rank a e (Some rule) some = record {
   broken = some.broken;
@@ -60,7 +61,8 @@ first_by_rank a e (Some rule) some = record {
       some.first (rank_of other) other (omega arith) (stands_at other) breaks;
 }
 
-pub none_by_rank : (a : Account) (e : Entry) (o : Option Rule) → IfNone o (BreaksNoneOf rules a e) → IfNone o (BreaksNone a e)
+pub none_by_rank : (a : Account) (e : Entry) (o : Option Rule) → IfNone o (BreaksNoneOf rules a e)
+    → IfNone o (BreaksNone a e)
 none_by_rank a e (Some rule) none = tt
 none_by_rank a e None none = λ rule breaks. none (rank_of rule) rule (stands_at rule) breaks
 
@@ -68,15 +70,19 @@ none_by_rank a e None none = λ rule breaks. none (rank_of rule) rule (stands_at
 
 kept_before : (a : Account) (n r : ℕ) → Legal (before a n) → r < n → KeepsRules a r
 kept_before a n r legal less rule broken =
-    let there : slice_get (take n a.entries) r ≡ Some broken.entry = get-take a.entries n r less ∙ broken.there in
-    let P : List Entry → Type 0 = λ es. MayFollow (record { epoch = a.epoch; opened = a.opened; entries = es }) broken.entry in
+    let there : slice_get (take n a.entries) r ≡ Some broken.entry = get-take a.entries n r less
+    ∙ broken.there in
+    let P : List Entry
+    → Type 0 = λ es. MayFollow (record { epoch = a.epoch; opened = a.opened; entries = es }) broken.entry
+    in
     let same : take r (take n a.entries) ≡ take r a.entries = take-take r n a.entries (omega arith) in
     let follows : MayFollow (before a r) broken.entry = subst P same (legal r broken.entry there) in
     let Q : List Entry → Type 0 = λ es. Legal (record { epoch = a.epoch; opened = a.opened; entries = es }) in
     let short : Legal (before a r) = subst Q same (Legal-before (before a n) r legal) in
     breaks_nothing (before a r) broken.entry short follows rule broken.breaks
 
-pub first_fault : (a : Account) (n : ℕ) (e : Entry) (rule : Rule) → Legal (before a n) → slice_get a.entries n ≡ Some e → BreaksFirst (before a n) e rule → FirstFault a n rule
+pub first_fault : (a : Account) (n : ℕ) (e : Entry) (rule : Rule) → Legal (before a n)
+    → slice_get a.entries n ≡ Some e → BreaksFirst (before a n) e rule → FirstFault a n rule
 first_fault a n e rule legal there first = record {
   broken = record { entry = e; there = there; breaks = first.broken };
   kept_before = λ r less. kept_before a n r legal less;
@@ -87,7 +93,8 @@ first_fault a n e rule legal there first = record {
 
 pub no_fault : (a : Account) (n : ℕ) (rule : Rule) → Legal a → FirstFault a n rule → ⊥
 no_fault a n rule legal fault =
-    breaks_nothing (before a n) fault.broken.entry (Legal-before a n legal) (legal n fault.broken.entry fault.broken.there) rule fault.broken.breaks
+    breaks_nothing (before a n) fault.broken.entry (Legal-before a n legal) (legal n fault.broken.entry
+    fault.broken.there) rule fault.broken.breaks
 
 take_past : (es : List Entry) (n : ℕ) → slice_get es n ≡ None → take n es ≡ es
 take_past [] zero none = refl
@@ -96,38 +103,63 @@ take_past (e ∷ es) zero none = absurd (none-some e (sym none))
 take_past (e ∷ es) (suc n) none = ap (λ xs. e ∷ xs) (take_past es n none)
 
 pub all_passed : (a : Account) (n : ℕ) → Legal (before a n) → slice_get a.entries n ≡ None → Legal a
-all_passed a n legal none = subst (λ (es : List Entry). Legal (record { epoch = a.epoch; opened = a.opened; entries = es })) (take_past a.entries n none) legal
+all_passed a n legal none = subst (λ (es : List Entry). Legal (record {
+  epoch = a.epoch;
+  opened = a.opened;
+  entries = es;
+})) (take_past a.entries n none) legal
 
 -- the next entry may be passed
-pub may_pass : (front : Front) (e : Entry) → IsFront front → slice_get front.account.now.account.entries (length front.met.items) ≡ Some e → BreaksNone (passed_account front) e → MayPass front e
-may_pass front e is there none = record { there = there; follows = may_follow (passed_account front) e is.legal none }
+pub may_pass : (front : Front) (e : Entry) → IsFront front
+    → slice_get front.account.now.account.entries (length front.met.items) ≡ Some e
+    → BreaksNone (passed_account front) e → MayPass front e
+may_pass front e is there none = record {
+  there = there;
+  follows = may_follow (passed_account front) e
+      is.legal none;
+}
 
 -- ---- what a front tells, at the place that comes next
 
-module _ (front : Front) (a : Stored) (n : ℕ) (is : IsFront front) (same : front.account.now ≡ a) (at : n ≡ length front.met.items) where
-  next_there : (e : Entry) → Some e ≡ slice_get a.account.entries n → slice_get front.account.now.account.entries (length front.met.items) ≡ Some e
+module _ (front : Front) (a : Stored) (n : ℕ) (is : IsFront front) (same : front.account.now ≡ a)
+    (at : n ≡ length front.met.items) where
+  next_there : (e : Entry) → Some e ≡ slice_get a.account.entries n
+      → slice_get front.account.now.account.entries (length front.met.items) ≡ Some e
   next_there e there =
-      ap (λ (s : Stored). slice_get s.account.entries (length front.met.items)) same ∙ ap (slice_get a.account.entries) (sym at) ∙ sym there
+      ap (λ (s : Stored). slice_get s.account.entries (length front.met.items)) same
+      ∙ ap (slice_get a.account.entries) (sym at) ∙ sym there
 
-  pub fault_told : (e : Entry) (rule : Rule) (place : ℕ) → place ≡ length front.met.items → Some e ≡ slice_get a.account.entries n → BreaksFirst (passed_account front) e rule → FirstFault a.account place rule
+  pub fault_told : (e : Entry) (rule : Rule) (place : ℕ) → place ≡ length front.met.items
+      → Some e ≡ slice_get a.account.entries n → BreaksFirst (passed_account front) e rule
+      → FirstFault a.account place rule
   fault_told e rule place here there first =
       subst (λ m. FirstFault a.account m rule) (sym here)
       (subst (λ (s : Stored). FirstFault s.account (length front.met.items) rule) same
-      (first_fault front.account.now.account (length front.met.items) e rule is.legal (next_there e there) first))
+      (first_fault front.account.now.account (length front.met.items) e rule is.legal (next_there e there)
+      first))
 
-  pub next_may : (e : Entry) → Some e ≡ slice_get a.account.entries n → BreaksNone (passed_account front) e → MayPass front e
+  pub next_may : (e : Entry) → Some e ≡ slice_get a.account.entries n → BreaksNone (passed_account front) e
+      → MayPass front e
   next_may e there none = may_pass front e is (next_there e there) none
 
   pub legal_told : None ≡ slice_get a.account.entries n → Legal a.account
   legal_told none =
       let past : slice_get front.account.now.account.entries (length front.met.items) ≡ None =
-      ap (λ (s : Stored). slice_get s.account.entries (length front.met.items)) same ∙ ap (slice_get a.account.entries) (sym at) ∙ sym none in
-      subst (λ (s : Stored). Legal s.account) same (all_passed front.account.now.account (length front.met.items) is.legal past)
+      ap (λ (s : Stored). slice_get s.account.entries (length front.met.items)) same
+      ∙ ap (slice_get a.account.entries) (sym at) ∙ sym none in
+      subst (λ (s : Stored). Legal s.account) same (all_passed front.account.now.account
+      (length front.met.items) is.legal past)
 
 -- ---- what is told
 
-pub told_fault : (a : Account) (n : ℕ) (rule : Rule) → FirstFault a n rule → (tells.Fault n rule ≡ tells.Legal → Legal a) × (Legal a → tells.Fault n rule ≡ tells.Legal)
-told_fault a n rule fault = (λ same. absurd (let no_way : ⊥ = cc in no_way), λ legal. absurd (no_fault a n rule legal fault))
+pub told_fault : (a : Account) (n : ℕ) (rule : Rule) → FirstFault a n rule
+    → (tells.Fault n rule ≡ tells.Legal → Legal a) × (Legal a → tells.Fault n rule ≡ tells.Legal)
+told_fault a n rule fault = (
+  λ same. absurd (let no_way : ⊥ = cc in no_way),
+  λ legal. absurd
+      (no_fault a n rule legal fault),
+)
 
-pub told_legal : (a : Account) → Legal a → (tells.Legal ≡ tells.Legal → Legal a) × (Legal a → tells.Legal ≡ tells.Legal)
+pub told_legal : (a : Account) → Legal a
+    → (tells.Legal ≡ tells.Legal → Legal a) × (Legal a → tells.Legal ≡ tells.Legal)
 told_legal a legal = (λ same. legal, λ is. refl)

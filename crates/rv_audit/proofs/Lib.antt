@@ -1,3 +1,4 @@
+pub mod Words
 pub mod Pairs
 pub mod Beside
 pub mod Queries

@@ -1,15 +1,11 @@
 -- What is said of the places of a list, told one by one, and the flags that are set at them.
-use Rattle.std.proofs.Common.{◌≡◌, ◌⊎◌, inl, inr, ℕ, zero, suc, ◌+◌, ◌<◌, ◌≤◌, Bool, true, false, not, nat_eq, List, [], ◌∷◌, length, get_or, Some, refl, sym, ap, subst, ◌∙◌, arith}
-use Rattle.std.specs.List.{slice_get}
-use Rattle.std.specs.Bool.{IsTrue}
+use Rattle.rv_audit.proofs.Words.{◌≡◌, ◌⊎◌, ◌+◌, ◌<◌, ◌≤◌, ◌∷◌, ◌∙◌, inl, inr, ℕ, zero, suc, Bool, true}
+use Rattle.rv_audit.proofs.Words.{false, not, nat_eq, List, [], length, get_or, Some, refl, sym, ap, subst}
+use Rattle.rv_audit.proofs.Words.{arith, slice_get, IsTrue, cases_lt, false≢true, nat_tests, Among}
+use Rattle.rv_audit.proofs.Words.{same_or_not, AmongFirst, AreWithin, HasAmong, NoneBefore, SetsFlags, is_any}
 use Rattle.std.specs.Prelude.{slice_set}
-use Rattle.std.proofs.lemmas.Bool.{cases_lt, false≢true}
-use Rattle.std.proofs.lemmas.Bool.Decides.{nat_tests}
 use Rattle.std.proofs.lemmas.Option.{get_or_from_slice_get, slice_get-get_or}
-use Rattle.rv_account.specs.Account.{Among}
-use Rattle.rv_rules.proofs.Numbers.{same_or_not}
 use Rattle.rv_rules.proofs.Places.{get-set_other, get-set_same, within}
-use Rattle.rv_audit.specs.Passed.{AmongFirst, AreWithin, HasAmong, NoneBefore, SetsFlags, is_any}
 
 module _ (places : List ℕ) (n : ℕ) where
   pub one_at : n < length places → Among places (get_or places n 0)
@@ -26,10 +22,12 @@ module _ (places : List ℕ) (n : ℕ) where
       | inr above ↦ none (subst Is (sym (read_at i p (omega arith) at)) is)
     ]
 
-    pub told_none : length places ≤ n → NoneBefore Is places n → (IsTrue false → HasAmong Is places) × (HasAmong Is places → IsTrue false)
+    pub told_none : length places ≤ n → NoneBefore Is places n
+        → (IsTrue false → HasAmong Is places) × (HasAmong Is places → IsTrue false)
     told_none whole none = (
       λ t. absurd (false≢true t),
-      λ has. let inside : has.1.0 < length places = within places has.1.0 has.0 has.1.1 in absurd (none has.1.0 has.0 (omega arith) has.1.1 has.2),
+      λ has. let inside : has.1.0 < length places = within places has.1.0 has.0 has.1.1 in
+          absurd (none has.1.0 has.0 (omega arith) has.1.1 has.2),
     )
 
   -- those of the first places, with one more
@@ -49,7 +47,8 @@ pub none_first : (places : List ℕ) (r : ℕ) → AmongFirst places 0 r → ⊥
 none_first places r among = let none : among.0 < 0 = among.1 in omega arith
 
 pub all_first : (places : List ℕ) (n r : ℕ) → length places ≤ n → Among places r → AmongFirst places n r
-all_first places n r whole among = let less : among.0 < length places = within places among.0 r among.1 in (among.0, omega arith, among.1)
+all_first places n r whole among = let less : among.0 < length places = within places among.0 r among.1 in
+    (among.0, omega arith, among.1)
 
 -- ---- flags
 
@@ -58,11 +57,13 @@ set_count [] n = refl
 set_count (b ∷ l) zero = refl
 set_count (b ∷ l) (suc n) = ap suc (set_count l n)
 
-module _ (old met : List Bool) (places : List ℕ) (n : ℕ) (inside : n < length places) (flagged : get_or places n 0 < length met) (sets : SetsFlags (AmongFirst places n) old met) where
+module _ (old met : List Bool) (places : List ℕ) (n : ℕ) (inside : n < length places) (flagged : get_or places
+    n 0 < length met) (sets : SetsFlags (AmongFirst places n) old met) where
   abbrev own : ℕ
   own = get_or places n 0
 
-  flag_back : (r : ℕ) → slice_get (slice_set met own true) r ≡ Some true → (slice_get old r ≡ Some true) ⊎ AmongFirst places (n + 1) r
+  flag_back : (r : ℕ) → slice_get (slice_set met own true) r ≡ Some true
+      → (slice_get old r ≡ Some true) ⊎ AmongFirst places (n + 1) r
   flag_back r there = elim (same_or_not r own) [
     | inl same ↦ inr (first_own places n r inside same)
     | inr apart ↦ elim ((sets.flags r).0 (sym (get-set_other met own r true apart) ∙ there)) [
@@ -77,7 +78,8 @@ module _ (old met : List Bool) (places : List ℕ) (n : ℕ) (inside : n < lengt
     | inr apart ↦ get-set_other met own r true apart ∙ there
   ]
 
-  flag_on : (r : ℕ) → (slice_get old r ≡ Some true) ⊎ AmongFirst places (n + 1) r → slice_get (slice_set met own true) r ≡ Some true
+  flag_on : (r : ℕ) → (slice_get old r ≡ Some true) ⊎ AmongFirst places (n + 1) r
+      → slice_get (slice_set met own true) r ≡ Some true
   flag_on r (inl was) = flag_kept r ((sets.flags r).1 (inl was))
   flag_on r (inr among) = elim (first_back places n r among) [
     | inl before ↦ flag_kept r ((sets.flags r).1 (inr before))
@@ -87,13 +89,15 @@ module _ (old met : List Bool) (places : List ℕ) (n : ℕ) (inside : n < lengt
   pub one_flag : SetsFlags (AmongFirst places (n + 1)) old (slice_set met own true)
   one_flag = record { count = set_count met own ∙ sets.count; flags = λ r. (flag_back r, flag_on r) }
 
-pub has_flag : (old met : List Bool) (places : List ℕ) (n : ℕ) → n < length places → SetsFlags (AmongFirst places n) old met → AreWithin places (length old) → get_or places n 0 < length met
+pub has_flag : (old met : List Bool) (places : List ℕ) (n : ℕ) → n < length places
+    → SetsFlags (AmongFirst places n) old met → AreWithin places (length old) → get_or places n 0 < length met
 has_flag old met places n inside sets within_old =
     let below : get_or places n 0 < length old = within_old (get_or places n 0) (one_at places n inside) in
     let same : length met ≡ length old = sets.count in
     omega arith
 
-pub all_flags : (old new : List Bool) (places : List ℕ) (n : ℕ) → length places ≤ n → SetsFlags (AmongFirst places n) old new → SetsFlags (Among places) old new
+pub all_flags : (old new : List Bool) (places : List ℕ) (n : ℕ) → length places ≤ n
+    → SetsFlags (AmongFirst places n) old new → SetsFlags (Among places) old new
 all_flags old new places n whole sets = record {
   count = sets.count;
   flags = λ r. (

@@ -1,39 +1,36 @@
 -- An entry that may follow those of a legal account breaks no rule behind them: of each rule what keeps it.
-use Rattle.std.proofs.Common.{◌≡◌, ◌≢◌, ◌⊎◌, inl, inr, ℕ, ◌+◌, ◌-◌, ◌<◌, ◌≤◌, List, length, Option, Some, None, IsSome, refl, ap, subst, ◌∙◌, arith}
+use Rattle.rv_audit.proofs.Words.{◌≡◌, ◌≢◌, ◌⊎◌, ◌+◌, ◌-◌, ◌<◌, ◌≤◌, ◌∙◌, inl, inr, ℕ, List, length, Option}
+use Rattle.rv_audit.proofs.Words.{Some, None, IsSome, refl, ap, subst, arith, Key, Call, Side, Gives, Takes}
+use Rattle.rv_audit.proofs.Words.{Looks, Exchanges, side_of, Entry, Act, Hello, Arrive, Cancel, Tick, Account}
+use Rattle.rv_audit.proofs.Words.{call_in, may_name, opposite, Met, IsNextNumber, Legal, MayFollow}
+use Rattle.rv_audit.proofs.Words.{NamesFreePartners, SomethingDue, own_moment, call_read, Rule, M1, M2, M3}
+use Rattle.rv_audit.proofs.Words.{N1, N2, N3, P1, P2, P3, P4, S1, S2, BreaksBehind, IsNoFreePlace}
+use Rattle.rv_audit.proofs.Words.{IsOutOfOrder, IsPaired, MeetsWrongly, MissesPartner, NamesTaken, PassesOver}
+use Rattle.rv_audit.proofs.Words.{StartsNoNewer}
 use Rattle.std.specs.Prelude.{unwrap_or}
-use Rattle.rv_text.specs.declared.message.Key.{Key}
-use Rattle.rv_text.specs.declared.call.Call.{Call}
-use Rattle.rv_text.specs.declared.call.Side.{Side}
-use Rattle.rv_text.specs.declared.call.Side.TheVariants.{Gives, Takes, Looks, Exchanges}
-use Rattle.rv_text.specs.Calls.{side_of}
-use Rattle.rv_account.specs.declared.entry.Entry.{Entry}
-use Rattle.rv_account.specs.declared.entry.Act.{Act}
-use Rattle.rv_account.specs.declared.entry.Act.TheVariants.{Hello, Arrive, Cancel, Tick}
-use Rattle.rv_account.specs.Account.{Account, NamesAt, call_in, moment_at}
-use Rattle.rv_account.specs.Calls.{may_name, opposite}
-use Rattle.rv_book.specs.Waiting.{Met, NamesPartner}
-use Rattle.rv_book.specs.Legal.{CancelsInTurn, CountsUp, IsNextNumber, IsOfSession, KeepsLimits, KeepsTime, Legal, MayFollow, NamesFreePartners}
-use Rattle.rv_book.specs.Legal.{PairsOldest, PairsOpposites, PairsWherePossible, RaisesIncarnation, SomethingDue}
-use Rattle.rv_book.specs.Steps.{own_moment}
-use Rattle.rv_rules.proofs.Growing.{call_read}
+use Rattle.rv_account.specs.Account.{NamesAt, moment_at}
+use Rattle.rv_book.specs.Waiting.{NamesPartner}
+use Rattle.rv_book.specs.Legal.{CancelsInTurn, CountsUp, IsOfSession, KeepsLimits, KeepsTime, PairsOldest}
+use Rattle.rv_book.specs.Legal.{PairsOpposites, PairsWherePossible, RaisesIncarnation}
 use Rattle.rv_rules.proofs.Histories.{one_last_number}
-use Rattle.rv_audit.specs.declared.rule.Rule.{Rule}
-use Rattle.rv_audit.specs.declared.rule.Rule.TheVariants.{M1, M2, M3, N1, N2, N3, P1, P2, P3, P4, S1, S2}
-use Rattle.rv_audit.specs.Breaking.{BreaksBehind, BreaksCount, FallsBack, IsNoFreePlace, IsOfNoSession, IsOutOfOrder, IsPaired, IsSwapped}
-use Rattle.rv_audit.specs.Breaking.{MeetsWrongly, MissesPartner, NamesOne, NamesTaken, NamesTooMany, NamesWrongly, PassesLimit, PassesOver, StartsNoNewer, TicksForNothing, WasNamed}
+use Rattle.rv_audit.specs.Breaking.{BreaksCount, FallsBack, IsOfNoSession, IsSwapped, NamesOne, NamesTooMany}
+use Rattle.rv_audit.specs.Breaking.{NamesWrongly, PassesLimit, TicksForNothing, WasNamed}
 
 -- ---- moments
 
-own_at_most : (o : Option ℕ) (opened moment : ℕ) → opened ≤ moment → ((earlier : ℕ) → o ≡ Some earlier → earlier ≤ moment) → unwrap_or o opened ≤ moment
+own_at_most : (o : Option ℕ) (opened moment : ℕ) → opened ≤ moment
+    → ((earlier : ℕ) → o ≡ Some earlier → earlier ≤ moment) → unwrap_or o opened ≤ moment
 own_at_most None opened moment least since = least
 own_at_most (Some earlier) opened moment least since = since earlier refl
 
 pub falls_not_back : (a : Account) (e : Entry) → KeepsTime a e.moment → FallsBack a e → ⊥
 falls_not_back a e time falls =
-    let most : own_moment a ≤ e.moment = own_at_most (moment_at a.entries (length a.entries - 1)) a.opened e.moment time.opened (time.since (length a.entries - 1)) in
+    let most : own_moment a ≤ e.moment = own_at_most (moment_at a.entries (length a.entries - 1)) a.opened
+    e.moment time.opened (time.since (length a.entries - 1)) in
     omega arith
 
-nothing_past : (es : List Entry) (moment : ℕ) (act : Act) → KeepsLimits es moment act → act ≢ Tick → SomethingDue es moment → ⊥
+nothing_past : (es : List Entry) (moment : ℕ) (act : Act) → KeepsLimits es moment act → act ≢ Tick
+    → SomethingDue es moment → ⊥
 nothing_past es moment (Hello client incarnation version) nothing no_tick due = nothing due.0 due.1
 nothing_past es moment (Arrive key call) nothing no_tick due = nothing due.0 due.1
 nothing_past es moment (Cancel key) nothing no_tick due = nothing due.0 due.1
@@ -42,7 +39,8 @@ nothing_past es moment Tick something no_tick due = no_tick refl
 pub passes_no_limit : (es : List Entry) (e : Entry) → KeepsLimits es e.moment e.act → PassesLimit es e → ⊥
 passes_no_limit es e keeps passes = nothing_past es e.moment e.act keeps passes.no_tick passes.due
 
-pub ticks_for_something : (es : List Entry) (e : Entry) → KeepsLimits es e.moment e.act → TicksForNothing es e → ⊥
+pub ticks_for_something : (es : List Entry) (e : Entry) → KeepsLimits es e.moment e.act → TicksForNothing es e
+    → ⊥
 ticks_for_something es e keeps ticks =
     let something : SomethingDue es e.moment = subst (λ act. KeepsLimits es e.moment act) ticks.ticks keeps in
     ticks.nothing_due something.0 something.1
@@ -51,7 +49,8 @@ ticks_for_something es e keeps ticks =
 
 pub starts_newer : (es : List Entry) (does : Act) → RaisesIncarnation es does → StartsNoNewer es does → ⊥
 starts_newer es does raises starts =
-    let newer : starts.reached < starts.incarnation = raises starts.client starts.incarnation starts.version starts.hello starts.place starts.reached starts.earlier_version starts.earlier in
+    let newer : starts.reached < starts.incarnation = raises starts.client starts.incarnation starts.version
+    starts.hello starts.place starts.reached starts.earlier_version starts.earlier in
     let no_newer : starts.incarnation ≤ starts.reached = starts.no_newer in
     omega arith
 
@@ -63,12 +62,19 @@ is_of_session a does session strange = elim strange.no_session [
 
 next_in_turn : (es : List Entry) (key : Key) → IsNextNumber es key → IsOutOfOrder es key → ⊥
 next_in_turn es key next (inl not_next) = elim not_next.counts_to [
-  | inl last ↦ not_next.other (next.next ∙ ap (λ n. n + 1) (one_last_number es key.client next.last not_next.last next.is_last last))
-  | inr none ↦ none.0 (next.is_last.h, next.is_last.incarnation, next.is_last.hello.version, next.is_last.hello.hello)
+  | inl last ↦ not_next.other (next.next ∙ ap (λ n. n + 1) (one_last_number es key.client next.last
+      not_next.last next.is_last last))
+  | inr none ↦ none.0 (
+    next.is_last.h,
+    next.is_last.incarnation,
+    next.is_last.hello.version,
+    next.is_last.hello.hello,
+  )
 ]
 next_in_turn es key next (inr waits) = next.idle waits
 
-pub counts_in_turn : (es : List Entry) (does : Act) → CountsUp es does → CancelsInTurn es does → BreaksCount es does → ⊥
+pub counts_in_turn : (es : List Entry) (does : Act) → CountsUp es does → CancelsInTurn es does
+    → BreaksCount es does → ⊥
 counts_in_turn es (Hello client incarnation version) counts cancels breaks = breaks
 counts_in_turn es (Arrive key call) counts cancels breaks = next_in_turn es key (counts key call refl) breaks
 counts_in_turn es (Cancel key) counts cancels breaks = elim (cancels key refl) [
@@ -83,32 +89,55 @@ counts_in_turn es Tick counts cancels breaks = breaks
 pub names_partner : (a : Account) (r q : ℕ) → Legal a → NamesAt a.entries r q → NamesPartner a.entries r q
 names_partner a r q legal named =
     let free = (legal r named.entry named.there).pairs.names_free_partners.free q named.names in
-    record { call = free.call; arrived = ap call_read named.there ∙ free.arrives; meets = free.meets; named = named }
+    record {
+      call = free.call;
+      arrived = ap call_read named.there ∙ free.arrives;
+      meets = free.meets;
+      named =
+          named;
+    }
 
 -- so who was named, or named a partner itself, is in a pair or swap
-pub named_is_met : (a : Account) (p : ℕ) → Legal a → WasNamed a.entries p ⊎ NamesOne a.entries p → Met a.entries p
-named_is_met a p legal (inl named) = record { later = named.0; earlier = p; names = names_partner a named.0 p legal named.1; part = inr refl }
-named_is_met a p legal (inr names) = record { later = p; earlier = names.0; names = names_partner a p names.0 legal names.1; part = inl refl }
+pub named_is_met : (a : Account) (p : ℕ) → Legal a → WasNamed a.entries p ⊎ NamesOne a.entries p
+    → Met a.entries p
+named_is_met a p legal (inl named) = record {
+  later = named.0;
+  earlier = p;
+  names = names_partner a named.0 p
+      legal named.1;
+  part = inr refl;
+}
+named_is_met a p legal (inr names) = record {
+  later = p;
+  earlier = names.0;
+  names = names_partner a p names.0
+      legal names.1;
+  part = inl refl;
+}
 
 names_free : (a : Account) (e : Entry) → Legal a → NamesFreePartners a.entries e → NamesTaken a.entries e → ⊥
 names_free a e legal names wrongly =
     let free = names.free wrongly.partner wrongly.names in
     elim wrongly.wrong [
       | inl nobody ↦ nobody (free.call, free.arrives, free.meets)
-      | inr no_free ↦ taken free.earlier (λ named. free.unmet (named_is_met a wrongly.partner legal named)) no_free
+      | inr no_free ↦ taken free.earlier (λ named. free.unmet (named_is_met a wrongly.partner legal named))
+          no_free
     ]
   where
-    taken : {p : ℕ} → p < length a.entries → (WasNamed a.entries p ⊎ NamesOne a.entries p → ⊥) → IsNoFreePlace a.entries p → ⊥
+    taken : {p : ℕ} → p < length a.entries → (WasNamed a.entries p ⊎ NamesOne a.entries p → ⊥)
+        → IsNoFreePlace a.entries p → ⊥
     taken earlier unnamed (inl later) = omega arith
     taken earlier unnamed (inr named) = unnamed named
 
-names_few : (e : Entry) → ((call : Call) → call_in e.act ≡ Some call → length e.partners ≤ may_name call) → NamesTooMany e → ⊥
+names_few : (e : Entry) → ((call : Call) → call_in e.act ≡ Some call → length e.partners ≤ may_name call)
+    → NamesTooMany e → ⊥
 names_few e few too =
     let most : length e.partners ≤ may_name too.call = few too.call too.arrives in
     let many : may_name too.call < length e.partners = too.many in
     omega arith
 
-pub names_rightly : (a : Account) (e : Entry) → Legal a → NamesFreePartners a.entries e → NamesWrongly a.entries e → ⊥
+pub names_rightly : (a : Account) (e : Entry) → Legal a → NamesFreePartners a.entries e
+    → NamesWrongly a.entries e → ⊥
 names_rightly a e legal names (inl taken) = names_free a e legal names taken
 names_rightly a e legal names (inr (inl many)) = names_few e names.few many
 names_rightly a e legal names (inr (inr falls)) = falls names.rising
@@ -126,29 +155,41 @@ swapped_meets (Looks queue) swapped = absurd swapped
 swapped_meets (Exchanges exchanger) swapped = refl
 
 module _ (Is : Side → Type 0) (es : List Entry) (e : Entry) where
-  pub meets_rightly : ((side : Side) → Is side → IsSome (opposite side)) → PairsOpposites es e → MeetsWrongly Is es e → ⊥
+  pub meets_rightly : ((side : Side) → Is side → IsSome (opposite side)) → PairsOpposites es e
+      → MeetsWrongly Is es e → ⊥
   meets_rightly meets pairs wrongly =
       let own = wrongly.arrives in
-      wrongly.no_opposite (pairs wrongly.partner wrongly.call wrongly.names own.arrives (meets (side_of wrongly.call) own.is))
+      wrongly.no_opposite (pairs wrongly.partner wrongly.call wrongly.names own.arrives
+      (meets (side_of wrongly.call) own.is))
 
   pub meets_somebody : PairsWherePossible es e → MissesPartner Is es e → ⊥
-  meets_somebody possible nobody = nobody.unnamed (possible nobody.other nobody.call nobody.arrives.arrives nobody.fewer nobody.opposite_there)
+  meets_somebody possible nobody = nobody.unnamed (possible nobody.other nobody.call nobody.arrives.arrives
+      nobody.fewer nobody.opposite_there)
 
 pub passes_nobody_over : (es : List Entry) (e : Entry) → PairsOldest es e → PassesOver es e → ⊥
-passes_nobody_over es e oldest passes = passes.unnamed (oldest passes.partner passes.passed passes.side passes.names passes.is_partners passes.earlier passes.there)
+passes_nobody_over es e oldest passes = passes.unnamed (oldest passes.partner passes.passed passes.side
+    passes.names passes.is_partners passes.earlier passes.there)
 
 -- ---- all rules
 
-pub breaks_nothing : (a : Account) (e : Entry) → Legal a → MayFollow a e → (rule : Rule) → BreaksBehind rule a e → ⊥
+pub breaks_nothing : (a : Account) (e : Entry) → Legal a → MayFollow a e → (rule : Rule)
+    → BreaksBehind rule a e → ⊥
 breaks_nothing a e legal follows M1 breaks = falls_not_back a e follows.moments.keeps_time breaks
 breaks_nothing a e legal follows M2 breaks = passes_no_limit a.entries e follows.moments.keeps_limits breaks
-breaks_nothing a e legal follows M3 breaks = ticks_for_something a.entries e follows.moments.keeps_limits breaks
-breaks_nothing a e legal follows N1 breaks = starts_newer a.entries e.act follows.numbers.raises_incarnation breaks
+breaks_nothing a e legal follows M3 breaks = ticks_for_something a.entries e follows.moments.keeps_limits
+    breaks
+breaks_nothing a e legal follows N1 breaks = starts_newer a.entries e.act follows.numbers.raises_incarnation
+    breaks
 breaks_nothing a e legal follows N2 breaks = is_of_session a e.act follows.numbers.of_session breaks
-breaks_nothing a e legal follows N3 breaks = counts_in_turn a.entries e.act follows.numbers.counts_up follows.numbers.cancels breaks
+breaks_nothing a e legal follows N3 breaks = counts_in_turn a.entries e.act follows.numbers.counts_up
+    follows.numbers.cancels breaks
 breaks_nothing a e legal follows P1 breaks = names_rightly a e legal follows.pairs.names_free_partners breaks
-breaks_nothing a e legal follows P2 breaks = meets_rightly IsPaired a.entries e paired_meets follows.pairs.pairs_opposites breaks
+breaks_nothing a e legal follows P2 breaks = meets_rightly IsPaired a.entries e paired_meets
+    follows.pairs.pairs_opposites breaks
 breaks_nothing a e legal follows P3 breaks = passes_nobody_over a.entries e follows.pairs.pairs_oldest breaks
-breaks_nothing a e legal follows P4 breaks = meets_somebody IsPaired a.entries e follows.pairs.pairs_where_possible breaks
-breaks_nothing a e legal follows S1 breaks = meets_rightly IsSwapped a.entries e swapped_meets follows.pairs.pairs_opposites breaks
-breaks_nothing a e legal follows S2 breaks = meets_somebody IsSwapped a.entries e follows.pairs.pairs_where_possible breaks
+breaks_nothing a e legal follows P4 breaks = meets_somebody IsPaired a.entries e
+    follows.pairs.pairs_where_possible breaks
+breaks_nothing a e legal follows S1 breaks = meets_rightly IsSwapped a.entries e swapped_meets
+    follows.pairs.pairs_opposites breaks
+breaks_nothing a e legal follows S2 breaks = meets_somebody IsSwapped a.entries e
+    follows.pairs.pairs_where_possible breaks

@@ -1,49 +1,42 @@
 -- An entry that breaks no rule behind those of a legal account may follow them: of each rule what it gives.
-use Rattle.std.proofs.Common.{◌≡◌, ◌≢◌, ◌⊎◌, inl, inr, ℕ, ◌+◌, ◌<◌, ◌≤◌, List, [], ◌∷◌, length, take, Option, Some, None, IsSome, refl, sym, ap, subst, ◌∙◌, arith}
+use Rattle.rv_audit.proofs.Words.{◌≡◌, ◌≢◌, ◌⊎◌, ◌+◌, ◌<◌, ◌≤◌, ◌∷◌, ◌∙◌, inl, inr, ℕ, List, [], length, take}
+use Rattle.rv_audit.proofs.Words.{Option, Some, None, IsSome, refl, sym, ap, subst, arith, slice_get}
+use Rattle.rv_audit.proofs.Words.{cases_lt, none-some, same_Some, Version, Key, Call, Side, Gives, Takes}
+use Rattle.rv_audit.proofs.Words.{Looks, Exchanges, side_of, Entry, Act, Hello, Arrive, Cancel, Tick, Account}
+use Rattle.rv_audit.proofs.Words.{Names, act_at, call_in, key_in, may_name, opposite, Met, OpenAt, Waiting}
+use Rattle.rv_audit.proofs.Words.{IsNextNumber, IsOpenOpposite, Legal, MayFollow, NamesFreePartners}
+use Rattle.rv_audit.proofs.Words.{SomethingDue, WaitsUnder, own_moment, read_front, act_read, call_read}
+use Rattle.rv_audit.proofs.Words.{act_called, same_or_not, one_side, Rule, M1, M2, M3, N1, N2, N3, P1, P2, P3}
+use Rattle.rv_audit.proofs.Words.{P4, S1, S2, BreaksBehind, IsOutOfOrder, IsPaired, MeetsWrongly}
+use Rattle.rv_audit.proofs.Words.{MissesPartner, NamesTaken, PassesOver, StartsNoNewer}
 use Rattle.std.specs.Prelude.{is_some}
-use Rattle.std.specs.List.{slice_get, slice_index}
+use Rattle.std.specs.List.{slice_index}
 use Rattle.std.specs.List.Sorted.{IsStrictlyIncreasing}
-use Rattle.std.proofs.lemmas.Bool.{cases_lt}
-use Rattle.std.proofs.lemmas.Option.{none-some, same_Some}
-use Rattle.rv_text.specs.declared.version.Version.{Version}
-use Rattle.rv_text.specs.declared.message.Key.{Key}
-use Rattle.rv_text.specs.declared.call.Call.{Call}
 use Rattle.rv_text.specs.declared.call.Call.TheVariants.{Drain}
-use Rattle.rv_text.specs.declared.call.Side.{Side}
-use Rattle.rv_text.specs.declared.call.Side.TheVariants.{Gives, Takes, Looks, Exchanges}
-use Rattle.rv_text.specs.Calls.{side_of}
-use Rattle.rv_account.specs.declared.entry.Entry.{Entry}
-use Rattle.rv_account.specs.declared.entry.Act.{Act}
-use Rattle.rv_account.specs.declared.entry.Act.TheVariants.{Hello, Arrive, Cancel, Tick}
-use Rattle.rv_account.specs.Account.{Account, Names, NamesAt, act_at, call_at, call_in, key_in}
-use Rattle.rv_account.specs.Calls.{MayMeet, may_name, opposite}
+use Rattle.rv_account.specs.Account.{NamesAt, call_at}
+use Rattle.rv_account.specs.Calls.{MayMeet}
 use Rattle.rv_book.specs.Sessions.{HasIncarnation}
-use Rattle.rv_book.specs.Waiting.{Met, OpenAt, Waiting}
-use Rattle.rv_book.specs.Legal.{CancelsInTurn, CountsUp, IsFreePartner, IsNextNumber, IsOfSession, IsOpenOpposite, KeepsLimits, KeepsTime, Legal}
-use Rattle.rv_book.specs.Legal.{MayFollow, NamesFreePartners, NothingDue, PairsOldest, PairsOpposites, PairsWherePossible, RaisesIncarnation}
-use Rattle.rv_book.specs.Legal.{SomethingDue, WaitsUnder}
-use Rattle.rv_book.specs.Steps.{own_moment}
+use Rattle.rv_book.specs.Legal.{CancelsInTurn, CountsUp, IsFreePartner, IsOfSession, KeepsLimits, KeepsTime}
+use Rattle.rv_book.specs.Legal.{NothingDue, PairsOldest, PairsOpposites, PairsWherePossible}
+use Rattle.rv_book.specs.Legal.{RaisesIncarnation}
 use Rattle.rv_rules.proofs.Deciding.{find_hello, find_last, key_or_other, open_by, waits_or_not}
 use Rattle.rv_book.proofs.Entering.{step_keeps_time}
-use Rattle.rv_rules.proofs.Fronts.{open_in_front, read_front}
-use Rattle.rv_rules.proofs.Growing.{act_read, call_read, read_there, reads_within}
+use Rattle.rv_rules.proofs.Fronts.{open_in_front}
+use Rattle.rv_rules.proofs.Growing.{read_there, reads_within}
 use Rattle.rv_rules.proofs.Histories.{one_incarnation}
-use Rattle.rv_rules.proofs.Keys.{act_called}
 use Rattle.rv_rules.proofs.Naming.{among_none, among_or_not}
-use Rattle.rv_rules.proofs.Numbers.{first_below, same_or_not}
+use Rattle.rv_rules.proofs.Numbers.{first_below}
 use Rattle.rv_rules.proofs.Opposites.{looks_alone}
-use Rattle.rv_rules.proofs.Sides.{one_side}
 use Rattle.rv_book.proofs.Ticking.{something_or_nothing}
-use Rattle.rv_audit.specs.declared.rule.Rule.{Rule}
-use Rattle.rv_audit.specs.declared.rule.Rule.TheVariants.{M1, M2, M3, N1, N2, N3, P1, P2, P3, P4, S1, S2}
-use Rattle.rv_audit.specs.Breaking.{BreaksBehind, BreaksCount, FallsBack, IsOfNoSession, IsOutOfOrder, IsPaired, IsSwapped}
-use Rattle.rv_audit.specs.Breaking.{MeetsWrongly, MissesPartner, NamesOne, NamesTaken, NamesWrongly, PassesOver, StartsNoNewer, WasNamed}
+use Rattle.rv_audit.specs.Breaking.{BreaksCount, FallsBack, IsOfNoSession, IsSwapped, NamesOne, NamesWrongly}
+use Rattle.rv_audit.specs.Breaking.{WasNamed}
 
 -- ---- moments
 
 pub keeps_time : (a : Account) (e : Entry) → Legal a → (FallsBack a e → ⊥) → KeepsTime a e.moment
 keeps_time a e legal stays =
-    let least : own_moment a ≤ e.moment = elim (cases_lt e.moment (own_moment a)) [ inl falls ↦ absurd (stays falls) | inr least ↦ least ] in
+    let least : own_moment a ≤ e.moment = elim (cases_lt e.moment (own_moment a))
+    [ inl falls ↦ absurd (stays falls) | inr least ↦ least ] in
     let own = step_keeps_time a 0 legal in
     record {
       opened = let opened = own.opened in omega arith;
@@ -59,31 +52,39 @@ arrival_no_tick key call is = cc
 cancel_no_tick : (key : Key) → Cancel key ≡ Tick → ⊥
 cancel_no_tick key is = cc
 
-pub keeps_limits : (es : List Entry) (moment : ℕ) (does : Act) → (does ≢ Tick → SomethingDue es moment → ⊥) → (does ≡ Tick → NothingDue es moment → ⊥) → KeepsLimits es moment does
-keeps_limits es moment (Hello client incarnation version) past idle = λ r due. past (hello_no_tick client incarnation version) (r, due)
+pub keeps_limits : (es : List Entry) (moment : ℕ) (does : Act) → (does ≢ Tick → SomethingDue es moment → ⊥)
+    → (does ≡ Tick → NothingDue es moment → ⊥) → KeepsLimits es moment does
+keeps_limits es moment (Hello client incarnation version) past idle = λ r due. past (hello_no_tick client
+    incarnation version) (r, due)
 keeps_limits es moment (Arrive key call) past idle = λ r due. past (arrival_no_tick key call) (r, due)
 keeps_limits es moment (Cancel key) past idle = λ r due. past (cancel_no_tick key) (r, due)
-keeps_limits es moment Tick past idle = elim (something_or_nothing es moment) [ inl something ↦ something | inr nothing ↦ absurd (idle refl nothing) ]
+keeps_limits es moment Tick past idle = elim (something_or_nothing es moment) [
+  | inl something ↦ something
+  | inr nothing ↦ absurd (idle refl nothing)
+]
 
 -- ---- numbers
 
-pub raises_incarnation : (es : List Entry) (does : Act) → (StartsNoNewer es does → ⊥) → RaisesIncarnation es does
-raises_incarnation es does newer client incarnation version hello r reached earlier_version earlier = elim (cases_lt reached incarnation) [
-  | inl less ↦ less
-  | inr most ↦ absurd (newer (record {
-    client = client;
-    incarnation = incarnation;
-    version = version;
-    hello = hello;
-    place = r;
-    reached = reached;
-    earlier_version = earlier_version;
-    earlier = earlier;
-    no_newer = most;
-  }))
-]
+pub raises_incarnation : (es : List Entry) (does : Act) → (StartsNoNewer es does → ⊥)
+    → RaisesIncarnation es does
+raises_incarnation es does newer client incarnation version hello r reached earlier_version earlier =
+    elim (cases_lt reached incarnation) [
+      | inl less ↦ less
+      | inr most ↦ absurd (newer (record {
+        client = client;
+        incarnation = incarnation;
+        version = version;
+        hello = hello;
+        place = r;
+        reached = reached;
+        earlier_version = earlier_version;
+        earlier = earlier;
+        no_newer = most;
+      }))
+    ]
 
-incarnation_or_not : (es : List Entry) (client incarnation : ℕ) → HasIncarnation es client incarnation ⊎ (HasIncarnation es client incarnation → ⊥)
+incarnation_or_not : (es : List Entry) (client incarnation : ℕ)
+    → HasIncarnation es client incarnation ⊎ (HasIncarnation es client incarnation → ⊥)
 incarnation_or_not es client incarnation = elim (find_hello es client) [
   | inr none ↦ inr (λ has. none has.0 incarnation has.1.version has.1.hello)
   | inl found ↦ elim (same_or_not found.0 incarnation) [
@@ -104,7 +105,8 @@ of_session a does known key names = (
   ],
 )
 
-in_turn : (es : List Entry) (key : Key) → HasIncarnation es key.client key.incarnation → (IsOutOfOrder es key → ⊥) → IsNextNumber es key
+in_turn : (es : List Entry) (key : Key) → HasIncarnation es key.client key.incarnation
+    → (IsOutOfOrder es key → ⊥) → IsNextNumber es key
 in_turn es key has turn =
     let last = find_last es key.client key.incarnation has.0 has.1 in record {
       last = last.0;
@@ -116,15 +118,18 @@ in_turn es key has turn =
       idle = λ waits. turn (inr waits);
     }
 
-pub counts_up : (a : Account) (does : Act) → IsOfSession a does → (BreaksCount a.entries does → ⊥) → CountsUp a.entries does
+pub counts_up : (a : Account) (does : Act) → IsOfSession a does → (BreaksCount a.entries does → ⊥)
+    → CountsUp a.entries does
 counts_up a does session keeps key call arrives =
-    in_turn a.entries key (session key (ap key_in arrives)).1 (λ out. keeps (subst (BreaksCount a.entries) (sym arrives) out))
+    in_turn a.entries key (session key (ap key_in arrives)).1 (λ out. keeps (subst (BreaksCount a.entries)
+    (sym arrives) out))
 
 -- the request with this key arrived at r, and it waits
 abbrev WaitsUnderAt : List Entry → Key → ℕ → Type 0
 WaitsUnderAt es key r = (call : Call) × (act_at es r ≡ Some (Arrive key call)) × Waiting es r
 
-one_key : (key other : Key) (call more : Call) → Some (Arrive key call) ≡ Some (Arrive other more) → key ≡ other
+one_key : (key other : Key) (call more : Call) → Some (Arrive key call) ≡ Some (Arrive other more)
+    → key ≡ other
 one_key key other call more is = cc
 
 waits_under_at : (es : List Entry) (key : Key) (r : ℕ) → WaitsUnderAt es key r ⊎ (WaitsUnderAt es key r → ⊥)
@@ -133,7 +138,12 @@ waits_under_at es key r = elim (waits_or_not es r) [
   | inl waits ↦
       let own = act_called (act_at es r) waits.is_open.call waits.is_open.arrived in
       elim (key_or_other own.0 key) [
-        | inl same ↦ inl (waits.is_open.call, subst (λ (k : Key). act_at es r ≡ Some (Arrive k waits.is_open.call)) same own.1, waits)
+        | inl same ↦ inl (
+          waits.is_open.call,
+          subst (λ (k : Key). act_at es r ≡ Some
+              (Arrive k waits.is_open.call)) same own.1,
+          waits,
+        )
         | inr other ↦ inr (λ h. other (one_key own.0 key waits.is_open.call h.0 (sym own.1 ∙ h.1)))
       ]
 ]
@@ -141,13 +151,16 @@ waits_under_at es key r = elim (waits_or_not es r) [
 pub waits_under_or_not : (es : List Entry) (key : Key) → WaitsUnder es key ⊎ (WaitsUnder es key → ⊥)
 waits_under_or_not es key = elim (first_below (WaitsUnderAt es key) (waits_under_at es key) (length es)) [
   | inl found ↦ inl (record { place = found.0; call = found.2.0; arrived = found.2.1; waits = found.2.2 })
-  | inr none ↦ inr (λ h. none h.place (reads_within act_read refl es h.place (Arrive key h.call) h.arrived) (h.call, h.arrived, h.waits))
+  | inr none ↦ inr (λ h. none h.place (reads_within act_read refl es h.place (Arrive key h.call) h.arrived)
+      (h.call, h.arrived, h.waits))
 ]
 
-pub cancels_in_turn : (a : Account) (does : Act) → IsOfSession a does → (BreaksCount a.entries does → ⊥) → CancelsInTurn a.entries does
+pub cancels_in_turn : (a : Account) (does : Act) → IsOfSession a does → (BreaksCount a.entries does → ⊥)
+    → CancelsInTurn a.entries does
 cancels_in_turn a does session keeps key cancels = elim (waits_under_or_not a.entries key) [
   | inl waits ↦ inl waits
-  | inr none ↦ inr (in_turn a.entries key (session key (ap key_in cancels)).1 (λ out. keeps (subst (BreaksCount a.entries) (sym cancels) (none, out))))
+  | inr none ↦ inr (in_turn a.entries key (session key (ap key_in cancels)).1
+      (λ out. keeps (subst (BreaksCount a.entries) (sym cancels) (none, out))))
 ]
 
 -- ---- partners
@@ -179,7 +192,8 @@ side_meets (Takes queue) = inl refl
 side_meets (Looks queue) = inr (looks_alone queue)
 side_meets (Exchanges exchanger) = inl refl
 
-meets_or_not : (o : Option Call) → ((call : Call) × (o ≡ Some call) × MayMeet call) ⊎ ((call : Call) × (o ≡ Some call) × MayMeet call → ⊥)
+meets_or_not : (o : Option Call) → ((call : Call) × (o ≡ Some call) × MayMeet call)
+    ⊎ ((call : Call) × (o ≡ Some call) × MayMeet call → ⊥)
 meets_or_not None = inr (λ h. none-some h.0 h.1)
 meets_or_not (Some call) = elim (side_meets (side_of call)) [
   | inl meets ↦ inl (call, refl, meets)
@@ -193,7 +207,8 @@ met_is_named es p met = elim met.part [
   | inr earlier ↦ inl (met.later, subst (NamesAt es met.later) (sym earlier) met.names.named)
 ]
 
-names_free : (es : List Entry) (e : Entry) → (NamesTaken es e → ⊥) → (p : ℕ) → Names e p → IsFreePartner es e p
+names_free : (es : List Entry) (e : Entry) → (NamesTaken es e → ⊥) → (p : ℕ) → Names e p
+    → IsFreePartner es e p
 names_free es e rightly p names = elim (meets_or_not (call_in e.act)) [
   | inr nobody ↦ absurd (rightly (record { partner = p; names = names; wrong = inl nobody }))
   | inl meets ↦ record {
@@ -212,7 +227,8 @@ names_free es e rightly p names = elim (meets_or_not (call_in e.act)) [
 rises : (xs : List ℕ) → ((IsStrictlyIncreasing xs → ⊥) → ⊥) → IsStrictlyIncreasing xs
 rises xs no_fall k within = elim (cases_lt (slice_index xs k) (slice_index xs (k + 1))) [
   | inl less ↦ less
-  | inr most ↦ absurd (no_fall (λ rising. let less : slice_index xs k < slice_index xs (k + 1) = rising k within in omega arith))
+  | inr most ↦ absurd (no_fall (λ rising. let less : slice_index xs k < slice_index xs (k + 1) =
+      rising k within in omega arith))
 ]
 
 pub names_free_partners : (es : List Entry) (e : Entry) → (NamesWrongly es e → ⊥) → NamesFreePartners es e
@@ -225,31 +241,62 @@ names_free_partners es e rightly = record {
   free = names_free es e (λ taken. rightly (inl taken));
 }
 
-opposite_by : (es : List Entry) (call : Call) (p : ℕ) (o : Option Side) → opposite (side_of call) ≡ o → IsOpenOpposite es call p ⊎ (IsOpenOpposite es call p → ⊥)
+opposite_by : (es : List Entry) (call : Call) (p : ℕ) (o : Option Side) → opposite (side_of call) ≡ o
+    → IsOpenOpposite es call p ⊎ (IsOpenOpposite es call p → ⊥)
 opposite_by es call p None opposes = inr (λ h. none-some h.side (sym opposes ∙ h.opposes))
 opposite_by es call p (Some side) opposes = elim (open_by es side p (call_at es p) refl) [
   | inl there ↦ inl (record { side = side; opposes = opposes; there = there })
-  | inr closed ↦ inr (λ h. closed (subst (λ s. OpenAt es s p) (same_Some _ _ (sym h.opposes ∙ opposes)) h.there))
+  | inr closed ↦ inr (λ h. closed (subst (λ s. OpenAt es s p) (same_Some _ _ (sym h.opposes ∙ opposes))
+      h.there))
 ]
 
-pub opposite_or_not : (es : List Entry) (call : Call) (p : ℕ) → IsOpenOpposite es call p ⊎ (IsOpenOpposite es call p → ⊥)
+pub opposite_or_not : (es : List Entry) (call : Call) (p : ℕ)
+    → IsOpenOpposite es call p ⊎ (IsOpenOpposite es call p → ⊥)
 opposite_or_not es call p = opposite_by es call p (opposite (side_of call)) refl
 
-pub pairs_opposites : (es : List Entry) (e : Entry) → (MeetsWrongly IsPaired es e → ⊥) → (MeetsWrongly IsSwapped es e → ⊥) → PairsOpposites es e
+pub pairs_opposites : (es : List Entry) (e : Entry) → (MeetsWrongly IsPaired es e → ⊥)
+    → (MeetsWrongly IsSwapped es e → ⊥) → PairsOpposites es e
 pairs_opposites es e pairs swaps p call names arrives meets = elim (opposite_or_not es call p) [
   | inl is ↦ is
   | inr none ↦ elim (paired_or_swapped (side_of call) meets) [
-    | inl paired ↦ absurd (pairs (record { call = call; arrives = record { arrives = arrives; is = paired }; partner = p; names = names; no_opposite = none }))
-    | inr swapped ↦ absurd (swaps (record { call = call; arrives = record { arrives = arrives; is = swapped }; partner = p; names = names; no_opposite = none }))
+    | inl paired ↦ absurd (pairs (record {
+      call = call;
+      arrives = record { arrives = arrives; is = paired };
+      partner = p;
+      names = names;
+      no_opposite = none;
+    }))
+    | inr swapped ↦ absurd (swaps (record {
+      call = call;
+      arrives = record { arrives = arrives; is = swapped };
+      partner = p;
+      names = names;
+      no_opposite = none;
+    }))
   ]
 ]
 
-pub pairs_where_possible : (es : List Entry) (e : Entry) → (MissesPartner IsPaired es e → ⊥) → (MissesPartner IsSwapped es e → ⊥) → PairsWherePossible es e
+pub pairs_where_possible : (es : List Entry) (e : Entry) → (MissesPartner IsPaired es e → ⊥)
+    → (MissesPartner IsSwapped es e → ⊥) → PairsWherePossible es e
 pairs_where_possible es e pairs swaps r call arrives fewer there = elim (among_or_not e.partners r) [
   | inl named ↦ named
   | inr unnamed ↦ elim (paired_or_swapped (side_of call) (ap is_some there.opposes)) [
-    | inl paired ↦ absurd (pairs (record { call = call; arrives = record { arrives = arrives; is = paired }; fewer = fewer; other = r; opposite_there = there; unnamed = unnamed }))
-    | inr swapped ↦ absurd (swaps (record { call = call; arrives = record { arrives = arrives; is = swapped }; fewer = fewer; other = r; opposite_there = there; unnamed = unnamed }))
+    | inl paired ↦ absurd (pairs (record {
+      call = call;
+      arrives = record { arrives = arrives; is = paired };
+      fewer = fewer;
+      other = r;
+      opposite_there = there;
+      unnamed = unnamed;
+    }))
+    | inr swapped ↦ absurd (swaps (record {
+      call = call;
+      arrives = record { arrives = arrives; is = swapped };
+      fewer = fewer;
+      other = r;
+      opposite_there = there;
+      unnamed = unnamed;
+    }))
   ]
 ]
 
@@ -260,15 +307,23 @@ one_partner _ swapped = refl
 
 -- ---- the oldest
 
--- at the later of two that are open at one exchanger stands an entry that names no partner, and none that names one
-module _ (a : Account) (side : Side) (r s : ℕ) (first : OpenAt a.entries side r) (second : OpenAt a.entries side s) (less : r < s) where
+-- at the later of two that are open at one exchanger stands an entry that names no partner, and none that
+-- names one
+module _ (a : Account) (side : Side) (r s : ℕ) (first : OpenAt a.entries side r) (second : OpenAt a.entries
+    side s) (less : r < s) where
   named_there : (e : Entry) (q : ℕ) → slice_get a.entries s ≡ Some e → Names e q → ⊥
   named_there e q there named =
       let own = second.is_open in
       own.unmet (record {
         later = s;
         earlier = q;
-        names = record { call = own.call; arrived = own.arrived; meets = own.stays.0; named = record { entry = e; there = there; names = named } };
+        names = record {
+          call = own.call;
+          arrived = own.arrived;
+          meets = own.stays.0;
+          named =
+              record { entry = e; there = there; names = named };
+        };
         part = inl refl;
       })
 
@@ -282,20 +337,27 @@ module _ (a : Account) (side : Side) (r s : ℕ) (first : OpenAt a.entries side 
     is_open = open_in_front a.entries s r less first.is_open;
   }
 
-  alone_there : (e : Entry) → IsSwapped side → MayFollow (record { epoch = a.epoch; opened = a.opened; entries = take s a.entries }) e → call_in e.act ≡ Some second.of_side.call → e.partners ≡ [] → ⊥
+  alone_there : (e : Entry) → IsSwapped side
+      → MayFollow (record { epoch = a.epoch; opened = a.opened; entries = take s a.entries }) e
+      → call_in e.act ≡ Some second.of_side.call → e.partners ≡ [] → ⊥
   alone_there e swapped follows arrives alone =
-      let one : may_name second.of_side.call ≡ 1 = one_partner second.of_side.call (subst IsSwapped (sym second.of_side.is) swapped) in
+      let one : may_name second.of_side.call ≡ 1 = one_partner second.of_side.call
+      (subst IsSwapped (sym second.of_side.is) swapped) in
       let none : length e.partners ≡ 0 = ap length alone in
-      among_none e.partners r alone (follows.pairs.pairs_where_possible r second.of_side.call arrives (omega arith) (record {
+      among_none e.partners r alone (follows.pairs.pairs_where_possible r second.of_side.call arrives
+      (omega arith) (record {
         side = side;
         opposes = ap opposite second.of_side.is ∙ swapped_opposite side swapped;
         there = open_before;
       }))
 
-  one_at_exchanger_by : (e : Entry) (places : List ℕ) → IsSwapped side → MayFollow (record { epoch = a.epoch; opened = a.opened; entries = take s a.entries }) e → slice_get a.entries s ≡ Some e
+  one_at_exchanger_by : (e : Entry) (places : List ℕ) → IsSwapped side
+      → MayFollow (record { epoch = a.epoch; opened = a.opened; entries = take s a.entries }) e
+      → slice_get a.entries s ≡ Some e
       → call_in e.act ≡ Some second.of_side.call → e.partners ≡ places → ⊥
   one_at_exchanger_by e [] swapped follows there arrives are = alone_there e swapped follows arrives are
-  one_at_exchanger_by e (q ∷ qs) swapped follows there arrives are = named_there e q there (0, ap (λ l. slice_get l 0) are)
+  one_at_exchanger_by e (q ∷ qs) swapped follows there arrives are = named_there e q there
+      (0, ap (λ l. slice_get l 0) are)
 
   -- in a legal account one at most is open at an exchanger
   pub one_at_exchanger : Legal a → IsSwapped side → ⊥
@@ -304,7 +366,8 @@ module _ (a : Account) (side : Side) (r s : ℕ) (first : OpenAt a.entries side 
       one_at_exchanger_by at.0 at.0.partners swapped (legal s at.0 at.1) at.1 at.2 refl
 
 -- an open arrival that stands before a partner, on its side, is a partner too
-pub pairs_oldest : (a : Account) (e : Entry) → Legal a → NamesFreePartners a.entries e → PairsOpposites a.entries e → (PassesOver a.entries e → ⊥) → PairsOldest a.entries e
+pub pairs_oldest : (a : Account) (e : Entry) → Legal a → NamesFreePartners a.entries e
+    → PairsOpposites a.entries e → (PassesOver a.entries e → ⊥) → PairsOldest a.entries e
 pairs_oldest a e legal names_free pairs passes p r side names of_side less there =
     let free : IsFreePartner a.entries e p = names_free.free p names in
     let meets : IsOpenOpposite a.entries free.call p = pairs p free.call names free.arrives free.meets in
@@ -327,14 +390,17 @@ pairs_oldest a e legal names_free pairs passes p r side names of_side less there
           unnamed = unnamed;
         }))
         | inr swapped ↦
-            let own : side_of free.call ≡ side = same_Some _ _ (sym (swapped_opposite (side_of free.call) swapped) ∙ opposes) in
-            absurd (one_at_exchanger a side r p there (subst (λ s. OpenAt a.entries s p) same meets.there) less legal (subst IsSwapped own swapped))
+            let own : side_of free.call ≡ side = same_Some _ _
+            (sym (swapped_opposite (side_of free.call) swapped) ∙ opposes) in
+            absurd (one_at_exchanger a side r p there (subst (λ s. OpenAt a.entries s p) same meets.there)
+            less legal (subst IsSwapped own swapped))
       ]
     ]
 
 -- ---- all rules
 
-pub may_follow : (a : Account) (e : Entry) → Legal a → ((rule : Rule) → BreaksBehind rule a e → ⊥) → MayFollow a e
+pub may_follow : (a : Account) (e : Entry) → Legal a → ((rule : Rule) → BreaksBehind rule a e → ⊥)
+    → MayFollow a e
 may_follow a e legal keeps =
     let session : IsOfSession a e.act = of_session a e.act (keeps N2) in
     let free : NamesFreePartners a.entries e = names_free_partners a.entries e (keeps P1) in
@@ -342,7 +408,8 @@ may_follow a e legal keeps =
     record {
       moments = record {
         keeps_time = keeps_time a e legal (keeps M1);
-        keeps_limits = keeps_limits a.entries e.moment e.act (λ no_tick due. keeps M2 (record { no_tick = no_tick; due = due }))
+        keeps_limits = keeps_limits a.entries e.moment e.act (λ no_tick due. keeps M2
+            (record { no_tick = no_tick; due = due }))
             (λ ticks nothing. keeps M3 (record { ticks = ticks; nothing_due = nothing }));
       };
       numbers = record {

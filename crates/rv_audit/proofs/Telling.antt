@@ -1,32 +1,25 @@
 -- What one test on an audit's tables tells, of what the rules ask.
-use Rattle.std.proofs.Common.{◌≡◌, ◌≢◌, ◌⊎◌, inl, inr, ℕ, ◌+◌, ◌-◌, ◌<◌, ◌≤◌, Bool, true, false, not, nat_eq, nat_lt, nat_le, List, length, take, Option, Some, None, IfSome, IfNone, is_some, option_and_then, refl, sym, ap, subst, ◌∙◌, arith}
-use Rattle.std.specs.Bool.{IsTrue}
-use Rattle.std.proofs.lemmas.Bool.{cases_lt, false≢true}
-use Rattle.std.proofs.lemmas.Bool.Decides.{nat_tests}
-use Rattle.std.proofs.lemmas.Option.{same_Some}
-use Rattle.rv_text.specs.declared.version.Version.{Version}
-use Rattle.rv_text.specs.declared.message.Key.{Key}
-use Rattle.rv_text.specs.declared.call.Call.{Call}
-use Rattle.rv_text.specs.declared.call.Side.{Side}
-use Rattle.rv_text.specs.Calls.{side_of}
-use Rattle.rv_account.specs.declared.entry.Entry.{Entry}
-use Rattle.rv_account.specs.declared.entry.Act.TheVariants.{Arrive, Hello, Tick}
-use Rattle.rv_account.specs.Account.{Account, Among, act_at, call_in, key_in}
-use Rattle.rv_account.specs.Calls.{may_name, opposite}
-use Rattle.rv_book.specs.Legal.{HasWaiting, IsOpenOpposite, Legal, SomethingDue, WaitsUnder}
-use Rattle.rv_book.specs.Sessions.{LastNumber, NamesKey, SaidHello}
-use Rattle.rv_book.specs.Waiting.{Met, OpenAt, SideAt, Waiting}
-use Rattle.rv_rules.proofs.Fronts.{read_front, read_whole}
-use Rattle.rv_rules.proofs.Growing.{act_read, call_read}
+use Rattle.rv_audit.proofs.Words.{◌≡◌, ◌≢◌, ◌⊎◌, ◌+◌, ◌-◌, ◌<◌, ◌≤◌, ◌∙◌, inl, inr, ℕ, Bool, true, false, not}
+use Rattle.rv_audit.proofs.Words.{nat_eq, List, length, take, Option, Some, None, IfSome, IfNone}
+use Rattle.rv_audit.proofs.Words.{option_and_then, refl, sym, ap, subst, arith, IsTrue, cases_lt, false≢true}
+use Rattle.rv_audit.proofs.Words.{nat_tests, same_Some, Version, Key, Call, Side, side_of, Entry, Arrive}
+use Rattle.rv_audit.proofs.Words.{Hello, Tick, Account, Among, act_at, key_in, may_name, opposite, HasWaiting}
+use Rattle.rv_audit.proofs.Words.{IsOpenOpposite, Legal, SomethingDue, WaitsUnder, NamesKey, Met, OpenAt}
+use Rattle.rv_audit.proofs.Words.{Waiting, read_front, read_whole, act_read, call_read, one_side, one_waits}
+use Rattle.rv_audit.proofs.Words.{IsNoFreePlace, IsOutOfOrder, IsPaired, MeetsWrongly, MissesPartner}
+use Rattle.rv_audit.proofs.Words.{NamesTaken, PassesOver, StartsNoNewer, HasAmong, IsPassedBy, WaitsOf}
+use Rattle.rv_audit.proofs.Words.{is_any, AuditSession}
+use Rattle.std.proofs.Common.{nat_lt, nat_le, is_some}
+use Rattle.rv_book.specs.Sessions.{LastNumber, SaidHello}
+use Rattle.rv_book.specs.Waiting.{SideAt}
 use Rattle.rv_rules.proofs.Histories.{hellos_at_most, one_last_number}
-use Rattle.rv_rules.proofs.Sides.{one_side}
-use Rattle.rv_rules.proofs.Waits.{one_waits}
-use Rattle.rv_audit.specs.Breaking.{ArrivesAs, ArrivesToMeet, CountsTo, IsNoFreePlace, IsNotNext, IsOutOfOrder, IsPaired, MeetsWrongly, MissesPartner, NamesTaken, NamesTooMany, PassesOver, StartsNoNewer, TicksForNothing}
-use Rattle.rv_audit.specs.Passed.{ArrivesWith, FindsOne, HasAmong, HasOlder, HasOne, IsAuditSession, IsOldestBeside, IsPassedBy, LeavesPartner, Misses, WaitsOf, is_any}
+use Rattle.rv_audit.specs.Breaking.{ArrivesAs, ArrivesToMeet, CountsTo, IsNotNext, NamesTooMany}
+use Rattle.rv_audit.specs.Breaking.{TicksForNothing}
+use Rattle.rv_audit.specs.Passed.{ArrivesWith, FindsOne, HasOlder, HasOne, IsAuditSession, IsOldestBeside}
+use Rattle.rv_audit.specs.Passed.{LeavesPartner, Misses}
 use Rattle.rv_audit.proofs.Named.{any_among, some_among}
 use Rattle.rv_audit.proofs.RulesKept.{named_is_met}
 use Rattle.rv_audit.proofs.RulesSuffice.{met_is_named}
-use Rattle.rv_audit.specs.declared.sessions.AuditSession.{AuditSession}
 
 abbrev pub Iff : Type 0 → Type 0 → Type 0
 Iff A B = (A → B) × (B → A)
@@ -38,8 +31,13 @@ never A none = (λ t. absurd (false≢true t), λ h. absurd (none h))
 -- ---- lines
 
 module _ (es : List Entry) (side : Side) (places : List ℕ) where
-  older_by : (first place : ℕ) (b : Bool) → nat_lt first place ≡ b → IsOldestBeside es side places first → Iff (IsTrue b) (HasOlder es side places place)
-  older_by first place true less is = (λ t. let below : first < place = grind (arith, nat_tests) in (first, below, is.there, is.beside), λ has. refl)
+  older_by : (first place : ℕ) (b : Bool) → nat_lt first place ≡ b → IsOldestBeside es side places first
+      → Iff (IsTrue b) (HasOlder es side places place)
+  older_by first place true less is = (
+    λ t. let below : first < place = grind (arith, nat_tests) in
+        (first, below, is.there, is.beside),
+    λ has. refl,
+  )
   older_by first place false more is = (
     λ t. absurd (false≢true t),
     λ has.
@@ -48,10 +46,12 @@ module _ (es : List Entry) (side : Side) (places : List ℕ) where
         absurd (has.3 (is.oldest has.0 (omega arith) has.2)),
   )
 
-  pub older : (first place : ℕ) → IsOldestBeside es side places first → Iff (IsTrue (nat_lt first place)) (HasOlder es side places place)
+  pub older : (first place : ℕ) → IsOldestBeside es side places first
+      → Iff (IsTrue (nat_lt first place)) (HasOlder es side places place)
   older first place is = older_by first place (nat_lt first place) refl is
 
-  pub no_older : (place : ℕ) → ((r : ℕ) → OpenAt es side r → Among places r) → Iff (IsTrue false) (HasOlder es side places place)
+  pub no_older : (place : ℕ) → ((r : ℕ) → OpenAt es side r → Among places r)
+      → Iff (IsTrue false) (HasOlder es side places place)
   no_older place none = never (HasOlder es side places place) (λ has. has.3 (none has.0 has.2))
 
   has_first : (first : ℕ) → IsOldestBeside es side places first → Iff (IsTrue true) (HasOne es side places)
@@ -61,37 +61,51 @@ module _ (es : List Entry) (side : Side) (places : List ℕ) where
   no_one none = never (HasOne es side places) (λ has. has.2 (none has.0 has.1))
 
   -- whether there is one is whether an oldest is found
-  pub any_one : (found : Option ℕ) (b : Bool) → b ≡ is_some found → IfSome found (IsOldestBeside es side places)
+  pub any_one : (found : Option ℕ) (b : Bool) → b ≡ is_some found
+      → IfSome found (IsOldestBeside es side places)
       → IfNone found ((r : ℕ) → OpenAt es side r → Among places r) → Iff (IsTrue b) (HasOne es side places)
   any_one None b is some none = subst (λ t. Iff (IsTrue t) (HasOne es side places)) (sym is) (no_one none)
-  any_one (Some first) b is some none = subst (λ t. Iff (IsTrue t) (HasOne es side places)) (sym is) (has_first first some)
+  any_one (Some first) b is some none = subst (λ t. Iff (IsTrue t) (HasOne es side places)) (sym is)
+      (has_first first some)
 
 -- ---- partners
 
-pub finds : (es : List Entry) (call : Call) (places : List ℕ) (side : Side) (b : Bool) → opposite (side_of call) ≡ Some side → Iff (IsTrue b) (HasOne es side places) → Iff (IsTrue b) (FindsOne es call places)
+pub finds : (es : List Entry) (call : Call) (places : List ℕ) (side : Side) (b : Bool)
+    → opposite (side_of call) ≡ Some side → Iff (IsTrue b) (HasOne es side places)
+    → Iff (IsTrue b) (FindsOne es call places)
 finds es call places side b opposes has = (
   λ t. let one = has.0 t in (one.0, record { side = side; opposes = opposes; there = one.1 }, one.2),
-  λ found. has.1 (found.0, subst (λ s. OpenAt es s found.0) (same_Some _ _ (sym found.1.opposes ∙ opposes)) found.1.there, found.2),
+  λ found. has.1 (
+    found.0,
+    subst (λ s. OpenAt es s found.0) (same_Some _ _ (sym found.1.opposes ∙ opposes))
+        found.1.there,
+    found.2,
+  ),
 )
 
 module _ (es : List Entry) (partners : List ℕ) where
-  pub passed_by : (side : Side) (place : ℕ) (b : Bool) → SideAt es side place → IsPaired side → Iff (IsTrue b) (HasOlder es side partners place)
+  pub passed_by : (side : Side) (place : ℕ) (b : Bool) → SideAt es side place → IsPaired side
+      → Iff (IsTrue b) (HasOlder es side partners place)
       → Iff (IsTrue b) (IsPassedBy es partners place)
   passed_by side place b at is has = (
     λ t. (side, is, at, has.0 t),
-    λ passed. has.1 (subst (λ s. HasOlder es s partners place) (one_side es passed.0 side place passed.2 at) passed.3),
+    λ passed. has.1 (subst (λ s. HasOlder es s partners place) (one_side es passed.0 side place passed.2 at)
+        passed.3),
   )
 
-  pub not_passed : (side : Side) (place : ℕ) (b : Bool) → b ≡ false → SideAt es side place → (IsPaired side → IsTrue b) → Iff (IsTrue b) (IsPassedBy es partners place)
+  pub not_passed : (side : Side) (place : ℕ) (b : Bool) → b ≡ false → SideAt es side place
+      → (IsPaired side → IsTrue b) → Iff (IsTrue b) (IsPassedBy es partners place)
   not_passed side place b low at is = (
     λ t. absurd (false≢true (sym low ∙ t)),
     λ passed. is (subst IsPaired (one_side es passed.0 side place passed.2 at) passed.1),
   )
 
-  pub nobody_passed : (place : ℕ) → ((side : Side) → SideAt es side place → ⊥) → Iff (IsTrue false) (IsPassedBy es partners place)
+  pub nobody_passed : (place : ℕ) → ((side : Side) → SideAt es side place → ⊥)
+      → Iff (IsTrue false) (IsPassedBy es partners place)
   nobody_passed place none = never (IsPassedBy es partners place) (λ passed. none passed.0 passed.2)
 
-pub over : (es : List Entry) (e : Entry) (call : Call) (b : Bool) → ArrivesAs IsPaired e call → Iff (IsTrue b) (HasAmong (IsPassedBy es e.partners) e.partners) → Iff (IsTrue b) (PassesOver es e)
+pub over : (es : List Entry) (e : Entry) (call : Call) (b : Bool) → ArrivesAs IsPaired e call
+    → Iff (IsTrue b) (HasAmong (IsPassedBy es e.partners) e.partners) → Iff (IsTrue b) (PassesOver es e)
 over es e call b arrives is = (
   λ t.
       let has = is.0 t in
@@ -109,22 +123,42 @@ over es e call b arrives is = (
         there = passed.3.2;
         unnamed = passed.3.3;
       },
-  λ breaks. is.1 (breaks.partner, breaks.names, (breaks.side, breaks.of_queue, breaks.is_partners, (breaks.passed, breaks.earlier, breaks.there, breaks.unnamed))),
+  λ breaks. is.1 (
+    breaks.partner,
+    breaks.names,
+    (
+      breaks.side,
+      breaks.of_queue,
+      breaks.is_partners,
+      (breaks.passed, breaks.earlier, breaks.there, breaks.unnamed),
+    ),
+  ),
 )
 
-pub one_left : (es : List Entry) (call : Call) (partners : List ℕ) (b : Bool) → length partners < may_name call → Iff (IsTrue b) (FindsOne es call partners) → Iff (IsTrue b) (LeavesPartner es call partners)
+pub one_left : (es : List Entry) (call : Call) (partners : List ℕ) (b : Bool)
+    → length partners < may_name call → Iff (IsTrue b) (FindsOne es call partners)
+    → Iff (IsTrue b) (LeavesPartner es call partners)
 one_left es call partners b fewer finds = (
   λ t. let one = finds.0 t in record { fewer = fewer; other = one.0; there = one.1; unnamed = one.2 },
   λ leaves. finds.1 (leaves.other, leaves.there, leaves.unnamed),
 )
 
-module _ (Is : Side → Type 0) (es : List Entry) (e : Entry) (call : Call) (b : Bool) (arrives : ArrivesAs Is e call) where
+module _ (Is : Side → Type 0) (es : List Entry) (e : Entry) (call : Call) (b : Bool) (arrives : ArrivesAs Is e
+    call) where
   own_call : (other : Call) → ArrivesAs Is e other → other ≡ call
   own_call other is = same_Some _ _ (sym is.arrives ∙ arrives.arrives)
 
   pub nobody_met : Iff (IsTrue b) (LeavesPartner es call e.partners) → Iff (IsTrue b) (MissesPartner Is es e)
   nobody_met is = (
-    λ t. let leaves = is.0 t in record { call = call; arrives = arrives; fewer = leaves.fewer; other = leaves.other; opposite_there = leaves.there; unnamed = leaves.unnamed },
+    λ t. let leaves = is.0 t in record {
+      call = call;
+      arrives = arrives;
+      fewer = leaves.fewer;
+      other =
+          leaves.other;
+      opposite_there = leaves.there;
+      unnamed = leaves.unnamed;
+    },
     λ breaks.
         let same = own_call breaks.call breaks.arrives in
         is.1 (record {
@@ -137,18 +171,31 @@ module _ (Is : Side → Type 0) (es : List Entry) (e : Entry) (call : Call) (b :
 
   pub wrong_met : Iff (IsTrue b) (Misses es call e.partners) → Iff (IsTrue b) (MeetsWrongly Is es e)
   wrong_met is = (
-    λ t. let has = is.0 t in record { call = call; arrives = arrives; partner = has.0; names = has.1; no_opposite = has.2 },
+    λ t. let has = is.0 t in record {
+      call = call;
+      arrives = arrives;
+      partner = has.0;
+      names = has.1;
+      no_opposite = has.2;
+    },
     λ breaks.
         let same = own_call breaks.call breaks.arrives in
-        is.1 (breaks.partner, breaks.names, subst (λ c. IsOpenOpposite es c breaks.partner → ⊥) same breaks.no_opposite),
+        is.1 (
+          breaks.partner,
+          breaks.names,
+          subst (λ c. IsOpenOpposite es c breaks.partner → ⊥) same
+              breaks.no_opposite,
+        ),
   )
 
 -- a place that isn't free is none of an earlier entry, or is in a pair or swap, in a legal account
-pub no_free_met : (a : Account) (p : ℕ) → Legal a → IsNoFreePlace a.entries p → (length a.entries ≤ p) ⊎ Met a.entries p
+pub no_free_met : (a : Account) (p : ℕ) → Legal a → IsNoFreePlace a.entries p
+    → (length a.entries ≤ p) ⊎ Met a.entries p
 no_free_met a p legal (inl past) = inl past
 no_free_met a p legal (inr named) = inr (named_is_met a p legal named)
 
-pub taken : (a : Account) (p : ℕ) (b : Bool) → Legal a → ((Met a.entries p) ⊎ (Met a.entries p → ⊥)) → Iff (IsTrue b) ((p < length a.entries) × (Met a.entries p → ⊥))
+pub taken : (a : Account) (p : ℕ) (b : Bool) → Legal a → ((Met a.entries p) ⊎ (Met a.entries p → ⊥))
+    → Iff (IsTrue b) ((p < length a.entries) × (Met a.entries p → ⊥))
     → Iff (IsTrue (not b)) (IsNoFreePlace a.entries p)
 taken a p true legal met free = (
   λ t. absurd (false≢true t),
@@ -167,7 +214,8 @@ taken a p false legal met free = (λ t. by_met met, λ no_free. refl)
     by_met (inl is) = inr (met_is_named a.entries p is)
     by_met (inr unmet) = past (cases_lt p (length a.entries)) unmet
 
-pub who_meets_not : (es : List Entry) (e : Entry) → (ArrivesToMeet e → ⊥) → Iff (IsTrue (is_any e.partners)) (NamesTaken es e)
+pub who_meets_not : (es : List Entry) (e : Entry) → (ArrivesToMeet e → ⊥)
+    → Iff (IsTrue (is_any e.partners)) (NamesTaken es e)
 who_meets_not es e meets_not = (
   λ t. let one = some_among e.partners t in record { partner = one.0; names = one.1; wrong = inl meets_not },
   λ breaks. any_among e.partners breaks.partner breaks.names,
@@ -175,13 +223,26 @@ who_meets_not es e meets_not = (
 
 -- ---- moments
 
-pub for_nothing : (es : List Entry) (e : Entry) (b : Bool) → e.act ≡ Tick → Iff (IsTrue b) (SomethingDue es e.moment) → Iff (IsTrue (not b)) (TicksForNothing es e)
-for_nothing es e true ticks due = (λ t. absurd (false≢true t), λ breaks. let some = due.0 refl in absurd (breaks.nothing_due some.0 some.1))
-for_nothing es e false ticks due = (λ t. record { ticks = ticks; nothing_due = λ r is. false≢true (due.1 (r, is)) }, λ breaks. refl)
+pub for_nothing : (es : List Entry) (e : Entry) (b : Bool) → e.act ≡ Tick
+    → Iff (IsTrue b) (SomethingDue es e.moment) → Iff (IsTrue (not b)) (TicksForNothing es e)
+for_nothing es e true ticks due = (
+  λ t. absurd (false≢true t),
+  λ breaks. let some = due.0 refl in
+      absurd (breaks.nothing_due some.0 some.1),
+)
+for_nothing es e false ticks due = (
+  λ t. record {
+    ticks = ticks;
+    nothing_due = λ r is. false≢true
+        (due.1 (r, is));
+  },
+  λ breaks. refl,
+)
 
 -- ---- sessions
 
-pub reached : (a : Account) (client incarnation : ℕ) (version : Version) (s : AuditSession) (b : Bool) → nat_le incarnation s.incarnation ≡ b → Legal a → IsAuditSession a.entries client s
+pub reached : (a : Account) (client incarnation : ℕ) (version : Version) (s : AuditSession) (b : Bool)
+    → nat_le incarnation s.incarnation ≡ b → Legal a → IsAuditSession a.entries client s
     → Iff (IsTrue b) (StartsNoNewer a.entries (Hello client incarnation version))
 reached a client incarnation version s true most legal is = (
   λ t. record {
@@ -201,9 +262,12 @@ reached a client incarnation version s false above legal is = (
   λ t. absurd (false≢true t),
   λ breaks.
       let over : s.incarnation < incarnation = grind (arith, nat_tests) in
-      let same = same_hello_parts client incarnation breaks.client breaks.incarnation version breaks.version breaks.hello in
-      let earlier = subst (λ c. act_at a.entries breaks.place ≡ Some (Hello c breaks.reached breaks.earlier_version)) (sym same.0) breaks.earlier in
-      let at_most : breaks.reached ≤ s.incarnation = hellos_at_most a client s.incarnation breaks.place breaks.reached breaks.earlier_version legal is.incarnation earlier in
+      let same = same_hello_parts client incarnation breaks.client breaks.incarnation version breaks.version
+      breaks.hello in
+      let earlier = subst (λ c. act_at a.entries breaks.place ≡ Some (Hello c breaks.reached
+      breaks.earlier_version)) (sym same.0) breaks.earlier in
+      let at_most : breaks.reached ≤ s.incarnation = hellos_at_most a client s.incarnation breaks.place
+      breaks.reached breaks.earlier_version legal is.incarnation earlier in
       let own : incarnation ≡ breaks.incarnation = same.1 in
       let no_newer : breaks.incarnation ≤ breaks.reached = breaks.no_newer in
       absurd (omega arith),
@@ -214,25 +278,50 @@ reached a client incarnation version s false above legal is = (
 
 one_count : (es : List Entry) (client m n : ℕ) → LastNumber es client m → CountsTo es client n → n ≡ m
 one_count es client m n is (inl last) = one_last_number es client n m last is
-one_count es client m n is (inr none) = absurd (none.0 (is.h, is.incarnation, is.hello.version, is.hello.hello))
+one_count es client m n is (inr none) =
+    absurd (none.0 (is.h, is.incarnation, is.hello.version, is.hello.hello))
 
 none_count : (es : List Entry) (client n : ℕ) → (SaidHello es client → ⊥) → CountsTo es client n → n ≡ 0
-none_count es client n none (inl last) = absurd (none (last.h, last.incarnation, last.hello.version, last.hello.hello))
+none_count es client n none (inl last) = absurd (none (
+  last.h,
+  last.incarnation,
+  last.hello.version,
+  last.hello.hello,
+))
 none_count es client n none (inr is) = is.1
 
-pub not_next : (es : List Entry) (key : Key) (s : AuditSession) (b : Bool) → IsAuditSession es key.client s → (b ≡ true → key.number ≢ s.last + 1) → (b ≡ false → key.number ≡ s.last + 1)
+pub not_next : (es : List Entry) (key : Key) (s : AuditSession) (b : Bool) → IsAuditSession es key.client s
+    → (b ≡ true → key.number ≢ s.last + 1) → (b ≡ false → key.number ≡ s.last + 1)
     → Iff (IsTrue b) (IsNotNext es key)
-not_next es key s true is other own = (λ t. record { last = s.last; counts_to = inl is.number; other = other refl }, λ breaks. refl)
+not_next es key s true is other own = (
+  λ t. record {
+    last = s.last;
+    counts_to = inl is.number;
+    other =
+        other refl;
+  },
+  λ breaks. refl,
+)
 not_next es key s false is other own = (
   λ t. absurd (false≢true t),
   λ breaks.
-      let same : breaks.last ≡ s.last = one_count es key.client s.last breaks.last is.number breaks.counts_to in
+      let same : breaks.last ≡ s.last = one_count es key.client s.last breaks.last is.number breaks.counts_to
+      in
       absurd (breaks.other (own refl ∙ ap (λ n. n + 1) (sym same))),
 )
 
-pub not_first : (es : List Entry) (key : Key) (b : Bool) → (SaidHello es key.client → ⊥) → (b ≡ true → key.number ≢ 1) → (b ≡ false → key.number ≡ 1)
+pub not_first : (es : List Entry) (key : Key) (b : Bool) → (SaidHello es key.client → ⊥)
+    → (b ≡ true → key.number ≢ 1) → (b ≡ false → key.number ≡ 1)
     → Iff (IsTrue b) (IsNotNext es key)
-not_first es key true none other own = (λ t. record { last = 0; counts_to = inr (none, refl); other = other refl }, λ breaks. refl)
+not_first es key true none other own = (
+  λ t. record {
+    last = 0;
+    counts_to = inr (none, refl);
+    other =
+        other refl;
+  },
+  λ breaks. refl,
+)
 not_first es key false none other own = (
   λ t. absurd (false≢true t),
   λ breaks.
@@ -240,8 +329,10 @@ not_first es key false none other own = (
       absurd (breaks.other (own refl ∙ ap (λ n. n + 1) (sym same))),
 )
 
-pub not_next_low : (es : List Entry) (key : Key) (s : AuditSession) → IsAuditSession es key.client s → key.number ≤ s.last → Iff (IsTrue (nat_le key.number s.last)) (IsNotNext es key)
-not_next_low es key s is low = not_next es key s (nat_le key.number s.last) is (λ t same. omega arith) (λ f. absurd (let over : s.last < key.number = grind (arith, nat_tests) in omega arith))
+pub not_next_low : (es : List Entry) (key : Key) (s : AuditSession) → IsAuditSession es key.client s
+    → key.number ≤ s.last → Iff (IsTrue (nat_le key.number s.last)) (IsNotNext es key)
+not_next_low es key s is low = not_next es key s (nat_le key.number s.last) is (λ t same. omega arith)
+    (λ f. absurd (let over : s.last < key.number = grind (arith, nat_tests) in omega arith))
 
 differs : (n : ℕ) → not (nat_eq n 1) ≡ true → n ≢ 1
 differs n t same = grind (arith, nat_tests)
@@ -253,19 +344,25 @@ agrees n f = by_value (nat_eq n 1) refl f
     by_value true is f = grind (arith, nat_tests)
     by_value false is f = absurd (false≢true (sym f))
 
-pub not_next_high : (es : List Entry) (key : Key) (s : AuditSession) → IsAuditSession es key.client s → s.last < key.number → Iff (IsTrue (not (nat_eq (key.number - s.last) 1))) (IsNotNext es key)
+pub not_next_high : (es : List Entry) (key : Key) (s : AuditSession) → IsAuditSession es key.client s
+    → s.last < key.number → Iff (IsTrue (not (nat_eq (key.number - s.last) 1))) (IsNotNext es key)
 not_next_high es key s is high = not_next es key s (not (nat_eq (key.number - s.last) 1)) is
     (λ t same. differs (key.number - s.last) t (omega arith))
     (λ f. let one : key.number - s.last ≡ 1 = agrees (key.number - s.last) f in omega arith)
 
-pub not_one : (es : List Entry) (key : Key) → (SaidHello es key.client → ⊥) → Iff (IsTrue (not (nat_eq key.number 1))) (IsNotNext es key)
-not_one es key none = not_first es key (not (nat_eq key.number 1)) none (differs key.number) (agrees key.number)
+pub not_one : (es : List Entry) (key : Key) → (SaidHello es key.client → ⊥)
+    → Iff (IsTrue (not (nat_eq key.number 1))) (IsNotNext es key)
+not_one es key none = not_first es key (not (nat_eq key.number 1)) none (differs key.number)
+    (agrees key.number)
 
 -- ---- who waits
 
-pub out_of_turn : (es : List Entry) (key : Key) (b : Bool) → b ≡ false → Iff (IsTrue b) (IsNotNext es key) → (o : Option ℕ)
-    → IfSome o (WaitsOf es key.client) → IfNone o (HasWaiting es key.client → ⊥) → Iff (IsTrue (is_some o)) (IsOutOfOrder es key)
-out_of_turn es key b low next (Some place) some none = (λ t. inr (record { place = place; key = some.key; waits = some.waits; names = some.names }), λ out. refl)
+pub out_of_turn : (es : List Entry) (key : Key) (b : Bool) → b ≡ false → Iff (IsTrue b) (IsNotNext es key)
+    → (o : Option ℕ)
+    → IfSome o (WaitsOf es key.client) → IfNone o (HasWaiting es key.client → ⊥)
+    → Iff (IsTrue (is_some o)) (IsOutOfOrder es key)
+out_of_turn es key b low next (Some place) some none =
+    (λ t. inr (record { place = place; key = some.key; waits = some.waits; names = some.names }), λ out. refl)
 out_of_turn es key b low next None some none = (
   λ t. absurd (false≢true t),
   λ out. elim out [
@@ -274,22 +371,47 @@ out_of_turn es key b low next None some none = (
   ],
 )
 
-pub under_some : (whole : List Entry) (a : Account) (n place : ℕ) (key : Key) (b : Bool) → a.entries ≡ take n whole → Legal a → WaitsOf a.entries key.client place
+pub under_some : (whole : List Entry) (a : Account) (n place : ℕ) (key : Key) (b : Bool)
+    → a.entries ≡ take n whole → Legal a → WaitsOf a.entries key.client place
     → Iff (IsTrue b) (ArrivesWith whole key place) → Iff (IsTrue b) (WaitsUnder a.entries key)
 under_some whole a n place key b front legal waits has = (
   λ t.
       let arrives = has.0 t in
       let inside = subst (λ (es : List Entry). Waiting es place) front waits.waits in
       let below = (read_whole call_read refl whole n place inside.is_open.call inside.is_open.arrived).0 in
-      let there : act_at (take n whole) place ≡ Some (Arrive key arrives.0) = read_front act_read whole n place (Arrive key arrives.0) below arrives.1 in
-      record { place = place; call = arrives.0; arrived = subst (λ (es : List Entry). act_at es place ≡ Some (Arrive key arrives.0)) (sym front) there; waits = waits.waits },
+      let there : act_at (take n whole) place ≡ Some (Arrive key arrives.0) = read_front act_read whole n
+      place (Arrive key arrives.0) below arrives.1 in
+      record {
+        place = place;
+        call = arrives.0;
+        arrived = subst (λ (es : List Entry). act_at es place ≡ Some
+            (Arrive key arrives.0)) (sym front) there;
+        waits = waits.waits;
+      },
   λ under.
-      let names : NamesKey a.entries key.client under.place key = record { named = ap (option_and_then key_in) under.arrived; of_client = refl } in
-      let same : under.place ≡ place = one_waits a key.client under.place place key waits.key legal under.waits waits.waits names waits.names in
-      let there = subst (λ (es : List Entry). act_at es under.place ≡ Some (Arrive key under.call)) front under.arrived in
-      has.1 (under.call, subst (λ r. act_at whole r ≡ Some (Arrive key under.call)) same (read_whole act_read refl whole n under.place (Arrive key under.call) there).1),
+      let names : NamesKey a.entries key.client under.place key = record {
+        named = ap (option_and_then key_in)
+            under.arrived;
+        of_client = refl;
+      } in
+      let same : under.place ≡ place = one_waits a key.client under.place place key waits.key legal
+      under.waits waits.waits names waits.names in
+      let there = subst (λ (es : List Entry). act_at es under.place ≡ Some (Arrive key under.call)) front
+      under.arrived in
+      has.1 (
+        under.call,
+        subst (λ r. act_at whole r ≡ Some (Arrive key under.call)) same
+            (read_whole act_read refl whole n under.place (Arrive key under.call) there).1,
+      ),
 )
 
-pub under_none : (es : List Entry) (key : Key) → (HasWaiting es key.client → ⊥) → Iff (IsTrue false) (WaitsUnder es key)
+pub under_none : (es : List Entry) (key : Key) → (HasWaiting es key.client → ⊥)
+    → Iff (IsTrue false) (WaitsUnder es key)
 under_none es key none = never (WaitsUnder es key) (λ under.
-    none (record { place = under.place; key = key; waits = under.waits; names = record { named = ap (option_and_then key_in) under.arrived; of_client = refl } }))
+    none (record {
+      place = under.place;
+      key = key;
+      waits = under.waits;
+      names =
+          record { named = ap (option_and_then key_in) under.arrived; of_client = refl };
+    }))

@@ -1,39 +1,32 @@
 -- The reply of a drain: the items of all that it meets.
-use Rattle.std.proofs.Common.{◌≡◌, ◌≤◌, inl, ℕ, suc, List, [], ◌∷◌, ◌++◌, length, Option, Some, None, option_and_then, option_map, refl, sym, ap, subst, ◌∙◌, arith}
-use Rattle.std.specs.List.{All, slice_get}
+use Rattle.rv_book.proofs.Words.{◌≡◌, ◌≤◌, ◌∷◌, ◌++◌, ◌∙◌, inl, ℕ, suc, List, [], length, Option, Some, None}
+use Rattle.rv_book.proofs.Words.{option_and_then, option_map, refl, sym, ap, subst, arith, slice_get}
+use Rattle.rv_book.proofs.Words.{none-some, same_Some, Call, Gives, Takes, item_of, side_of, FitsItem, Arrive}
+use Rattle.rv_book.proofs.Words.{Entry, Account, Among, act_at, call_at, call_in, with_entry, Stays, opposite}
+use Rattle.rv_book.proofs.Words.{IsKept, WillTell, entry, Legal, FitsAccount, NamesPartner, gives_item}
+use Rattle.rv_book.proofs.Words.{read_whole, call_read, read_there, reads_on, act_fits, act_there}
+use Rattle.rv_book.proofs.Words.{partner_open, one_opposite, get-append_end}
+use Rattle.std.specs.List.{All}
 use Rattle.std.proofs.lemmas.List.Elements.{All-cons, All-nil}
-use Rattle.std.proofs.lemmas.Option.{none-some, same_Some}
 use Rattle.rv_text.specs.declared.answer.Reply.TheVariants.{Drained}
-use Rattle.rv_text.specs.declared.call.Call.{Call}
 use Rattle.rv_text.specs.declared.call.Call.TheVariants.{Drain}
-use Rattle.rv_text.specs.declared.call.Side.TheVariants.{Gives, Takes}
-use Rattle.rv_text.specs.Calls.{drains_of, item_of, side_of}
-use Rattle.rv_text.specs.Limits.{FitsCall, FitsItem, FitsItems}
+use Rattle.rv_text.specs.Calls.{drains_of}
+use Rattle.rv_text.specs.Limits.{FitsCall, FitsItems}
 use Rattle.rv_text.proofs.Kept.{item_fits}
-use Rattle.rv_session.specs.declared.kept.Kept.TheVariants as kept
-use Rattle.rv_account.specs.declared.entry.Act.TheVariants.{Arrive}
-use Rattle.rv_account.specs.declared.entry.Entry.{Entry}
-use Rattle.rv_account.specs.Account.{Account, Among, act_at, call_at, call_in, item_at, items_at, partners_at, with_entry}
-use Rattle.rv_account.specs.Calls.{Stays, opposite}
+use Rattle.rv_account.specs.Account.{item_at, items_at, partners_at}
 use Rattle.rv_account.proofs.Items.{joined, parts}
-use Rattle.rv_book.specs.Arriving.{IsKept, WillTell, entry}
-use Rattle.rv_book.specs.Legal.{Legal}
-use Rattle.rv_book.specs.Limits.{FitsAccount}
 use Rattle.rv_book.specs.Replies.{Drains}
-use Rattle.rv_book.specs.Waiting.{NamesPartner}
-use Rattle.rv_rules.proofs.CallKinds.{gives_item}
-use Rattle.rv_rules.proofs.Fronts.{read_whole}
-use Rattle.rv_rules.proofs.Growing.{call_read, read_there, reads_on}
-use Rattle.rv_rules.proofs.Limits.{act_fits, act_there, call_of_act}
-use Rattle.rv_rules.proofs.OnePartner.{goes_unnamed, partner_open}
-use Rattle.rv_rules.proofs.Opposites.{one_opposite}
-use Rattle.rv_rules.proofs.Places.{get-append_end}
+use Rattle.rv_rules.proofs.Limits.{call_of_act}
+use Rattle.rv_rules.proofs.OnePartner.{goes_unnamed}
 use Rattle.rv_book.proofs.ReplyLaws.{FitsIn, ReplyLaws}
+use Rattle.rv_session.specs.declared.kept.Kept.TheVariants as kept
 
 -- ---- the items of a list of places
 
 -- where each place has an item, all have theirs
-pub all_items : (es : List Entry) (places : List ℕ) → ((p : ℕ) → Among places p → (x : List ℕ) × (item_at es p ≡ Some x)) → (xs : List (List ℕ)) × (items_at es places ≡ Some xs)
+pub all_items : (es : List Entry) (places : List ℕ)
+    → ((p : ℕ) → Among places p → (x : List ℕ) × (item_at es p ≡ Some x))
+    → (xs : List (List ℕ)) × (items_at es places ≡ Some xs)
 all_items es [] each = ([], refl)
 all_items es (p ∷ places) each =
     let first = each p (0, refl) in
@@ -41,14 +34,17 @@ all_items es (p ∷ places) each =
     (first.0 ∷ rest.0, joined es p places first.0 rest.0 first.1 rest.1)
 
 -- and they stay where more entries follow
-items_on : (es more : List Entry) (places : List ℕ) (xs : List (List ℕ)) → items_at es places ≡ Some xs → items_at (es ++ more) places ≡ Some xs
+items_on : (es more : List Entry) (places : List ℕ) (xs : List (List ℕ)) → items_at es places ≡ Some xs
+    → items_at (es ++ more) places ≡ Some xs
 items_on es more [] xs is = is
 items_on es more (p ∷ places) xs is =
     let first = parts es p places xs is in
-    joined (es ++ more) p places first.0 first.1 (reads_on (λ o. option_and_then item_of (call_read o)) refl es more p first.0 first.2) (items_on es more places first.1 first.3) ∙ ap Some (sym first.4)
+    joined (es ++ more) p places first.0 first.1 (reads_on (λ o. option_and_then item_of (call_read o)) refl
+    es more p first.0 first.2) (items_on es more places first.1 first.3) ∙ ap Some (sym first.4)
 
 -- as many as places, and each within the limits of a text
-pub items_count : (es : List Entry) (places : List ℕ) (xs : List (List ℕ)) → items_at es places ≡ Some xs → length xs ≡ length places
+pub items_count : (es : List Entry) (places : List ℕ) (xs : List (List ℕ)) → items_at es places ≡ Some xs
+    → length xs ≡ length places
 items_count es [] xs is = ap length (same_Some _ _ (sym is))
 items_count es (p ∷ places) xs is =
     let first = parts es p places xs is in
@@ -63,23 +59,29 @@ item_at_fits a p x fits is = by_call (call_at a.entries p) refl is
         let does = act_there call_in (act_at a.entries p) call arrived in
         item_fits call x (call_of_act does.0 call (act_fits a p does.0 fits does.1) does.2) has
 
-items_fit : (a : Account) (places : List ℕ) (xs : List (List ℕ)) → FitsAccount a → items_at a.entries places ≡ Some xs → All FitsItem xs
+items_fit : (a : Account) (places : List ℕ) (xs : List (List ℕ)) → FitsAccount a
+    → items_at a.entries places ≡ Some xs → All FitsItem xs
 items_fit a [] xs fits is = subst (All FitsItem) (same_Some _ _ is) (All-nil FitsItem)
 items_fit a (p ∷ places) xs fits is =
     let first = parts a.entries p places xs is in
-    subst (All FitsItem) (sym first.4) (All-cons FitsItem first.0 first.1 (item_at_fits a p first.0 fits first.2) (items_fit a places first.1 fits first.3))
+    subst (All FitsItem) (sym first.4) (All-cons FitsItem first.0 first.1 (item_at_fits a p first.0 fits
+    first.2) (items_fit a places first.1 fits first.3))
 
 -- ---- what a drain takes
 
 -- the partners of which these are the items
-drained_from : (es : List Entry) (o : Option (List ℕ)) (xs : List (List ℕ)) → option_and_then (items_at es) o ≡ Some xs → (places : List ℕ) × (o ≡ Some places) × (items_at es places ≡ Some xs)
+drained_from : (es : List Entry) (o : Option (List ℕ)) (xs : List (List ℕ))
+    → option_and_then (items_at es) o ≡ Some xs
+    → (places : List ℕ) × (o ≡ Some places) × (items_at es places ≡ Some xs)
 drained_from es None xs is = absurd (none-some xs is)
 drained_from es (Some places) xs is = (places, refl, is)
 
-pub drains_on : (es more : List Entry) (r : ℕ) (xs : List (List ℕ)) → Drains es r xs → Drains (es ++ more) r xs
+pub drains_on : (es more : List Entry) (r : ℕ) (xs : List (List ℕ)) → Drains es r xs
+    → Drains (es ++ more) r xs
 drains_on es more r xs is =
     let from = drained_from es (partners_at es r) xs is in
-    ap (option_and_then (items_at (es ++ more))) (reads_on (λ o. option_map (λ e. e.partners) o) refl es more r from.0 from.1) ∙ items_on es more from.0 xs from.2
+    ap (option_and_then (items_at (es ++ more))) (reads_on (λ o. option_map (λ e. e.partners) o) refl es more
+    r from.0 from.1) ∙ items_on es more from.0 xs from.2
 
 module _ (queue max : ℕ) where
   abbrev own : Call
@@ -89,18 +91,21 @@ module _ (queue max : ℕ) where
   goes stays = stays.1
 
   -- whoever a drain names hands over an item
-  hands_item : (b : Account) (r p : ℕ) → Legal b → call_at b.entries r ≡ Some own → NamesPartner b.entries r p → (x : List ℕ) × (item_at b.entries p ≡ Some x)
+  hands_item : (b : Account) (r p : ℕ) → Legal b → call_at b.entries r ≡ Some own → NamesPartner b.entries r p
+      → (x : List ℕ) × (item_at b.entries p ≡ Some x)
   hands_item b r p legal arrived names =
       let partner = partner_open b r p legal names in
       let call : names.call ≡ own = same_Some _ _ (sym names.arrived ∙ arrived) in
-      let side : partner.side ≡ Gives queue = one_opposite (Takes queue) (Gives queue) partner.side refl (subst (λ c. opposite (side_of c) ≡ Some partner.side) call partner.opposes) in
+      let side : partner.side ≡ Gives queue = one_opposite (Takes queue) (Gives queue) partner.side refl
+      (subst (λ c. opposite (side_of c) ≡ Some partner.side) call partner.opposes) in
       let giver = partner.there.of_side in
       let gives = gives_item giver.call queue (giver.is ∙ side) in
       let whole = read_whole call_read refl b.entries r p giver.call giver.arrived in
       (gives.0, ap (option_and_then item_of) whole.1 ∙ gives.1)
 
   -- so each drain has its items
-  pub has_items : (b : Account) (r : ℕ) → Legal b → call_at b.entries r ≡ Some own → (xs : List (List ℕ)) × Drains b.entries r xs
+  pub has_items : (b : Account) (r : ℕ) → Legal b → call_at b.entries r ≡ Some own
+      → (xs : List (List ℕ)) × Drains b.entries r xs
   has_items b r legal arrived =
       let at = read_there call_read refl (slice_get b.entries r) own arrived in
       let e : Entry = at.0 in
@@ -109,21 +114,27 @@ module _ (queue max : ℕ) where
         arrived = arrived;
         meets = refl;
         named = record { entry = e; there = at.1; names = named };
-      })) in
-      (all.0, ap (option_and_then (items_at b.entries)) (ap (option_map (λ (e : Entry). e.partners)) at.1) ∙ all.1)
+      })) in (
+        all.0,
+        ap (option_and_then (items_at b.entries)) (ap (option_map (λ (e : Entry). e.partners)) at.1)
+            ∙ all.1,
+      )
 
-  pub drain_kept : (b : Account) (r : ℕ) → Legal b → call_at b.entries r ≡ Some own → IsKept b.entries r own (kept.Drained r)
+  pub drain_kept : (b : Account) (r : ℕ) → Legal b → call_at b.entries r ≡ Some own
+      → IsKept b.entries r own (kept.Drained r)
   drain_kept b r legal arrived =
       let has = has_items b r legal arrived in
       record { reply = Drained has.0; is = ap (option_map Drained) has.1; replies = (has.0, has.1, refl) }
 
   -- no more than it may take, and each within its limit
-  fits_drained : (a : Account) (r : ℕ) (xs : List (List ℕ)) → Legal a → FitsAccount a → call_at a.entries r ≡ Some own → Drains a.entries r xs → FitsItems xs
+  fits_drained : (a : Account) (r : ℕ) (xs : List (List ℕ)) → Legal a → FitsAccount a
+      → call_at a.entries r ≡ Some own → Drains a.entries r xs → FitsItems xs
   fits_drained a r xs legal fits arrived is =
       let at = read_there call_read refl (slice_get a.entries r) own arrived in
       let e : Entry = at.0 in
       let from = drained_from a.entries (partners_at a.entries r) xs is in
-      let same : e.partners ≡ from.0 = same_Some _ _ (sym (ap (option_map (λ (e : Entry). e.partners)) at.1) ∙ from.1) in
+      let same : e.partners ≡ from.0 = same_Some _ _ (sym (ap (option_map (λ (e : Entry). e.partners)) at.1)
+      ∙ from.1) in
       let few : length e.partners ≤ max = (legal r e at.1).pairs.names_free_partners.few own at.2 in
       let as_many : length xs ≡ length from.0 = items_count a.entries from.0 xs from.2 in
       let does = act_there call_in (act_at a.entries r) own arrived in
@@ -132,13 +143,23 @@ module _ (queue max : ℕ) where
 
   pub drains : ReplyLaws own
   drains = record {
-    stays = λ es more epoch opened r told legal arrived replies. (replies.0, drains_on es more r replies.0 replies.1, replies.2);
-    one = λ b r x y legal arrived first second. second.2 ∙ ap Drained (same_Some _ _ (sym second.1 ∙ first.1)) ∙ sym first.2;
-    fits = λ a r told legal fits arrived replies. subst (FitsIn a.epoch) (sym replies.2) (fits_drained a r replies.0 legal fits arrived replies.1, tt);
-    exists = λ a r legal arrived. let has = has_items a r legal arrived in inl (Drained has.0, (has.0, has.1, refl));
-    waits_not = λ a r told legal arrived w replies. goes (subst Stays (same_Some _ _ (sym w.is_open.arrived ∙ arrived)) w.is_open.stays);
+    stays = λ es more epoch opened r told legal arrived replies. (
+      replies.0,
+      drains_on es more r replies.0
+          replies.1,
+      replies.2,
+    );
+    one = λ b r x y legal arrived first second. second.2 ∙ ap Drained (same_Some _ _ (sym second.1 ∙ first.1))
+        ∙ sym first.2;
+    fits = λ a r told legal fits arrived replies. subst (FitsIn a.epoch) (sym replies.2)
+        (fits_drained a r replies.0 legal fits arrived replies.1, tt);
+    exists = λ a r legal arrived. let has = has_items a r legal arrived in
+        inl (Drained has.0, (has.0, has.1, refl));
+    waits_not = λ a r told legal arrived w replies. goes
+        (subst Stays (same_Some _ _ (sym w.is_open.arrived ∙ arrived)) w.is_open.stays);
     stopped = λ es r told stays no_put unmet stopped. absurd (goes stays);
-    met = λ b earlier later other version legal arrived also names opposes waits asked. absurd (goes_unnamed b later earlier own legal arrived goes names);
+    met = λ b earlier later other version legal arrived also names opposes waits asked. absurd
+        (goes_unnamed b later earlier own legal arrived goes names);
   }
 
 -- ---- the call that drains
@@ -148,7 +169,10 @@ drain_is (Drain queue most) max is = (queue, ap (Drain queue) (same_Some _ _ is)
 drain_is _ max is = absurd (none-some max is)
 
 -- what is kept of one will be its reply
-pub will_drain : (a : Account) (call : Call) (partners : List ℕ) (queue max : ℕ) → call ≡ Drain queue max → WillTell a call partners (kept.Drained (length a.entries))
-will_drain a call partners queue max is = subst (λ c. WillTell a c partners (kept.Drained (length a.entries))) (sym is) (λ moment key version before after asked.
+pub will_drain : (a : Account) (call : Call) (partners : List ℕ) (queue max : ℕ) → call ≡ Drain queue max
+    → WillTell a call partners (kept.Drained (length a.entries))
+will_drain a call partners queue max is = subst (λ c. WillTell a c partners (kept.Drained (length a.entries)))
+    (sym is) (λ moment key version before after asked.
     let e = entry moment (Arrive key (Drain queue max)) partners in
-    drain_kept queue max (with_entry a e) (length a.entries) after (ap call_read (get-append_end a.entries e)))
+    drain_kept queue max (with_entry a e) (length a.entries) after
+    (ap call_read (get-append_end a.entries e)))

@@ -1,12 +1,10 @@
 -- A request that waits may be ended: its duty is parked in its queue, and its session waits for it.
-use Rattle.std.proofs.Common.{ℕ}
-use Rattle.rv_session.specs.declared.kept.Kept.TheVariants as kept
-use Rattle.rv_book.specs.declared.state.BookState.{BookState}
-use Rattle.rv_book.specs.Operations.{MayEnd}
-use Rattle.rv_book.specs.Tables.{IsSound, account_of}
-use Rattle.rv_book.specs.Waiting.{Waiting}
+use Rattle.rv_book.proofs.Words.{ℕ, BookState, MayEnd, IsSound, account_of, Waiting}
 use Rattle.rv_book.proofs.TakingOut.{left_at_first, left_may_end}
+use Rattle.rv_session.specs.declared.kept.Kept.TheVariants as kept
 
-pub may_end : (state : BookState) (place : ℕ) → IsSound state → Waiting (account_of state).entries place → MayEnd state place
+pub may_end : (state : BookState) (place : ℕ) → IsSound state → Waiting (account_of state).entries place
+    → MayEnd state place
 may_end state place sound waits =
-    left_may_end state (λ r. ⊥) kept.Cancelled (left_at_first state (λ r. ⊥) kept.Cancelled (λ r no. no) sound) place (waits, λ no. no) state.due
+    left_may_end state (λ r. ⊥) kept.Cancelled (left_at_first state (λ r. ⊥) kept.Cancelled (λ r no. no)
+    sound) place (waits, λ no. no) state.due

@@ -1,19 +1,12 @@
 -- What a change of one exchanger is to all who wait, side by side.
-use Rattle.std.proofs.Common.{◌≡◌, inl, inr, ℕ, zero, suc, List, [], ◌∷◌, ◌++◌, Option, Some, None, refl, sym, ap, subst, ◌∙◌}
-use Rattle.std.proofs.lemmas.Option.{none-some, same_Some}
-use Rattle.rv_text.specs.declared.call.Side.{Side}
-use Rattle.rv_text.specs.declared.call.Side.TheVariants.{Exchanges, Gives, Looks, Takes}
-use Rattle.rv_text.specs.declared.call.Wait.{Wait}
-use Rattle.rv_session.specs.OwedDuty.{OwedDuty}
-use Rattle.rv_dual.specs.Offers.{places_of}
+use Rattle.rv_book.proofs.Words.{◌≡◌, ◌∷◌, ◌++◌, ◌∙◌, inl, inr, ℕ, zero, suc, List, [], Option, Some, None}
+use Rattle.rv_book.proofs.Words.{refl, sym, ap, subst, none-some, same_Some, Side, Exchanges, Gives, Looks}
+use Rattle.rv_book.proofs.Words.{Takes, Wait, OwedDuty, places_of, Entry, Arrived, Lasts, ArrivedOn}
+use Rattle.rv_book.proofs.Words.{FindsNobody, AreParked, IsParked, owed_at, AllFree, SameWaiters, Waiters}
+use Rattle.rv_book.proofs.Words.{place_of_duty, queue_at, takers_places, waiting_on, same_or_not}
 use Rattle.rv_dual.specs.Queue.{SameLists}
-use Rattle.rv_account.specs.declared.entry.Entry.{Entry}
-use Rattle.rv_book.specs.declared.outcome.Arrived.{Arrived}
-use Rattle.rv_account.specs.Calls.{Lasts}
-use Rattle.rv_book.specs.Meeting.{ArrivedOn, Exchanged, FindsNobody, SwappedNothing, SwappedWith, WaitsAlone}
-use Rattle.rv_book.specs.Parked.{AreParked, IsParked, owed_at}
-use Rattle.rv_book.specs.Views.{AllFree, OnlyExchanger, SameWaiters, Waiters, exchanger_at, place_of_duty, queue_at, takers_places, waiting_on}
-use Rattle.rv_rules.proofs.Numbers.{same_or_not}
+use Rattle.rv_book.specs.Meeting.{Exchanged, SwappedNothing, SwappedWith, WaitsAlone}
+use Rattle.rv_book.specs.Views.{OnlyExchanger, exchanger_at}
 
 -- ---- one exchanger
 
@@ -33,14 +26,17 @@ module _ (old new : Waiters) (exchanger : ℕ) (changed : ExchangerChanged old n
   after = exchanger_at new.exchangers exchanger
 
   -- all sides stay but that of the exchanger
-  pub others_stay : (third : Side) → (third ≡ Exchanges exchanger → ⊥) → waiting_on new third ≡ waiting_on old third
+  pub others_stay : (third : Side) → (third ≡ Exchanges exchanger → ⊥)
+      → waiting_on new third ≡ waiting_on old third
   others_stay (Gives queue) apart = ap (λ l. places_of (queue_at l queue).givers) changed.queues
   others_stay (Takes queue) apart = ap (λ l. takers_places (queue_at l queue).takers) changed.queues
   others_stay (Looks queue) apart = refl
-  others_stay (Exchanges other) apart = ap place_of_duty (changed.others other (λ is. apart (ap Exchanges is)))
+  others_stay (Exchanges other) apart = ap place_of_duty (changed.others other
+      (λ is. apart (ap Exchanges is)))
 
   -- who is parked, where what is parked at the exchanger is
-  parked_at : (es : List Entry) → AreParked es old → ((duty : OwedDuty) → after ≡ Some duty → owed_at es duty.place ≡ Some duty) → AreParked es new
+  parked_at : (es : List Entry) → AreParked es old
+      → ((duty : OwedDuty) → after ≡ Some duty → owed_at es duty.place ≡ Some duty) → AreParked es new
   parked_at es parked here = record {
     queues = λ queue. subst (λ l. IsParked es (queue_at l queue)) (sym changed.queues) (parked.queues queue);
     exchangers = λ other duty there. elim (same_or_not other exchanger) [
@@ -51,7 +47,8 @@ module _ (old new : Waiters) (exchanger : ℕ) (changed : ExchangerChanged old n
 
   nothing_changed : after ≡ before → SameWaiters old new
   nothing_changed same = record {
-    queues = λ queue. subst (λ l. SameLists (queue_at old.queues queue) (queue_at l queue)) (sym changed.queues) (record { givers = refl; takers = refl });
+    queues = λ queue. subst (λ l. SameLists (queue_at old.queues queue) (queue_at l queue))
+        (sym changed.queues) (record { givers = refl; takers = refl });
     exchangers = λ other. elim (same_or_not other exchanger) [
       | inl is ↦ subst (λ n. exchanger_at new.exchangers n ≡ exchanger_at old.exchangers n) (sym is) same
       | inr apart ↦ changed.others other apart
@@ -59,49 +56,63 @@ module _ (old new : Waiters) (exchanger : ℕ) (changed : ExchangerChanged old n
   }
 
   nobody_there : before ≡ None → FindsNobody old (Exchanges exchanger)
-  nobody_there none other opposes = subst (λ side. waiting_on old side ≡ []) (same_Some _ _ opposes) (ap place_of_duty none)
+  nobody_there none other opposes = subst (λ side. waiting_on old side ≡ []) (same_Some _ _ opposes)
+      (ap place_of_duty none)
 
   -- ---- an arrival
 
-  swapped : (wait : Wait) (duty : OwedDuty) (result : Arrived) → SwappedWith before after duty result → ArrivedOn old new (Exchanges exchanger) (Some wait) duty result
-  swapped wait duty result swap = subst (ArrivedOn old new (Exchanges exchanger) (Some wait) duty) (sym swap.is) (record {
-    meets = record {
-      other = Exchanges exchanger;
-      opposes = refl;
-      first = ap place_of_duty swap.waited ∙ ap (λ o. swap.earlier.place ∷ place_of_duty o) (sym swap.left);
-      others = others_stay;
-    };
-    own = (refl, λ is. absurd (some_is_none swap.earlier.place is));
-    other = λ es parked. sym (parked.exchangers exchanger swap.earlier swap.waited);
-    parked = λ es parked owed. parked_at es parked (λ duty there. absurd (none-some duty (sym swap.left ∙ there)));
-  })
+  swapped : (wait : Wait) (duty : OwedDuty) (result : Arrived) → SwappedWith before after duty result
+      → ArrivedOn old new (Exchanges exchanger) (Some wait) duty result
+  swapped wait duty result swap = subst (ArrivedOn old new (Exchanges exchanger) (Some wait) duty)
+      (sym swap.is) (record {
+        meets = record {
+          other = Exchanges exchanger;
+          opposes = refl;
+          first = ap place_of_duty swap.waited ∙ ap (λ o. swap.earlier.place ∷ place_of_duty o)
+              (sym swap.left);
+          others = others_stay;
+        };
+        own = (refl, λ is. absurd (some_is_none swap.earlier.place is));
+        other = λ es parked. sym (parked.exchangers exchanger swap.earlier swap.waited);
+        parked = λ es parked owed. parked_at es parked (λ duty there. absurd (none-some duty (sym swap.left
+            ∙ there)));
+      })
 
-  waits_alone : (wait : Wait) (duty : OwedDuty) (result : Arrived) → Lasts (Some wait) → WaitsAlone before after duty result → ArrivedOn old new (Exchanges exchanger) (Some wait) duty result
-  waits_alone wait duty result lasts waits = subst (ArrivedOn old new (Exchanges exchanger) (Some wait) duty) (sym waits.is) (record {
-    meets = inl (
-      (refl, lasts),
-      record {
-        nobody = nobody_there waits.nobody;
-        last = ap place_of_duty waits.waits ∙ ap (λ o. place_of_duty o ++ duty.place ∷ []) (sym waits.nobody);
-        others = others_stay;
-      },
-    );
-    own = (refl, (refl, lasts), refl);
-    other = λ es parked. refl;
-    parked = λ es parked owed. parked_at es parked (λ other there. subst (λ (d : OwedDuty). owed_at es d.place ≡ Some d) (same_Some _ _ (sym waits.waits ∙ there)) owed);
-  })
+  waits_alone : (wait : Wait) (duty : OwedDuty) (result : Arrived) → Lasts (Some wait)
+      → WaitsAlone before after duty result → ArrivedOn old new (Exchanges exchanger) (Some wait) duty result
+  waits_alone wait duty result lasts waits = subst (ArrivedOn old new (Exchanges exchanger) (Some wait) duty)
+      (sym waits.is) (record {
+        meets = inl (
+          (refl, lasts),
+          record {
+            nobody = nobody_there waits.nobody;
+            last = ap place_of_duty waits.waits ∙ ap (λ o. place_of_duty o ++ duty.place ∷ [])
+                (sym waits.nobody);
+            others = others_stay;
+          },
+        );
+        own = (refl, (refl, lasts), refl);
+        other = λ es parked. refl;
+        parked = λ es parked owed. parked_at es parked (λ other there. subst (λ (d : OwedDuty). owed_at es
+            d.place ≡ Some d) (same_Some _ _ (sym waits.waits ∙ there)) owed);
+      })
 
-  swapped_nothing : (wait : Wait) (duty : OwedDuty) (result : Arrived) → (Lasts (Some wait) → ⊥) → SwappedNothing before after duty result → ArrivedOn old new (Exchanges exchanger) (Some wait) duty result
+  swapped_nothing : (wait : Wait) (duty : OwedDuty) (result : Arrived) → (Lasts (Some wait) → ⊥)
+      → SwappedNothing before after duty result → ArrivedOn old new (Exchanges exchanger) (Some wait) duty
+      result
   swapped_nothing wait duty result goes nothing =
       let same : after ≡ before = nothing.none_waits ∙ sym nothing.nobody in
       subst (ArrivedOn old new (Exchanges exchanger) (Some wait) duty) (sym nothing.is) (record {
         meets = inr ((λ may. goes may.1), nobody_there nothing.nobody, nothing_changed same);
         own = (refl, λ unmet may. absurd (goes may.1));
         other = λ es parked. refl;
-        parked = λ es parked owed. parked_at es parked (λ other there. absurd (none-some other (sym nothing.none_waits ∙ there)));
+        parked = λ es parked owed. parked_at es parked (λ other there. absurd
+            (none-some other (sym nothing.none_waits ∙ there)));
       })
 
-  pub arrived_exchanges : (wait : Wait) (duty : OwedDuty) (result : Arrived) → Exchanged before after wait duty result → ArrivedOn old new (Exchanges exchanger) (Some wait) duty result
+  pub arrived_exchanges : (wait : Wait) (duty : OwedDuty) (result : Arrived)
+      → Exchanged before after wait duty result → ArrivedOn old new (Exchanges exchanger) (Some wait) duty
+      result
   arrived_exchanges wait duty result (inl swap) = swapped wait duty result swap
   arrived_exchanges wait duty result (inr (inl waits)) = waits_alone wait duty result waits.0 waits.1
   arrived_exchanges wait duty result (inr (inr goes)) = swapped_nothing wait duty result goes.0 goes.1
@@ -112,8 +123,10 @@ pub none_free : AllFree []
 none_free exchanger = refl
 
 -- an exchanger more at which nobody waits
-pub append_free : (exchangers : List (Option OwedDuty)) (at : Option OwedDuty) → at ≡ None → AllFree exchangers → AllFree (exchangers ++ at ∷ [])
+pub append_free : (exchangers : List (Option OwedDuty)) (at : Option OwedDuty) → at ≡ None
+    → AllFree exchangers → AllFree (exchangers ++ at ∷ [])
 append_free [] at none all zero = none
 append_free [] at none all (suc exchanger) = refl
 append_free (first ∷ exchangers) at none all zero = all zero
-append_free (first ∷ exchangers) at none all (suc exchanger) = append_free exchangers at none (λ other. all (suc other)) exchanger
+append_free (first ∷ exchangers) at none all (suc exchanger) = append_free exchangers at none
+    (λ other. all (suc other)) exchanger

@@ -1,11 +1,8 @@
 -- What is said of a wait by whether it lasts: how many entries it may need, its limit and its deadline.
-use Rattle.std.proofs.Common.{◌≡◌, ℕ, zero, suc, ◌≤◌, Option, Some, None, option_and_then, refl, arith}
+use Rattle.rv_book.proofs.Words.{◌≡◌, ◌≤◌, ℕ, zero, suc, Option, Some, None, option_and_then, refl, arith}
+use Rattle.rv_book.proofs.Words.{none-some, Wait, Now, Millis, Forever, Lasts, deadline_after}
 use Rattle.std.specs.Prelude.{IsSome}
-use Rattle.std.proofs.lemmas.Option.{none-some}
-use Rattle.rv_text.specs.declared.call.Wait.{Wait}
-use Rattle.rv_text.specs.declared.call.Wait.TheVariants.{Now, Millis, Forever}
-use Rattle.rv_account.specs.Calls.{Lasts, limit_after, need_by}
-use Rattle.rv_book.specs.Elapsing.{deadline_after}
+use Rattle.rv_account.specs.Calls.{limit_after, need_by}
 
 -- ---- what it may need
 
@@ -26,7 +23,8 @@ need_positive (Some Forever) = omega arith
 -- ---- its limit
 
 -- a wait that lasts has its limit as its deadline, and one that doesn't has none
-pub lasting_deadline : (moment : ℕ) (wait : Option Wait) → Lasts wait → deadline_after moment wait ≡ option_and_then (limit_after moment) wait
+pub lasting_deadline : (moment : ℕ) (wait : Option Wait) → Lasts wait
+    → deadline_after moment wait ≡ option_and_then (limit_after moment) wait
 lasting_deadline moment None lasts = refl
 lasting_deadline moment (Some Now) lasts = refl
 lasting_deadline moment (Some (Millis zero)) lasts = absurd (omega arith)
@@ -34,7 +32,8 @@ lasting_deadline moment (Some (Millis (suc n))) lasts = refl
 lasting_deadline moment (Some Forever) lasts = refl
 
 -- what has a deadline lasts
-pub deadline_lasts : (moment : ℕ) (wait : Option Wait) (limit : ℕ) → deadline_after moment wait ≡ Some limit → (w : Wait) × (wait ≡ Some w) × Lasts wait
+pub deadline_lasts : (moment : ℕ) (wait : Option Wait) (limit : ℕ) → deadline_after moment wait ≡ Some limit
+    → (w : Wait) × (wait ≡ Some w) × Lasts wait
 deadline_lasts moment None limit is = absurd (none-some limit is)
 deadline_lasts moment (Some Now) limit is = absurd (none-some limit is)
 deadline_lasts moment (Some (Millis zero)) limit is = absurd (none-some limit is)

@@ -1,26 +1,17 @@
 -- What an entry leaves that is no arrival and stops a request of one session at most: a sound state.
-use Rattle.std.proofs.Common.{◌≡◌, ℕ, ◌+◌, ◌≤◌, ◌∷◌, [], ◌++◌, length, Some, refl, sym, subst, ◌∙◌, arith}
-use Rattle.rv_text.specs.Calls.{side_of}
-use Rattle.rv_session.specs.declared.kept.Kept.{Kept}
-use Rattle.rv_account.specs.Account.{Account, with_entry}
-use Rattle.rv_book.specs.Arriving.{entry}
-use Rattle.rv_book.specs.Counting.{NumberOf}
-use Rattle.rv_book.specs.Elapsing.{AreDeadlines, without_deadline}
-use Rattle.rv_account.specs.declared.entry.Act.{Act}
-use Rattle.rv_account.specs.declared.entry.Entry.{Entry}
-use Rattle.rv_book.specs.declared.state.BookState.{BookState}
-use Rattle.rv_book.specs.Legal.{Legal, MayFollow}
+use Rattle.rv_book.proofs.Words.{◌≡◌, ◌+◌, ◌≤◌, ◌∷◌, ◌++◌, ◌∙◌, ℕ, [], length, Some, refl, sym, subst, arith}
+use Rattle.rv_book.proofs.Words.{side_of, Kept, Account, with_entry, entry, NumberOf, AreDeadlines}
+use Rattle.rv_book.proofs.Words.{without_deadline, Act, Entry, BookState, Legal, MayFollow, AreWaiters}
+use Rattle.rv_book.proofs.Words.{EndsAt, HasSpace, AreSessions, IsSound, account_of, Open, SideAt, Waiting}
+use Rattle.rv_book.proofs.Words.{limit_at, Legal-with_entry}
 use Rattle.rv_book.specs.Limits.{FitsAct}
-use Rattle.rv_book.specs.Parked.{AreWaiters}
 use Rattle.rv_book.specs.Steps.{max_moment}
-use Rattle.rv_book.specs.Operations.{EndsAt, HasSpace}
-use Rattle.rv_book.specs.Tables.{AreSessions, IsSound, account_of}
-use Rattle.rv_book.specs.Waiting.{Open, SideAt, Waiting, limit_at}
 use Rattle.rv_book.proofs.Closing.{ClosesThose, closes_same, stops_closes}
 use Rattle.rv_rules.proofs.FewClients.{FewClients}
 use Rattle.rv_book.proofs.Keeping.{sound_with}
-use Rattle.rv_rules.proofs.Legality.{Legal-with_entry}
-use Rattle.rv_book.proofs.TakenTables.{OneMore, due_at_first, due_at_last, due_turn, number_at_first, number_at_last, number_turn, waiters_at_first, waiters_at_last, waiters_turn}
+use Rattle.rv_book.proofs.TakenTables.{OneMore, due_at_first, due_at_last, due_turn, number_at_first}
+use Rattle.rv_book.proofs.TakenTables.{number_at_last, number_turn, waiters_at_first, waiters_at_last}
+use Rattle.rv_book.proofs.TakenTables.{waiters_turn}
 use Rattle.rv_book.proofs.WaitersBySide.{Stops}
 
 -- the act may be recorded, and it stops these arrivals, of which one waits at most
@@ -32,7 +23,8 @@ pub record Marks (old : BookState) (moment : ℕ) (does : Act) (P : ℕ → Type
   pub follows : MayFollow (account_of old) (entry moment does [])
   pub stops : Stops (account_of old).entries (entry moment does []) P
   pub requests : (r : ℕ) → P r → Open (account_of old).entries r → Waiting (account_of old).entries r
-  pub one : (r s : ℕ) → Waiting (account_of old).entries r → P r → Waiting (account_of old).entries s → P s → r ≡ s
+  pub one : (r s : ℕ) → Waiting (account_of old).entries r → P r → Waiting (account_of old).entries s → P s
+      → r ≡ s
 
 module _ (old : BookState) (moment : ℕ) (does : Act) (P : ℕ → Type 0) (is : Marks old moment does P) where
   abbrev pub before : Account
@@ -44,13 +36,20 @@ module _ (old : BookState) (moment : ℕ) (does : Act) (P : ℕ → Type 0) (is 
   pub legal_after : Legal (with_entry before own_entry)
   legal_after = Legal-with_entry before own_entry is.sound.legal is.follows
 
-  -- where of the open arrivals that it stops these alone are, and they were taken out, the tables are what the account says with it
-  closes_those : (Q : ℕ → Type 0) → ((r : ℕ) → Waiting before.entries r → P r → Q r) → ((r : ℕ) → Q r → P r) → ClosesThose before.entries own_entry Q
+  -- where of the open arrivals that it stops these alone are, and they were taken out, the tables are what
+  -- the account says with it
+  closes_those : (Q : ℕ → Type 0) → ((r : ℕ) → Waiting before.entries r → P r → Q r) → ((r : ℕ) → Q r → P r)
+      → ClosesThose before.entries own_entry Q
   closes_those Q to back =
-      closes_same before.entries own_entry P Q (stops_closes before.entries own_entry P is.stops) (λ r opened own. to r (is.requests r own opened) own) (λ r opened those. back r those)
+      closes_same before.entries own_entry P Q (stops_closes before.entries own_entry P is.stops)
+      (λ r opened own. to r (is.requests r own opened) own) (λ r opened those. back r those)
 
-  module _ (new : BookState) (pushed : account_of new ≡ with_entry before own_entry) (sessions : AreSessions (with_entry before own_entry) new.sessions) where
-    sound_by : AreWaiters (before.entries ++ own_entry ∷ []) new.waiters → NumberOf (Waiting (before.entries ++ own_entry ∷ [])) new.waiting → AreDeadlines (before.entries ++ own_entry ∷ []) new.due → length before.entries + 1 + new.waiting ≤ 100000 → new.waiting ≤ new.account.room → IsSound new
+  module _ (new : BookState) (pushed : account_of new ≡ with_entry before own_entry) (sessions :
+      AreSessions (with_entry before own_entry) new.sessions) where
+    sound_by : AreWaiters (before.entries ++ own_entry ∷ []) new.waiters
+        → NumberOf (Waiting (before.entries ++ own_entry ∷ [])) new.waiting
+        → AreDeadlines (before.entries ++ own_entry ∷ []) new.due
+        → length before.entries + 1 + new.waiting ≤ 100000 → new.waiting ≤ new.account.room → IsSound new
     sound_by waiters_are count due_are space room = sound_with before own_entry new is.sound.fits (record {
       legal = legal_after;
       entry_fits = (is.moment_fits, is.act_fits);
@@ -65,7 +64,9 @@ module _ (old : BookState) (moment : ℕ) (does : Act) (P : ℕ → Type 0) (is 
     })
 
     -- it stops nobody who waits
-    pub marked_idle : ((r : ℕ) → Waiting before.entries r → P r → ⊥) → new.waiters ≡ old.waiters → new.waiting ≡ old.waiting → new.due ≡ old.due → HasSpace old 1 → old.waiting ≤ new.account.room → IsSound new
+    pub marked_idle : ((r : ℕ) → Waiting before.entries r → P r → ⊥) → new.waiters ≡ old.waiters
+        → new.waiting ≡ old.waiting → new.due ≡ old.due → HasSpace old 1 → old.waiting ≤ new.account.room
+        → IsSound new
     marked_idle idle waiters waiting due space room =
         let enough : length before.entries + old.waiting + 1 ≤ 100000 = space in
         let same : new.waiting ≡ old.waiting = waiting in
@@ -73,30 +74,57 @@ module _ (old : BookState) (moment : ℕ) (does : Act) (P : ℕ → Type 0) (is 
         let closes = closes_those (λ r. ⊥) (λ r waits own. idle r waits own) (λ r no. absurd no) in
         sound_by
         (subst (AreWaiters (before.entries ++ own_entry ∷ [])) (sym waiters)
-        (waiters_at_last before.entries own_entry (λ r. ⊥) closes old.waiters (waiters_at_first before.entries (λ r. ⊥) none old.waiters is.sound.waiters_are)))
+        (waiters_at_last before.entries own_entry (λ r. ⊥) closes old.waiters (waiters_at_first before.entries
+        (λ r. ⊥) none old.waiters is.sound.waiters_are)))
         (subst (NumberOf (Waiting (before.entries ++ own_entry ∷ []))) (sym waiting)
-        (number_at_last before.entries own_entry (λ r. ⊥) closes old.waiting (number_at_first before.entries (λ r. ⊥) none old.waiting is.sound.waiting_is)))
-        (subst (AreDeadlines (before.entries ++ own_entry ∷ [])) (sym due) (due_at_last before.entries own_entry (λ r. ⊥) closes old.due (due_at_first before.entries (λ r. ⊥) none old.due is.sound.due_are)))
+        (number_at_last before.entries own_entry (λ r. ⊥) closes old.waiting (number_at_first before.entries
+        (λ r. ⊥) none old.waiting is.sound.waiting_is)))
+        (subst (AreDeadlines (before.entries ++ own_entry ∷ [])) (sym due) (due_at_last before.entries
+        own_entry (λ r. ⊥) closes old.due (due_at_first before.entries (λ r. ⊥) none old.due
+        is.sound.due_are)))
         (omega arith) (omega arith)
 
     -- it stops one request that waited, which was ended
-    pub marked_ended : (mid : BookState) (place : ℕ) (kept : Kept) → Waiting before.entries place → P place → EndsAt old mid place kept → new.waiters ≡ mid.waiters → new.waiting ≡ mid.waiting → new.due ≡ mid.due → old.waiting ≤ new.account.room + 1 → IsSound new
+    pub marked_ended : (mid : BookState) (place : ℕ) (kept : Kept) → Waiting before.entries place → P place
+        → EndsAt old mid place kept → new.waiters ≡ mid.waiters → new.waiting ≡ mid.waiting
+        → new.due ≡ mid.due → old.waiting ≤ new.account.room + 1 → IsSound new
     marked_ended mid place kept waits own ends waiters waiting due room =
-        let only = λ (r : ℕ) (too : Waiting before.entries r) (also : P r). is.one r place too also waits own in
+        let only = λ (r : ℕ) (too : Waiting before.entries r) (also : P r). is.one r place too also waits own
+        in
         let none = λ (r : ℕ) (no : ⊥). no in
         let taken = λ (r : ℕ). r ≡ place in
-        let one : OneMore (λ r. ⊥) taken place = record { here = refl; on = λ r no. absurd no; back = λ r apart there. apart there } in
+        let one : OneMore (λ r. ⊥) taken place = record {
+          here = refl;
+          on = λ r no. absurd no;
+          back =
+              λ r apart there. apart there;
+        } in
         let closes = closes_those taken only (λ r there. subst P (sym there) own) in
-        let of_side : SideAt before.entries (side_of ends.call) place = record { call = ends.call; arrived = ends.arrived; is = refl } in
+        let of_side : SideAt before.entries (side_of ends.call) place = record {
+          call = ends.call;
+          arrived =
+              ends.arrived;
+          is = refl;
+        } in
         let counted : old.waiting ≡ mid.waiting + 1 = ends.counted in
         let same : new.waiting ≡ mid.waiting = waiting in
-        let filled : length before.entries + old.waiting ≤ 100000 = is.sound.fits.room old.waiting is.sound.waiting_is in
-        let waiters_left = waiters_turn before.entries (λ r. ⊥) taken place one old.waiters mid.waiters (side_of ends.call) ends.duty (Some ends.duty)
-        (waiters_at_first before.entries (λ r. ⊥) none old.waiters is.sound.waiters_are) ends.leaves ends.is_at of_side in
-        let number_left = number_turn before.entries (λ r. ⊥) taken place one old.waiting mid.waiting (number_at_first before.entries (λ r. ⊥) none old.waiting is.sound.waiting_is) (waits, λ no. no) counted in
-        let due_left = due_turn before.entries (λ r. ⊥) taken place one old.due (limit_at before.entries place) refl (due_at_first before.entries (λ r. ⊥) none old.due is.sound.due_are) in
+        let filled : length before.entries + old.waiting ≤ 100000 = is.sound.fits.room old.waiting
+        is.sound.waiting_is in
+        let waiters_left = waiters_turn before.entries (λ r. ⊥) taken place one old.waiters mid.waiters
+        (side_of ends.call) ends.duty (Some ends.duty)
+        (waiters_at_first before.entries (λ r. ⊥) none old.waiters is.sound.waiters_are) ends.leaves
+        ends.is_at of_side in
+        let number_left = number_turn before.entries (λ r. ⊥) taken place one old.waiting mid.waiting
+        (number_at_first before.entries (λ r. ⊥) none old.waiting is.sound.waiting_is) (waits, λ no. no)
+        counted in
+        let due_left = due_turn before.entries (λ r. ⊥) taken place one old.due (limit_at before.entries
+        place) refl (due_at_first before.entries (λ r. ⊥) none old.due is.sound.due_are) in
         sound_by
-        (subst (AreWaiters (before.entries ++ own_entry ∷ [])) (sym waiters) (waiters_at_last before.entries own_entry taken closes mid.waiters waiters_left))
-        (subst (NumberOf (Waiting (before.entries ++ own_entry ∷ []))) (sym waiting) (number_at_last before.entries own_entry taken closes mid.waiting number_left))
-        (subst (AreDeadlines (before.entries ++ own_entry ∷ [])) (sym (due ∙ ends.due)) (due_at_last before.entries own_entry taken closes (without_deadline (limit_at before.entries place) place old.due) due_left))
+        (subst (AreWaiters (before.entries ++ own_entry ∷ [])) (sym waiters) (waiters_at_last before.entries
+        own_entry taken closes mid.waiters waiters_left))
+        (subst (NumberOf (Waiting (before.entries ++ own_entry ∷ []))) (sym waiting)
+        (number_at_last before.entries own_entry taken closes mid.waiting number_left))
+        (subst (AreDeadlines (before.entries ++ own_entry ∷ [])) (sym (due ∙ ends.due))
+        (due_at_last before.entries own_entry taken closes
+        (without_deadline (limit_at before.entries place) place old.due) due_left))
         (omega arith) (omega arith)

@@ -1,47 +1,50 @@
 -- Who parks: it stays, and nobody is there whom it meets. Its room, and its deadline.
-use Rattle.std.proofs.Common.{◌≡◌, ℕ, zero, suc, [], length, Option, Some, None, refl, ap, subst}
-use Rattle.std.proofs.lemmas.Option.{none-some, same_Some}
-use Rattle.rv_text.specs.declared.call.Side.{Side}
-use Rattle.rv_text.specs.declared.call.Side.TheVariants.{Exchanges, Gives, Looks, Takes}
-use Rattle.rv_text.specs.declared.call.Wait.{Wait}
-use Rattle.rv_account.specs.Calls.{opposite}
-use Rattle.rv_book.specs.Elapsing.{deadline_beside}
-use Rattle.rv_book.specs.Meeting.{FindsNobody, HasRoomOn, HasRoomToGive, HasRoomToTake, ParksOn, StaysAlone, opposed_by}
-use Rattle.rv_book.specs.Views.{Waiters, queue_at, takers_places, waiting_on}
-use Rattle.rv_dual.specs.Offers.{places_of}
+use Rattle.rv_book.proofs.Words.{◌≡◌, ℕ, zero, suc, [], length, Option, Some, None, refl, ap, subst}
+use Rattle.rv_book.proofs.Words.{none-some, same_Some, Side, Exchanges, Gives, Looks, Takes, Wait, opposite}
+use Rattle.rv_book.proofs.Words.{deadline_beside, FindsNobody, opposed_by, Waiters, queue_at, takers_places}
+use Rattle.rv_book.proofs.Words.{waiting_on, places_of}
+use Rattle.rv_book.specs.Meeting.{HasRoomOn, HasRoomToGive, HasRoomToTake, ParksOn, StaysAlone}
 
 -- ---- nobody is there
 
-pub nobody_opposed : (waiters : Waiters) (side : Side) → FindsNobody waiters side → opposed_by waiters (opposite side) ≡ 0
+pub nobody_opposed : (waiters : Waiters) (side : Side) → FindsNobody waiters side
+    → opposed_by waiters (opposite side) ≡ 0
 nobody_opposed waiters (Gives queue) nobody = ap length (nobody (Takes queue) refl)
 nobody_opposed waiters (Takes queue) nobody = ap length (nobody (Gives queue) refl)
 nobody_opposed waiters (Looks queue) nobody = refl
 nobody_opposed waiters (Exchanges exchanger) nobody = ap length (nobody (Exchanges exchanger) refl)
 
-pub parks_alone : (waiters : Waiters) (side : Side) (wait : Option Wait) → ParksOn waiters side wait → StaysAlone waiters side wait
+pub parks_alone : (waiters : Waiters) (side : Side) (wait : Option Wait) → ParksOn waiters side wait
+    → StaysAlone waiters side wait
 parks_alone waiters side wait parks = (parks.stays.1, nobody_opposed waiters side parks.nobody)
 
 -- ---- its room
 
-pub room_to_give : (waiters : Waiters) (queue : ℕ) (wait : Option Wait) → HasRoomOn waiters (Gives queue) wait → HasRoomToGive (queue_at waiters.queues queue) wait
+pub room_to_give : (waiters : Waiters) (queue : ℕ) (wait : Option Wait) → HasRoomOn waiters (Gives queue) wait
+    → HasRoomToGive (queue_at waiters.queues queue) wait
 room_to_give waiters queue wait room lasts none = room (record {
   stays = (refl, lasts);
-  nobody = λ other opposes. subst (λ s. waiting_on waiters s ≡ []) (same_Some _ _ opposes) (ap takers_places none);
+  nobody = λ other opposes. subst (λ s. waiting_on waiters s ≡ []) (same_Some _ _ opposes)
+      (ap takers_places none);
 })
 
-pub room_to_take : (waiters : Waiters) (queue : ℕ) (wait : Option Wait) → HasRoomOn waiters (Takes queue) wait → HasRoomToTake (queue_at waiters.queues queue) wait
+pub room_to_take : (waiters : Waiters) (queue : ℕ) (wait : Option Wait) → HasRoomOn waiters (Takes queue) wait
+    → HasRoomToTake (queue_at waiters.queues queue) wait
 room_to_take waiters queue wait room lasts none = room (record {
   stays = (refl, lasts);
-  nobody = λ other opposes. subst (λ s. waiting_on waiters s ≡ []) (same_Some _ _ opposes) (ap places_of none);
+  nobody = λ other opposes. subst (λ s. waiting_on waiters s ≡ []) (same_Some _ _ opposes)
+      (ap places_of none);
 })
 
 -- ---- its deadline
 
-pub among_is : (opposed : ℕ) (deadline : Option ℕ) (limit : ℕ) → deadline_beside opposed deadline ≡ Some limit → deadline ≡ Some limit
+pub among_is : (opposed : ℕ) (deadline : Option ℕ) (limit : ℕ) → deadline_beside opposed deadline ≡ Some limit
+    → deadline ≡ Some limit
 among_is zero deadline limit is = is
 among_is (suc more) deadline limit is = absurd (none-some limit is)
 
-pub nobody_beside : (opposed : ℕ) (deadline : Option ℕ) (limit : ℕ) → deadline_beside opposed deadline ≡ Some limit → opposed ≡ 0
+pub nobody_beside : (opposed : ℕ) (deadline : Option ℕ) (limit : ℕ)
+    → deadline_beside opposed deadline ≡ Some limit → opposed ≡ 0
 nobody_beside zero deadline limit is = refl
 nobody_beside (suc more) deadline limit is = absurd (none-some limit is)
 

@@ -1,27 +1,23 @@
 -- What is said to a message, and what is kept of its reply: the one gives the other.
-use Rattle.std.proofs.Common.{◌≡◌, List, Option, Some, None, option_map, refl, sym, ap, subst, ◌∙◌}
-use Rattle.std.specs.Prelude.{unwrap_or}
-use Rattle.std.proofs.lemmas.Option.{same_Some}
-use Rattle.rv_text.specs.declared.message.Key.{Key}
-use Rattle.rv_text.specs.declared.answer.Answer.{Answer}
-use Rattle.rv_text.specs.declared.answer.Answer.TheVariants as answer
+use Rattle.rv_book.proofs.Words.{◌≡◌, ◌∙◌, List, Option, Some, None, option_map, refl, sym, ap, subst}
+use Rattle.rv_book.proofs.Words.{unwrap_or, same_Some, Key, Answer, Reply, Kept, Entry, Account, said_in}
+use Rattle.rv_book.proofs.Words.{IsAsKept, reply_of}
 use Rattle.rv_text.specs.declared.answer.Refusal.TheVariants.{NoMemory}
-use Rattle.rv_text.specs.declared.answer.Reply.{Reply}
-use Rattle.rv_session.specs.declared.kept.Kept.{Kept}
-use Rattle.rv_account.specs.declared.entry.Entry.{Entry}
-use Rattle.rv_account.specs.Account.{Account}
 use Rattle.rv_book.specs.declared.verdict.KeptAnswer.{KeptAnswer}
 use Rattle.rv_book.specs.declared.verdict.KeptAnswer.TheVariants.{Welcome, Replied, Waiting, Refused}
-use Rattle.rv_book.specs.Saying.{answer_of, kept_of, said_in}
-use Rattle.rv_book.specs.Verdicts.{IsAsKept, reply_of}
+use Rattle.rv_book.specs.Saying.{answer_of, kept_of}
 use Rattle.rv_book.proofs.Staying.{mapped}
+use Rattle.rv_text.specs.declared.answer.Answer.TheVariants as answer
 
 -- what is said to a message is as it is kept
-pub said_kept : (entries : List Entry) (said : KeptAnswer) (told : Answer) → answer_of entries said ≡ Some told → IsAsKept entries (kept_of said) told
-said_kept entries (Welcome epoch client incarnation version) told is = subst (IsAsKept entries None) (same_Some _ _ is) tt
+pub said_kept : (entries : List Entry) (said : KeptAnswer) (told : Answer)
+    → answer_of entries said ≡ Some told → IsAsKept entries (kept_of said) told
+said_kept entries (Welcome epoch client incarnation version) told is = subst (IsAsKept entries None)
+    (same_Some _ _ is) tt
 said_kept entries (Replied key kept) told is =
     let reply = mapped (answer.Replied key) (reply_of entries kept) told is in
-    subst (IsAsKept entries (Some kept)) (same_Some _ _ (sym (ap (option_map (answer.Replied key)) reply.1) ∙ is)) reply.1
+    subst (IsAsKept entries (Some kept)) (same_Some _ _ (sym (ap (option_map (answer.Replied key)) reply.1)
+    ∙ is)) reply.1
 said_kept entries (Waiting key) told is = subst (IsAsKept entries None) (same_Some _ _ is) tt
 said_kept entries (Refused refusal) told is = subst (IsAsKept entries None) (same_Some _ _ is) tt
 
@@ -31,9 +27,13 @@ pub record TellsKept (entries : List Entry) (key : Key) (kept : Kept) (told : An
   pub is : reply_of entries kept ≡ Some reply
   pub tells : told ≡ answer.Replied key reply
 
-told_kept : (entries : List Entry) (key : Key) (kept : Kept) (o : Option Reply) → IsAsKept entries (Some kept) (unwrap_or (option_map (answer.Replied key) o) (answer.Refused NoMemory)) → TellsKept entries key kept (unwrap_or (option_map (answer.Replied key) o) (answer.Refused NoMemory))
+told_kept : (entries : List Entry) (key : Key) (kept : Kept) (o : Option Reply)
+    → IsAsKept entries (Some kept) (unwrap_or (option_map (answer.Replied key) o) (answer.Refused NoMemory))
+    → TellsKept entries key kept (unwrap_or (option_map (answer.Replied key) o) (answer.Refused NoMemory))
 told_kept entries key kept None is = absurd is
 told_kept entries key kept (Some reply) is = record { reply = reply; is = is; tells = refl }
 
-pub tells_kept : (entries : List Entry) (b : Account) (key : Key) (kept : Kept) → IsAsKept entries (Some kept) (said_in b (Replied key kept)) → TellsKept entries key kept (said_in b (Replied key kept))
+pub tells_kept : (entries : List Entry) (b : Account) (key : Key) (kept : Kept)
+    → IsAsKept entries (Some kept) (said_in b (Replied key kept))
+    → TellsKept entries key kept (said_in b (Replied key kept))
 tells_kept entries b key kept is = told_kept entries key kept (reply_of b.entries kept) is

@@ -1,32 +1,21 @@
--- The table of sessions is what the account says: each session stays with one more entry of another client, and after a
+-- The table of sessions is what the account says: each session stays with one more entry of another client,
+-- and after a
 -- hello the client's own is fresh.
 use Rattle.rv_session.specs.declared.session.RequestState as state
+use Rattle.rv_book.proofs.Words.{◌++◌, ◌<◌, ◌∙◌, ◌∷◌, ◌≡◌, ◌≤◌, Version, Session, Kept, Table, OnlySets}
+use Rattle.rv_book.proofs.Words.{OnlySettles, fresh, session_of, Account, act_at, call_at, call_in, key_at}
+use Rattle.rv_book.proofs.Words.{key_in, with_entry, AreSessions, IsSession, IsSessionOf, IsSettledAt}
+use Rattle.rv_book.proofs.Words.{StandsInAccount, last_key, CancelledFirst, Act, Arrive, Hello, Call, Entry}
+use Rattle.rv_book.proofs.Words.{HasOpened, LastNumber, SaidHello, IsKept, Waiting, Waiting-on, Key, Legal}
+use Rattle.rv_book.proofs.Words.{before, List, None, Option, Some, [], ap, arith, inl, inr, length}
+use Rattle.rv_book.proofs.Words.{option_and_then, refl, subst, sym, ℕ, act_read, reads_back, reads_on}
+use Rattle.rv_book.proofs.Words.{reads_within, get-append_end, none-some, same_Some, just_none, same_or_not}
+use Rattle.rv_book.proofs.Words.{client_of, key_read}
 use Rattle.rv_session.specs.declared.session.RequestState.{RequestState as StateOf}
-use Rattle.rv_text.specs.declared.version.Version.{Version}
-use Rattle.rv_session.specs.declared.session.Session.{Session}
-use Rattle.rv_session.specs.declared.kept.Kept.{Kept}
-use Rattle.rv_session.specs.Table.{Table, OnlySets, OnlySettles, fresh, session_of}
-use Rattle.rv_account.specs.Account.{Account, act_at, call_at, call_in, key_at, key_in, with_entry}
-use Rattle.rv_book.specs.Tables.{AreSessions, IsSession, IsSessionOf, IsSettledAt, StandsInAccount, last_key}
-use Rattle.rv_book.specs.Replies.{CancelledFirst}
-use Rattle.rv_account.specs.declared.entry.Act.{Act}
-use Rattle.rv_account.specs.declared.entry.Act.TheVariants.{Arrive, Hello}
-use Rattle.rv_text.specs.declared.call.Call.{Call}
-use Rattle.rv_account.specs.declared.entry.Entry.{Entry}
-use Rattle.rv_book.specs.Sessions.{HasOpened, LastHello, LastNumber, SaidHello}
-use Rattle.rv_book.specs.Arriving.{IsKept}
-use Rattle.rv_book.specs.Waiting.{Waiting}
-use Rattle.rv_rules.proofs.Sides.{Waiting-on, stopped_by_hello}
-use Rattle.rv_text.specs.declared.message.Key.{Key}
-use Rattle.rv_book.specs.Legal.{Legal, before}
-use Rattle.std.proofs.Common.{List, None, Option, Some, [], ap, arith, inl, inr, length, option_and_then, refl, subst, sym, ℕ, ◌++◌, ◌<◌, ◌∙◌, ◌∷◌, ◌≡◌, ◌≤◌}
-use Rattle.rv_rules.proofs.Growing.{act_read, reads_back, reads_on, reads_within}
-use Rattle.rv_rules.proofs.Places.{get-append_end}
+use Rattle.rv_book.specs.Sessions.{LastHello}
+use Rattle.rv_rules.proofs.Sides.{stopped_by_hello}
 use Rattle.rv_book.proofs.Staying.{kept_stays}
-use Rattle.std.proofs.lemmas.Option.{none-some, same_Some}
-use Rattle.rv_rules.proofs.Naming.{just_none}
-use Rattle.rv_rules.proofs.Numbers.{same_or_not}
-use Rattle.rv_rules.proofs.Keys.{LastHello-on, NamesKey-back, NamesKey-on, client_of, hello_is_own, key_is_own, key_read}
+use Rattle.rv_rules.proofs.Keys.{LastHello-on, NamesKey-back, NamesKey-on, hello_is_own, key_is_own}
 use Rattle.rv_book.proofs.Replying.{reply_laws}
 use Rattle.rv_rules.proofs.Versions.{HasOpened-on}
 pub use Rattle.rv_book.proofs.WaitingTable.{waits_in_table}
@@ -38,7 +27,8 @@ pub record IsAt (es : List Entry) (c i : ℕ) (v : Version) (n : ℕ) : Type 0 w
 
 -- the act is no hello of the client and names no key of it
 pub record IsApart (does : Act) (client : ℕ) : Type 0 where
-  pub no_hello : (incarnation : ℕ) (version : Version) → Some does ≡ Some (Hello client incarnation version) → ⊥
+  pub no_hello : (incarnation : ℕ) (version : Version) → Some does ≡ Some (Hello client incarnation version)
+      → ⊥
   pub no_key : (key : Key) → key_in does ≡ Some key → key.client ≡ client → ⊥
 
 -- an act of another client is apart
@@ -49,7 +39,8 @@ other_apart does client other = record {
 }
 
 -- the session of another client than the entry's stays
-pub IsAt-on : (es : List Entry) (e : Entry) (c i : ℕ) (v : Version) (n : ℕ) → IsApart e.act c → IsAt es c i v n → IsAt (es ++ e ∷ []) c i v n
+pub IsAt-on : (es : List Entry) (e : Entry) (c i : ℕ) (v : Version) (n : ℕ) → IsApart e.act c
+    → IsAt es c i v n → IsAt (es ++ e ∷ []) c i v n
 IsAt-on es e c i v n apart is =
     let no_hello_of = apart.no_hello in
     record {
@@ -64,39 +55,55 @@ IsAt-on es e c i v n apart is =
         ];
         reached = elim is.number.reached [
           | inl none ↦ inl none
-          | inr there ↦ inr (there.0, there.1, there.2, NamesKey-on es (e ∷ []) c there.0 there.1 there.3, there.4)
+          | inr there ↦ inr (
+            there.0,
+            there.1,
+            there.2,
+            NamesKey-on es (e ∷ []) c there.0 there.1 there.3,
+            there.4,
+          )
         ];
       };
     }
 
 -- after an entry that names a key its number is the session's last
-pub named_at : (es : List Entry) (e : Entry) (key : Key) (i : ℕ) (v : Version) (n : ℕ) → key_in e.act ≡ Some key → IsAt es key.client i v n → n ≤ key.number → IsAt (es ++ e ∷ []) key.client i v key.number
+pub named_at : (es : List Entry) (e : Entry) (key : Key) (i : ℕ) (v : Version) (n : ℕ)
+    → key_in e.act ≡ Some key → IsAt es key.client i v n → n ≤ key.number
+    → IsAt (es ++ e ∷ []) key.client i v key.number
 named_at es e key i v n is session above =
-    let no_hello_of = λ (j : ℕ) (w : Version) (own : Some e.act ≡ Some (Hello key.client j w)). none-some key (sym (ap key_in (same_Some _ _ own)) ∙ is) in
+    let no_hello_of = λ (j : ℕ) (w : Version) (own : Some e.act ≡ Some (Hello key.client j w)). none-some key
+    (sym (ap key_in (same_Some _ _ own)) ∙ is) in
     let last : key_at (es ++ e ∷ []) (length es) ≡ Some key = ap key_read (get-append_end es e) ∙ is in
-    let inside : session.number.h < length es = reads_within act_read refl es session.number.h _ session.number.hello.hello in
+    let inside : session.number.h < length es = reads_within act_read refl es session.number.h _
+    session.number.hello.hello in
     record {
       opened = HasOpened-on es e key.client i v no_hello_of session.opened;
       number = record {
         incarnation = session.number.incarnation;
         h = session.number.h;
-        hello = LastHello-on es e key.client session.number.incarnation session.number.h no_hello_of session.number.hello;
+        hello = LastHello-on es e key.client session.number.incarnation session.number.h no_hello_of
+            session.number.hello;
         greatest = λ r other later names. elim (NamesKey-back es e key.client r other names) [
-          | inl before ↦ let bound : other.number ≤ n = session.number.greatest r other later before in omega arith
-          | inr own ↦ let same : key.number ≡ other.number = ap (λ (k : Key). k.number) (same_Some _ _ (sym is ∙ own.1)) in omega arith
+          | inl before ↦ let bound : other.number ≤ n = session.number.greatest r other later before in
+              omega arith
+          | inr own ↦ let same : key.number ≡ other.number = ap (λ (k : Key). k.number)
+              (same_Some _ _ (sym is ∙ own.1)) in omega arith
         ];
         reached = inr (length es, key, inside, record { named = last; of_client = refl }, refl);
       };
     }
 
 -- after a hello the session is fresh
-pub greeted_at : (es : List Entry) (e : Entry) (c i : ℕ) (v : Version) → e.act ≡ Hello c i v → IsAt (es ++ e ∷ []) c i v 0
+pub greeted_at : (es : List Entry) (e : Entry) (c i : ℕ) (v : Version) → e.act ≡ Hello c i v
+    → IsAt (es ++ e ∷ []) c i v 0
 greeted_at es e c i v is =
-    let own : act_at (es ++ e ∷ []) (length es) ≡ Some (Hello c i v) = ap act_read (get-append_end es e) ∙ ap Some is in
+    let own : act_at (es ++ e ∷ []) (length es) ≡ Some (Hello c i v) = ap act_read (get-append_end es e)
+    ∙ ap Some is in
     let hello : LastHello (es ++ e ∷ []) c i (length es) = record {
       version = v;
       hello = own;
-      last = λ r j w later there. elim (reads_back act_read refl es e r (Hello c j w) there) [ inl inside ↦ omega arith | inr last ↦ omega arith ];
+      last = λ r j w later there. elim (reads_back act_read refl es e r (Hello c j w) there)
+          [ inl inside ↦ omega arith | inr last ↦ omega arith ];
     } in
     record {
       opened = record { h = length es; last = hello; version_is = refl };
@@ -104,7 +111,8 @@ greeted_at es e c i v is =
         incarnation = i;
         h = length es;
         hello = hello;
-        greatest = λ r key later names. elim (reads_back key_read refl es e r key names.named) [ inl inside ↦ absurd (omega arith) | inr last ↦ absurd (omega arith) ];
+        greatest = λ r key later names. elim (reads_back key_read refl es e r key names.named)
+            [ inl inside ↦ absurd (omega arith) | inr last ↦ absurd (omega arith) ];
         reached = inl refl;
       };
     }
@@ -112,20 +120,28 @@ greeted_at es e c i v is =
 -- ---- what is kept
 
 -- what is kept as a reply is kept in every legal account that goes on
-IsKept-on : (a : Account) (e : Entry) (r : ℕ) (call : Call) (k : Kept) → Legal (with_entry a e) → call_at a.entries r ≡ Some call → IsKept a.entries r call k
+IsKept-on : (a : Account) (e : Entry) (r : ℕ) (call : Call) (k : Kept) → Legal (with_entry a e)
+    → call_at a.entries r ≡ Some call → IsKept a.entries r call k
     → IsKept (with_entry a e).entries r call k
 IsKept-on a e r call k legal arrived is = record {
   reply = is.reply;
-  is = kept_stays a (with_entry a e) k is.reply (record { epoch = refl; opened = refl; more = e ∷ []; entries = refl }) is.is;
+  is = kept_stays a (with_entry a e) k is.reply (record {
+    epoch = refl;
+    opened = refl;
+    more = e ∷ [];
+    entries = refl;
+  }) is.is;
   replies = (reply_laws call).stays a.entries (e ∷ []) a.epoch a.opened r is.reply legal arrived is.replies;
 }
 
 -- what waits of this client waits with the entry too
 abbrev pub StillWaits : Account → Entry → ℕ → Type 0
-StillWaits a e client = (r : ℕ) (key : Key) (call : Call) → key.client ≡ client → act_at a.entries r ≡ Some (Arrive key call) → Waiting a.entries r → Waiting (with_entry a e).entries r
+StillWaits a e client = (r : ℕ) (key : Key) (call : Call) → key.client ≡ client
+    → act_at a.entries r ≡ Some (Arrive key call) → Waiting a.entries r → Waiting (with_entry a e).entries r
 
 -- a number that was cancelled first stays so behind an entry of another client
-pub CancelledFirst-on : (es : List Entry) (e : Entry) (key : Key) → IsApart e.act key.client → CancelledFirst es key → CancelledFirst (es ++ e ∷ []) key
+pub CancelledFirst-on : (es : List Entry) (e : Entry) (key : Key) → IsApart e.act key.client
+    → CancelledFirst es key → CancelledFirst (es ++ e ∷ []) key
 CancelledFirst-on es e key apart first = record {
   place = first.place;
   cancelled = reads_on act_read refl es (e ∷ []) first.place _ first.cancelled;
@@ -136,14 +152,16 @@ CancelledFirst-on es e key apart first = record {
 }
 
 -- what was settled at a place stays so
-pub settled_on : (a : Account) (e : Entry) (client : ℕ) (s : Session) (r : ℕ) (k : Kept) → Legal (with_entry a e) → IsSettledAt a client s r k → IsSettledAt (with_entry a e) client s r k
+pub settled_on : (a : Account) (e : Entry) (client : ℕ) (s : Session) (r : ℕ) (k : Kept)
+    → Legal (with_entry a e) → IsSettledAt a client s r k → IsSettledAt (with_entry a e) client s r k
 settled_on a e client s r k legal is = record {
   call = is.call;
   arrived = reads_on act_read refl a.entries (e ∷ []) r _ is.arrived;
   kept_is = IsKept-on a e r is.call k legal (ap (option_and_then call_in) is.arrived) is.kept_is;
 }
 
-Stands-on : (a : Account) (e : Entry) (client : ℕ) (s : Session) (stands : StateOf) → Legal (with_entry a e) → IsApart e.act client → StillWaits a e client → StandsInAccount a client s stands
+Stands-on : (a : Account) (e : Entry) (client : ℕ) (s : Session) (stands : StateOf) → Legal (with_entry a e)
+    → IsApart e.act client → StillWaits a e client → StandsInAccount a client s stands
     → StandsInAccount (with_entry a e) client s stands
 Stands-on a e client s state.TheVariants.Fresh legal apart still is = is
 Stands-on a e client s (state.TheVariants.Waits r) legal apart still is = record {
@@ -151,8 +169,10 @@ Stands-on a e client s (state.TheVariants.Waits r) legal apart still is = record
   arrived = reads_on act_read refl a.entries (e ∷ []) r _ is.arrived;
   waits = still r _ is.call refl is.arrived is.waits;
 }
-Stands-on a e client s (state.TheVariants.Settled (Some r) k) legal apart still is = settled_on a e client s r k legal is
-Stands-on a e client s (state.TheVariants.Settled None k) legal apart still is = (CancelledFirst-on a.entries e (last_key a client s) apart is.0, is.1)
+Stands-on a e client s (state.TheVariants.Settled (Some r) k) legal apart still is = settled_on a e client s r
+    k legal is
+Stands-on a e client s (state.TheVariants.Settled None k) legal apart still is =
+    (CancelledFirst-on a.entries e (last_key a client s) apart is.0, is.1)
 
 -- ---- the table
 
@@ -163,64 +183,87 @@ pub record Changes (old new : Table) (client : ℕ) (s : Session) : Type 0 where
   pub others : (other : ℕ) → (other ≡ client → ⊥) → session_of new other ≡ session_of old other
 
 -- a session that was settled, if it waited, and then has another's place
-pub settled_then_entered : (old mid new : Table) (client place : ℕ) (k : Kept) (s : Session) → OnlySettles old mid client place k → OnlySets mid new client s → Changes old new client s
+pub settled_then_entered : (old mid new : Table) (client place : ℕ) (k : Kept) (s : Session)
+    → OnlySettles old mid client place k → OnlySets mid new client s → Changes old new client s
 settled_then_entered old mid new client place k s settled sets = record {
   epoch = sets.epoch ∙ settled.sets.epoch;
   own = sets.own;
   others = λ other apart. sets.others other apart ∙ settled.sets.others other apart;
 }
 
-pub set_changes : (old new : Table) (client : ℕ) (s : Session) → OnlySets old new client s → Changes old new client s
+pub set_changes : (old new : Table) (client : ℕ) (s : Session) → OnlySets old new client s
+    → Changes old new client s
 set_changes old new client s sets = record { epoch = sets.epoch; own = sets.own; others = sets.others }
 
 -- a client that said no hello said none with an entry that is apart
-pub SaidHello-back : (a : Account) (e : Entry) (client : ℕ) → IsApart e.act client → (SaidHello a.entries client → ⊥) → SaidHello (with_entry a e).entries client → ⊥
+pub SaidHello-back : (a : Account) (e : Entry) (client : ℕ) → IsApart e.act client
+    → (SaidHello a.entries client → ⊥) → SaidHello (with_entry a e).entries client → ⊥
 SaidHello-back a e client apart none said = elim (reads_back act_read refl a.entries e said.0 _ said.3) [
   | inl inside ↦ none (said.0, said.1, said.2, inside.1)
   | inr last ↦ apart.no_hello said.1 said.2 last.1
 ]
 
 -- the session of a client other than the entry's, of whose requests each that waits still does
-pub session_on : (a : Account) (e : Entry) (client : ℕ) (o : Option Session) → Legal (with_entry a e) → IsApart e.act client → StillWaits a e client
+pub session_on : (a : Account) (e : Entry) (client : ℕ) (o : Option Session) → Legal (with_entry a e)
+    → IsApart e.act client → StillWaits a e client
     → IsSessionOf a client o → IsSessionOf (with_entry a e) client o
 session_on a e client None legal apart still none = SaidHello-back a e client apart none
 session_on a e client (Some s) legal apart still is =
-    let at = IsAt-on a.entries e client s.incarnation s.version s.last apart (record { opened = is.opened; number = is.number }) in
-    record { opened = at.opened; number = at.number; stands = Stands-on a e client s s.state legal apart still is.stands }
+    let at = IsAt-on a.entries e client s.incarnation s.version s.last apart (record {
+      opened = is.opened;
+      number = is.number;
+    }) in
+    record {
+      opened = at.opened;
+      number = at.number;
+      stands = Stands-on a e client s s.state legal apart still
+          is.stands;
+    }
 
 -- after a hello nothing waits but what waited before, of another client
-after_hello : (a : Account) (e : Entry) (client incarnation : ℕ) (version : Version) (other : ℕ) → e.act ≡ Hello client incarnation version → e.partners ≡ [] → (other ≡ client → ⊥) → StillWaits a e other
+after_hello : (a : Account) (e : Entry) (client incarnation : ℕ) (version : Version) (other : ℕ)
+    → e.act ≡ Hello client incarnation version → e.partners ≡ [] → (other ≡ client → ⊥) → StillWaits a e other
 after_hello a e client incarnation version other says none apart = λ r key call of_client arrived w.
     Waiting-on a.entries e r w (just_none e r none) (λ stopped.
     let request = stopped_by_hello a.entries e client incarnation r version says stopped in
-    let same : Arrive request.key request.call ≡ Arrive key call = same_Some _ _ (sym request.arrived ∙ arrived) in
+    let same : Arrive request.key request.call ≡ Arrive key call = same_Some _ _ (sym request.arrived
+    ∙ arrived) in
     apart (sym of_client ∙ sym (ap client_of same) ∙ sym request.of_client))
 
 -- a table in which one client's session changed is what the account says, where that session is
-pub sessions_changed : (a : Account) (e : Entry) (old new : Table) (client : ℕ) (s : Session) → AreSessions a old → Legal (with_entry a e) → client_of e.act ≡ client
-    → ((other : ℕ) → (other ≡ client → ⊥) → StillWaits a e other) → Changes old new client s → IsSession (with_entry a e) client s → AreSessions (with_entry a e) new
+pub sessions_changed : (a : Account) (e : Entry) (old new : Table) (client : ℕ) (s : Session)
+    → AreSessions a old → Legal (with_entry a e) → client_of e.act ≡ client
+    → ((other : ℕ) → (other ≡ client → ⊥) → StillWaits a e other) → Changes old new client s
+    → IsSession (with_entry a e) client s → AreSessions (with_entry a e) new
 sessions_changed a e old new client s are legal of_client still changes own =
     let b = with_entry a e in
     record {
       epoch = changes.epoch ∙ are.epoch;
       each = λ c. elim (same_or_not c client) [
-        | inl same ↦ subst (λ n. IsSessionOf b n (session_of new n)) (sym same) (subst (IsSessionOf b client) (sym changes.own) own)
+        | inl same ↦ subst (λ n. IsSessionOf b n (session_of new n)) (sym same) (subst (IsSessionOf b client)
+            (sym changes.own) own)
         | inr apart ↦ subst (IsSessionOf b c) (sym (changes.others c apart))
-            (session_on a e c (session_of old c) legal (other_apart e.act c (λ here. apart (sym here ∙ of_client))) (still c apart) (are.each c))
+            (session_on a e c (session_of old c) legal
+            (other_apart e.act c (λ here. apart (sym here ∙ of_client))) (still c apart) (are.each c))
       ];
     }
 
 -- after a hello its session is fresh
-pub sessions_greeted : (a : Account) (e : Entry) (old new : Table) (client incarnation : ℕ) (version : Version) → AreSessions a old → Legal a → Legal (with_entry a e) → e.act ≡ Hello client incarnation version → e.partners ≡ []
+pub sessions_greeted : (a : Account) (e : Entry) (old new : Table) (client incarnation : ℕ) (version :
+    Version) → AreSessions a old → Legal a → Legal (with_entry a e) → e.act ≡ Hello client incarnation version
+    → e.partners ≡ []
     → Changes old new client (fresh incarnation version) → AreSessions (with_entry a e) new
 sessions_greeted a e old new client incarnation version are before legal is none changes =
     let at = greeted_at a.entries e client incarnation version is in
-    sessions_changed a e old new client (fresh incarnation version) are legal (ap client_of is) (λ other. after_hello a e client incarnation version other is none) changes
+    sessions_changed a e old new client (fresh incarnation version) are legal (ap client_of is)
+    (λ other. after_hello a e client incarnation version other is none) changes
     (record { opened = at.opened; number = at.number; stands = refl })
 
 -- an empty table is that of an empty account
-pub no_sessions : (a : Account) (t : Table) → a.entries ≡ [] → t.epoch ≡ a.epoch → ((client : ℕ) → session_of t client ≡ None) → AreSessions a t
+pub no_sessions : (a : Account) (t : Table) → a.entries ≡ [] → t.epoch ≡ a.epoch
+    → ((client : ℕ) → session_of t client ≡ None) → AreSessions a t
 no_sessions a t none epoch empty = record {
   epoch = epoch;
-  each = λ client. subst (IsSessionOf a client) (sym (empty client)) (λ said. none-some _ (sym (ap (λ (l : List Entry). act_at l said.0) none) ∙ said.3));
+  each = λ client. subst (IsSessionOf a client) (sym (empty client))
+      (λ said. none-some _ (sym (ap (λ (l : List Entry). act_at l said.0) none) ∙ said.3));
 }

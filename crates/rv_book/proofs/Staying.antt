@@ -3,35 +3,23 @@ use Rattle.rv_text.specs.declared.answer.Reply as reply
 use Rattle.rv_text.specs.declared.answer.Answer as answer
 use Rattle.rv_account.specs.declared.entry.Act as act
 use Rattle.rv_session.specs.declared.kept.Kept as kept
-use Rattle.rv_text.specs.declared.message.Message.TheVariants.{Cancel, Hello, Request}
-use Rattle.rv_account.specs.Account.{Account, Extends, act_at, call_in, key_at, key_in, partners_items}
+use Rattle.rv_book.proofs.Words.{◌++◌, ◌<◌, ◌∙◌, ◌∷◌, ◌≡◌, Request, Account, act_at, call_in, key_at, key_in}
+use Rattle.rv_book.proofs.Words.{Act, Adds, Answers, EntersOrNoMemory, NextAt, Refuses, Replies, Ticks}
+use Rattle.rv_book.proofs.Words.{Waiting, Answer, Call, Entry, CancelledFirst, HasReply, RepliesAt, Kept, Key}
+use Rattle.rv_book.proofs.Words.{Legal, before, WaitsUnder, List, None, Option, Some, [], ap, arith, inl, inr}
+use Rattle.rv_book.proofs.Words.{length, option_and_then, option_map, refl, subst, sym, ℕ, Message, act_read}
+use Rattle.rv_book.proofs.Words.{call_read, reads_on, reads_within, Refusal, key_read, Reply, IsAsKept}
+use Rattle.rv_book.proofs.Words.{item_at, reply_of, arrives_once, item_of, get-append_within, cases_lt}
+use Rattle.rv_book.proofs.Words.{none-some, slice_get}
+use Rattle.rv_text.specs.declared.message.Message.TheVariants.{Cancel, Hello}
+use Rattle.rv_account.specs.Account.{Extends, partners_items}
 use Rattle.rv_book.proofs.Drains.{drains_on}
-use Rattle.rv_account.specs.declared.entry.Act.{Act}
-use Rattle.rv_book.specs.Steps.{Adds, Answers, EntersOrNoMemory, NextAt, Refuses, Replies, Ticks}
-use Rattle.rv_book.specs.Waiting.{Waiting}
-use Rattle.rv_text.specs.declared.answer.Answer.{Answer}
-use Rattle.rv_text.specs.declared.call.Call.{Call}
-use Rattle.rv_account.specs.declared.entry.Entry.{Entry}
-use Rattle.rv_book.specs.Replies.{CancelledFirst, HasReply, RepliesAt, RepliesToArrival}
-use Rattle.rv_session.specs.declared.kept.Kept.{Kept}
-use Rattle.rv_text.specs.declared.message.Key.{Key}
-use Rattle.rv_book.specs.Legal.{Legal, before, WaitsUnder}
-use Rattle.std.proofs.Common.{List, None, Option, Some, [], ap, append_assoc, append-nil, arith, inl, inr, length, option_and_then, option_map, refl, subst, sym, ℕ, ◌++◌, ◌<◌, ◌∙◌, ◌∷◌, ◌≡◌}
-use Rattle.rv_text.specs.declared.message.Message.{Message}
-use Rattle.rv_rules.proofs.Growing.{act_read, call_read, reads_on, reads_within}
-use Rattle.rv_text.specs.declared.answer.Refusal.{Refusal}
-use Rattle.rv_rules.proofs.Keys.{key_read}
+use Rattle.rv_book.specs.Replies.{RepliesToArrival}
+use Rattle.std.proofs.Common.{append_assoc, append-nil}
 use Rattle.rv_rules.proofs.Lines.{RefuseOr-elim, WhereElse-elim}
 use Rattle.rv_book.specs.Laws.{RepliesStay, StepsExtend}
-use Rattle.rv_text.specs.declared.answer.Reply.{Reply}
-use Rattle.rv_book.specs.Verdicts.{IsAsKept, item_at, reply_of}
-use Rattle.rv_rules.proofs.OnePartner.{arrives_first, arrives_once}
+use Rattle.rv_rules.proofs.OnePartner.{arrives_first}
 use Rattle.rv_book.proofs.Replying.{reply_laws}
-use Rattle.rv_text.specs.Calls.{item_of}
-use Rattle.rv_rules.proofs.Places.{get-append_within}
-use Rattle.std.proofs.lemmas.Bool.{cases_lt}
-use Rattle.std.proofs.lemmas.Option.{none-some}
-use Rattle.std.specs.List.{slice_get}
 
 -- ---- a step only adds
 
@@ -42,16 +30,26 @@ same_extends : (a b : Account) → b ≡ a → Extends a b
 same_extends a b same = subst (Extends a) (sym same) (extends_itself a)
 
 added_extends : (a b : Account) (moment : ℕ) (does : Act) → Adds a moment does b → Extends a b
-added_extends a b moment does added = subst (Extends a) (sym added.follows) (record { epoch = refl; opened = refl; more = added.entry ∷ []; entries = refl })
+added_extends a b moment does added = subst (Extends a) (sym added.follows) (record {
+  epoch = refl;
+  opened =
+      refl;
+  more = added.entry ∷ [];
+  entries = refl;
+})
 
-entered_extends : (a b : Account) (moment : ℕ) (does : Act) (x : Answer) (G : Type 0) → EntersOrNoMemory a moment does b x G → Extends a b
+entered_extends : (a b : Account) (moment : ℕ) (does : Act) (x : Answer) (G : Type 0)
+    → EntersOrNoMemory a moment does b x G → Extends a b
 entered_extends a b moment does x G (inl refuses) = same_extends a b refuses.0
 entered_extends a b moment does x G (inr added) = added_extends a b moment does added.0
 
 step_extends : (a b : Account) (moment : ℕ) (m : Message) (x : Answer) → NextAt a moment m b x → Extends a b
 step_extends a b moment (Hello client incarnation version) x next =
-    let refused = λ (D : Refusal → Type 0) (refusal : Refusal) (due : D refusal) (refuses : Refuses a b x refusal). same_extends a b refuses.0 in
-    let entered = λ (h : EntersOrNoMemory a moment (act.TheVariants.Hello client incarnation version) b x (x ≡ answer.TheVariants.Welcome a.epoch client incarnation version)). entered_extends a b moment _ x _ h in
+    let refused = λ (D : Refusal → Type 0) (refusal : Refusal) (due : D refusal) (refuses : Refuses a b x
+    refusal). same_extends a b refuses.0 in
+    let entered = λ (h : EntersOrNoMemory a moment (act.TheVariants.Hello client incarnation version) b x
+    (x ≡ answer.TheVariants.Welcome a.epoch client incarnation version)). entered_extends a b moment _ x _
+    h in
     RefuseOr-elim _ _ _ (Extends a b) (refused _)
     (RefuseOr-elim _ _ _ (Extends a b) (refused _)
     (WhereElse-elim _ _ _ (Extends a b) (λ has again. same_extends a b again.0)
@@ -59,25 +57,31 @@ step_extends a b moment (Hello client incarnation version) x next =
     (RefuseOr-elim _ _ _ (Extends a b) (refused _)
     entered)))) next
 step_extends a b moment (Request key call) x next =
-    let refused = λ (D : Refusal → Type 0) (refusal : Refusal) (due : D refusal) (refuses : Refuses a b x refusal). same_extends a b refuses.0 in
-    let entered = λ (h : EntersOrNoMemory a moment (act.TheVariants.Arrive key call) b x (Answers b key x)). entered_extends a b moment _ x _ h in
+    let refused = λ (D : Refusal → Type 0) (refusal : Refusal) (due : D refusal) (refuses : Refuses a b x
+    refusal). same_extends a b refuses.0 in
+    let entered = λ (h : EntersOrNoMemory a moment (act.TheVariants.Arrive key call) b x (Answers b key x)).
+    entered_extends a b moment _ x _ h in
     RefuseOr-elim _ _ _ (Extends a b) (refused _)
     (RefuseOr-elim _ _ _ (Extends a b) (refused _)
     (RefuseOr-elim _ _ _ (Extends a b) (refused _)
     (RefuseOr-elim _ _ _ (Extends a b) (refused _)
-    (WhereElse-elim _ _ _ (Extends a b) (λ is. RefuseOr-elim _ _ _ (Extends a b) (refused _) (λ again. same_extends a b again.account))
+    (WhereElse-elim _ _ _ (Extends a b) (λ is. RefuseOr-elim _ _ _ (Extends a b) (refused _)
+    (λ again. same_extends a b again.account))
     (RefuseOr-elim _ _ _ (Extends a b) (refused _)
     (RefuseOr-elim _ _ _ (Extends a b) (refused _)
     (RefuseOr-elim _ _ _ (Extends a b) (refused _)
     entered))))))) next
 step_extends a b moment (Cancel key) x next =
-    let refused = λ (D : Refusal → Type 0) (refusal : Refusal) (due : D refusal) (refuses : Refuses a b x refusal). same_extends a b refuses.0 in
-    let entered = λ (h : EntersOrNoMemory a moment (act.TheVariants.Cancel key) b x (Replies b key x)). entered_extends a b moment _ x _ h in
+    let refused = λ (D : Refusal → Type 0) (refusal : Refusal) (due : D refusal) (refuses : Refuses a b x
+    refusal). same_extends a b refuses.0 in
+    let entered = λ (h : EntersOrNoMemory a moment (act.TheVariants.Cancel key) b x (Replies b key x)).
+    entered_extends a b moment _ x _ h in
     RefuseOr-elim _ _ _ (Extends a b) (refused _)
     (RefuseOr-elim _ _ _ (Extends a b) (refused _)
     (RefuseOr-elim _ _ _ (Extends a b) (refused _)
     (RefuseOr-elim _ _ _ (Extends a b) (refused _)
-    (WhereElse-elim _ _ _ (Extends a b) (λ is. WhereElse-elim _ _ _ (Extends a b) (λ waits ends. added_extends a b moment _ ends.0) (λ again. same_extends a b again.account))
+    (WhereElse-elim _ _ _ (Extends a b) (λ is. WhereElse-elim _ _ _ (Extends a b) (λ waits ends. added_extends
+    a b moment _ ends.0) (λ again. same_extends a b again.account))
     (RefuseOr-elim _ _ _ (Extends a b) (refused _)
     (RefuseOr-elim _ _ _ (Extends a b) (refused _)
     (RefuseOr-elim _ _ _ (Extends a b) (refused _)
@@ -92,107 +96,151 @@ extends_on a b c first second = record {
   epoch = second.epoch ∙ first.epoch;
   opened = second.opened ∙ first.opened;
   more = first.more ++ second.more;
-  entries = second.entries ∙ ap (λ es. es ++ second.more) first.entries ∙ append_assoc a.entries first.more second.more;
+  entries = second.entries ∙ ap (λ es. es ++ second.more) first.entries ∙ append_assoc a.entries first.more
+      second.more;
 }
 
 pub steps_extend : StepsExtend
-steps_extend a b now m x next = extends_on a next.ticked b (ticks_extend a next.ticked _ next.ticks) (step_extends next.ticked b _ m x next.steps)
+steps_extend a b now m x next = extends_on a next.ticked b (ticks_extend a next.ticked _ next.ticks)
+    (step_extends next.ticked b _ m x next.steps)
 
 -- ---- what is kept of a reply stays
 
-reading_on : {B : Type 0} (F : Option Entry → Option B) → F None ≡ None → (a b : Account) (r : ℕ) (y : B) → Extends a b → F (slice_get a.entries r) ≡ Some y → F (slice_get b.entries r) ≡ Some y
-reading_on F none a b r y extends there = ap (λ (es : List Entry). F (slice_get es r)) extends.entries ∙ reads_on F none a.entries extends.more r y there
+reading_on : {B : Type 0} (F : Option Entry → Option B) → F None ≡ None → (a b : Account) (r : ℕ) (y : B)
+    → Extends a b → F (slice_get a.entries r) ≡ Some y → F (slice_get b.entries r) ≡ Some y
+reading_on F none a b r y extends there = ap (λ (es : List Entry). F (slice_get es r)) extends.entries
+    ∙ reads_on F none a.entries extends.more r y there
 
-pub mapped : {A B : Type 0} (f : A → B) (o : Option A) (y : B) → option_map f o ≡ Some y → (x : A) × (o ≡ Some x)
+pub mapped : {A B : Type 0} (f : A → B) (o : Option A) (y : B) → option_map f o ≡ Some y
+    → (x : A) × (o ≡ Some x)
 mapped f None y h = absurd (none-some y h)
 mapped f (Some x) y h = (x, refl)
 
-pub kept_stays : (a b : Account) (k : Kept) (r : Reply) → Extends a b → reply_of a.entries k ≡ Some r → reply_of b.entries k ≡ Some r
+pub kept_stays : (a b : Account) (k : Kept) (r : Reply) → Extends a b → reply_of a.entries k ≡ Some r
+    → reply_of b.entries k ≡ Some r
 kept_stays a b (kept.TheVariants.Item place) r extends is =
     let item = mapped reply.TheVariants.Item (item_at a.entries place) r is in
-    let there : item_at b.entries place ≡ Some item.0 = reading_on (λ o. option_and_then item_of (call_read o)) refl a b place item.0 extends item.1 in
+    let there : item_at b.entries place ≡ Some item.0 = reading_on (λ o. option_and_then item_of
+    (call_read o)) refl a b place item.0 extends item.1 in
     ap (option_map reply.TheVariants.Item) (there ∙ sym item.1) ∙ is
 kept_stays a b (kept.TheVariants.Peeked place) r extends is =
     let item = mapped reply.TheVariants.Peeked (item_at a.entries place) r is in
-    let there : item_at b.entries place ≡ Some item.0 = reading_on (λ o. option_and_then item_of (call_read o)) refl a b place item.0 extends item.1 in
+    let there : item_at b.entries place ≡ Some item.0 = reading_on (λ o. option_and_then item_of
+    (call_read o)) refl a b place item.0 extends item.1 in
     ap (option_map reply.TheVariants.Peeked) (there ∙ sym item.1) ∙ is
 kept_stays a b (kept.TheVariants.Swapped place) r extends is =
     let item = mapped reply.TheVariants.Swapped (item_at a.entries place) r is in
-    let there : item_at b.entries place ≡ Some item.0 = reading_on (λ o. option_and_then item_of (call_read o)) refl a b place item.0 extends item.1 in
+    let there : item_at b.entries place ≡ Some item.0 = reading_on (λ o. option_and_then item_of
+    (call_read o)) refl a b place item.0 extends item.1 in
     ap (option_map reply.TheVariants.Swapped) (there ∙ sym item.1) ∙ is
 kept_stays a b (kept.TheVariants.Drained place) r extends is =
     let items = mapped reply.TheVariants.Drained (partners_items a.entries place) r is in
-    let there : partners_items b.entries place ≡ Some items.0 = subst (λ es. partners_items es place ≡ Some items.0) (sym extends.entries) (drains_on a.entries extends.more place items.0 items.1) in
+    let there : partners_items b.entries place ≡ Some items.0 = subst (λ es. partners_items es place ≡ Some
+    items.0) (sym extends.entries) (drains_on a.entries extends.more place items.0 items.1) in
     ap (option_map reply.TheVariants.Drained) (there ∙ sym items.1) ∙ is
 kept_stays a b (kept.TheVariants.ReceivedBy place) r extends is =
     let key = mapped reply.TheVariants.ReceivedBy (key_at a.entries place) r is in
-    let there : key_at b.entries place ≡ Some key.0 = reading_on key_read refl a b place key.0 extends key.1 in
+    let there : key_at b.entries place ≡ Some key.0 = reading_on key_read refl a b place key.0 extends key.1
+    in
     ap (option_map reply.TheVariants.ReceivedBy) (there ∙ sym key.1) ∙ is
 kept_stays a b k r extends is = is
 
-pub still_kept : (a b : Account) (k : Option Kept) (x : Answer) → Extends a b → IsAsKept a.entries k x → IsAsKept b.entries k x
+pub still_kept : (a b : Account) (k : Option Kept) (x : Answer) → Extends a b → IsAsKept a.entries k x
+    → IsAsKept b.entries k x
 still_kept a b (Some k) (answer.TheVariants.Replied key r) extends is = kept_stays a b k r extends is
 still_kept a b k x extends is = is
 
 -- ---- a reply stays, and it is the only one
 
-pub one_call : (key : Key) (c d : Call) → Some (act.TheVariants.Arrive key c) ≡ Some (act.TheVariants.Arrive key d) → c ≡ d
+pub one_call : (key : Key) (c d : Call)
+    → Some (act.TheVariants.Arrive key c) ≡ Some (act.TheVariants.Arrive key d) → c ≡ d
 one_call key c d e = cc
 
-pub one_reply : (b : Account) (key : Key) (x y : Reply) → Legal b → HasReply b.entries key x → HasReply b.entries key y → y ≡ x
+pub one_reply : (b : Account) (key : Key) (x y : Reply) → Legal b → HasReply b.entries key x
+    → HasReply b.entries key y → y ≡ x
 one_reply b key x y legal (inl first) (inl second) =
-    let place : second.place ≡ first.place = arrives_once b second.place first.place key second.call first.call legal second.arrived first.arrived in
-    let call : second.call ≡ first.call = one_call key second.call first.call (sym second.arrived ∙ ap (act_at b.entries) place ∙ first.arrived) in
-    let moved = subst (λ r. RepliesAt b.entries r first.call y) place (subst (λ c. RepliesAt b.entries second.place c y) call second.replies) in
-    (reply_laws first.call).one b first.place x y legal (ap (option_and_then call_in) first.arrived) first.replies moved
-one_reply b key x y legal (inl first) (inr second) = absurd (second.0.not_arrived first.place first.call first.arrived)
-one_reply b key x y legal (inr first) (inl second) = absurd (first.0.not_arrived second.place second.call second.arrived)
+    let place : second.place ≡ first.place = arrives_once b second.place first.place key second.call
+    first.call legal second.arrived first.arrived in
+    let call : second.call ≡ first.call = one_call key second.call first.call (sym second.arrived
+    ∙ ap (act_at b.entries) place ∙ first.arrived) in
+    let moved = subst (λ r. RepliesAt b.entries r first.call y) place
+    (subst (λ c. RepliesAt b.entries second.place c y) call second.replies) in
+    (reply_laws first.call).one b first.place x y legal (ap (option_and_then call_in) first.arrived)
+    first.replies moved
+one_reply b key x y legal (inl first) (inr second) = absurd (second.0.not_arrived first.place first.call
+    first.arrived)
+one_reply b key x y legal (inr first) (inl second) = absurd (first.0.not_arrived second.place second.call
+    second.arrived)
 one_reply b key x y legal (inr first) (inr second) = second.1 ∙ sym first.1
 
 -- who waits has no reply
-pub reply_or_waits : (b : Account) (key : Key) (reply : Reply) → Legal b → HasReply b.entries key reply → WaitsUnder b.entries key → ⊥
+pub reply_or_waits : (b : Account) (key : Key) (reply : Reply) → Legal b → HasReply b.entries key reply
+    → WaitsUnder b.entries key → ⊥
 reply_or_waits b key reply legal (inl has) waits =
-    let place : waits.place ≡ has.place = arrives_once b waits.place has.place key waits.call has.call legal waits.arrived has.arrived in
+    let place : waits.place ≡ has.place = arrives_once b waits.place has.place key waits.call has.call legal
+    waits.arrived has.arrived in
     let there : Waiting b.entries has.place = subst (Waiting b.entries) place waits.waits in
-    (reply_laws has.call).waits_not b has.place reply legal (ap (option_and_then call_in) has.arrived) there has.replies
+    (reply_laws has.call).waits_not b has.place reply legal (ap (option_and_then call_in) has.arrived) there
+    has.replies
 reply_or_waits b key reply legal (inr first) waits = first.0.not_arrived waits.place waits.call waits.arrived
 
 -- a key is told one thing
 pub one_told : (b : Account) (key : Key) (x y : Answer) → Legal b → Answers b key x → Answers b key y → y ≡ x
-one_told b key x y legal (inl first) (inl second) = second.is ∙ ap (answer.TheVariants.Replied key) (one_reply b key first.reply second.reply legal first.has second.has) ∙ sym first.is
-one_told b key x y legal (inl first) (inr second) = absurd (reply_or_waits b key first.reply legal first.has second.0)
-one_told b key x y legal (inr first) (inl second) = absurd (reply_or_waits b key second.reply legal second.has first.0)
+one_told b key x y legal (inl first) (inl second) = second.is ∙ ap (answer.TheVariants.Replied key)
+    (one_reply b key first.reply second.reply legal first.has second.has) ∙ sym first.is
+one_told b key x y legal (inl first) (inr second) = absurd (reply_or_waits b key first.reply legal first.has
+    second.0)
+one_told b key x y legal (inr first) (inl second) = absurd (reply_or_waits b key second.reply legal second.has
+    first.0)
 one_told b key x y legal (inr first) (inr second) = second.1 ∙ sym first.1
 
-arrival_on : (es more : List Entry) (epoch opened : ℕ) (key : Key) (reply : Reply) → Legal (record { epoch = epoch; opened = opened; entries = es ++ more }) → RepliesToArrival es key reply → RepliesToArrival (es ++ more) key reply
+arrival_on : (es more : List Entry) (epoch opened : ℕ) (key : Key) (reply : Reply)
+    → Legal (record { epoch = epoch; opened = opened; entries = es ++ more }) → RepliesToArrival es key reply
+    → RepliesToArrival (es ++ more) key reply
 arrival_on es more epoch opened key reply legal has = record {
   place = has.place;
   call = has.call;
   arrived = reads_on act_read refl es more has.place (act.TheVariants.Arrive key has.call) has.arrived;
-  replies = (reply_laws has.call).stays es more epoch opened has.place reply legal (ap (option_and_then call_in) has.arrived) has.replies;
+  replies = (reply_laws has.call).stays es more epoch opened has.place reply legal
+      (ap (option_and_then call_in) has.arrived) has.replies;
 }
 
 -- a request that was cancelled first does not come
-cancelled_on : (es more : List Entry) (epoch opened : ℕ) (key : Key) → Legal (record { epoch = epoch; opened = opened; entries = es ++ more }) → CancelledFirst es key → CancelledFirst (es ++ more) key
+cancelled_on : (es more : List Entry) (epoch opened : ℕ) (key : Key)
+    → Legal (record { epoch = epoch; opened = opened; entries = es ++ more }) → CancelledFirst es key
+    → CancelledFirst (es ++ more) key
 cancelled_on es more epoch opened key legal first =
     let whole : Account = record { epoch = epoch; opened = opened; entries = es ++ more } in
     let there = reads_on act_read refl es more first.place (act.TheVariants.Cancel key) first.cancelled in
-    let inside : first.place < length es = reads_within act_read refl es first.place (act.TheVariants.Cancel key) first.cancelled in
+    let inside : first.place < length es = reads_within act_read refl es first.place (act.TheVariants.Cancel
+    key) first.cancelled in
     record {
       place = first.place;
       cancelled = there;
       not_arrived = λ r call arrived. elim (cases_lt r (length es)) [
-        | inl before ↦ first.not_arrived r call (ap act_read (sym (get-append_within es more r before)) ∙ arrived)
-        | inr behind ↦ arrives_first whole first.place r key call legal (ap (option_and_then key_in) there) arrived (omega arith)
+        | inl before ↦ first.not_arrived r call (ap act_read (sym (get-append_within es more r before))
+            ∙ arrived)
+        | inr behind ↦ arrives_first whole first.place r key call legal (ap (option_and_then key_in) there)
+            arrived (omega arith)
       ];
     }
 
-reply_on : (es more : List Entry) (epoch opened : ℕ) (key : Key) (reply : Reply) → Legal (record { epoch = epoch; opened = opened; entries = es ++ more }) → HasReply es key reply → HasReply (es ++ more) key reply
-reply_on es more epoch opened key reply legal (inl has) = inl (arrival_on es more epoch opened key reply legal has)
-reply_on es more epoch opened key reply legal (inr first) = inr (cancelled_on es more epoch opened key legal first.0, first.1)
+reply_on : (es more : List Entry) (epoch opened : ℕ) (key : Key) (reply : Reply)
+    → Legal (record { epoch = epoch; opened = opened; entries = es ++ more }) → HasReply es key reply
+    → HasReply (es ++ more) key reply
+reply_on es more epoch opened key reply legal (inl has) = inl (arrival_on es more epoch opened key reply legal
+    has)
+reply_on es more epoch opened key reply legal (inr first) = inr (
+  cancelled_on es more epoch opened key legal
+      first.0,
+  first.1,
+)
 
 pub replies_stay : RepliesStay
 replies_stay a b key reply before after extends has =
-    let whole : b ≡ record { epoch = b.epoch; opened = b.opened; entries = a.entries ++ extends.more } = ap (λ es. record { epoch = b.epoch; opened = b.opened; entries = es }) extends.entries in
-    let there : HasReply b.entries key reply = subst (λ (es : List Entry). HasReply es key reply) (sym extends.entries) (reply_on a.entries extends.more b.epoch b.opened key reply (subst Legal whole after) has) in
+    let whole : b ≡ record { epoch = b.epoch; opened = b.opened; entries = a.entries ++ extends.more } =
+    ap (λ es. record { epoch = b.epoch; opened = b.opened; entries = es }) extends.entries in
+    let there : HasReply b.entries key reply = subst (λ (es : List Entry). HasReply es key reply)
+    (sym extends.entries) (reply_on a.entries extends.more b.epoch b.opened key reply
+    (subst Legal whole after) has) in
     (there, λ other also. one_reply b key reply other after there also)

@@ -1,25 +1,19 @@
 -- What a change of one queue is to all who wait, side by side.
-use Rattle.std.proofs.Common.{◌≡◌, inl, inr, ℕ, zero, suc, List, [], ◌∷◌, ◌++◌, Option, Some, None, refl, sym, ap, subst, ◌∙◌, option_and_then}
-use Rattle.std.specs.List.{slice_get}
+use Rattle.rv_book.proofs.Words.{◌≡◌, ◌∷◌, ◌++◌, ◌∙◌, inl, inr, ℕ, zero, suc, List, [], Option, Some, None}
+use Rattle.rv_book.proofs.Words.{refl, sym, ap, subst, option_and_then, slice_get, none-some, slice_get-map}
+use Rattle.rv_book.proofs.Words.{slice_get-get_or, Side, Exchanges, Gives, Looks, Takes, Wait, OwedDuty}
+use Rattle.rv_book.proofs.Words.{place_of, places_of, Queue, Entry, Arrived, Lasts, ArrivedOn, FindsNobody}
+use Rattle.rv_book.proofs.Words.{LeavesFirst, OwnDuty, AreParked, IsParked, owed_at, AllEmpty, AreBelow}
+use Rattle.rv_book.proofs.Words.{SameWaiters, Waiters, place_of_duty, queue_at, takers_places, waiting_on}
+use Rattle.rv_book.proofs.Words.{same_or_not, one_opposite, get-append_cases}
 use Rattle.std.specs.Prelude.{option_map}
-use Rattle.std.proofs.lemmas.Option.{none-some, slice_get-map, slice_get-get_or}
-use Rattle.rv_text.specs.declared.call.Side.{Side}
-use Rattle.rv_text.specs.declared.call.Side.TheVariants.{Exchanges, Gives, Looks, Takes}
-use Rattle.rv_text.specs.declared.call.Wait.{Wait}
-use Rattle.rv_session.specs.OwedDuty.{OwedDuty}
-use Rattle.rv_dual.specs.Offers.{duty_of, place_of, places_of}
+use Rattle.rv_dual.specs.Offers.{duty_of}
 use Rattle.rv_dual.specs.Meanings.{TakenFront}
-use Rattle.rv_dual.specs.Queue.{IsAbove, Queue, SameLists}
+use Rattle.rv_dual.specs.Queue.{IsAbove, SameLists}
 use Rattle.rv_dual.specs.declared.giver.Offer.{Offer}
-use Rattle.rv_account.specs.declared.entry.Entry.{Entry}
-use Rattle.rv_book.specs.declared.outcome.Arrived.{Arrived}
-use Rattle.rv_account.specs.Calls.{Lasts}
-use Rattle.rv_book.specs.Meeting.{ArrivedOn, FindsNobody, Gave, GaveNobody, GaveTo, LaysDown, LeavesFirst, LeftFront, OwnDuty, StandsBy, Took, TookFrom, TookNothing, offer_by, own_by}
-use Rattle.rv_book.specs.Parked.{AreParked, IsParked, owed_at}
-use Rattle.rv_book.specs.Views.{AllEmpty, AreBelow, OnlyQueue, SameWaiters, Waiters, exchanger_at, place_of_duty, queue_at, takers_places, waiting_on}
-use Rattle.rv_rules.proofs.Numbers.{same_or_not}
-use Rattle.rv_rules.proofs.Opposites.{one_opposite}
-use Rattle.rv_rules.proofs.Places.{get-append_cases}
+use Rattle.rv_book.specs.Meeting.{Gave, GaveNobody, GaveTo, LaysDown, LeftFront, StandsBy, Took, TookFrom}
+use Rattle.rv_book.specs.Meeting.{TookNothing, offer_by, own_by}
+use Rattle.rv_book.specs.Views.{OnlyQueue, exchanger_at}
 use Rattle.std.proofs.lemmas.List.{map-append}
 
 -- ---- one queue
@@ -38,35 +32,43 @@ module _ (old new : Waiters) (queue : ℕ) (changed : ChangedAt old new queue) w
   abbrev is_now : Queue
   is_now = queue_at new.queues queue
 
-  givers_elsewhere : (other : ℕ) → (other ≡ queue → ⊥) → waiting_on new (Gives other) ≡ waiting_on old (Gives other)
+  givers_elsewhere : (other : ℕ) → (other ≡ queue → ⊥)
+      → waiting_on new (Gives other) ≡ waiting_on old (Gives other)
   givers_elsewhere other apart = ap (λ (r : Queue). places_of r.givers) (changed.others other apart)
 
-  takers_elsewhere : (other : ℕ) → (other ≡ queue → ⊥) → waiting_on new (Takes other) ≡ waiting_on old (Takes other)
+  takers_elsewhere : (other : ℕ) → (other ≡ queue → ⊥)
+      → waiting_on new (Takes other) ≡ waiting_on old (Takes other)
   takers_elsewhere other apart = ap (λ (r : Queue). takers_places r.takers) (changed.others other apart)
 
-  exchangers_same : (exchanger : ℕ) → waiting_on new (Exchanges exchanger) ≡ waiting_on old (Exchanges exchanger)
+  exchangers_same : (exchanger : ℕ)
+      → waiting_on new (Exchanges exchanger) ≡ waiting_on old (Exchanges exchanger)
   exchangers_same exchanger = ap (λ l. place_of_duty (exchanger_at l exchanger)) changed.exchangers
 
-  givers_same : is_now.givers ≡ was.givers → (other : ℕ) → waiting_on new (Gives other) ≡ waiting_on old (Gives other)
+  givers_same : is_now.givers ≡ was.givers → (other : ℕ)
+      → waiting_on new (Gives other) ≡ waiting_on old (Gives other)
   givers_same same other = elim (same_or_not other queue) [
     | inl is ↦ subst (λ n. waiting_on new (Gives n) ≡ waiting_on old (Gives n)) (sym is) (ap places_of same)
     | inr apart ↦ givers_elsewhere other apart
   ]
 
-  takers_same : is_now.takers ≡ was.takers → (other : ℕ) → waiting_on new (Takes other) ≡ waiting_on old (Takes other)
+  takers_same : is_now.takers ≡ was.takers → (other : ℕ)
+      → waiting_on new (Takes other) ≡ waiting_on old (Takes other)
   takers_same same other = elim (same_or_not other queue) [
-    | inl is ↦ subst (λ n. waiting_on new (Takes n) ≡ waiting_on old (Takes n)) (sym is) (ap takers_places same)
+    | inl is ↦ subst (λ n. waiting_on new (Takes n) ≡ waiting_on old (Takes n)) (sym is)
+        (ap takers_places same)
     | inr apart ↦ takers_elsewhere other apart
   ]
 
   -- where the givers stay, all sides stay but that of the takers
-  pub takers_change : is_now.givers ≡ was.givers → (third : Side) → (third ≡ Takes queue → ⊥) → waiting_on new third ≡ waiting_on old third
+  pub takers_change : is_now.givers ≡ was.givers → (third : Side) → (third ≡ Takes queue → ⊥)
+      → waiting_on new third ≡ waiting_on old third
   takers_change same (Gives other) apart = givers_same same other
   takers_change same (Takes other) apart = takers_elsewhere other (λ is. apart (ap Takes is))
   takers_change same (Looks other) apart = refl
   takers_change same (Exchanges other) apart = exchangers_same other
 
-  pub givers_change : is_now.takers ≡ was.takers → (third : Side) → (third ≡ Gives queue → ⊥) → waiting_on new third ≡ waiting_on old third
+  pub givers_change : is_now.takers ≡ was.takers → (third : Side) → (third ≡ Gives queue → ⊥)
+      → waiting_on new third ≡ waiting_on old third
   givers_change same (Takes other) apart = takers_same same other
   givers_change same (Gives other) apart = givers_elsewhere other (λ is. apart (ap Gives is))
   givers_change same (Looks other) apart = refl
@@ -76,23 +78,30 @@ module _ (old new : Waiters) (queue : ℕ) (changed : ChangedAt old new queue) w
   nothing_changed same = record {
     queues = λ other. elim (same_or_not other queue) [
       | inl is ↦ subst (λ n. SameLists (queue_at old.queues n) (queue_at new.queues n)) (sym is) same
-      | inr apart ↦ record { givers = ap (λ (r : Queue). r.givers) (changed.others other apart); takers = ap (λ (r : Queue). r.takers) (changed.others other apart) }
+      | inr apart ↦ record {
+        givers = ap (λ (r : Queue). r.givers) (changed.others other apart);
+        takers =
+            ap (λ (r : Queue). r.takers) (changed.others other apart);
+      }
     ];
     exchangers = λ exchanger. ap (λ l. exchanger_at l exchanger) changed.exchangers;
   }
 
-  pub parked_changed : (es : List Entry) → AreParked es old → (IsParked es was → IsParked es is_now) → AreParked es new
+  pub parked_changed : (es : List Entry) → AreParked es old → (IsParked es was → IsParked es is_now)
+      → AreParked es new
   parked_changed es parked step = record {
     queues = λ other. elim (same_or_not other queue) [
       | inl is ↦ subst (λ n. IsParked es (queue_at new.queues n)) (sym is) (step (parked.queues queue))
       | inr apart ↦ subst (IsParked es) (sym (changed.others other apart)) (parked.queues other)
     ];
-    exchangers = λ exchanger duty there. parked.exchangers exchanger duty (ap (λ l. exchanger_at l exchanger) (sym changed.exchangers) ∙ there);
+    exchangers = λ exchanger duty there. parked.exchangers exchanger duty (ap (λ l. exchanger_at l exchanger)
+        (sym changed.exchangers) ∙ there);
   }
 
 -- ---- with nothing changed
 
-pub same_waiting : (old new : Waiters) → SameWaiters old new → (side : Side) → waiting_on new side ≡ waiting_on old side
+pub same_waiting : (old new : Waiters) → SameWaiters old new → (side : Side)
+    → waiting_on new side ≡ waiting_on old side
 same_waiting old new same (Gives queue) = ap places_of (same.queues queue).givers
 same_waiting old new same (Takes queue) = ap takers_places (same.queues queue).takers
 same_waiting old new same (Looks queue) = refl
@@ -104,34 +113,46 @@ parked_lists es p q same is = record {
   takers = λ i duty at. is.takers i duty (sym (ap (λ (xs : List OwedDuty). slice_get xs i) same.takers) ∙ at);
 }
 
-pub same_parked : (es : List Entry) (old new : Waiters) → SameWaiters old new → AreParked es old → AreParked es new
+pub same_parked : (es : List Entry) (old new : Waiters) → SameWaiters old new → AreParked es old
+    → AreParked es new
 same_parked es old new same parked = record {
-  queues = λ queue. parked_lists es (queue_at old.queues queue) (queue_at new.queues queue) (same.queues queue) (parked.queues queue);
-  exchangers = λ exchanger duty there. parked.exchangers exchanger duty (sym (same.exchangers exchanger) ∙ there);
+  queues = λ queue. parked_lists es (queue_at old.queues queue) (queue_at new.queues queue)
+      (same.queues queue) (parked.queues queue);
+  exchangers = λ exchanger duty there. parked.exchangers exchanger duty (sym (same.exchangers exchanger)
+      ∙ there);
 }
 
 -- ---- above all that wait
 
-pub above : (waiters : Waiters) (queue place : ℕ) → AreBelow waiters place → IsAbove (queue_at waiters.queues queue) place
+pub above : (waiters : Waiters) (queue place : ℕ) → AreBelow waiters place
+    → IsAbove (queue_at waiters.queues queue) place
 above waiters queue place below =
     let q = queue_at waiters.queues queue in
     record {
-      givers = λ k d inside. below (Gives queue) k _ (slice_get-map place_of q.givers k ∙ ap (λ o. option_map place_of o) (slice_get-get_or q.givers k d inside));
-      takers = λ k d inside. below (Takes queue) k _ (slice_get-map (λ (duty : OwedDuty). duty.place) q.takers k ∙ ap (λ o. option_map (λ (duty : OwedDuty). duty.place) o) (slice_get-get_or q.takers k d inside));
+      givers = λ k d inside. below (Gives queue) k _ (slice_get-map place_of q.givers k
+          ∙ ap (λ o. option_map place_of o) (slice_get-get_or q.givers k d inside));
+      takers = λ k d inside. below (Takes queue) k _ (slice_get-map (λ (duty : OwedDuty). duty.place) q.takers
+          k ∙ ap (λ o. option_map (λ (duty : OwedDuty). duty.place) o) (slice_get-get_or q.takers k d
+          inside));
     }
 
 -- ---- an arrival that gives
 
-no_takers : (waiters : Waiters) (queue : ℕ) → (queue_at waiters.queues queue).takers ≡ [] → FindsNobody waiters (Gives queue)
-no_takers waiters queue none other opposes = subst (λ side. waiting_on waiters side ≡ []) (sym (one_opposite (Gives queue) (Takes queue) other refl opposes)) (ap takers_places none)
+no_takers : (waiters : Waiters) (queue : ℕ) → (queue_at waiters.queues queue).takers ≡ []
+    → FindsNobody waiters (Gives queue)
+no_takers waiters queue none other opposes = subst (λ side. waiting_on waiters side ≡ [])
+    (sym (one_opposite (Gives queue) (Takes queue) other refl opposes)) (ap takers_places none)
 
-no_givers : (waiters : Waiters) (queue : ℕ) → (queue_at waiters.queues queue).givers ≡ [] → FindsNobody waiters (Takes queue)
-no_givers waiters queue none other opposes = subst (λ side. waiting_on waiters side ≡ []) (sym (one_opposite (Takes queue) (Gives queue) other refl opposes)) (ap places_of none)
+no_givers : (waiters : Waiters) (queue : ℕ) → (queue_at waiters.queues queue).givers ≡ []
+    → FindsNobody waiters (Takes queue)
+no_givers waiters queue none other opposes = subst (λ side. waiting_on waiters side ≡ [])
+    (sym (one_opposite (Takes queue) (Gives queue) other refl opposes)) (ap places_of none)
 
 some_is_none : {X : Type 0} (x : X) → Some x ≡ None → ⊥
 some_is_none x is = none-some x (sym is)
 
-duty_of_offer_by : (wait : Option Wait) (duty : OwedDuty) → duty_of (offer_by wait duty) ≡ option_and_then (λ w. Some duty) wait
+duty_of_offer_by : (wait : Option Wait) (duty : OwedDuty)
+    → duty_of (offer_by wait duty) ≡ option_and_then (λ w. Some duty) wait
 duty_of_offer_by None duty = refl
 duty_of_offer_by (Some wait) duty = refl
 
@@ -146,12 +167,15 @@ first_of xs ys x is = ap (λ l. slice_get l 0) is
 -- ---- the first item leaves
 
 module _ (old new : Waiters) (queue : ℕ) (changed : ChangedAt old new queue) where
-  first_leaves : (offer : Offer) → (queue_at old.queues queue).givers ≡ offer ∷ (queue_at new.queues queue).givers → (queue_at new.queues queue).takers ≡ (queue_at old.queues queue).takers
+  first_leaves : (offer : Offer)
+      → (queue_at old.queues queue).givers ≡ offer ∷ (queue_at new.queues queue).givers
+      → (queue_at new.queues queue).takers ≡ (queue_at old.queues queue).takers
       → LeavesFirst old new (Gives queue) (duty_of offer) (place_of offer)
   first_leaves offer oldest takers = record {
     first = ap places_of oldest;
     others = givers_change old new queue changed takers;
-    duty_is = λ es parked. sym ((parked.queues queue).givers 0 offer (first_of (queue_at old.queues queue).givers (queue_at new.queues queue).givers offer oldest));
+    duty_is = λ es parked. sym ((parked.queues queue).givers 0 offer
+        (first_of (queue_at old.queues queue).givers (queue_at new.queues queue).givers offer oldest));
     parked = λ es parked. parked_changed old new queue changed es parked (λ was. record {
       givers = λ i other at. was.givers (suc i) other (ap (λ l. slice_get l (suc i)) oldest ∙ at);
       takers = λ i other at. was.takers i other (sym (ap (λ l. slice_get l i) takers) ∙ at);
@@ -159,14 +183,21 @@ module _ (old new : Waiters) (queue : ℕ) (changed : ChangedAt old new queue) w
   }
 
   -- if there is one
-  pub front_left : (o : Option (Option OwedDuty × ℕ)) → TakenFront (queue_at old.queues queue) (queue_at new.queues queue) o → LeftFront old new (Gives queue) o
+  pub front_left : (o : Option (Option OwedDuty × ℕ))
+      → TakenFront (queue_at old.queues queue) (queue_at new.queues queue) o
+      → LeftFront old new (Gives queue) o
   front_left None none = (
     ap places_of none.nobody,
-    nothing_changed old new queue changed (record { givers = ap (λ (q : Queue). q.givers) none.same; takers = ap (λ (q : Queue). q.takers) none.same }),
+    nothing_changed old new queue changed (record {
+      givers = ap (λ (q : Queue). q.givers) none.same;
+      takers =
+          ap (λ (q : Queue). q.takers) none.same;
+    }),
   )
   front_left (Some (duty, place)) out =
       subst (λ d. LeavesFirst old new (Gives queue) d place) (sym out.duty_is)
-      (subst (LeavesFirst old new (Gives queue) (duty_of out.front)) (sym out.place_is) (first_leaves out.front out.leaves.oldest out.leaves.takers))
+      (subst (LeavesFirst old new (Gives queue) (duty_of out.front)) (sym out.place_is)
+      (first_leaves out.front out.leaves.oldest out.leaves.takers))
 
 -- ---- an arrival
 
@@ -177,7 +208,8 @@ module _ (old new : Waiters) (queue : ℕ) (changed : ChangedAt old new queue) (
   abbrev pub after : Queue
   after = queue_at new.queues queue
 
-  gave_to : (wait : Option Wait) (result : Arrived) → GaveTo before after duty result → ArrivedOn old new (Gives queue) wait duty result
+  gave_to : (wait : Option Wait) (result : Arrived) → GaveTo before after duty result
+      → ArrivedOn old new (Gives queue) wait duty result
   gave_to wait result gave = subst (ArrivedOn old new (Gives queue) wait duty) (sym gave.is) (record {
     meets = record {
       other = Takes queue;
@@ -186,7 +218,8 @@ module _ (old new : Waiters) (queue : ℕ) (changed : ChangedAt old new queue) (
       others = takers_change old new queue changed gave.givers;
     };
     own = (refl, λ is. absurd (some_is_none gave.taker.place is));
-    other = λ es parked. sym ((parked.queues queue).takers 0 gave.taker (first_of before.takers after.takers gave.taker gave.oldest));
+    other = λ es parked. sym ((parked.queues queue).takers 0 gave.taker (first_of before.takers after.takers
+        gave.taker gave.oldest));
     parked = λ es parked owed. parked_changed old new queue changed es parked (λ was. record {
       givers = λ i offer at. was.givers i offer (sym (ap (λ l. slice_get l i) gave.givers) ∙ at);
       takers = λ i other at. was.takers (suc i) other (ap (λ l. slice_get l (suc i)) gave.oldest ∙ at);
@@ -197,31 +230,40 @@ module _ (old new : Waiters) (queue : ℕ) (changed : ChangedAt old new queue) (
   own_of None lasts = (refl, λ unmet may. refl)
   own_of (Some wait) lasts = (refl, (refl, lasts), refl)
 
-  pushed_givers : (es : List Entry) (wait : Option Wait) → owed_at es duty.place ≡ option_and_then (λ w. Some duty) wait → after.givers ≡ before.givers ++ offer_by wait duty ∷ [] → after.takers ≡ before.takers → IsParked es before → IsParked es after
+  pushed_givers : (es : List Entry) (wait : Option Wait)
+      → owed_at es duty.place ≡ option_and_then (λ w. Some duty) wait
+      → after.givers ≡ before.givers ++ offer_by wait duty ∷ [] → after.takers ≡ before.takers
+      → IsParked es before → IsParked es after
   pushed_givers es wait owed givers takers was = record {
-    givers = λ i offer at. elim (get-append_cases before.givers (offer_by wait duty) offer i (sym (ap (λ l. slice_get l i) givers) ∙ at)) [
-      | inl inside ↦ was.givers i offer inside.1
-      | inr last ↦ subst (λ (o : Offer). owed_at es (place_of o) ≡ duty_of o) last.1 (ap (owed_at es) (place_of_offer_by wait duty) ∙ owed ∙ sym (duty_of_offer_by wait duty))
-    ];
+    givers = λ i offer at. elim (get-append_cases before.givers (offer_by wait duty) offer i
+        (sym (ap (λ l. slice_get l i) givers) ∙ at)) [
+          | inl inside ↦ was.givers i offer inside.1
+          | inr last ↦ subst (λ (o : Offer). owed_at es (place_of o) ≡ duty_of o) last.1
+              (ap (owed_at es) (place_of_offer_by wait duty) ∙ owed ∙ sym (duty_of_offer_by wait duty))
+        ];
     takers = λ i other at. was.takers i other (sym (ap (λ l. slice_get l i) takers) ∙ at);
   }
 
-  lays_down : (wait : Option Wait) (result : Arrived) → Lasts wait → LaysDown before after wait duty result → ArrivedOn old new (Gives queue) wait duty result
+  lays_down : (wait : Option Wait) (result : Arrived) → Lasts wait → LaysDown before after wait duty result
+      → ArrivedOn old new (Gives queue) wait duty result
   lays_down wait result lasts lays = subst (ArrivedOn old new (Gives queue) wait duty) (sym lays.is) (record {
     meets = inl (
       (refl, lasts),
       record {
         nobody = no_takers old queue lays.nobody;
-        last = ap places_of lays.givers ∙ map-append place_of before.givers (offer_by wait duty ∷ []) ∙ ap (λ p. waiting_on old (Gives queue) ++ p ∷ []) (place_of_offer_by wait duty);
+        last = ap places_of lays.givers ∙ map-append place_of before.givers (offer_by wait duty ∷ [])
+            ∙ ap (λ p. waiting_on old (Gives queue) ++ p ∷ []) (place_of_offer_by wait duty);
         others = givers_change old new queue changed lays.takers;
       },
     );
     own = own_of wait lasts;
     other = λ es parked. refl;
-    parked = λ es parked owed. parked_changed old new queue changed es parked (pushed_givers es wait owed lays.givers lays.takers);
+    parked = λ es parked owed. parked_changed old new queue changed es parked (pushed_givers es wait owed
+        lays.givers lays.takers);
   })
 
-  gave_nobody : (wait : Option Wait) (result : Arrived) → (Lasts wait → ⊥) → GaveNobody before after duty result → ArrivedOn old new (Gives queue) wait duty result
+  gave_nobody : (wait : Option Wait) (result : Arrived) → (Lasts wait → ⊥)
+      → GaveNobody before after duty result → ArrivedOn old new (Gives queue) wait duty result
   gave_nobody wait result goes gave =
       let same = nothing_changed old new queue changed gave.same in
       subst (ArrivedOn old new (Gives queue) wait duty) (sym gave.is) (record {
@@ -231,14 +273,16 @@ module _ (old new : Waiters) (queue : ℕ) (changed : ChangedAt old new queue) (
         parked = λ es parked owed. same_parked es old new same parked;
       })
 
-  pub arrived_gives : (wait : Option Wait) (result : Arrived) → Gave before after wait duty result → ArrivedOn old new (Gives queue) wait duty result
+  pub arrived_gives : (wait : Option Wait) (result : Arrived) → Gave before after wait duty result
+      → ArrivedOn old new (Gives queue) wait duty result
   arrived_gives wait result (inl gave) = gave_to wait result gave
   arrived_gives wait result (inr (inl lays)) = lays_down wait result lays.0 lays.1
   arrived_gives wait result (inr (inr goes)) = gave_nobody wait result goes.0 goes.1
 
   -- ---- an arrival that takes
 
-  took_from : (wait : Option Wait) (result : Arrived) → TookFrom before after duty result → ArrivedOn old new (Takes queue) wait duty result
+  took_from : (wait : Option Wait) (result : Arrived) → TookFrom before after duty result
+      → ArrivedOn old new (Takes queue) wait duty result
   took_from wait result took =
       let leaves = first_leaves old new queue changed took.offer took.oldest took.takers in
       subst (ArrivedOn old new (Takes queue) wait duty) (sym took.is) (record {
@@ -248,31 +292,39 @@ module _ (old new : Waiters) (queue : ℕ) (changed : ChangedAt old new queue) (
         parked = λ es parked owed. leaves.parked es parked;
       })
 
-  pushed_takers : (es : List Entry) → owed_at es duty.place ≡ Some duty → after.takers ≡ before.takers ++ duty ∷ [] → after.givers ≡ before.givers → IsParked es before → IsParked es after
+  pushed_takers : (es : List Entry) → owed_at es duty.place ≡ Some duty
+      → after.takers ≡ before.takers ++ duty ∷ [] → after.givers ≡ before.givers → IsParked es before
+      → IsParked es after
   pushed_takers es owed takers givers was = record {
     givers = λ i offer at. was.givers i offer (sym (ap (λ l. slice_get l i) givers) ∙ at);
-    takers = λ i other at. elim (get-append_cases before.takers duty other i (sym (ap (λ l. slice_get l i) takers) ∙ at)) [
-      | inl inside ↦ was.takers i other inside.1
-      | inr last ↦ subst (λ (d : OwedDuty). owed_at es d.place ≡ Some d) last.1 owed
-    ];
+    takers = λ i other at. elim (get-append_cases before.takers duty other i
+        (sym (ap (λ l. slice_get l i) takers) ∙ at)) [
+          | inl inside ↦ was.takers i other inside.1
+          | inr last ↦ subst (λ (d : OwedDuty). owed_at es d.place ≡ Some d) last.1 owed
+        ];
   }
 
-  stands_by : (wait : Wait) (result : Arrived) → Lasts (Some wait) → StandsBy before after duty result → ArrivedOn old new (Takes queue) (Some wait) duty result
-  stands_by wait result lasts stands = subst (ArrivedOn old new (Takes queue) (Some wait) duty) (sym stands.is) (record {
-    meets = inl (
-      (refl, lasts),
-      record {
-        nobody = no_givers old queue stands.nobody;
-        last = ap takers_places stands.takers ∙ map-append (λ (d : OwedDuty). d.place) before.takers (duty ∷ []);
-        others = takers_change old new queue changed stands.givers;
-      },
-    );
-    own = (refl, (refl, lasts), refl);
-    other = λ es parked. refl;
-    parked = λ es parked owed. parked_changed old new queue changed es parked (pushed_takers es owed stands.takers stands.givers);
-  })
+  stands_by : (wait : Wait) (result : Arrived) → Lasts (Some wait) → StandsBy before after duty result
+      → ArrivedOn old new (Takes queue) (Some wait) duty result
+  stands_by wait result lasts stands = subst (ArrivedOn old new (Takes queue) (Some wait) duty)
+      (sym stands.is) (record {
+        meets = inl (
+          (refl, lasts),
+          record {
+            nobody = no_givers old queue stands.nobody;
+            last = ap takers_places stands.takers ∙ map-append (λ (d : OwedDuty). d.place) before.takers
+                (duty ∷ []);
+            others = takers_change old new queue changed stands.givers;
+          },
+        );
+        own = (refl, (refl, lasts), refl);
+        other = λ es parked. refl;
+        parked = λ es parked owed. parked_changed old new queue changed es parked (pushed_takers es owed
+            stands.takers stands.givers);
+      })
 
-  took_nothing : (wait : Option Wait) (result : Arrived) → (Lasts wait → ⊥) → TookNothing before after duty result → ArrivedOn old new (Takes queue) wait duty result
+  took_nothing : (wait : Option Wait) (result : Arrived) → (Lasts wait → ⊥)
+      → TookNothing before after duty result → ArrivedOn old new (Takes queue) wait duty result
   took_nothing wait result goes took =
       let same = nothing_changed old new queue changed took.same in
       subst (ArrivedOn old new (Takes queue) wait duty) (sym took.is) (record {
@@ -282,7 +334,8 @@ module _ (old new : Waiters) (queue : ℕ) (changed : ChangedAt old new queue) (
         parked = λ es parked owed. same_parked es old new same parked;
       })
 
-  pub arrived_takes : (wait : Wait) (result : Arrived) → Took before after (Some wait) duty result → ArrivedOn old new (Takes queue) (Some wait) duty result
+  pub arrived_takes : (wait : Wait) (result : Arrived) → Took before after (Some wait) duty result
+      → ArrivedOn old new (Takes queue) (Some wait) duty result
   arrived_takes wait result (inl took) = took_from (Some wait) result took
   arrived_takes wait result (inr (inl stands)) = stands_by wait result stands.0 stands.1
   arrived_takes wait result (inr (inr goes)) = took_nothing (Some wait) result goes.0 goes.1
@@ -293,8 +346,10 @@ pub none_empty : AllEmpty []
 none_empty queue = record { givers = refl; takers = refl }
 
 -- a queue more in which nobody waits
-pub append_empty : (queues : List Queue) (q : Queue) → q.givers ≡ [] → q.takers ≡ [] → AllEmpty queues → AllEmpty (queues ++ q ∷ [])
+pub append_empty : (queues : List Queue) (q : Queue) → q.givers ≡ [] → q.takers ≡ [] → AllEmpty queues
+    → AllEmpty (queues ++ q ∷ [])
 append_empty [] q givers takers all zero = record { givers = givers; takers = takers }
 append_empty [] q givers takers all (suc queue) = record { givers = refl; takers = refl }
 append_empty (first ∷ queues) q givers takers all zero = all zero
-append_empty (first ∷ queues) q givers takers all (suc queue) = append_empty queues q givers takers (λ other. all (suc other)) queue
+append_empty (first ∷ queues) q givers takers all (suc queue) = append_empty queues q givers takers
+    (λ other. all (suc other)) queue

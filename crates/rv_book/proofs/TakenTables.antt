@@ -1,22 +1,15 @@
--- Who waits where, how many do, and the deadlines, while some of those who wait are taken out: at first, when one more is, and with the
+-- Who waits where, how many do, and the deadlines, while some of those who wait are taken out: at first, when
+-- one more is, and with the
 -- entry that closes those that were.
-use Rattle.std.proofs.Common.{◌≡◌, inl, inr, ℕ, ◌+◌, List, [], ◌∷◌, ◌++◌, Option, refl, sym, subst, arith}
-use Rattle.rv_text.specs.declared.call.Side.{Side}
-use Rattle.rv_session.specs.OwedDuty.{OwedDuty}
-use Rattle.rv_due.specs.Deadlines.{Deadlines}
-use Rattle.rv_account.specs.declared.entry.Entry.{Entry}
-use Rattle.rv_book.specs.Counting.{NumberOf}
-use Rattle.rv_book.specs.Elapsing.{AreDeadlines, AreDeadlinesOf, without_deadline}
-use Rattle.rv_book.specs.Meeting.{LeavesSide}
-use Rattle.rv_book.specs.Parked.{AreParked, AreWaiters, IsLineOf}
-use Rattle.rv_book.specs.TakingOut.{AreWaitersLeft, Left}
-use Rattle.rv_book.specs.Views.{Waiters, waiting_on}
-use Rattle.rv_book.specs.Waiting.{OpenAt, SideAt, Waiting, limit_at}
+use Rattle.rv_book.proofs.Words.{◌≡◌, ◌+◌, ◌∷◌, ◌++◌, inl, inr, ℕ, List, [], Option, refl, sym, subst, arith}
+use Rattle.rv_book.proofs.Words.{Side, OwedDuty, Deadlines, Entry, NumberOf, AreDeadlines, AreDeadlinesOf}
+use Rattle.rv_book.proofs.Words.{without_deadline, LeavesSide, AreParked, AreWaiters, IsLineOf, Left, Waiters}
+use Rattle.rv_book.proofs.Words.{waiting_on, OpenAt, SideAt, Waiting, limit_at, one_side}
+use Rattle.rv_book.specs.TakingOut.{AreWaitersLeft}
 use Rattle.rv_book.proofs.Closing.{ClosesThose, opened_back, opened_on, waits_back, waits_on}
 use Rattle.rv_rules.proofs.Counting.{number_drop, same_number}
 use Rattle.rv_rules.proofs.Deciding.{same_side}
 use Rattle.rv_book.proofs.DeadlineTable.{But, due_on, due_same, due_without, limit_waits}
-use Rattle.rv_rules.proofs.Sides.{one_side}
 use Rattle.rv_book.proofs.WaitersBySide.{line_but, line_front, line_to, open_inside, parked_below}
 
 -- ---- while nothing was taken out
@@ -24,15 +17,19 @@ use Rattle.rv_book.proofs.WaitersBySide.{line_but, line_front, line_to, open_ins
 module _ (es : List Entry) (taken : ℕ → Type 0) (none : (r : ℕ) → taken r → ⊥) where
   pub waiters_at_first : (waiters : Waiters) → AreWaiters es waiters → AreWaitersLeft es taken waiters
   waiters_at_first waiters is = record {
-    lines = λ side. line_to (OpenAt es side) (Left taken (OpenAt es side)) (waiting_on waiters side) (is.lines side) (λ r opened. (opened, none r)) (λ r left. left.0);
+    lines = λ side. line_to (OpenAt es side) (Left taken (OpenAt es side)) (waiting_on waiters side)
+        (is.lines side) (λ r opened. (opened, none r)) (λ r left. left.0);
     parked = is.parked;
   }
 
   pub number_at_first : (n : ℕ) → NumberOf (Waiting es) n → NumberOf (Left taken (Waiting es)) n
-  number_at_first n count = same_number (Waiting es) (Left taken (Waiting es)) n (λ r. ((λ waits. (waits, none r)), (λ left. left.0))) count
+  number_at_first n count = same_number (Waiting es) (Left taken (Waiting es)) n
+      (λ r. ((λ waits. (waits, none r)), (λ left. left.0))) count
 
-  pub due_at_first : (due : Deadlines) → AreDeadlinesOf es (Waiting es) due → AreDeadlinesOf es (Left taken (Waiting es)) due
-  due_at_first due are = due_same es (Waiting es) (Left taken (Waiting es)) due are (λ r waits. (waits, none r)) (λ limit r left at. left.0)
+  pub due_at_first : (due : Deadlines) → AreDeadlinesOf es (Waiting es) due
+      → AreDeadlinesOf es (Left taken (Waiting es)) due
+  due_at_first due are = due_same es (Waiting es) (Left taken (Waiting es)) due are
+      (λ r waits. (waits, none r)) (λ limit r left at. left.0)
 
 -- ---- a turn
 
@@ -48,80 +45,112 @@ module _ (es : List Entry) (taken more : ℕ → Type 0) (place : ℕ) (one : On
   left_after P r both = (both.0.0, λ too. both.0.1 (one.back r both.1 too))
 
   left_before : (P : ℕ → Type 0) (r : ℕ) → Left more P r → But (Left taken P) place r
-  left_before P r left = ((left.0, λ was. left.1 (one.on r was)), λ same. left.1 (subst more (sym same) one.here))
+  left_before P r left = (
+    (left.0, λ was. left.1 (one.on r was)),
+    λ same. left.1 (subst more (sym same)
+        one.here),
+  )
 
   -- where the place has no such property, the same are left
   same_left : (P : ℕ → Type 0) (r : ℕ) → (P place → ⊥) → Left taken P r → Left more P r
   same_left P r other left = left_after P r (left, λ same. other (subst P same left.0))
 
   -- the line of its side lost it, and the other lines are as they were
-  waiters_less : (old new : Waiters) (side : Side) → AreWaitersLeft es taken old → IsLineOf (But (Left taken (OpenAt es side)) place) (waiting_on new side)
-      → ((other : Side) → (other ≡ side → ⊥) → waiting_on new other ≡ waiting_on old other) → AreParked es new → SideAt es side place → AreWaitersLeft es more new
+  waiters_less : (old new : Waiters) (side : Side) → AreWaitersLeft es taken old
+      → IsLineOf (But (Left taken (OpenAt es side)) place) (waiting_on new side)
+      → ((other : Side) → (other ≡ side → ⊥) → waiting_on new other ≡ waiting_on old other) → AreParked es new
+      → SideAt es side place → AreWaitersLeft es more new
   waiters_less old new side are less others parked of_side = record {
     lines = λ other. elim (same_side other side) [
       | inl same ↦
           subst (λ s. IsLineOf (Left more (OpenAt es s)) (waiting_on new s)) (sym same)
-          (line_to (But (Left taken (OpenAt es side)) place) (Left more (OpenAt es side)) (waiting_on new side) less (left_after (OpenAt es side)) (left_before (OpenAt es side)))
+          (line_to (But (Left taken (OpenAt es side)) place) (Left more (OpenAt es side))
+          (waiting_on new side) less (left_after (OpenAt es side)) (left_before (OpenAt es side)))
       | inr apart ↦
           subst (IsLineOf (Left more (OpenAt es other))) (sym (others other apart))
-          (line_to (Left taken (OpenAt es other)) (Left more (OpenAt es other)) (waiting_on old other) (are.lines other)
-          (λ r left. same_left (OpenAt es other) r (λ opened. apart (one_side es other side place opened.of_side of_side)) left)
+          (line_to (Left taken (OpenAt es other)) (Left more (OpenAt es other)) (waiting_on old other)
+          (are.lines other)
+          (λ r left. same_left (OpenAt es other) r (λ opened. apart (one_side es other side place
+          opened.of_side of_side)) left)
           (λ r left. (left_before (OpenAt es other) r left).0))
     ];
     parked = parked;
   }
 
   -- it was withdrawn from its side
-  pub waiters_turn : (old new : Waiters) (side : Side) (duty : OwedDuty) (result : Option OwedDuty) → AreWaitersLeft es taken old → LeavesSide old new side duty result → duty.place ≡ place → SideAt es side place
+  pub waiters_turn : (old new : Waiters) (side : Side) (duty : OwedDuty) (result : Option OwedDuty)
+      → AreWaitersLeft es taken old → LeavesSide old new side duty result → duty.place ≡ place
+      → SideAt es side place
       → AreWaitersLeft es more new
   waiters_turn old new side duty result are leaves at of_side =
       waiters_less old new side are
       (subst (λ p. IsLineOf (But (Left taken (OpenAt es side)) p) (waiting_on new side)) at
-      (subst (IsLineOf (But (Left taken (OpenAt es side)) duty.place)) (sym leaves.places) (line_but (Left taken (OpenAt es side)) (waiting_on old side) duty.place (are.lines side))))
+      (subst (IsLineOf (But (Left taken (OpenAt es side)) duty.place)) (sym leaves.places)
+      (line_but (Left taken (OpenAt es side)) (waiting_on old side) duty.place (are.lines side))))
       leaves.others (leaves.parked es are.parked) of_side
 
   -- it was the first of its side
-  pub waiters_front : (old new : Waiters) (side : Side) → AreWaitersLeft es taken old → waiting_on old side ≡ place ∷ waiting_on new side
-      → ((other : Side) → (other ≡ side → ⊥) → waiting_on new other ≡ waiting_on old other) → AreParked es new → AreWaitersLeft es more new
+  pub waiters_front : (old new : Waiters) (side : Side) → AreWaitersLeft es taken old
+      → waiting_on old side ≡ place ∷ waiting_on new side
+      → ((other : Side) → (other ≡ side → ⊥) → waiting_on new other ≡ waiting_on old other) → AreParked es new
+      → AreWaitersLeft es more new
   waiters_front old new side are first others parked =
       let line = subst (IsLineOf (Left taken (OpenAt es side))) first (are.lines side) in
-      waiters_less old new side are (line_front (Left taken (OpenAt es side)) place (waiting_on new side) line) others parked (line.are 0 place refl).0.of_side
+      waiters_less old new side are (line_front (Left taken (OpenAt es side)) place (waiting_on new side)
+      line) others parked (line.are 0 place refl).0.of_side
 
   -- it was a request
-  pub number_turn : (n m : ℕ) → NumberOf (Left taken (Waiting es)) n → Left taken (Waiting es) place → n ≡ m + 1 → NumberOf (Left more (Waiting es)) m
+  pub number_turn : (n m : ℕ) → NumberOf (Left taken (Waiting es)) n → Left taken (Waiting es) place
+      → n ≡ m + 1 → NumberOf (Left more (Waiting es)) m
   number_turn n m count left fewer_one =
-      let less = number_drop (Left taken (Waiting es)) (Left more (Waiting es)) n place count left (λ r. (left_before (Waiting es) r, left_after (Waiting es) r)) in
+      let less = number_drop (Left taken (Waiting es)) (Left more (Waiting es)) n place count left
+      (λ r. (left_before (Waiting es) r, left_after (Waiting es) r)) in
       let k = less.0 in
       let fewer : n ≡ k + 1 = less.1 in
       let same : k ≡ m = omega arith in
       subst (NumberOf (Left more (Waiting es))) same less.2
 
-  pub due_turn : (due : Deadlines) (limit : Option ℕ) → limit_at es place ≡ limit → AreDeadlinesOf es (Left taken (Waiting es)) due → AreDeadlinesOf es (Left more (Waiting es)) (without_deadline limit place due)
+  pub due_turn : (due : Deadlines) (limit : Option ℕ) → limit_at es place ≡ limit
+      → AreDeadlinesOf es (Left taken (Waiting es)) due
+      → AreDeadlinesOf es (Left more (Waiting es)) (without_deadline limit place due)
   due_turn due limit has are =
-      due_same es (But (Left taken (Waiting es)) place) (Left more (Waiting es)) (without_deadline limit place due)
-      (due_without es (Left taken (Waiting es)) due place are limit has) (left_after (Waiting es)) (λ l r left at. left_before (Waiting es) r left)
+      due_same es (But (Left taken (Waiting es)) place) (Left more (Waiting es)) (without_deadline limit place
+      due)
+      (due_without es (Left taken (Waiting es)) due place are limit has) (left_after (Waiting es))
+      (λ l r left at. left_before (Waiting es) r left)
 
   -- it was a put
-  pub number_turn_put : (n : ℕ) → (Waiting es place → ⊥) → NumberOf (Left taken (Waiting es)) n → NumberOf (Left more (Waiting es)) n
+  pub number_turn_put : (n : ℕ) → (Waiting es place → ⊥) → NumberOf (Left taken (Waiting es)) n
+      → NumberOf (Left more (Waiting es)) n
   number_turn_put n put count =
-      same_number (Left taken (Waiting es)) (Left more (Waiting es)) n (λ r. (same_left (Waiting es) r put, λ left. (left_before (Waiting es) r left).0)) count
+      same_number (Left taken (Waiting es)) (Left more (Waiting es)) n
+      (λ r. (same_left (Waiting es) r put, λ left. (left_before (Waiting es) r left).0)) count
 
-  pub due_turn_put : (due : Deadlines) → (Waiting es place → ⊥) → AreDeadlinesOf es (Left taken (Waiting es)) due → AreDeadlinesOf es (Left more (Waiting es)) due
+  pub due_turn_put : (due : Deadlines) → (Waiting es place → ⊥)
+      → AreDeadlinesOf es (Left taken (Waiting es)) due → AreDeadlinesOf es (Left more (Waiting es)) due
   due_turn_put due put are =
-      due_same es (Left taken (Waiting es)) (Left more (Waiting es)) due are (λ r left. same_left (Waiting es) r put left) (λ l r left at. (left_before (Waiting es) r left).0)
+      due_same es (Left taken (Waiting es)) (Left more (Waiting es)) due are (λ r left. same_left (Waiting es)
+      r put left) (λ l r left at. (left_before (Waiting es) r left).0)
 
 -- ---- with the entry that closes those that were taken out
 
 module _ (es : List Entry) (e : Entry) (taken : ℕ → Type 0) (closes : ClosesThose es e taken) where
-  pub waiters_at_last : (waiters : Waiters) → AreWaitersLeft es taken waiters → AreWaiters (es ++ e ∷ []) waiters
+  pub waiters_at_last : (waiters : Waiters) → AreWaitersLeft es taken waiters
+      → AreWaiters (es ++ e ∷ []) waiters
   waiters_at_last waiters are = record {
-    lines = λ side. line_to (Left taken (OpenAt es side)) (OpenAt (es ++ e ∷ []) side) (waiting_on waiters side) (are.lines side) (opened_on es e taken closes side) (opened_back es e taken closes side);
-    parked = parked_below es e waiters (λ side i r at. open_inside es side r ((are.lines side).are i r at).0) are.parked;
+    lines = λ side. line_to (Left taken (OpenAt es side)) (OpenAt (es ++ e ∷ []) side)
+        (waiting_on waiters side) (are.lines side) (opened_on es e taken closes side) (opened_back es e taken
+        closes side);
+    parked = parked_below es e waiters (λ side i r at. open_inside es side r ((are.lines side).are i r at).0)
+        are.parked;
   }
 
   pub number_at_last : (n : ℕ) → NumberOf (Left taken (Waiting es)) n → NumberOf (Waiting (es ++ e ∷ [])) n
-  number_at_last n count = same_number (Left taken (Waiting es)) (Waiting (es ++ e ∷ [])) n (λ r. (waits_on es e taken closes r, waits_back es e taken closes r)) count
+  number_at_last n count = same_number (Left taken (Waiting es)) (Waiting (es ++ e ∷ [])) n
+      (λ r. (waits_on es e taken closes r, waits_back es e taken closes r)) count
 
-  pub due_at_last : (due : Deadlines) → AreDeadlinesOf es (Left taken (Waiting es)) due → AreDeadlines (es ++ e ∷ []) due
+  pub due_at_last : (due : Deadlines) → AreDeadlinesOf es (Left taken (Waiting es)) due
+      → AreDeadlines (es ++ e ∷ []) due
   due_at_last due are = due_same (es ++ e ∷ []) (Left taken (Waiting es)) (Waiting (es ++ e ∷ [])) due
-      (due_on es (e ∷ []) (Left taken (Waiting es)) due are (λ r left. limit_waits es (e ∷ []) r left.0)) (waits_on es e taken closes) (λ limit r waits at. waits_back es e taken closes r waits)
+      (due_on es (e ∷ []) (Left taken (Waiting es)) due are (λ r left. limit_waits es (e ∷ []) r left.0))
+      (waits_on es e taken closes) (λ limit r waits at. waits_back es e taken closes r waits)

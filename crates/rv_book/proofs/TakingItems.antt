@@ -1,35 +1,24 @@
--- An item is taken out of the front of its queue: the giver's session waits for it, where it is a request, and the tables are as they
+-- An item is taken out of the front of its queue: the giver's session waits for it, where it is a request,
+-- and the tables are as they
 -- are to be, with one place more that was taken out.
-use Rattle.std.proofs.Common.{◌≡◌, ℕ, Bool, ◌+◌, ◌≤◌, List, [], ◌∷◌, ◌++◌, length, Option, Some, None, IfSome, inl, inr, refl, sym, ap, subst, ◌∙◌, arith, option_and_then}
+use Rattle.rv_book.proofs.Words.{◌≡◌, ◌+◌, ◌≤◌, ◌∷◌, ◌++◌, ◌∙◌, ℕ, Bool, List, [], length, Option, Some, None}
+use Rattle.rv_book.proofs.Words.{IfSome, inl, inr, refl, sym, ap, subst, arith, option_and_then, none-some}
+use Rattle.rv_book.proofs.Words.{same_Some, Side, Key, OwedDuty, Table, waiting_of, waiting_place, Session}
+use Rattle.rv_book.proofs.Words.{Kept, Arrive, BookState, Account, act_at, NumberOf, Among, AreDeadlinesOf}
+use Rattle.rv_book.proofs.Words.{without_deadline, without_duty, LeavesFirst, ends_waiting, IsLineOf, owed_at}
+use Rattle.rv_book.proofs.Words.{IsOwedIn, SettlesAs, SettlesIf, account_of, IsLeft, Left, SameWaiters}
+use Rattle.rv_book.proofs.Words.{Waiters, OpenAt, Waiting, limit_at, act_called, get-append_cases}
+use Rattle.rv_book.proofs.Words.{get-append_end}
 use mir.Val.{bool_byte}
 use Rattle.std.specs.Option.{is_some}
-use Rattle.std.proofs.lemmas.Option.{none-some, same_Some}
-use Rattle.rv_text.specs.declared.call.Side.{Side}
-use Rattle.rv_text.specs.declared.message.Key.{Key}
-use Rattle.rv_session.specs.OwedDuty.{OwedDuty}
-use Rattle.rv_session.specs.Table.{Table, waiting_of, waiting_place}
-use Rattle.rv_session.specs.declared.session.Session.{Session}
-use Rattle.rv_session.specs.declared.kept.Kept.{Kept}
-use Rattle.rv_account.specs.declared.entry.Act.TheVariants.{Arrive}
-use Rattle.rv_book.specs.declared.state.BookState.{BookState}
-use Rattle.rv_account.specs.Account.{Account, act_at}
-use Rattle.rv_book.specs.Counting.{NumberOf}
-use Rattle.rv_account.specs.Account.{Among}
 use Rattle.rv_book.specs.Draining.{SameIdle}
-use Rattle.rv_book.specs.Elapsing.{AreDeadlinesOf, without_deadline, without_duty}
-use Rattle.rv_book.specs.Meeting.{LeavesFirst, ends_waiting}
-use Rattle.rv_book.specs.Parked.{IsLineOf, owed_at}
-use Rattle.rv_book.specs.Operations.{IsOwedIn, SettlesAs, SettlesIf}
-use Rattle.rv_book.specs.Tables.{account_of}
-use Rattle.rv_book.specs.TakingOut.{AreSessionsLeft, IsLeft, Left}
-use Rattle.rv_book.specs.Views.{SameWaiters, Waiters}
-use Rattle.rv_book.specs.Waiting.{OpenAt, Waiting, limit_at}
-use Rattle.rv_rules.proofs.Keys.{act_called}
+use Rattle.rv_book.specs.TakingOut.{AreSessionsLeft}
 use Rattle.rv_book.proofs.Owing.{owed_waits, some_has, unowed_waits_not, waiting_owed}
-use Rattle.rv_rules.proofs.Places.{get-append, get-append_cases, get-append_end}
+use Rattle.rv_rules.proofs.Places.{get-append}
 use Rattle.rv_book.proofs.Tabled.{same_parked, same_waiting}
 use Rattle.rv_book.proofs.TakenSessions.{sessions_turn, sessions_turn_put, waits_and_left}
-use Rattle.rv_book.proofs.TakenTables.{OneMore, due_turn, due_turn_put, number_turn, number_turn_put, waiters_front}
+use Rattle.rv_book.proofs.TakenTables.{OneMore, due_turn, due_turn_put, number_turn, number_turn_put}
+use Rattle.rv_book.proofs.TakenTables.{waiters_front}
 use Rattle.rv_book.proofs.TakingOut.{same_state}
 
 -- ---- places that are listed
@@ -46,8 +35,10 @@ one_listed places place = record {
 
 -- ---- a turn
 
--- what became of the sessions, of who waits and of the deadlines when the item of this duty left the front of its side
-pub record ItemLeft (old new : BookState) (side : Side) (duty : Option OwedDuty) (place : ℕ) (told : Kept) : Type 0 where
+-- what became of the sessions, of who waits and of the deadlines when the item of this duty left the front of
+-- its side
+pub record ItemLeft (old new : BookState) (side : Side) (duty : Option OwedDuty) (place : ℕ) (told : Kept) :
+    Type 0 where
   pub account : new.account ≡ old.account
   pub front : LeavesFirst old.waiters new.waiters side duty place
   pub settles : SettlesIf old.sessions new.sessions duty told
@@ -59,87 +50,115 @@ module _ (old : BookState) (taken : ℕ → Type 0) (told : Kept) (is : IsLeft o
   a = account_of old
 
   -- the first of a side is open there, and was not taken out
-  first_left : (waiters : Waiters) (side : Side) (duty : Option OwedDuty) (place : ℕ) → LeavesFirst old.waiters waiters side duty place → Left taken (OpenAt a.entries side) place
-  first_left waiters side duty place front = (subst (IsLineOf (Left taken (OpenAt a.entries side))) front.first (is.waiters_are.lines side)).are 0 place refl
+  first_left : (waiters : Waiters) (side : Side) (duty : Option OwedDuty) (place : ℕ)
+      → LeavesFirst old.waiters waiters side duty place → Left taken (OpenAt a.entries side) place
+  first_left waiters side duty place front = (subst (IsLineOf (Left taken (OpenAt a.entries side)))
+      front.first (is.waiters_are.lines side)).are 0 place refl
 
   -- who is owed a reply waits
-  owed_left : (side : Side) (duty : OwedDuty) (place : ℕ) → Left taken (OpenAt a.entries side) place → Some duty ≡ owed_at a.entries place → Left taken (Waiting a.entries) place
+  owed_left : (side : Side) (duty : OwedDuty) (place : ℕ) → Left taken (OpenAt a.entries side) place
+      → Some duty ≡ owed_at a.entries place → Left taken (Waiting a.entries) place
   owed_left side duty place left owed = (owed_waits a.entries place duty left.0.is_open (sym owed), left.1)
 
   -- and its session does
-  owed_there : (duty : OwedDuty) (place : ℕ) (left : Left taken (Waiting a.entries) place) → Some duty ≡ owed_at a.entries place
-      → (key : Key) × (act_at a.entries place ≡ Some (Arrive key left.0.is_open.call)) × (duty ≡ record { place = place; client = key.client })
+  owed_there : (duty : OwedDuty) (place : ℕ) (left : Left taken (Waiting a.entries) place)
+      → Some duty ≡ owed_at a.entries place
+      → (key : Key) × (act_at a.entries place ≡ Some (Arrive key left.0.is_open.call))
+      × (duty ≡ record { place = place; client = key.client })
   owed_there duty place left owed =
-      let request = act_called (act_at a.entries place) left.0.is_open.call left.0.is_open.arrived in
-      (request.0, request.1, same_Some _ _ (owed ∙ waiting_owed a.entries place request.0 left.0.is_open.call left.0 request.1))
+      let request = act_called (act_at a.entries place) left.0.is_open.call left.0.is_open.arrived in (
+        request.0,
+        request.1,
+        same_Some _ _ (owed ∙ waiting_owed a.entries place request.0 left.0.is_open.call
+            left.0 request.1),
+      )
 
-  pub owed_in : (waiters : Waiters) (side : Side) (duty : Option OwedDuty) (place : ℕ) → LeavesFirst old.waiters waiters side duty place → IfSome duty (IsOwedIn old.sessions)
+  pub owed_in : (waiters : Waiters) (side : Side) (duty : Option OwedDuty) (place : ℕ)
+      → LeavesFirst old.waiters waiters side duty place → IfSome duty (IsOwedIn old.sessions)
   owed_in waiters side None place front = tt
   owed_in waiters side (Some duty) place front =
       let owed = front.duty_is a.entries is.waiters_are.parked in
       let left = owed_left side duty place (first_left waiters side (Some duty) place front) owed in
       let there = owed_there duty place left owed in
-      subst (IsOwedIn old.sessions) (sym there.2) (waits_and_left a taken told old.sessions place there.0 left.0.is_open.call is.legal is.sessions_are left there.1)
+      subst (IsOwedIn old.sessions) (sym there.2) (waits_and_left a taken told old.sessions place there.0
+      left.0.is_open.call is.legal is.sessions_are left there.1)
 
   -- so many wait at least
-  pub least : (waiters : Waiters) (side : Side) (duty : Option OwedDuty) (place : ℕ) → LeavesFirst old.waiters waiters side duty place → ends_waiting duty ≤ old.waiting
+  pub least : (waiters : Waiters) (side : Side) (duty : Option OwedDuty) (place : ℕ)
+      → LeavesFirst old.waiters waiters side duty place → ends_waiting duty ≤ old.waiting
   least waiters side None place front = omega arith
   least waiters side (Some duty) place front =
       let owed = front.duty_is a.entries is.waiters_are.parked in
       let left = owed_left side duty place (first_left waiters side (Some duty) place front) owed in
       some_has (Left taken (Waiting a.entries)) old.waiting place is.waiting_is left
 
-  module _ (more : ℕ → Type 0) (new : BookState) (side : Side) (place : ℕ) (one : OneMore taken more place) where
-    -- the sessions, the number of those that wait and the deadlines with the place taken out too
-    record Rest : Type 0 where
-      sessions_are : AreSessionsLeft a more told new.sessions
-      waiting_is : NumberOf (Left more (Waiting a.entries)) new.waiting
-      due_are : AreDeadlinesOf a.entries (Left more (Waiting a.entries)) new.due
-      fewer : new.waiting ≤ old.waiting
+  module _ (more : ℕ → Type 0) (new : BookState) (side : Side) (place : ℕ) (one : OneMore taken more place)
+    where
+      -- the sessions, the number of those that wait and the deadlines with the place taken out too
+      record Rest : Type 0 where
+        sessions_are : AreSessionsLeft a more told new.sessions
+        waiting_is : NumberOf (Left more (Waiting a.entries)) new.waiting
+        due_are : AreDeadlinesOf a.entries (Left more (Waiting a.entries)) new.due
+        fewer : new.waiting ≤ old.waiting
 
-    rest : (duty : Option OwedDuty) → ItemLeft old new side duty place told → Rest
-    rest None item =
-        let owed = item.front.duty_is a.entries is.waiters_are.parked in
-        let put = unowed_waits_not a.entries place (sym owed) in
-        let counted : old.waiting ≡ new.waiting + 0 = item.counted in
-        let same : old.waiting ≡ new.waiting = omega arith in
-        record {
-          sessions_are = subst (AreSessionsLeft a more told) (sym item.settles) (sessions_turn_put a taken more told place one old.sessions put is.sessions_are);
-          waiting_is = subst (NumberOf (Left more (Waiting a.entries))) same (number_turn_put a.entries taken more place one old.waiting put is.waiting_is);
-          due_are = subst (AreDeadlinesOf a.entries (Left more (Waiting a.entries))) (sym item.due) (due_turn_put a.entries taken more place one old.due put is.due_are);
-          fewer = omega arith;
-        }
-    rest (Some duty) item =
-        let owed = item.front.duty_is a.entries is.waiters_are.parked in
-        let left = owed_left side duty place (first_left new.waiters side (Some duty) place item.front) owed in
-        let there = owed_there duty place left owed in
-        let settles = subst (λ (d : OwedDuty). SettlesAs old.sessions new.sessions d.client d.place told) there.2 item.settles in
-        let due = item.due ∙ ap (λ (d : OwedDuty). without_deadline (limit_at a.entries d.place) d.place old.due) there.2 in
-        let counted : old.waiting ≡ new.waiting + 1 = item.counted in
-        record {
-          sessions_are = sessions_turn a taken more told place one there.0 left.0.is_open.call is.legal left.0 there.1 old.sessions new.sessions is.sessions_are settles;
-          waiting_is = number_turn a.entries taken more place one old.waiting new.waiting is.waiting_is left counted;
-          due_are = subst (AreDeadlinesOf a.entries (Left more (Waiting a.entries))) (sym due) (due_turn a.entries taken more place one old.due (limit_at a.entries place) refl is.due_are);
-          fewer = omega arith;
-        }
+      rest : (duty : Option OwedDuty) → ItemLeft old new side duty place told → Rest
+      rest None item =
+          let owed = item.front.duty_is a.entries is.waiters_are.parked in
+          let put = unowed_waits_not a.entries place (sym owed) in
+          let counted : old.waiting ≡ new.waiting + 0 = item.counted in
+          let same : old.waiting ≡ new.waiting = omega arith in
+          record {
+            sessions_are = subst (AreSessionsLeft a more told) (sym item.settles) (sessions_turn_put a taken
+                more told place one old.sessions put is.sessions_are);
+            waiting_is = subst (NumberOf (Left more (Waiting a.entries))) same (number_turn_put a.entries
+                taken
+                more place one old.waiting put is.waiting_is);
+            due_are = subst (AreDeadlinesOf a.entries (Left more (Waiting a.entries))) (sym item.due)
+                (due_turn_put a.entries taken more place one old.due put is.due_are);
+            fewer = omega arith;
+          }
+      rest (Some duty) item =
+          let owed = item.front.duty_is a.entries is.waiters_are.parked in
+          let left = owed_left side duty place (first_left new.waiters side (Some duty) place item.front) owed
+          in
+          let there = owed_there duty place left owed in
+          let settles = subst (λ (d : OwedDuty). SettlesAs old.sessions new.sessions d.client d.place told)
+          there.2 item.settles in
+          let due = item.due ∙ ap (λ (d : OwedDuty). without_deadline (limit_at a.entries d.place) d.place
+          old.due) there.2 in
+          let counted : old.waiting ≡ new.waiting + 1 = item.counted in
+          record {
+            sessions_are = sessions_turn a taken more told place one there.0 left.0.is_open.call is.legal
+                left.0
+                there.1 old.sessions new.sessions is.sessions_are settles;
+            waiting_is = number_turn a.entries taken more place one old.waiting new.waiting is.waiting_is left
+                counted;
+            due_are = subst (AreDeadlinesOf a.entries (Left more (Waiting a.entries))) (sym due)
+                (due_turn a.entries taken more place one old.due (limit_at a.entries place) refl is.due_are);
+            fewer = omega arith;
+          }
 
-    pub item_left : (duty : Option OwedDuty) → ItemLeft old new side duty place told → IsLeft new more told
-    item_left duty item =
-        let others = rest duty item in
-        let spare : old.waiting ≤ old.account.room = is.spare in
-        let fewer : new.waiting ≤ old.waiting = others.fewer in
-        subst (λ s. IsLeft s more told) (sym (same_state new old.account item.account)) (record {
-          legal = is.legal;
-          fits = is.fits;
-          sessions_are = others.sessions_are;
-          waiters_are = waiters_front a.entries taken more place one old.waiters new.waiters side is.waiters_are item.front.first item.front.others (item.front.parked a.entries is.waiters_are.parked);
-          waiting_is = others.waiting_is;
-          due_are = others.due_are;
-          spare = omega arith;
-        })
+      pub item_left : (duty : Option OwedDuty) → ItemLeft old new side duty place told → IsLeft new more told
+      item_left duty item =
+          let others = rest duty item in
+          let spare : old.waiting ≤ old.account.room = is.spare in
+          let fewer : new.waiting ≤ old.waiting = others.fewer in
+          subst (λ s. IsLeft s more told) (sym (same_state new old.account item.account)) (record {
+            legal = is.legal;
+            fits = is.fits;
+            sessions_are = others.sessions_are;
+            waiters_are = waiters_front a.entries taken more place one old.waiters new.waiters side
+                is.waiters_are item.front.first item.front.others (item.front.parked a.entries
+                is.waiters_are.parked);
+            waiting_is = others.waiting_is;
+            due_are = others.due_are;
+            spare = omega arith;
+          })
 
   -- where no item was there
-  pub none_left : (new : BookState) → new.account ≡ old.account → new.sessions ≡ old.sessions → new.waiting ≡ old.waiting → new.due ≡ old.due → SameWaiters old.waiters new.waiters → IsLeft new taken told
+  pub none_left : (new : BookState) → new.account ≡ old.account → new.sessions ≡ old.sessions
+      → new.waiting ≡ old.waiting → new.due ≡ old.due → SameWaiters old.waiters new.waiters
+      → IsLeft new taken told
   none_left new account sessions waiting due same =
       let spare : old.waiting ≤ old.account.room = is.spare in
       let count : new.waiting ≡ old.waiting = waiting in
@@ -148,7 +167,8 @@ module _ (old : BookState) (taken : ℕ → Type 0) (told : Kept) (is : IsLeft o
         fits = is.fits;
         sessions_are = subst (AreSessionsLeft a taken told) (sym sessions) is.sessions_are;
         waiters_are = record {
-          lines = λ side. subst (IsLineOf (Left taken (OpenAt a.entries side))) (sym (same_waiting old.waiters new.waiters same side)) (is.waiters_are.lines side);
+          lines = λ side. subst (IsLineOf (Left taken (OpenAt a.entries side)))
+              (sym (same_waiting old.waiters new.waiters same side)) (is.waiters_are.lines side);
           parked = same_parked a.entries old.waiters new.waiters same is.waiters_are.parked;
         };
         waiting_is = subst (NumberOf (Left taken (Waiting a.entries))) (sym waiting) is.waiting_is;
@@ -166,15 +186,22 @@ idle_on old mid new first second = record {
       second.idle client (ap (option_and_then (λ (s : Session). waiting_place s.state)) same ∙ none) ∙ same;
 }
 
-pub idle_settled : (old new : Table) (duty : Option OwedDuty) (told : Kept) → IfSome duty (IsOwedIn old) → SettlesIf old new duty told → SameIdle old new
-idle_settled old new None told owed same = subst (SameIdle old) (sym same) (record { epoch = refl; idle = λ client none. refl })
+pub idle_settled : (old new : Table) (duty : Option OwedDuty) (told : Kept) → IfSome duty (IsOwedIn old)
+    → SettlesIf old new duty told → SameIdle old new
+idle_settled old new None told owed same = subst (SameIdle old) (sym same) (record {
+  epoch = refl;
+  idle =
+      λ client none. refl;
+})
 idle_settled old new (Some duty) told owed settles = record {
   epoch = settles.settles.sets.epoch;
-  idle = λ client none. settles.settles.sets.others client (λ same. none-some duty.place (sym none ∙ ap (waiting_of old) same ∙ owed));
+  idle = λ client none. settles.settles.sets.others client (λ same. none-some duty.place (sym none
+      ∙ ap (waiting_of old) same ∙ owed));
 }
 
 -- ---- how many fewer wait
 
-pub ends_by : (duty : Option OwedDuty) (n : ℕ) (b : Bool) → n ≡ bool_byte b → b ≡ is_some duty → n ≡ ends_waiting duty
+pub ends_by : (duty : Option OwedDuty) (n : ℕ) (b : Bool) → n ≡ bool_byte b → b ≡ is_some duty
+    → n ≡ ends_waiting duty
 ends_by None n b is some = is ∙ ap bool_byte some
 ends_by (Some duty) n b is some = is ∙ ap bool_byte some

@@ -1,33 +1,19 @@
--- A request that waits and was not taken out yet may be ended; that leaves the tables as they are to be, with one more taken out.
-use Rattle.std.proofs.Common.{◌≡◌, ℕ, ◌+◌, ◌≤◌, List, Some, refl, sym, ap, subst, ◌∙◌, arith}
-use Rattle.std.proofs.lemmas.Option.{same_Some}
-use Rattle.rv_text.specs.declared.call.Side.{Side}
-use Rattle.rv_text.specs.declared.message.Key.{Key}
-use Rattle.rv_text.specs.Calls.{side_of}
-use Rattle.rv_due.specs.Deadlines.{Deadlines}
-use Rattle.rv_session.specs.OwedDuty.{OwedDuty}
-use Rattle.rv_session.specs.declared.kept.Kept.{Kept}
-use Rattle.rv_account.specs.declared.entry.Act.TheVariants.{Arrive}
-use Rattle.rv_account.specs.declared.entry.Entry.{Entry}
-use Rattle.rv_book.specs.declared.state.BookState.{BookState}
-use Rattle.rv_account.specs.Account.{Account, Stored, act_at}
-use Rattle.rv_book.specs.Elapsing.{AreDeadlinesOf}
-use Rattle.rv_book.specs.Meeting.{StandsOn}
-use Rattle.rv_book.specs.Parked.{IsLineOf}
-use Rattle.rv_book.specs.Operations.{EndsAt, MayEnd, SettlesAs, with_due}
-use Rattle.rv_book.specs.Tables.{IsSound, account_of}
-use Rattle.rv_book.specs.TakingOut.{IsLeft, Left}
-use Rattle.rv_book.specs.Views.{Waiters, waiting_on}
-use Rattle.rv_book.specs.Waiting.{OpenAt, SideAt, Waiting, limit_at}
-use Rattle.rv_rules.proofs.Keys.{act_called}
+-- A request that waits and was not taken out yet may be ended; that leaves the tables as they are to be, with
+-- one more taken out.
+use Rattle.rv_book.proofs.Words.{◌≡◌, ◌+◌, ◌≤◌, ◌∙◌, ℕ, List, Some, refl, sym, ap, subst, arith, same_Some}
+use Rattle.rv_book.proofs.Words.{Side, Key, side_of, Deadlines, OwedDuty, Kept, Arrive, Entry, BookState}
+use Rattle.rv_book.proofs.Words.{Account, Stored, act_at, AreDeadlinesOf, StandsOn, IsLineOf, EndsAt, MayEnd}
+use Rattle.rv_book.proofs.Words.{SettlesAs, with_due, IsSound, account_of, IsLeft, Left, Waiters, waiting_on}
+use Rattle.rv_book.proofs.Words.{OpenAt, SideAt, Waiting, limit_at, act_called, one_side, waiting_is_open}
 use Rattle.rv_book.proofs.Owing.{some_has, waiting_owed}
-use Rattle.rv_rules.proofs.Sides.{one_side, waiting_is_open}
 use Rattle.rv_book.proofs.TakenSessions.{sessions_at_first, sessions_turn, waits_and_left}
-use Rattle.rv_book.proofs.TakenTables.{OneMore, due_at_first, due_turn, number_at_first, number_turn, waiters_at_first, waiters_turn}
+use Rattle.rv_book.proofs.TakenTables.{OneMore, due_at_first, due_turn, number_at_first, number_turn}
+use Rattle.rv_book.proofs.TakenTables.{waiters_at_first, waiters_turn}
 
 -- ---- while nothing was taken out
 
-pub left_at_first : (state : BookState) (taken : ℕ → Type 0) (told : Kept) → ((r : ℕ) → taken r → ⊥) → IsSound state → IsLeft state taken told
+pub left_at_first : (state : BookState) (taken : ℕ → Type 0) (told : Kept) → ((r : ℕ) → taken r → ⊥)
+    → IsSound state → IsLeft state taken told
 left_at_first state taken told none sound =
     let a = account_of state in
     record {
@@ -43,22 +29,41 @@ left_at_first state taken told none sound =
 -- ---- a turn
 
 -- who stands in the line of a side stands in no other
-stands_on : (es : List Entry) (waiters : Waiters) (P : Side → ℕ → Type 0) → ((side : Side) (r : ℕ) → P side r → SideAt es side r) → ((side : Side) → IsLineOf (P side) (waiting_on waiters side))
+stands_on : (es : List Entry) (waiters : Waiters) (P : Side → ℕ → Type 0)
+    → ((side : Side) (r : ℕ) → P side r → SideAt es side r)
+    → ((side : Side) → IsLineOf (P side) (waiting_on waiters side))
     → (side : Side) (place : ℕ) → P side place → StandsOn waiters side place
 stands_on es waiters P of_side lines side place has =
     let at = (lines side).each place has in
     record {
       i = at.0;
       there = at.1;
-      only = λ other j also. one_side es other side place (of_side other place ((lines other).are j place also)) (of_side side place has);
+      only = λ other j also. one_side es other side place (of_side other place ((lines other).are j place
+          also)) (of_side side place has);
     }
 
 -- a state with the same account
-pub same_state : (s : BookState) (account : Stored) → s.account ≡ account → s ≡ record { account = account; sessions = s.sessions; waiters = s.waiters; waiting = s.waiting; due = s.due }
+pub same_state : (s : BookState) (account : Stored) → s.account ≡ account
+    → s ≡ record {
+      account = account;
+      sessions = s.sessions;
+      waiters = s.waiters;
+      waiting = s.waiting;
+      due =
+          s.due;
+    }
 same_state s account same =
-    ap (λ (x : Stored). let with : BookState = record { account = x; sessions = s.sessions; waiters = s.waiters; waiting = s.waiting; due = s.due } in with) same
+    ap (λ (x : Stored). let with : BookState = record {
+      account = x;
+      sessions = s.sessions;
+      waiters =
+          s.waiters;
+      waiting = s.waiting;
+      due = s.due;
+    } in with) same
 
-module _ (old : BookState) (taken : ℕ → Type 0) (told : Kept) (is : IsLeft old taken told) (place : ℕ) (left : Left taken (Waiting (account_of old).entries) place) where
+module _ (old : BookState) (taken : ℕ → Type 0) (told : Kept) (is : IsLeft old taken told) (place : ℕ) (left :
+    Left taken (Waiting (account_of old).entries) place) where
   abbrev a : Account
   a = account_of old
 
@@ -75,30 +80,43 @@ module _ (old : BookState) (taken : ℕ → Type 0) (told : Kept) (is : IsLeft o
     duty = record { place = place; client = request.0.client };
     is_at = refl;
     owed = waiting_owed a.entries place request.0 waits.is_open.call waits request.1;
-    due_in = waits_and_left a taken told old.sessions place request.0 waits.is_open.call is.legal is.sessions_are left request.1;
+    due_in = waits_and_left a taken told old.sessions place request.0 waits.is_open.call is.legal
+        is.sessions_are left request.1;
     call = waits.is_open.call;
     arrived = waits.is_open.arrived;
     parked = is.waiters_are.parked;
-    stands = stands_on a.entries old.waiters (λ side. Left taken (OpenAt a.entries side)) (λ side r also. also.0.of_side) is.waiters_are.lines (side_of waits.is_open.call) place
+    stands = stands_on a.entries old.waiters (λ side. Left taken (OpenAt a.entries side))
+        (λ side r also. also.0.of_side) is.waiters_are.lines (side_of waits.is_open.call) place
         (waiting_is_open a.entries place waits, left.1);
     counted = some_has (Left taken (Waiting a.entries)) old.waiting place is.waiting_is left;
   }
 
   -- when it was ended it is taken out too
-  pub left_ended : (more : ℕ → Type 0) (new : BookState) → OneMore taken more place → new.account ≡ old.account → EndsAt old new place told → IsLeft new more told
+  pub left_ended : (more : ℕ → Type 0) (new : BookState) → OneMore taken more place
+      → new.account ≡ old.account → EndsAt old new place told → IsLeft new more told
   left_ended more new one same ends =
       let owed = waiting_owed a.entries place request.0 waits.is_open.call waits request.1 in
-      let client : ends.duty.client ≡ request.0.client = ap (λ (d : OwedDuty). d.client) (same_Some _ _ (sym ends.owed ∙ owed)) in
+      let client : ends.duty.client ≡ request.0.client = ap (λ (d : OwedDuty). d.client)
+      (same_Some _ _ (sym ends.owed ∙ owed)) in
       let settles = subst (λ n. SettlesAs old.sessions new.sessions n place told) client ends.settles in
-      let of_side : SideAt a.entries (side_of ends.call) place = record { call = ends.call; arrived = ends.arrived; is = refl } in
+      let of_side : SideAt a.entries (side_of ends.call) place = record {
+        call = ends.call;
+        arrived =
+            ends.arrived;
+        is = refl;
+      } in
       let spare : old.waiting ≤ old.account.room = is.spare in
       let counted : old.waiting ≡ new.waiting + 1 = ends.counted in
       subst (λ s. IsLeft s more told) (sym (same_state new old.account same)) (record {
         legal = is.legal;
         fits = is.fits;
-        sessions_are = sessions_turn a taken more told place one request.0 waits.is_open.call is.legal waits request.1 old.sessions new.sessions is.sessions_are settles;
-        waiters_are = waiters_turn a.entries taken more place one old.waiters new.waiters (side_of ends.call) ends.duty (Some ends.duty) is.waiters_are ends.leaves ends.is_at of_side;
-        waiting_is = number_turn a.entries taken more place one old.waiting new.waiting is.waiting_is left counted;
-        due_are = subst (AreDeadlinesOf a.entries (Left more (Waiting a.entries))) (sym ends.due) (due_turn a.entries taken more place one old.due (limit_at a.entries place) refl is.due_are);
+        sessions_are = sessions_turn a taken more told place one request.0 waits.is_open.call is.legal waits
+            request.1 old.sessions new.sessions is.sessions_are settles;
+        waiters_are = waiters_turn a.entries taken more place one old.waiters new.waiters (side_of ends.call)
+            ends.duty (Some ends.duty) is.waiters_are ends.leaves ends.is_at of_side;
+        waiting_is = number_turn a.entries taken more place one old.waiting new.waiting is.waiting_is left
+            counted;
+        due_are = subst (AreDeadlinesOf a.entries (Left more (Waiting a.entries))) (sym ends.due)
+            (due_turn a.entries taken more place one old.due (limit_at a.entries place) refl is.due_are);
         spare = omega arith;
       })

@@ -1,52 +1,42 @@
--- The time-outs of a step: a request that is due may be ended, each turn leaves the tables as they are to be, and so does the tick.
-use Rattle.std.proofs.Common.{◌≡◌, inl, inr, ℕ, ◌+◌, ◌<◌, ◌≤◌, [], ◌∷◌, ◌++◌, length, Some, refl, sym, ap, subst, ◌∙◌, arith}
-use Rattle.std.specs.FinSet.{remove}
-use Rattle.std.proofs.lemmas.Option.{none-some}
-use Rattle.rv_due.specs.Deadlines.{AllAbove, Deadlines, IsLeastUntil}
+-- The time-outs of a step: a request that is due may be ended, each turn leaves the tables as they are to be,
+-- and so does the tick.
+use Rattle.rv_book.proofs.Words.{◌≡◌, ◌+◌, ◌<◌, ◌≤◌, ◌∷◌, ◌++◌, ◌∙◌, inl, inr, ℕ, [], length, Some, refl, sym}
+use Rattle.rv_book.proofs.Words.{ap, subst, arith, remove, none-some, Deadlines, Tick, Entry, BookState}
+use Rattle.rv_book.proofs.Words.{Account, Stored, with_entry, entry, NumberOf, AreDeadlines, without_deadline}
+use Rattle.rv_book.proofs.Words.{IsDueAt, KeepsTime, Legal, MayFollow, NothingDue, SomethingDue, AreWaiters}
+use Rattle.rv_book.proofs.Words.{Ticks, EndsAt, MayEnd, with_due, AreSessions, IsSound, account_of, IsLeft}
+use Rattle.rv_book.proofs.Words.{Left, Waiting, limit_at, few_still, Legal-with_entry, due_until}
+use Rattle.rv_due.specs.Deadlines.{AllAbove, IsLeastUntil}
 use Rattle.rv_due.proofs.Rising.{remove_absent}
-use Rattle.rv_session.specs.declared.kept.Kept.TheVariants as kept
 use Rattle.rv_text.specs.declared.answer.Reply.TheVariants.{TimedOut}
-use Rattle.rv_account.specs.declared.entry.Act.TheVariants.{Tick}
-use Rattle.rv_account.specs.declared.entry.Entry.{Entry}
-use Rattle.rv_book.specs.declared.state.BookState.{BookState}
-use Rattle.rv_account.specs.Account.{Account, Stored, with_entry}
-use Rattle.rv_book.specs.Arriving.{entry}
-use Rattle.rv_book.specs.Counting.{NumberOf}
-use Rattle.rv_book.specs.Elapsing.{AreDeadlines, without_deadline}
 use Rattle.rv_book.specs.Ending.{IsEnding, TakenOut}
-use Rattle.rv_book.specs.Legal.{IsDueAt, KeepsTime, Legal, MayFollow, NothingDue, SomethingDue}
-use Rattle.rv_book.specs.Parked.{AreWaiters}
-use Rattle.rv_book.specs.Steps.{Ticks}
-use Rattle.rv_book.specs.Operations.{EndsAt, IsTime, MayEnd, with_due}
-use Rattle.rv_book.specs.Tables.{AreSessions, IsSound, account_of}
-use Rattle.rv_book.specs.TakingOut.{IsLeft, Left}
-use Rattle.rv_book.specs.Waiting.{Waiting, limit_at}
+use Rattle.rv_book.specs.Operations.{IsTime}
 use Rattle.rv_book.proofs.Closing.{ClosesThose, waits_on}
 use Rattle.rv_book.proofs.DeadlineTable.{taken_out}
-use Rattle.rv_rules.proofs.FewClients.{few_still}
 use Rattle.rv_book.proofs.Following.{tick_follows}
 use Rattle.rv_book.proofs.Keeping.{sound_with}
 use Rattle.rv_rules.proofs.Keys.{tick_no_hello}
-use Rattle.rv_rules.proofs.Legality.{Legal-with_entry}
 use Rattle.rv_book.proofs.Overdue.{nothing_taken, one_overdue, tick_closes}
 use Rattle.rv_book.proofs.SessionTable.{IsApart}
-use Rattle.rv_rules.proofs.Sides.{due_until}
 use Rattle.rv_book.proofs.StoppedReplies.{timed_out_reply}
 use Rattle.rv_book.proofs.TakenSessions.{Tells, sessions_at_last}
 use Rattle.rv_book.proofs.TakenTables.{due_at_last, number_at_last, waiters_at_last}
 use Rattle.rv_book.proofs.TakingOut.{left_at_first, left_ended, left_may_end}
 use Rattle.rv_book.proofs.Ticking.{tick_ends, with_tick}
+use Rattle.rv_session.specs.declared.kept.Kept.TheVariants as kept
 
 -- ---- before the first turn
 
 pub ending_at_first : (state : BookState) (moment : ℕ) → IsSound state → IsEnding state moment
 ending_at_first state moment sound =
     let es = (account_of state).entries in
-    left_at_first state (TakenOut es moment state.due) kept.TimedOut (λ r taken. nothing_taken es moment state.due r sound.due_are taken) sound
+    left_at_first state (TakenOut es moment state.due) kept.TimedOut (λ r taken. nothing_taken es moment
+    state.due r sound.due_are taken) sound
 
 -- ---- a turn
 
-module _ (old : BookState) (moment limit place : ℕ) (is : IsEnding old moment) (least : IsLeastUntil old.due moment (limit, place)) where
+module _ (old : BookState) (moment limit place : ℕ) (is : IsEnding old moment) (least : IsLeastUntil old.due
+    moment (limit, place)) where
   abbrev a : Account
   a = account_of old
 
@@ -65,9 +55,11 @@ module _ (old : BookState) (moment limit place : ℕ) (is : IsEnding old moment)
   pub turn_may_end : MayEnd (with_due old rest) place
   turn_may_end = left_may_end old taken kept.TimedOut is place found.0 rest
 
-  pub turn_ends : (new : BookState) → new.account ≡ old.account → EndsAt (with_due old rest) new place kept.TimedOut → IsEnding new moment
+  pub turn_ends : (new : BookState) → new.account ≡ old.account
+      → EndsAt (with_due old rest) new place kept.TimedOut → IsEnding new moment
   turn_ends new same ends =
-      let due : new.due ≡ rest = ends.due ∙ ap (λ o. without_deadline o place rest) found.1 ∙ sym (remove_absent rest (limit, place) (taken_out old.due (limit, place))) in
+      let due : new.due ≡ rest = ends.due ∙ ap (λ o. without_deadline o place rest) found.1
+      ∙ sym (remove_absent rest (limit, place) (taken_out old.due (limit, place))) in
       let ended : EndsAt old new place kept.TimedOut = record {
         duty = ends.duty;
         is_at = ends.is_at;
@@ -80,13 +72,15 @@ module _ (old : BookState) (moment limit place : ℕ) (is : IsEnding old moment)
         due = due ∙ ap (λ o. without_deadline o place old.due) (sym found.1);
       } in
       let one = one_overdue a.entries moment old.due limit place found.0.0 found.1 least.due in
-      let left = left_ended old taken kept.TimedOut is place found.0 (TakenOut a.entries moment rest) new one same ended in
+      let left = left_ended old taken kept.TimedOut is place found.0 (TakenOut a.entries moment rest) new one
+      same ended in
       subst (λ (s : Stored). IsLeft new (TakenOut s.account.entries moment new.due) kept.TimedOut) (sym same)
       (subst (λ d. IsLeft new (TakenOut a.entries moment d) kept.TimedOut) (sym due) left)
 
 -- ---- where nothing is due
 
-pub none_due : (state : BookState) (moment : ℕ) → IsSound state → AllAbove state.due moment → NothingDue (account_of state).entries moment
+pub none_due : (state : BookState) (moment : ℕ) → IsSound state → AllAbove state.due moment
+    → NothingDue (account_of state).entries moment
 none_due state moment sound above r due =
     let there = sound.due_are.each due.limit r due.waits due.has in
     let later : moment < due.limit = above (due.limit, r) there in
@@ -105,7 +99,8 @@ tick_apart client = record {
   no_key = λ key names of_client. none-some key names;
 }
 
--- of the state at a moment all that was due is taken out, at least one request, and the tick isn't recorded yet
+-- of the state at a moment all that was due is taken out, at least one request, and the tick isn't recorded
+-- yet
 pub record AllTakenOut (old mid : BookState) (moment : ℕ) : Type 0 where
   pub is : IsTime old moment
   pub ending : IsEnding mid moment
@@ -115,8 +110,10 @@ pub record AllTakenOut (old mid : BookState) (moment : ℕ) : Type 0 where
   pub something : SomethingDue (account_of old).entries moment
 
 -- the first was taken out, and then the others
-pub all_taken_out : (one : BookState) {old mid : BookState} {moment : ℕ} → IsTime old moment → SomethingDue (account_of old).entries moment → one.account ≡ old.account → one.waiting < old.waiting
-    → IsEnding mid moment → mid.account ≡ one.account → mid.waiting ≤ one.waiting → AllAbove mid.due moment → AllTakenOut old mid moment
+pub all_taken_out : (one : BookState) {old mid : BookState} {moment : ℕ} → IsTime old moment
+    → SomethingDue (account_of old).entries moment → one.account ≡ old.account → one.waiting < old.waiting
+    → IsEnding mid moment → mid.account ≡ one.account → mid.waiting ≤ one.waiting → AllAbove mid.due moment
+    → AllTakenOut old mid moment
 all_taken_out one is something first fewer ending others then above = record {
   is = is;
   ending = ending;
@@ -137,7 +134,8 @@ module _ {old mid : BookState} {moment : ℕ} (out : AllTakenOut old mid moment)
   overdue = TakenOut before.entries moment mid.due
 
   follows : MayFollow before own_entry
-  follows = subst (λ (s : Stored). MayFollow s.account own_entry) (sym out.same) (tick_follows (account_of old) moment out.is.time out.something)
+  follows = subst (λ (s : Stored). MayFollow s.account own_entry) (sym out.same)
+      (tick_follows (account_of old) moment out.is.time out.something)
 
   closes : ClosesThose before.entries own_entry overdue
   closes = tick_closes before.entries own_entry mid.due refl refl out.above
@@ -150,10 +148,12 @@ module _ {old mid : BookState} {moment : ℕ} (out : AllTakenOut old mid moment)
   tells r call version waits taken arrived asked = record {
     reply = TimedOut;
     is = refl;
-    replies = timed_out_reply before.entries own_entry r call waits arrived refl refl (due_until before.entries moment r taken.is_due);
+    replies = timed_out_reply before.entries own_entry r call waits arrived refl refl
+        (due_until before.entries moment r taken.is_due);
   }
 
-  pub ticks : (new : BookState) → account_of new ≡ with_entry before own_entry → Ticks (account_of old) moment (account_of new)
+  pub ticks : (new : BookState) → account_of new ≡ with_entry before own_entry
+      → Ticks (account_of old) moment (account_of new)
   ticks new pushed = inl (
     out.something,
     record {
@@ -165,15 +165,21 @@ module _ {old mid : BookState} {moment : ℕ} (out : AllTakenOut old mid moment)
     },
   )
 
-  pub none_due_after : (new : BookState) → account_of new ≡ with_entry before own_entry → NothingDue (account_of new).entries moment
-  none_due_after new pushed = subst (λ (b : Account). NothingDue b.entries moment) (sym pushed) (tick_ends before.entries own_entry follows.pairs.names_free_partners refl)
+  pub none_due_after : (new : BookState) → account_of new ≡ with_entry before own_entry
+      → NothingDue (account_of new).entries moment
+  none_due_after new pushed = subst (λ (b : Account). NothingDue b.entries moment) (sym pushed)
+      (tick_ends before.entries own_entry follows.pairs.names_free_partners refl)
 
-  pub time_after : (new : BookState) → account_of new ≡ with_entry before own_entry → new.sessions ≡ mid.sessions → new.waiters ≡ mid.waiters → new.waiting ≡ mid.waiting → new.due ≡ mid.due
+  pub time_after : (new : BookState) → account_of new ≡ with_entry before own_entry
+      → new.sessions ≡ mid.sessions → new.waiters ≡ mid.waiters → new.waiting ≡ mid.waiting
+      → new.due ≡ mid.due
       → mid.account.room ≡ new.account.room + 1 → IsTime new moment
   time_after new pushed sessions waiters waiting due room =
-      let filled : length (account_of old).entries + old.waiting ≤ 100000 = out.is.sound.fits.room old.waiting out.is.sound.waiting_is in
+      let filled : length (account_of old).entries + old.waiting ≤ 100000 = out.is.sound.fits.room old.waiting
+      out.is.sound.waiting_is in
       let spare : old.waiting ≤ old.account.room = out.is.sound.spare in
-      let length_same : length before.entries ≡ length (account_of old).entries = ap (λ (s : Stored). length s.account.entries) out.same in
+      let length_same : length before.entries ≡ length (account_of old).entries =
+      ap (λ (s : Stored). length s.account.entries) out.same in
       let room_same : mid.account.room ≡ old.account.room = ap (λ (s : Stored). s.room) out.same in
       let less : mid.waiting < old.waiting = out.fewer in
       let waits : new.waiting ≡ mid.waiting = waiting in
@@ -184,14 +190,20 @@ module _ {old mid : BookState} {moment : ℕ} (out : AllTakenOut old mid moment)
           entry_fits = (out.is.fits, tt);
           account = pushed;
           sessions_are = subst (AreSessions (with_entry before own_entry)) (sym sessions)
-              (sessions_at_last before own_entry overdue kept.TimedOut legal_after (waits_on before.entries own_entry overdue closes) tells mid.sessions tick_apart out.ending.sessions_are);
-          waiters_are = subst (AreWaiters (before.entries ++ own_entry ∷ [])) (sym waiters) (waiters_at_last before.entries own_entry overdue closes mid.waiters out.ending.waiters_are);
-          waiting_is = subst (NumberOf (Waiting (before.entries ++ own_entry ∷ []))) (sym waiting) (number_at_last before.entries own_entry overdue closes mid.waiting out.ending.waiting_is);
-          due_are = subst (AreDeadlines (before.entries ++ own_entry ∷ [])) (sym due) (due_at_last before.entries own_entry overdue closes mid.due out.ending.due_are);
-          clients = few_still before.entries own_entry (λ c i v own. absurd (tick_no_hello c i v own)) out.ending.fits.clients;
+              (sessions_at_last before own_entry overdue kept.TimedOut legal_after (waits_on before.entries
+              own_entry overdue closes) tells mid.sessions tick_apart out.ending.sessions_are);
+          waiters_are = subst (AreWaiters (before.entries ++ own_entry ∷ [])) (sym waiters)
+              (waiters_at_last before.entries own_entry overdue closes mid.waiters out.ending.waiters_are);
+          waiting_is = subst (NumberOf (Waiting (before.entries ++ own_entry ∷ []))) (sym waiting)
+              (number_at_last before.entries own_entry overdue closes mid.waiting out.ending.waiting_is);
+          due_are = subst (AreDeadlines (before.entries ++ own_entry ∷ [])) (sym due)
+              (due_at_last before.entries own_entry overdue closes mid.due out.ending.due_are);
+          clients = few_still before.entries own_entry (λ c i v own. absurd (tick_no_hello c i v own))
+              out.ending.fits.clients;
           space = omega arith;
           spare = omega arith;
         });
-        time = subst (λ b. KeepsTime b moment) (sym pushed) (with_tick before own_entry follows.moments.keeps_time refl legal_after).time;
+        time = subst (λ b. KeepsTime b moment) (sym pushed) (with_tick before own_entry
+            follows.moments.keeps_time refl legal_after).time;
         fits = out.is.fits;
       }

@@ -1,40 +1,39 @@
 -- What a cancel tells: its request is cancelled, whether it waited or had not come yet.
-use Rattle.std.proofs.Common.{◌≡◌, inl, inr, List, [], ◌∷◌, ◌++◌, length, Some, None, option_and_then, refl, sym, ap, subst, ◌∙◌}
-use Rattle.std.proofs.lemmas.Option.{same_Some}
-use Rattle.rv_text.specs.declared.message.Key.{Key}
-use Rattle.rv_text.specs.declared.call.Call.{Call}
-use Rattle.rv_text.specs.declared.answer.Reply as reply
-use Rattle.rv_text.specs.declared.answer.Answer.TheVariants.{Replied}
-use Rattle.rv_account.specs.declared.entry.Entry.{Entry}
-use Rattle.rv_account.specs.declared.entry.Act.TheVariants.{Arrive, Cancel}
-use Rattle.rv_account.specs.Account.{Account, call_in, just, key_in, with_entry}
-use Rattle.rv_account.specs.Calls.{IsPut}
-use Rattle.rv_book.specs.Legal.{IsNextNumber, Legal, WaitsUnder}
-use Rattle.rv_book.specs.Replies.{CancelledFirst, RepliesAt, told_by}
-use Rattle.rv_book.specs.Sessions.{HasIncarnation}
-use Rattle.rv_book.specs.Steps.{Replies}
-use Rattle.rv_rules.proofs.Growing.{act_read, reads_back, reads_on}
+use Rattle.rv_book.proofs.Words.{◌≡◌, ◌∷◌, ◌++◌, ◌∙◌, inl, inr, List, [], length, Some, None, option_and_then}
+use Rattle.rv_book.proofs.Words.{refl, sym, ap, subst, same_Some, Key, Call, Replied, Entry, Arrive, Cancel}
+use Rattle.rv_book.proofs.Words.{Account, call_in, just, key_in, with_entry, IsPut, IsNextNumber, Legal}
+use Rattle.rv_book.proofs.Words.{WaitsUnder, CancelledFirst, RepliesAt, told_by, HasIncarnation, Replies}
+use Rattle.rv_book.proofs.Words.{act_read, reads_back, reads_on, get-append_end, just_none}
 use Rattle.rv_rules.proofs.OnePartner.{named_not_next}
-use Rattle.rv_rules.proofs.Places.{get-append_end}
-use Rattle.rv_rules.proofs.Naming.{just_none}
 use Rattle.rv_rules.proofs.Sides.{IsRequestUnder, cancel_stops}
 use Rattle.rv_book.proofs.StoppedReplies.{told_stopped}
+use Rattle.rv_text.specs.declared.answer.Reply as reply
 
 -- ---- a request that waited
 
 -- a request that waits under a key, by that key
 pub is_under : (es : List Entry) (key : Key) (waits : WaitsUnder es key) → IsRequestUnder es key waits.place
 is_under es key waits =
-    let same : waits.waits.is_open.call ≡ waits.call = same_Some _ _ (sym waits.waits.is_open.arrived ∙ ap (option_and_then call_in) waits.arrived) in
-    record { call = waits.call; arrived = waits.arrived; no_put = λ put. waits.waits.no_put (subst IsPut (sym same) put) }
+    let same : waits.waits.is_open.call ≡ waits.call = same_Some _ _ (sym waits.waits.is_open.arrived
+    ∙ ap (option_and_then call_in) waits.arrived) in
+    record {
+      call = waits.call;
+      arrived = waits.arrived;
+      no_put = λ put. waits.waits.no_put
+          (subst IsPut (sym same) put);
+    }
 
-pub ended_reply : (a : Account) (e : Entry) (key : Key) → e.act ≡ Cancel key → e.partners ≡ just None → (waits : WaitsUnder a.entries key)
+pub ended_reply : (a : Account) (e : Entry) (key : Key) → e.act ≡ Cancel key → e.partners ≡ just None
+    → (waits : WaitsUnder a.entries key)
     → RepliesAt (a.entries ++ e ∷ []) waits.place waits.call reply.TheVariants.Cancelled
 ended_reply a e key says none waits =
-    let told = told_stopped a.entries e waits.place waits.call waits.waits (ap (option_and_then call_in) waits.arrived) (λ named. just_none e waits.place none named) (cancel_stops a.entries e key waits.place says (is_under a.entries key waits)) in
+    let told = told_stopped a.entries e waits.place waits.call waits.waits (ap (option_and_then call_in)
+    waits.arrived) (λ named. just_none e waits.place none named) (cancel_stops a.entries e key waits.place
+    says (is_under a.entries key waits)) in
     subst (RepliesAt (a.entries ++ e ∷ []) waits.place waits.call) (ap told_by says) told
 
-pub waiting_replies : (a : Account) (e : Entry) (key : Key) → e.act ≡ Cancel key → e.partners ≡ just None → WaitsUnder a.entries key → Replies (with_entry a e) key (Replied key reply.TheVariants.Cancelled)
+pub waiting_replies : (a : Account) (e : Entry) (key : Key) → e.act ≡ Cancel key → e.partners ≡ just None
+    → WaitsUnder a.entries key → Replies (with_entry a e) key (Replied key reply.TheVariants.Cancelled)
 waiting_replies a e key says none waits = record {
   reply = reply.TheVariants.Cancelled;
   has = inl (record {
@@ -48,7 +47,9 @@ waiting_replies a e key says none waits = record {
 
 -- ---- a request that had not come
 
-pub cancelled_first : (a : Account) (e : Entry) (key : Key) → Legal a → HasIncarnation a.entries key.client key.incarnation → IsNextNumber a.entries key → e.act ≡ Cancel key → CancelledFirst (a.entries ++ e ∷ []) key
+pub cancelled_first : (a : Account) (e : Entry) (key : Key) → Legal a
+    → HasIncarnation a.entries key.client key.incarnation → IsNextNumber a.entries key → e.act ≡ Cancel key
+    → CancelledFirst (a.entries ++ e ∷ []) key
 cancelled_first a e key legal has next says = record {
   place = length a.entries;
   cancelled = ap act_read (get-append_end a.entries e) ∙ ap Some says;
@@ -61,6 +62,12 @@ cancelled_first a e key legal has next says = record {
     not_both : (key : Key) (call : Call) → Some (Cancel key) ≡ Some (Arrive key call) → ⊥
     not_both key call e = cc
 
-pub next_replies : (a : Account) (e : Entry) (key : Key) → Legal a → HasIncarnation a.entries key.client key.incarnation → IsNextNumber a.entries key → e.act ≡ Cancel key
+pub next_replies : (a : Account) (e : Entry) (key : Key) → Legal a
+    → HasIncarnation a.entries key.client key.incarnation → IsNextNumber a.entries key → e.act ≡ Cancel key
     → Replies (with_entry a e) key (Replied key reply.TheVariants.Cancelled)
-next_replies a e key legal has next says = record { reply = reply.TheVariants.Cancelled; has = inr (cancelled_first a e key legal has next says, refl); is = refl }
+next_replies a e key legal has next says = record {
+  reply = reply.TheVariants.Cancelled;
+  has =
+      inr (cancelled_first a e key legal has next says, refl);
+  is = refl;
+}

@@ -1,51 +1,54 @@
 -- What those who wait are when a request was taken out of its queue.
-use Rattle.std.proofs.Common.{◌≡◌, inl, inr, ℕ, zero, suc, List, [], ◌∷◌, cond, map, Bool, true, false, Option, Some, None, refl, sym, ap, subst, ◌∙◌, option_and_then}
-use Rattle.std.specs.List.{Contains, filter, slice_get}
+use Rattle.rv_book.proofs.Words.{◌≡◌, ◌∷◌, ◌∙◌, inl, inr, ℕ, zero, suc, List, [], cond, Bool, true, false}
+use Rattle.rv_book.proofs.Words.{Option, Some, None, refl, sym, ap, subst, option_and_then, slice_get}
+use Rattle.rv_book.proofs.Words.{none-some, same_Some, slice_get-map, slice_get-get_or, Wait, Key, Gives}
+use Rattle.rv_book.proofs.Words.{Takes, wait_of, OwedDuty, place_of, places_of, Queue, Act, Arrive, Cancel}
+use Rattle.rv_book.proofs.Words.{Hello, Tick, Entry, act_at, LeavesSide, StandsOn, AreParked, IsParked}
+use Rattle.rv_book.proofs.Words.{owed_at, owed_by, owed_in, Waiters, queue_at, takers_places}
+use Rattle.std.proofs.Common.{map}
+use Rattle.std.specs.List.{Contains, filter}
 use Rattle.std.specs.Prelude.{IfNone, IfSome, not, option_map, ◌==◌}
 use Rattle.std.proofs.lemmas.Bool.Decides.{eqb_tells}
-use Rattle.std.proofs.lemmas.Option.{none-some, same_Some, slice_get-map, slice_get-get_or, slice_get_within}
-use Rattle.rv_text.specs.declared.call.Wait.{Wait}
-use Rattle.rv_text.specs.declared.message.Key.{Key}
-use Rattle.rv_text.specs.declared.call.Side.TheVariants.{Gives, Takes}
-use Rattle.rv_text.specs.Calls.{wait_of}
-use Rattle.rv_session.specs.OwedDuty.{OwedDuty}
-use Rattle.rv_dual.specs.Offers.{duty_of, is_at, place_of, places_of, waits_at}
-use Rattle.rv_dual.specs.Queue.{Queue}
+use Rattle.std.proofs.lemmas.Option.{slice_get_within}
+use Rattle.rv_dual.specs.Offers.{duty_of, is_at, waits_at}
 use Rattle.rv_dual.specs.Withdrawing.{WaitsAt, Withdraws, without_giver, without_taker}
 use Rattle.rv_dual.specs.declared.giver.Offer.{Offer}
 use Rattle.rv_dual.specs.declared.giver.Offer.TheVariants.{Put, Waits}
-use Rattle.rv_account.specs.declared.entry.Act.{Act}
-use Rattle.rv_account.specs.declared.entry.Act.TheVariants.{Arrive, Cancel, Hello, Tick}
-use Rattle.rv_account.specs.declared.entry.Entry.{Entry}
-use Rattle.rv_account.specs.Account.{act_at}
-use Rattle.rv_book.specs.Meeting.{LeavesSide, StandsOn}
-use Rattle.rv_book.specs.Parked.{AreParked, IsParked, owed_at, owed_by, owed_in}
-use Rattle.rv_book.specs.Views.{Waiters, queue_at, takers_places}
 use Rattle.rv_book.proofs.Tabled.{ChangedAt, givers_change, parked_changed, takers_change}
 
 -- ---- lists of which some are left
 
 module _ {X : Type 0} (p : X → Bool) where
-  left_of_head : (y : X) (xs : List X) (x : X) → ((k : ℕ) → slice_get (filter p xs) k ≡ Some x → (j : ℕ) × (slice_get xs j ≡ Some x) × (p x ≡ true)) → (b : Bool) → p y ≡ b → (k : ℕ)
-      → slice_get (cond b (y ∷ filter p xs) (filter p xs)) k ≡ Some x → (j : ℕ) × (slice_get (y ∷ xs) j ≡ Some x) × (p x ≡ true)
+  left_of_head : (y : X) (xs : List X) (x : X)
+      → ((k : ℕ) → slice_get (filter p xs) k ≡ Some x → (j : ℕ) × (slice_get xs j ≡ Some x) × (p x ≡ true))
+      → (b : Bool) → p y ≡ b → (k : ℕ)
+      → slice_get (cond b (y ∷ filter p xs) (filter p xs)) k ≡ Some x
+      → (j : ℕ) × (slice_get (y ∷ xs) j ≡ Some x) × (p x ≡ true)
   left_of_head y xs x rest true passes zero there = (0, there, ap p (sym (same_Some _ _ there)) ∙ passes)
-  left_of_head y xs x rest true passes (suc k) there = let found = rest k there in (suc found.0, found.1, found.2)
+  left_of_head y xs x rest true passes (suc k) there = let found = rest k there in
+      (suc found.0, found.1, found.2)
   left_of_head y xs x rest false passes k there = let found = rest k there in (suc found.0, found.1, found.2)
 
   -- what is left was there, and passes
-  pub filter_get : (xs : List X) (i : ℕ) (x : X) → slice_get (filter p xs) i ≡ Some x → (j : ℕ) × (slice_get xs j ≡ Some x) × (p x ≡ true)
+  pub filter_get : (xs : List X) (i : ℕ) (x : X) → slice_get (filter p xs) i ≡ Some x
+      → (j : ℕ) × (slice_get xs j ≡ Some x) × (p x ≡ true)
   filter_get [] i x at = absurd (none-some x at)
   filter_get (y ∷ xs) i x at = left_of_head y xs x (λ k there. filter_get xs k x there) (p y) refl i at
 
   -- what passes is left
-  pub get_filter : (xs : List X) (j : ℕ) (x : X) → slice_get xs j ≡ Some x → p x ≡ true → (i : ℕ) × (slice_get (filter p xs) i ≡ Some x)
+  pub get_filter : (xs : List X) (j : ℕ) (x : X) → slice_get xs j ≡ Some x → p x ≡ true
+      → (i : ℕ) × (slice_get (filter p xs) i ≡ Some x)
   get_filter [] j x at passes = absurd (none-some x at)
   get_filter (y ∷ xs) zero x at passes =
-      let same : y ≡ x = same_Some _ _ at in
-      (0, subst (λ b. slice_get (cond b (y ∷ filter p xs) (filter p xs)) 0 ≡ Some x) (sym (ap p same ∙ passes)) at)
+      let same : y ≡ x = same_Some _ _ at in (
+        0,
+        subst (λ b. slice_get (cond b (y ∷ filter p xs) (filter p xs)) 0 ≡ Some x)
+            (sym (ap p same ∙ passes)) at,
+      )
   get_filter (y ∷ xs) (suc j) x at passes = by_head (p y) (get_filter xs j x at passes)
     where
-      by_head : (b : Bool) → (i : ℕ) × (slice_get (filter p xs) i ≡ Some x) → (i : ℕ) × (slice_get (cond b (y ∷ filter p xs) (filter p xs)) i ≡ Some x)
+      by_head : (b : Bool) → (i : ℕ) × (slice_get (filter p xs) i ≡ Some x)
+          → (i : ℕ) × (slice_get (cond b (y ∷ filter p xs) (filter p xs)) i ≡ Some x)
       by_head true found = (suc found.0, found.1)
       by_head false found = found
 
@@ -56,27 +59,34 @@ module _ {X : Type 0} (p : X → Bool) where
       ap (λ b. cond b (y ∷ filter p xs) (filter p xs)) (all 0 y refl) ∙ ap (λ l. y ∷ l) rest
 
 module _ {X : Type 0} (f : X → ℕ) (p : X → Bool) (g : ℕ → Bool) where
-  map_head : (y : X) (xs : List X) → map f (filter p xs) ≡ filter g (map f xs) → (b : Bool) → map f (cond b (y ∷ filter p xs) (filter p xs)) ≡ cond b (f y ∷ filter g (map f xs)) (filter g (map f xs))
+  map_head : (y : X) (xs : List X) → map f (filter p xs) ≡ filter g (map f xs) → (b : Bool)
+      → map f (cond b (y ∷ filter p xs) (filter p xs)) ≡ cond b (f y ∷ filter g (map f xs))
+      (filter g (map f xs))
   map_head y xs rest true = ap (λ l. f y ∷ l) rest
   map_head y xs rest false = rest
 
   -- a test on what is mapped
-  pub map_filter : (xs : List X) → ((i : ℕ) (x : X) → slice_get xs i ≡ Some x → p x ≡ g (f x)) → map f (filter p xs) ≡ filter g (map f xs)
+  pub map_filter : (xs : List X) → ((i : ℕ) (x : X) → slice_get xs i ≡ Some x → p x ≡ g (f x))
+      → map f (filter p xs) ≡ filter g (map f xs)
   map_filter [] same = refl
-  map_filter (y ∷ xs) same = ap (λ b. map f (cond b (y ∷ filter p xs) (filter p xs))) (same 0 y refl) ∙ map_head y xs (map_filter xs (λ i x at. same (suc i) x at)) (g (f y))
+  map_filter (y ∷ xs) same = ap (λ b. map f (cond b (y ∷ filter p xs) (filter p xs))) (same 0 y refl)
+      ∙ map_head y xs (map_filter xs (λ i x at. same (suc i) x at)) (g (f y))
 
 contains : {X : Type 0} (xs : List X) (i : ℕ) (x : X) → slice_get xs i ≡ Some x → Contains xs x
 contains xs i x at =
     let inside = slice_get_within xs i x at in
     (i, inside, same_Some _ _ (sym (slice_get-get_or xs i x inside) ∙ at))
 
-mapped_there : {X : Type 0} (f : X → ℕ) (o : Option X) (y : ℕ) → option_map f o ≡ Some y → (x : X) × (o ≡ Some x) × (f x ≡ y)
+mapped_there : {X : Type 0} (f : X → ℕ) (o : Option X) (y : ℕ) → option_map f o ≡ Some y
+    → (x : X) × (o ≡ Some x) × (f x ≡ y)
 mapped_there f None y is = absurd (none-some y is)
 mapped_there f (Some x) y is = (x, refl, same_Some _ _ is)
 
 -- what stands at a place of a mapped list
-got : {X : Type 0} (f : X → ℕ) (xs : List X) (y : ℕ) → (i : ℕ) × (slice_get (map f xs) i ≡ Some y) → (i : ℕ) × (x : X) × (slice_get xs i ≡ Some x) × (f x ≡ y)
-got f xs y (i, at) = let there = mapped_there f (slice_get xs i) y (sym (slice_get-map f xs i) ∙ at) in (i, there.0, there.1, there.2)
+got : {X : Type 0} (f : X → ℕ) (xs : List X) (y : ℕ) → (i : ℕ) × (slice_get (map f xs) i ≡ Some y)
+    → (i : ℕ) × (x : X) × (slice_get xs i ≡ Some x) × (f x ≡ y)
+got f xs y (i, at) = let there = mapped_there f (slice_get xs i) y (sym (slice_get-map f xs i) ∙ at) in
+    (i, there.0, there.1, there.2)
 
 -- ---- numbers
 
@@ -88,11 +98,13 @@ differs m n apart = elim (eqb_tells m n) [
 
 -- ---- duties
 
-by_wait : (place : ℕ) (key : Key) (wait : Option Wait) (d : OwedDuty) → owed_by place key wait ≡ Some d → d.place ≡ place
+by_wait : (place : ℕ) (key : Key) (wait : Option Wait) (d : OwedDuty) → owed_by place key wait ≡ Some d
+    → d.place ≡ place
 by_wait place key None d is = absurd (none-some d is)
 by_wait place key (Some wait) d is = ap (λ (o : OwedDuty). o.place) (sym (same_Some _ _ is))
 
-by_act : (place : ℕ) (o : Option Act) (d : OwedDuty) → option_and_then (owed_in place) o ≡ Some d → d.place ≡ place
+by_act : (place : ℕ) (o : Option Act) (d : OwedDuty) → option_and_then (owed_in place) o ≡ Some d
+    → d.place ≡ place
 by_act place None d is = absurd (none-some d is)
 by_act place (Some (Hello client incarnation version)) d is = absurd (none-some d is)
 by_act place (Some (Cancel key)) d is = absurd (none-some d is)
@@ -105,13 +117,15 @@ owed_place es place d is = by_act place (act_at es place) d is
 
 -- ---- one queue
 
-module _ (es : List Entry) (q : Queue) (place : ℕ) (duty : OwedDuty) (parked : IsParked es q) (owed : owed_at es place ≡ Some duty) where
+module _ (es : List Entry) (q : Queue) (place : ℕ) (duty : OwedDuty) (parked : IsParked es q) (owed :
+    owed_at es place ≡ Some duty) where
   offer_of_duty : (offer : Offer) → duty_of offer ≡ Some duty → offer ≡ Waits duty
   offer_of_duty (Put other) is = absurd (none-some duty is)
   offer_of_duty (Waits other) is = ap Waits (same_Some _ _ is)
 
   -- who waits there with an item waits with this duty
-  pub gives_there : (i : ℕ) (offer : Offer) → slice_get q.givers i ≡ Some offer → place_of offer ≡ place → offer ≡ Waits duty
+  pub gives_there : (i : ℕ) (offer : Offer) → slice_get q.givers i ≡ Some offer → place_of offer ≡ place
+      → offer ≡ Waits duty
   gives_there i offer at is = offer_of_duty offer (sym (parked.givers i offer at) ∙ ap (owed_at es) is ∙ owed)
 
   pub takes_there : (i : ℕ) (d : OwedDuty) → slice_get q.takers i ≡ Some d → d.place ≡ place → d ≡ duty
@@ -128,82 +142,115 @@ module _ (es : List Entry) (q : Queue) (place : ℕ) (duty : OwedDuty) (parked :
       let k = takes.0.0 in
       takes_there k d (slice_get-get_or q.takers k d takes.0.1 ∙ ap Some takes.0.2) takes.1
 
-  given_back : (result : Option OwedDuty) → WaitsAt q place duty → IfSome result (WaitsAt q place) → IfNone result ((d : OwedDuty) → WaitsAt q place d → ⊥) → result ≡ Some duty
+  given_back : (result : Option OwedDuty) → WaitsAt q place duty → IfSome result (WaitsAt q place)
+      → IfNone result ((d : OwedDuty) → WaitsAt q place d → ⊥) → result ≡ Some duty
   given_back None waits some none = absurd (none duty waits)
   given_back (Some d) waits some none = ap Some (waits_with d some)
 
-  pub giver_back : (new : Queue) (result : Option OwedDuty) → Withdraws q new place result → (i : ℕ) × (offer : Offer) × (slice_get q.givers i ≡ Some offer) × (place_of offer ≡ place) → result ≡ Some duty
+  pub giver_back : (new : Queue) (result : Option OwedDuty) → Withdraws q new place result
+      → (i : ℕ) × (offer : Offer) × (slice_get q.givers i ≡ Some offer) × (place_of offer ≡ place)
+      → result ≡ Some duty
   giver_back new result w (i, offer, at, is) =
-      given_back result (inl (contains q.givers i (Waits duty) (at ∙ ap Some (gives_there i offer at is)), owed_place es place duty owed)) w.some w.none
+      given_back result (inl (
+        contains q.givers i (Waits duty) (at ∙ ap Some (gives_there i offer at is)),
+        owed_place es place duty owed,
+      )) w.some w.none
 
-  pub taker_back : (new : Queue) (result : Option OwedDuty) → Withdraws q new place result → (i : ℕ) × (d : OwedDuty) × (slice_get q.takers i ≡ Some d) × (d.place ≡ place) → result ≡ Some duty
+  pub taker_back : (new : Queue) (result : Option OwedDuty) → Withdraws q new place result
+      → (i : ℕ) × (d : OwedDuty) × (slice_get q.takers i ≡ Some d) × (d.place ≡ place) → result ≡ Some duty
   taker_back new result w (i, d, at, is) =
-      given_back result (inr (contains q.takers i duty (at ∙ ap Some (takes_there i d at is)), owed_place es place duty owed)) w.some w.none
+      given_back result (inr (
+        contains q.takers i duty (at ∙ ap Some (takes_there i d at is)),
+        owed_place es
+            place duty owed,
+      )) w.some w.none
 
   -- which items stay
-  stays_by : (i : ℕ) (offer : Offer) → slice_get q.givers i ≡ Some offer → not (waits_at place offer) ≡ not (place_of offer == duty.place)
+  stays_by : (i : ℕ) (offer : Offer) → slice_get q.givers i ≡ Some offer
+      → not (waits_at place offer) ≡ not (place_of offer == duty.place)
   stays_by i (Put other) at =
-      let apart = λ (is : other ≡ place). let no : ◌≡◌ {A = Offer} (Put other) (Waits duty) = gives_there i (Put other) at is in absurd (cc) in
+      let apart = λ (is : other ≡ place). let no : ◌≡◌ {A = Offer} (Put other) (Waits duty) = gives_there i
+      (Put other) at is in absurd (cc) in
       let same : duty.place ≡ place = owed_place es place duty owed in
       sym (ap (λ n. not (other == n)) same ∙ differs other place apart)
   stays_by i (Waits d) at = ap (λ n. not (d.place == n)) (sym (owed_place es place duty owed))
 
-  pub givers_left : places_of (without_giver place q.givers) ≡ filter (λ r. not (r == duty.place)) (places_of q.givers)
-  givers_left = map_filter place_of (λ offer. not (waits_at place offer)) (λ r. not (r == duty.place)) q.givers stays_by
+  pub givers_left : places_of (without_giver place q.givers) ≡ filter (λ r. not (r == duty.place))
+      (places_of q.givers)
+  givers_left = map_filter place_of (λ offer. not (waits_at place offer)) (λ r. not (r == duty.place))
+      q.givers stays_by
 
-  pub takers_left : takers_places (without_taker place q.takers) ≡ filter (λ r. not (r == duty.place)) (takers_places q.takers)
-  takers_left = map_filter (λ (d : OwedDuty). d.place) (λ (d : OwedDuty). not (is_at place d)) (λ r. not (r == duty.place)) q.takers (λ i d at. ap (λ n. not (d.place == n)) (sym (owed_place es place duty owed)))
+  pub takers_left : takers_places (without_taker place q.takers) ≡ filter (λ r. not (r == duty.place))
+      (takers_places q.takers)
+  takers_left = map_filter (λ (d : OwedDuty). d.place) (λ (d : OwedDuty). not (is_at place d))
+      (λ r. not (r == duty.place)) q.takers (λ i d at. ap (λ n. not (d.place == n))
+      (sym (owed_place es place duty owed)))
 
-pub parked_left : (es : List Entry) (q new : Queue) (place : ℕ) (result : Option OwedDuty) → Withdraws q new place result → IsParked es q → IsParked es new
+pub parked_left : (es : List Entry) (q new : Queue) (place : ℕ) (result : Option OwedDuty)
+    → Withdraws q new place result → IsParked es q → IsParked es new
 parked_left es q new place result w parked = record {
   givers = λ i offer at.
-      let old = filter_get (λ (o : Offer). not (waits_at place o)) q.givers i offer (sym (ap (λ l. slice_get l i) w.givers) ∙ at) in
+      let old = filter_get (λ (o : Offer). not (waits_at place o)) q.givers i offer
+      (sym (ap (λ l. slice_get l i) w.givers) ∙ at) in
       parked.givers old.0 offer old.1;
   takers = λ i d at.
-      let old = filter_get (λ (o : OwedDuty). not (is_at place o)) q.takers i d (sym (ap (λ l. slice_get l i) w.takers) ∙ at) in
+      let old = filter_get (λ (o : OwedDuty). not (is_at place o)) q.takers i d
+      (sym (ap (λ l. slice_get l i) w.takers) ∙ at) in
       parked.takers old.0 d old.1;
 }
 
 -- ---- all who wait
 
-module _ (old new : Waiters) (queue : ℕ) (changed : ChangedAt old new queue) (place : ℕ) (result : Option OwedDuty) (w : Withdraws (queue_at old.queues queue) (queue_at new.queues queue) place result)
-    (es : List Entry) (duty : OwedDuty) (parked : AreParked es old) (owed : owed_at es place ≡ Some duty) where
-  abbrev pub was : Queue
-  was = queue_at old.queues queue
+module _ (old new : Waiters) (queue : ℕ) (changed : ChangedAt old new queue) (place : ℕ) (result :
+    Option OwedDuty) (w : Withdraws (queue_at old.queues queue) (queue_at new.queues queue) place result)
+    (es : List Entry) (duty : OwedDuty) (parked : AreParked es old) (owed : owed_at es place ≡ Some duty)
+  where
+    abbrev pub was : Queue
+    was = queue_at old.queues queue
 
-  abbrev pub is_now : Queue
-  is_now = queue_at new.queues queue
+    abbrev pub is_now : Queue
+    is_now = queue_at new.queues queue
 
-  pub left_givers : StandsOn old (Gives queue) place → LeavesSide old new (Gives queue) duty result
-  left_givers stands =
-      let none = λ (i : ℕ) (d : OwedDuty) (at : slice_get was.takers i ≡ Some d).
-      differs d.place place (λ is.
-      let there = slice_get-map (λ (o : OwedDuty). o.place) was.takers i ∙ ap (option_map (λ (o : OwedDuty). o.place)) at in
-      let sides : Takes queue ≡ Gives queue = stands.only (Takes queue) i (there ∙ ap Some is) in
-      absurd (cc)) in
-      let takers : is_now.takers ≡ was.takers = w.takers ∙ filter_all (λ (d : OwedDuty). not (is_at place d)) was.takers none in
-      record {
-        is = giver_back es was place duty (parked.queues queue) owed is_now result w (got place_of was.givers place (stands.i, stands.there));
-        places = ap places_of w.givers ∙ givers_left es was place duty (parked.queues queue) owed;
-        others = givers_change old new queue changed takers;
-        parked = λ other before. parked_changed old new queue changed other before (parked_left other was is_now place result w);
-      }
+    pub left_givers : StandsOn old (Gives queue) place → LeavesSide old new (Gives queue) duty result
+    left_givers stands =
+        let none = λ (i : ℕ) (d : OwedDuty) (at : slice_get was.takers i ≡ Some d).
+        differs d.place place (λ is.
+        let there = slice_get-map (λ (o : OwedDuty). o.place) was.takers i
+        ∙ ap (option_map (λ (o : OwedDuty). o.place)) at in
+        let sides : Takes queue ≡ Gives queue = stands.only (Takes queue) i (there ∙ ap Some is) in
+        absurd (cc)) in
+        let takers : is_now.takers ≡ was.takers = w.takers ∙ filter_all (λ (d : OwedDuty). not
+        (is_at place d))
+        was.takers none in
+        record {
+          is = giver_back es was place duty (parked.queues queue) owed is_now result w
+              (got place_of was.givers
+              place (stands.i, stands.there));
+          places = ap places_of w.givers ∙ givers_left es was place duty (parked.queues queue) owed;
+          others = givers_change old new queue changed takers;
+          parked = λ other before. parked_changed old new queue changed other before (parked_left other was
+              is_now place result w);
+        }
 
-  pub left_takers : StandsOn old (Takes queue) place → LeavesSide old new (Takes queue) duty result
-  left_takers stands =
-      let none = λ (i : ℕ) (o : Offer) (at : slice_get was.givers i ≡ Some o). passes o
-      (λ is.
-      let there = slice_get-map place_of was.givers i ∙ ap (option_map place_of) at in
-      let sides : Gives queue ≡ Takes queue = stands.only (Gives queue) i (there ∙ ap Some is) in
-      absurd (cc)) in
-      let givers : is_now.givers ≡ was.givers = w.givers ∙ filter_all (λ (o : Offer). not (waits_at place o)) was.givers none in
-      record {
-        is = taker_back es was place duty (parked.queues queue) owed is_now result w (got (λ (d : OwedDuty). d.place) was.takers place (stands.i, stands.there));
-        places = ap takers_places w.takers ∙ takers_left es was place duty (parked.queues queue) owed;
-        others = takers_change old new queue changed givers;
-        parked = λ other before. parked_changed old new queue changed other before (parked_left other was is_now place result w);
-      }
-    where
-      passes : (o : Offer) → (place_of o ≡ place → ⊥) → not (waits_at place o) ≡ true
-      passes (Put other) apart = refl
-      passes (Waits d) apart = differs d.place place apart
+    pub left_takers : StandsOn old (Takes queue) place → LeavesSide old new (Takes queue) duty result
+    left_takers stands =
+        let none = λ (i : ℕ) (o : Offer) (at : slice_get was.givers i ≡ Some o). passes o
+        (λ is.
+        let there = slice_get-map place_of was.givers i ∙ ap (option_map place_of) at in
+        let sides : Gives queue ≡ Takes queue = stands.only (Gives queue) i (there ∙ ap Some is) in
+        absurd (cc)) in
+        let givers : is_now.givers ≡ was.givers = w.givers
+        ∙ filter_all (λ (o : Offer). not (waits_at place o))
+        was.givers none in
+        record {
+          is = taker_back es was place duty (parked.queues queue) owed is_now result w
+              (got (λ (d : OwedDuty). d.place) was.takers place (stands.i, stands.there));
+          places = ap takers_places w.takers ∙ takers_left es was place duty (parked.queues queue) owed;
+          others = takers_change old new queue changed givers;
+          parked = λ other before. parked_changed old new queue changed other before (parked_left other was
+              is_now place result w);
+        }
+      where
+        passes : (o : Offer) → (place_of o ≡ place → ⊥) → not (waits_at place o) ≡ true
+        passes (Put other) apart = refl
+        passes (Waits d) apart = differs d.place place apart

@@ -8,8 +8,10 @@ use Rattle.rv_client.specs.Faults.{text_fault}
 use Rattle.rv_client.specs.Link.{Asks, IsNoAnswer, Link, LinkHolds, Moves}
 
 module _ {R W : Type 0} (remaining : R → Option (List ℕ)) (contents : W → Option (List ℕ)) where
-  pub told_text : (request : List ℕ) (before after : Link R W) (body : List ℕ) (fault : TextFault) → IsFrameBody body → Moves remaining contents before after request (frame_bytes body)
-      → LinkHolds before after → (fault ≡ NotJson → HasBodyLength body × IsNotJson body) → (fault ≡ NotMessage → IsNoAnswer body)
+  pub told_text : (request : List ℕ) (before after : Link R W) (body : List ℕ) (fault : TextFault)
+      → IsFrameBody body → Moves remaining contents before after request (frame_bytes body)
+      → LinkHolds before after → (fault ≡ NotJson → HasBodyLength body × IsNotJson body)
+      → (fault ≡ NotMessage → IsNoAnswer body)
       → Asks remaining contents request before after (Err (text_fault fault))
   told_text request before after body NotJson is_body moves works not_json not_message = record {
     body = body;

@@ -1,5 +1,6 @@
 -- Tries of one request, one after the other.
-use Rattle.std.proofs.Common.{◌≡◌, ◌∙◌, ◌+◌, ◌++◌, ◌∷◌, [], ℕ, List, Option, Some, None, IfSome, ap, arith, length-append, refl, replicate, subst, sym, append-nil}
+use Rattle.std.proofs.Common.{◌≡◌, ◌∙◌, ◌+◌, ◌++◌, ◌∷◌, [], ℕ, List, Option, Some, None, IfSome, ap, arith}
+use Rattle.std.proofs.Common.{length-append, refl, replicate, subst, sym, append-nil}
 use Rattle.std.specs.Io.KnownBytes.{Appends, Consumes}
 use Rattle.std.proofs.KnownBytes.{Appends-nil, Appends-trans, Consumes-nil, Consumes-trans}
 use Rattle.std.proofs.lemmas.List.{replicate-append-replicate}
@@ -16,11 +17,14 @@ use Rattle.rv_client.specs.Link.{Link}
 use Rattle.rv_client.specs.Process.{Asking, Ignored, Outstanding, request_of}
 
 -- a row with one body more
-row_more : (bodies : List (List ℕ)) (body : List ℕ) → row_bytes bodies ++ frame_bytes body ≡ row_bytes (bodies ++ body ∷ [])
-row_more bodies body = ap (λ l. row_bytes bodies ++ l) (sym (append-nil (frame_bytes body))) ∙ sym (row_append bodies (body ∷ []))
+row_more : (bodies : List (List ℕ)) (body : List ℕ)
+    → row_bytes bodies ++ frame_bytes body ≡ row_bytes (bodies ++ body ∷ [])
+row_more bodies body = ap (λ l. row_bytes bodies ++ l) (sym (append-nil (frame_bytes body)))
+    ∙ sym (row_append bodies (body ∷ []))
 
 -- a row of the same bodies, with one more
-same_more : (n : ℕ) (body : List ℕ) → row_bytes (replicate n body) ++ frame_bytes body ≡ row_bytes (replicate (n + 1) body)
+same_more : (n : ℕ) (body : List ℕ) → row_bytes (replicate n body) ++ frame_bytes body ≡ row_bytes
+    (replicate (n + 1) body)
 same_more n body = row_more (replicate n body) body ∙ ap row_bytes (replicate-append-replicate n 1 body)
 
 module _ {R W : Type 0} (remaining : R → Option (List ℕ)) (contents : W → Option (List ℕ)) where
@@ -35,8 +39,10 @@ module _ {R W : Type 0} (remaining : R → Option (List ℕ)) (contents : W → 
     nothing = λ none. refl;
   }
 
-  pub once_more : (asking : Asking) (before between after : Link R W) (times : ℕ) → AsksInVain remaining contents asking before between times
-      → Decides remaining contents asking between after (Ignored (Outstanding asking)) → AsksInVain remaining contents asking before after (times + 1)
+  pub once_more : (asking : Asking) (before between after : Link R W) (times : ℕ)
+      → AsksInVain remaining contents asking before between times
+      → Decides remaining contents asking between after (Ignored (Outstanding asking))
+      → AsksInVain remaining contents asking before after (times + 1)
   once_more asking before between after times vain once =
       let text = message_text (request_of asking) in
       let body = once.asks.body in
@@ -44,17 +50,21 @@ module _ {R W : Type 0} (remaining : R → Option (List ℕ)) (contents : W → 
         bodies = vain.bodies ++ body ∷ [];
         each = length-append vain.bodies (body ∷ []) ∙ ap (λ n. n + 1) vain.each;
         ignored = All-append (IsIgnored asking) vain.bodies (body ∷ []) vain.ignored
-            (All-cons (IsIgnored asking) body [] (once.answer, once.asks.has, once.hears.0) (All-nil (IsIgnored asking)));
+            (All-cons (IsIgnored asking) body [] (once.answer, once.asks.has, once.hears.0)
+            (All-nil (IsIgnored asking)));
         moves = record {
-          sent = subst (Appends _ _) (same_more times text) (Appends-trans _ _ _ _ _ vain.moves.sent once.asks.moves.sent);
-          given = subst (Consumes _ _) (row_more vain.bodies body) (Consumes-trans _ _ _ _ _ vain.moves.given once.asks.moves.given);
+          sent = subst (Appends _ _) (same_more times text) (Appends-trans _ _ _ _ _ vain.moves.sent
+              once.asks.moves.sent);
+          given = subst (Consumes _ _) (row_more vain.bodies body) (Consumes-trans _ _ _ _ _ vain.moves.given
+              once.asks.moves.given);
         };
         same_source = once.asks.works.read_after ∙ sym once.asks.works.read_before ∙ vain.same_source;
         same_sink = once.asks.works.write_after ∙ sym once.asks.works.write_before ∙ vain.same_sink;
         nothing = λ none. absurd (omega arith);
       }
 
-  pub ended : (asking : Asking) (tries : ℕ) (before after : Link R W) (outcome : CallOutcome) → EndsWithin remaining contents asking tries before after outcome
+  pub ended : (asking : Asking) (tries : ℕ) (before after : Link R W) (outcome : CallOutcome)
+      → EndsWithin remaining contents asking tries before after outcome
       → Calls remaining contents asking tries before after outcome
   ended asking tries before after (called.Settled next reply) within = within
   ended asking tries before after (called.EpochEnded key current) within = within
@@ -63,9 +73,15 @@ module _ {R W : Type 0} (remaining : R → Option (List ℕ)) (contents : W → 
   ended asking tries before after (called.Unsettled same None) within = absurd within.ends
 
   -- the same of the request that an idle client began
-  pub ended_call : (idle : Option Key) (call : Call) (asking : Asking) (tries : ℕ) (before after : Link R W) (outcome : CallOutcome) → idle ≡ Some asking.key → asking.call ≡ call
-      → EndsWithin remaining contents asking tries before after outcome → IfSome idle (λ key. Calls remaining contents (record { key = key; call = call }) tries before after outcome)
+  pub ended_call : (idle : Option Key) (call : Call) (asking : Asking) (tries : ℕ) (before after : Link R W)
+      (outcome : CallOutcome) → idle ≡ Some asking.key → asking.call ≡ call
+      → EndsWithin remaining contents asking tries before after outcome
+      → IfSome idle (λ key. Calls remaining contents (record { key = key; call = call }) tries before
+      after outcome)
   ended_call idle call asking tries before after outcome begun same within =
-      let Told : Call → Type 0 = λ c. Calls remaining contents (record { key = asking.key; call = c }) tries before after outcome in
-      let Of : Option Key → Type 0 = λ i. IfSome i (λ key. Calls remaining contents (record { key = key; call = call }) tries before after outcome) in
+      let Told : Call → Type 0 = λ c. Calls remaining contents (record { key = asking.key; call = c }) tries
+      before after outcome in
+      let Of : Option Key
+      → Type 0 = λ i. IfSome i (λ key. Calls remaining contents (record { key = key; call = call }) tries
+      before after outcome) in
       subst Of (sym begun) (subst Told same (ended asking tries before after outcome within))

@@ -8,7 +8,8 @@ use Rattle.std.specs.FinSet.{IsAntisymmetric}
 use Rattle.rv_due.specs.Deadlines.{Deadline, by_moment, Precedes}
 
 pub by_moment_total : IsTotalOrder by_moment
-by_moment_total = then_total (on_total (λ (d : Deadline). d.0) nat_cmp_total) (on_total (λ (d : Deadline). d.1) nat_cmp_total)
+by_moment_total = then_total (on_total (λ (d : Deadline). d.0) nat_cmp_total)
+    (on_total (λ (d : Deadline). d.1) nat_cmp_total)
 
 then_equal : (a b : Ordering) → ordering_then a b ≡ Equal → (a ≡ Equal) × (b ≡ Equal)
 then_equal Less b e = absurd (cc)

@@ -1,5 +1,6 @@
 -- A book's account is within the limits of lines, and is read back from them.
-use Rattle.std.proofs.Common.{◌≡◌, ◌≤◌, ◌<◌, ℕ, List, [], ◌∷◌, Option, Some, None, refl, ap, subst, length, take, arith, length-take}
+use Rattle.std.proofs.Common.{◌≡◌, ◌≤◌, ◌<◌, ℕ, List, [], ◌∷◌, Option, Some, None, refl, ap, subst, length}
+use Rattle.std.proofs.Common.{take, arith, length-take}
 use Rattle.std.specs.Prelude.{slice_get, unwrap_or}
 use Rattle.std.proofs.lemmas.Option.{none-some, same_Some}
 use Rattle.rv_text.specs.declared.call.Call.{Call}
@@ -21,7 +22,8 @@ use Rattle.rv_lines.specs.Written.{FitPartners, max_partners}
 use Rattle.rv_lines.proofs.ReadBack.{lines_again}
 
 -- a call within its limits may name few partners
-few_by : (call : Call) (drains : Option ℕ) → FitsCall call → drains_of call ≡ drains → unwrap_or drains 1 ≤ max_partners
+few_by : (call : Call) (drains : Option ℕ) → FitsCall call → drains_of call ≡ drains
+    → unwrap_or drains 1 ≤ max_partners
 few_by call None fits is = omega arith
 few_by call (Some max) fits is = (max_fits call max fits is).1
 
@@ -35,7 +37,8 @@ fits_call (act.Cancel key) call is fits = absurd (none-some call is)
 fits_call act.Tick call is fits = absurd (none-some call is)
 
 -- only an arrival names partners
-few_partners : (before : List Entry) (e : Entry) (partners : List ℕ) → e.partners ≡ partners → NamesFreePartners before e → FitsAct e.act → length partners ≤ max_partners
+few_partners : (before : List Entry) (e : Entry) (partners : List ℕ) → e.partners ≡ partners
+    → NamesFreePartners before e → FitsAct e.act → length partners ≤ max_partners
 few_partners before e [] is names fits = omega arith
 few_partners before e (p ∷ partners) is names fits =
     let free = names.free p (0, ap (λ (l : List ℕ). slice_get l 0) is) in
@@ -43,7 +46,8 @@ few_partners before e (p ∷ partners) is names fits =
     omega (arith, few, ap length is, few_named free.call (fits_call e.act free.call free.arrives fits))
 
 -- a partner stands before its place
-partners_fit : (a : Account) (r : ℕ) (e : Entry) → Legal a → slice_get a.entries r ≡ Some e → r < 100000 → FitsAct e.act → FitPartners e
+partners_fit : (a : Account) (r : ℕ) (e : Entry) → Legal a → slice_get a.entries r ≡ Some e → r < 100000
+    → FitsAct e.act → FitPartners e
 partners_fit a r e legal there small fits =
     let names = (legal r e there).pairs.names_free_partners in
     record {
@@ -56,7 +60,8 @@ book_fits_lines a legal fits =
     let waiting = find_waiting a.entries in
     let few : length a.entries ≤ max_entries = omega (arith, fits.room waiting.0 waiting.1) in
     let partners : (r : ℕ) (e : Entry) → slice_get a.entries r ≡ Some e → FitPartners e =
-    λ r e there. partners_fit a r e legal there (omega (arith, within a.entries r e there, few)) (fits.entries r e there).1 in (
+    λ r e there. partners_fit a r e legal there (omega (arith, within a.entries r e there, few))
+    (fits.entries r e there).1 in (
       record {
         epoch = fits.epoch;
         opened = fits.opened;

@@ -1,5 +1,6 @@
 -- Places with commas between: which list a field says, and that it says one at most.
-use Rattle.std.proofs.Common.{◌≡◌, ◌≢◌, ℕ, List, [], ◌∷◌, ◌++◌, refl, sym, ap, subst, ◌∙◌, append_assoc, arith}
+use Rattle.std.proofs.Common.{◌≡◌, ◌≢◌, ℕ, List, [], ◌∷◌, ◌++◌, refl, sym, ap, subst, ◌∙◌, append_assoc}
+use Rattle.std.proofs.Common.{arith}
 use Rattle.std.proofs.lemmas.List.Elements.{All-cons, All-nil}
 use Rattle.rv_lines.specs.Number.{WritesPlainly, WritesUpTo}
 use Rattle.rv_lines.specs.Reading.{SaysPartners, SaysPlaces, SaysSomePlaces}
@@ -14,35 +15,45 @@ place_lacks_comma field place says = plain_lacks 44 field place (omega arith) sa
 -- ---- of a field that is cut at its first comma
 
 module _ (field piece after : List ℕ) (parts : field ≡ piece ++ 44 ∷ after) (lacks : Lacks 44 piece) where
-  cut_too : (first rest : List ℕ) (place : ℕ) → field ≡ first ++ 44 ∷ rest → WritesUpTo max_partner first place → (piece ≡ first) × (after ≡ rest)
-  cut_too first rest place is says = cut_once 44 piece after first rest lacks (place_lacks_comma first place says) (sym parts ∙ is)
+  cut_too : (first rest : List ℕ) (place : ℕ) → field ≡ first ++ 44 ∷ rest
+      → WritesUpTo max_partner first place → (piece ≡ first) × (after ≡ rest)
+  cut_too first rest place is says = cut_once 44 piece after first rest lacks (place_lacks_comma first place
+      says) (sym parts ∙ is)
 
   has_comma : (place : ℕ) → WritesUpTo max_partner field place → ⊥
-  has_comma place says = not_lacking 44 piece after (subst (Lacks 44) parts (place_lacks_comma field place says))
+  has_comma place says = not_lacking 44 piece after (subst (Lacks 44) parts (place_lacks_comma field place
+      says))
 
   -- where the piece is no place, the field says none
-  pub first_is_none : ((place : ℕ) → ¬ WritesUpTo max_partner piece place) → (all : List ℕ) → ¬ SaysSomePlaces field all
+  pub first_is_none : ((place : ℕ) → ¬ WritesUpTo max_partner piece place) → (all : List ℕ)
+      → ¬ SaysSomePlaces field all
   first_is_none none [] says = says
   first_is_none none (place ∷ []) says = has_comma place says
   first_is_none none (place ∷ next ∷ more) says =
-      none place (subst (λ f. WritesUpTo max_partner f place) (sym (cut_too says.0 says.1 place says.2 says.3).0) says.3)
+      none place (subst (λ f. WritesUpTo max_partner f place)
+      (sym (cut_too says.0 says.1 place says.2 says.3).0) says.3)
 
   -- nor where nothing is said behind the comma
-  pub none_behind : ((more : List ℕ) → ¬ SaysSomePlaces after more) → (all : List ℕ) → ¬ SaysSomePlaces field all
+  pub none_behind : ((more : List ℕ) → ¬ SaysSomePlaces after more) → (all : List ℕ)
+      → ¬ SaysSomePlaces field all
   none_behind none [] says = says
   none_behind none (place ∷ []) says = has_comma place says
   none_behind none (place ∷ next ∷ more) says =
-      none (next ∷ more) (subst (λ r. SaysPlaces r next more) (sym (cut_too says.0 says.1 place says.2 says.3).1) says.4)
+      none (next ∷ more) (subst (λ r. SaysPlaces r next more)
+      (sym (cut_too says.0 says.1 place says.2 says.3).1) says.4)
 
-  pub more_behind : (place : ℕ) (more : List ℕ) → WritesUpTo max_partner piece place → SaysSomePlaces after more → SaysSomePlaces field (place ∷ more)
+  pub more_behind : (place : ℕ) (more : List ℕ) → WritesUpTo max_partner piece place
+      → SaysSomePlaces after more → SaysSomePlaces field (place ∷ more)
   more_behind place [] here says = absurd says
   more_behind place (next ∷ more) here says = (piece, after, parts, here, says)
 
 -- a field without a comma is one place or none
-pub last_is_none : (field : List ℕ) → Lacks 44 field → ((place : ℕ) → ¬ WritesUpTo max_partner field place) → (all : List ℕ) → ¬ SaysSomePlaces field all
+pub last_is_none : (field : List ℕ) → Lacks 44 field → ((place : ℕ) → ¬ WritesUpTo max_partner field place)
+    → (all : List ℕ) → ¬ SaysSomePlaces field all
 last_is_none field lacks none [] says = says
 last_is_none field lacks none (place ∷ []) says = none place says
-last_is_none field lacks none (place ∷ next ∷ more) says = not_lacking 44 says.0 says.1 (subst (Lacks 44) says.2 lacks)
+last_is_none field lacks none (place ∷ next ∷ more) says = not_lacking 44 says.0 says.1
+    (subst (Lacks 44) says.2 lacks)
 
 -- ---- how far a field is read
 
@@ -52,26 +63,34 @@ pub record ListsPlaces (field rest places : List ℕ) : Type 0 where
   pub none : ((more : List ℕ) → ¬ SaysSomePlaces rest more) → (all : List ℕ) → ¬ SaysSomePlaces field all
 
 module _ {field rest places : List ℕ} (so_far : ListsPlaces field rest places) where
-  pub listed_more : (piece after : List ℕ) (place : ℕ) → rest ≡ piece ++ 44 ∷ after → Lacks 44 piece → WritesUpTo max_partner piece place → ListsPlaces field after (places ++ place ∷ [])
+  pub listed_more : (piece after : List ℕ) (place : ℕ) → rest ≡ piece ++ 44 ∷ after → Lacks 44 piece
+      → WritesUpTo max_partner piece place → ListsPlaces field after (places ++ place ∷ [])
   listed_more piece after place parts lacks says = record {
-    joined = λ more later. subst (SaysSomePlaces field) (sym (append_assoc places (place ∷ []) more)) (so_far.joined (place ∷ more) (more_behind rest piece after parts lacks place more says later));
+    joined = λ more later. subst (SaysSomePlaces field) (sym (append_assoc places (place ∷ []) more))
+        (so_far.joined (place ∷ more) (more_behind rest piece after parts lacks place more says later));
     none = λ nothing. so_far.none (none_behind rest piece after parts lacks nothing);
   }
 
-  pub piece_is_none : (piece after : List ℕ) → rest ≡ piece ++ 44 ∷ after → Lacks 44 piece → ((place : ℕ) → ¬ WritesUpTo max_partner piece place) → (all : List ℕ) → ¬ SaysSomePlaces field all
+  pub piece_is_none : (piece after : List ℕ) → rest ≡ piece ++ 44 ∷ after → Lacks 44 piece
+      → ((place : ℕ) → ¬ WritesUpTo max_partner piece place) → (all : List ℕ) → ¬ SaysSomePlaces field all
   piece_is_none piece after parts lacks none = so_far.none (first_is_none rest piece after parts lacks none)
 
-  pub rest_is_none : Lacks 44 rest → ((place : ℕ) → ¬ WritesUpTo max_partner rest place) → (all : List ℕ) → ¬ SaysSomePlaces field all
+  pub rest_is_none : Lacks 44 rest → ((place : ℕ) → ¬ WritesUpTo max_partner rest place) → (all : List ℕ)
+      → ¬ SaysSomePlaces field all
   rest_is_none lacks none = so_far.none (last_is_none rest lacks none)
 
 -- ---- one list
 
-places_one : (field : List ℕ) (p q : ℕ) (ps qs : List ℕ) → SaysPlaces field p ps → SaysPlaces field q qs → p ∷ ps ≡ q ∷ qs
+places_one : (field : List ℕ) (p q : ℕ) (ps qs : List ℕ) → SaysPlaces field p ps → SaysPlaces field q qs
+    → p ∷ ps ≡ q ∷ qs
 places_one field p q [] [] a b = ap (λ n. n ∷ []) (plainly_one field p q a.0 b.0)
-places_one field p q [] (y ∷ qs) a b = absurd (not_lacking 44 b.0 b.1 (subst (Lacks 44) b.2 (place_lacks_comma field p a)))
-places_one field p q (x ∷ ps) [] a b = absurd (not_lacking 44 a.0 a.1 (subst (Lacks 44) a.2 (place_lacks_comma field q b)))
+places_one field p q [] (y ∷ qs) a b =
+    absurd (not_lacking 44 b.0 b.1 (subst (Lacks 44) b.2 (place_lacks_comma field p a)))
+places_one field p q (x ∷ ps) [] a b =
+    absurd (not_lacking 44 a.0 a.1 (subst (Lacks 44) a.2 (place_lacks_comma field q b)))
 places_one field p q (x ∷ ps) (y ∷ qs) a b =
-    let cut = cut_once 44 a.0 a.1 b.0 b.1 (place_lacks_comma a.0 p a.3) (place_lacks_comma b.0 q b.3) (sym a.2 ∙ b.2) in
+    let cut = cut_once 44 a.0 a.1 b.0 b.1 (place_lacks_comma a.0 p a.3) (place_lacks_comma b.0 q b.3) (sym a.2
+    ∙ b.2) in
     let first = plainly_one b.0 p q (subst (λ f. WritesPlainly f p) cut.0 a.3.0) b.3.0 in
     let later = places_one b.1 x y ps qs (subst (λ r. SaysPlaces r x ps) cut.1 a.4) b.4 in
     λ i. first i ∷ later i
@@ -89,6 +108,7 @@ partners_one field (p ∷ ps) [] a b = absurd (minus_is_none (p ∷ ps) (subst (
 partners_one field (p ∷ ps) (q ∷ qs) a b = places_one field p q ps qs a b
 
 -- a field that is not `-` and no list of places says no partners
-pub says_no_partners : (field : List ℕ) (partners : List ℕ) → ¬ (field ≡ (45 ∷ [])) → ((all : List ℕ) → ¬ SaysSomePlaces field all) → ¬ SaysPartners field partners
+pub says_no_partners : (field : List ℕ) (partners : List ℕ) → ¬ (field ≡ (45 ∷ []))
+    → ((all : List ℕ) → ¬ SaysSomePlaces field all) → ¬ SaysPartners field partners
 says_no_partners field [] other none says = other says
 says_no_partners field (place ∷ more) other none says = none (place ∷ more) says

@@ -10,7 +10,8 @@ use Rattle.rv_lines.specs.Lines.{lines}
 abbrev pub Lacks : ℕ → List ℕ → Type 0
 Lacks byte bytes = All (λ b. b ≢ byte) bytes
 
-pub lines_cut : (front rest : List ℕ) → All (λ b. b ≢ 10) front → lines (front ++ 10 ∷ rest) ≡ front ∷ lines rest
+pub lines_cut : (front rest : List ℕ) → All (λ b. b ≢ 10) front
+    → lines (front ++ 10 ∷ rest) ≡ front ∷ lines rest
 lines_cut [] rest lacks = refl
 lines_cut (x ∷ xs) rest lacks =
     let differs = ne_eqb x 10 (All-head (λ b. b ≢ 10) x xs lacks) in
@@ -26,16 +27,19 @@ lines_last x (y ∷ ys) lacks =
 -- a byte that stands in a list is not lacking there
 pub not_lacking : (byte : ℕ) (front rest : List ℕ) → Lacks byte (front ++ byte ∷ rest) → ⊥
 not_lacking byte [] rest lacks = All-head (λ b. b ≢ byte) byte rest lacks refl
-not_lacking byte (x ∷ xs) rest lacks = not_lacking byte xs rest (All-tail (λ b. b ≢ byte) x (xs ++ byte ∷ rest) lacks)
+not_lacking byte (x ∷ xs) rest lacks = not_lacking byte xs rest (All-tail (λ b. b ≢ byte) x
+    (xs ++ byte ∷ rest) lacks)
 
 -- two cuts at the first of a byte are one
-pub cut_once : (byte : ℕ) (front rest front' rest' : List ℕ) → Lacks byte front → Lacks byte front' → front ++ byte ∷ rest ≡ front' ++ byte ∷ rest'
+pub cut_once : (byte : ℕ) (front rest front' rest' : List ℕ) → Lacks byte front → Lacks byte front'
+    → front ++ byte ∷ rest ≡ front' ++ byte ∷ rest'
     → (front ≡ front') × (rest ≡ rest')
 cut_once byte [] rest [] rest' lacks lacks' same = (refl, cc)
 cut_once byte [] rest (y ∷ ys) rest' lacks lacks' same = absurd (All-head (λ b. b ≢ byte) y ys lacks' (cc))
 cut_once byte (x ∷ xs) rest [] rest' lacks lacks' same = absurd (All-head (λ b. b ≢ byte) x xs lacks (cc))
 cut_once byte (x ∷ xs) rest (y ∷ ys) rest' lacks lacks' same =
-    let later = cut_once byte xs rest ys rest' (All-tail (λ b. b ≢ byte) x xs lacks) (All-tail (λ b. b ≢ byte) y ys lacks') (cc) in
+    let later = cut_once byte xs rest ys rest' (All-tail (λ b. b ≢ byte) x xs lacks) (All-tail (λ b. b ≢ byte)
+    y ys lacks') (cc) in
     let first : x ≡ y = cc in
     (cc, later.1)
 

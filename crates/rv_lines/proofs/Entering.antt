@@ -1,5 +1,6 @@
 -- A line is read as one entry.
-use Rattle.std.proofs.Common.{◌≡◌, ℕ, List, Option, Some, None, Result, Err, inl, inr, refl, sym, ap, subst, ◌∙◌, codes}
+use Rattle.std.proofs.Common.{◌≡◌, ℕ, List, Option, Some, None, Result, Err, inl, inr, refl, sym, ap, subst}
+use Rattle.std.proofs.Common.{◌∙◌, codes}
 use Rattle.serde_json.specs.Read.{read}
 use Rattle.serde_json.proofs.OnLiterals.{serde_json_on_literals}
 use Rattle.rv_text.specs.Bodies.{Decodes, IsMessageBody}
@@ -50,22 +51,31 @@ act_again (act.Cancel key) = refl
 act_again act.Tick = refl
 
 act_one : (field : List ℕ) (a b : Act) → SaysAct field a → SaysAct field b → a ≡ b
-act_one field a b says says' = sym (act_again a) ∙ ap act_of (message_one field (message_in a) (message_in b) says says') ∙ act_again b
+act_one field a b says says' = sym (act_again a) ∙ ap act_of (message_one field (message_in a) (message_in b)
+    says says') ∙ act_again b
 
 pub entry_one : (line : List ℕ) (a b : Entry) → ReadsEntry line a → ReadsEntry line b → a ≡ b
 entry_one line a b reads reads' =
     let same = fields_one reads.fields reads'.fields in
-    let act = act_one reads'.act_field a.act b.act (subst (λ f. SaysAct f a.act) same.2 reads.says_act) reads'.says_act in
+    let act = act_one reads'.act_field a.act b.act (subst (λ f. SaysAct f a.act) same.2 reads.says_act)
+    reads'.says_act in
     λ i. record { moment = same.0 i; act = act i; partners = same.1 i }
 
 -- a field that is not `tick` and no message's body says no act
-pub says_none : (field : List ℕ) (said : Option Message) → ¬ (field ≡ codes "tick") → ((m : Message) → ¬ IsMessageBody field m) → ¬ SaysMessage field said
+pub says_none : (field : List ℕ) (said : Option Message) → ¬ (field ≡ codes "tick")
+    → ((m : Message) → ¬ IsMessageBody field m) → ¬ SaysMessage field said
 says_none field None other none says = other says
 says_none field (Some m) other none says = none m says
 
 -- what is refused for another cause than memory is no message's body
-pub no_body : (bytes : List ℕ) (decoded : Result Message TextFault) (fault : TextFault) → Decodes Message IsMessageBody bytes decoded → decoded ≡ Err fault → line_fault fault ≡ line.Bad
+pub no_body : (bytes : List ℕ) (decoded : Result Message TextFault) (fault : TextFault)
+    → Decodes Message IsMessageBody bytes decoded → decoded ≡ Err fault → line_fault fault ≡ line.Bad
     → (m : Message) → ¬ IsMessageBody bytes m
 no_body bytes decoded text.NoMemory decodes was bad m body = absurd (cc)
-no_body bytes decoded text.NotJson decodes was bad m body = elim (decodes.only m body) [ inl ok ↦ (cc) | inr none ↦ (cc) ]
-no_body bytes decoded text.NotMessage decodes was bad m body = elim (decodes.only m body) [ inl ok ↦ (cc) | inr none ↦ (cc) ]
+no_body bytes decoded text.NotJson decodes was bad m body = elim (decodes.only m body) [
+  | inl ok ↦ (cc)
+  | inr
+      none ↦ (cc)
+]
+no_body bytes decoded text.NotMessage decodes was bad m body = elim (decodes.only m body)
+    [ inl ok ↦ (cc) | inr none ↦ (cc) ]

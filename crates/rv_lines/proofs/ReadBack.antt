@@ -1,5 +1,6 @@
 -- What is written for an account is read as that account.
-use Rattle.std.proofs.Common.{◌≡◌, ◌≤◌, ◌<◌, ◌^◌, ℕ, suc, List, [], ◌∷◌, Option, Some, None, IfSome, map, refl, ap, ◌∙◌, arith}
+use Rattle.std.proofs.Common.{◌≡◌, ◌≤◌, ◌<◌, ◌^◌, ℕ, suc, List, [], ◌∷◌, Option, Some, None, IfSome, map}
+use Rattle.std.proofs.Common.{refl, ap, ◌∙◌, arith}
 use Rattle.std.specs.Prelude.{slice_get}
 use Rattle.std.specs.List.{AllZip}
 use Rattle.std.specs.Fmt.{decimal}
@@ -14,9 +15,11 @@ use Rattle.rv_lines.specs.Laws.{WrittenLines}
 use Rattle.rv_lines.specs.Lines.{lines, printed_lines}
 use Rattle.rv_lines.specs.Number.{WritesUpTo}
 use Rattle.rv_lines.specs.Reading.{ReadsEntry, SaysMessage, SaysPartners, SaysPlaces}
-use Rattle.rv_lines.specs.Written.{FitPlaces, account_lines, entry_text, head_text, max_partner, message_in, partners_text, places_text, said_text}
+use Rattle.rv_lines.specs.Written.{FitPlaces, account_lines, entry_text, head_text, max_partner, message_in}
+use Rattle.rv_lines.specs.Written.{partners_text, places_text, said_text}
 use Rattle.rv_lines.proofs.Cutting.{Lacks, lines_cut}
-use Rattle.rv_lines.proofs.OneLine.{AllUpTo, entry_in_one_line, head_in_one_line, message_fits, partners_lack, up_to_behind}
+use Rattle.rv_lines.proofs.OneLine.{AllUpTo, entry_in_one_line, head_in_one_line, message_fits, partners_lack}
+use Rattle.rv_lines.proofs.OneLine.{up_to_behind}
 use Rattle.rv_lines.proofs.Plain.{decimal_is_plain}
 
 -- ---- one line
@@ -24,12 +27,20 @@ use Rattle.rv_lines.proofs.Plain.{decimal_is_plain}
 written_up_to : (most n : ℕ) → n ≤ most → most < 10 ^ 19 → WritesUpTo most (decimal n) n
 written_up_to most n within small = (decimal_is_plain n (omega arith), within)
 
-written_places : (place : ℕ) (more : List ℕ) → AllUpTo max_partner (place ∷ more) → SaysPlaces (places_text place more) place more
+written_places : (place : ℕ) (more : List ℕ) → AllUpTo max_partner (place ∷ more)
+    → SaysPlaces (places_text place more) place more
 written_places place [] small = written_up_to max_partner place (small place (0, refl)) (omega arith)
-written_places place (next ∷ more) small =
-    (decimal place, places_text next more, refl, written_up_to max_partner place (small place (0, refl)) (omega arith), written_places next more (up_to_behind max_partner place (next ∷ more) small))
+written_places place (next ∷ more) small = (
+  decimal place,
+  places_text next more,
+  refl,
+  written_up_to max_partner place (small place (0, refl))
+      (omega arith),
+  written_places next more (up_to_behind max_partner place (next ∷ more) small),
+)
 
-written_partners : (partners : List ℕ) → AllUpTo max_partner partners → SaysPartners (partners_text partners) partners
+written_partners : (partners : List ℕ) → AllUpTo max_partner partners
+    → SaysPartners (partners_text partners) partners
 written_partners [] small = refl
 written_partners (place ∷ more) small = written_places place more small
 
@@ -82,11 +93,16 @@ entries_in_lines (e ∷ entries) each =
 -- lines without LF are cut where they were joined
 cut_again : (texts : List (List ℕ)) → AllLines texts → lines (printed_lines texts) ≡ texts
 cut_again [] all = refl
-cut_again (text ∷ texts) all = lines_cut text (printed_lines texts) all.0 ∙ ap (λ later. text ∷ later) (cut_again texts all.1)
+cut_again (text ∷ texts) all = lines_cut text (printed_lines texts) all.0 ∙ ap (λ later. text ∷ later)
+    (cut_again texts all.1)
 
 pub lines_again : WrittenLines
 lines_again a fits =
-    let each : Each a.entries = λ r e there. record { fits = fits.entries r e there; small = fits.places r e there } in
+    let each : Each a.entries = λ r e there. record {
+      fits = fits.entries r e there;
+      small = fits.places r e
+          there;
+    } in
     let head = head_in_one_line a.epoch a.opened (omega (arith, fits.epoch.1)) (omega (arith, fits.opened)) in
     let cut = cut_again (account_lines a) (head, entries_in_lines a.entries each) in
     record {

@@ -1,18 +1,25 @@
 -- The texts of lines: what they are, and that they are short.
-use Rattle.std.proofs.Common.{◌≡◌, ◌<◌, ◌≤◌, ◌^◌, ◌+◌, ◌*◌, ℕ, List, [], ◌∷◌, ◌++◌, append-nil, drop, get_or, refl, ap, sym, ◌∙◌, append_assoc, arith, length, length-append, codes}
+use Rattle.std.proofs.Common.{◌≡◌, ◌<◌, ◌≤◌, ◌^◌, ◌+◌, ◌*◌, ℕ, List, [], ◌∷◌, ◌++◌, append-nil, drop, get_or}
+use Rattle.std.proofs.Common.{refl, ap, sym, ◌∙◌, append_assoc, arith, length, length-append, codes}
 use Rattle.std.specs.Fmt.{decimal}
 use Rattle.std.proofs.lemmas.Fmt.{length-decimal-le}
 use Rattle.std.proofs.lemmas.List.{drop_all, drop_more}
 use Rattle.rv_account.specs.declared.entry.Entry.{Entry}
-use Rattle.rv_lines.specs.Written.{FitPartners, entry_text, head_text, max_partner, max_partners, message_in, partners_text, places_text, said_text}
+use Rattle.rv_lines.specs.Written.{FitPartners, entry_text, head_text, max_partner, max_partners, message_in}
+use Rattle.rv_lines.specs.Written.{partners_text, places_text, said_text}
 use Rattle.rv_lines.proofs.Heads.{parts_joined}
 use Rattle.rv_lines.proofs.OneLine.{AllUpTo, up_to_behind}
 
-pub head_text_is : (text : List ℕ) (epoch opened : ℕ) → text ≡ codes "epoch " ++ (decimal epoch ++ (codes " opened " ++ decimal opened)) → text ≡ head_text epoch opened
+pub head_text_is : (text : List ℕ) (epoch opened : ℕ)
+    → text ≡ codes "epoch " ++ (decimal epoch ++ (codes " opened " ++ decimal opened))
+    → text ≡ head_text epoch opened
 head_text_is text epoch opened is =
-    parts_joined text (decimal epoch ++ (codes " opened " ++ decimal opened)) (decimal epoch) (codes "opened " ++ decimal opened) (decimal opened) is refl refl
+    parts_joined text (decimal epoch ++ (codes " opened " ++ decimal opened)) (decimal epoch)
+    (codes "opened " ++ decimal opened) (decimal opened) is refl refl
 
-pub head_is_short : (text : List ℕ) (epoch opened : ℕ) → text ≡ codes "epoch " ++ (decimal epoch ++ (codes " opened " ++ decimal opened)) → epoch < 2 ^ 64 → opened < 2 ^ 64 → length text < 65727
+pub head_is_short : (text : List ℕ) (epoch opened : ℕ)
+    → text ≡ codes "epoch " ++ (decimal epoch ++ (codes " opened " ++ decimal opened)) → epoch < 2 ^ 64
+    → opened < 2 ^ 64 → length text < 65727
 head_is_short text epoch opened is small small' =
     omega (
       arith,
@@ -35,37 +42,52 @@ places_text_is place [] = sym (append-nil (decimal place))
 places_text_is place (next ∷ more) = ap (λ later. decimal place ++ 44 ∷ later) (places_text_is next more)
 
 -- one more place was written
-pub place_written : (all before after : List ℕ) (more : List ℕ) (i d : ℕ) → i < length more → all ≡ before ++ more_text (drop i more) → after ≡ before ++ 44 ∷ decimal (get_or more i d)
+pub place_written : (all before after : List ℕ) (more : List ℕ) (i d : ℕ) → i < length more
+    → all ≡ before ++ more_text (drop i more) → after ≡ before ++ 44 ∷ decimal (get_or more i d)
     → all ≡ after ++ more_text (drop (i + 1) more)
 place_written all before after more i d inside so_far is =
     so_far ∙ ap (λ rest. before ++ more_text rest) (drop_more more i d inside)
     ∙ sym (append_assoc before (44 ∷ decimal (get_or more i d)) (more_text (drop (i + 1) more)))
     ∙ ap (λ text. text ++ more_text (drop (i + 1) more)) (sym is)
 
-pub places_written : (all text : List ℕ) (more : List ℕ) (i : ℕ) → length more ≤ i → all ≡ text ++ more_text (drop i more) → text ≡ all
-places_written all text more i ended so_far = sym (so_far ∙ ap (λ rest. text ++ more_text rest) (drop_all i more ended) ∙ append-nil text)
+pub places_written : (all text : List ℕ) (more : List ℕ) (i : ℕ) → length more ≤ i
+    → all ≡ text ++ more_text (drop i more) → text ≡ all
+places_written all text more i ended so_far = sym (so_far ∙ ap (λ rest. text ++ more_text rest)
+    (drop_all i more ended) ∙ append-nil text)
 
-places_short : (place : ℕ) (more : List ℕ) → AllUpTo max_partner (place ∷ more) → length (places_text place more) ≤ 5 + 6 * length more
-places_short place [] small = omega (arith, length-decimal-le 5 place (omega arith) (omega (arith, small place (0, refl))) (omega (arith, small place (0, refl))))
+places_short : (place : ℕ) (more : List ℕ) → AllUpTo max_partner (place ∷ more)
+    → length (places_text place more) ≤ 5 + 6 * length more
+places_short place [] small = omega (
+  arith,
+  length-decimal-le 5 place (omega arith)
+      (omega (arith, small place (0, refl))) (omega (arith, small place (0, refl))),
+)
 places_short place (next ∷ more) small =
     omega (
       arith,
       length-append (decimal place) (44 ∷ places_text next more),
-      length-decimal-le 5 place (omega arith) (omega (arith, small place (0, refl))) (omega (arith, small place (0, refl))),
+      length-decimal-le 5 place (omega arith) (omega (arith, small place (0, refl)))
+          (omega (arith, small place (0, refl))),
       places_short next more (up_to_behind max_partner place (next ∷ more) small),
     )
 
-partners_short : (partners : List ℕ) → AllUpTo max_partner partners → length partners ≤ max_partners → length (partners_text partners) ≤ 96
+partners_short : (partners : List ℕ) → AllUpTo max_partner partners → length partners ≤ max_partners
+    → length (partners_text partners) ≤ 96
 partners_short [] small few = omega arith
 partners_short (place ∷ more) small few = omega (arith, few, places_short place more small)
 
 -- ---- an entry
 
-pub entry_text_is : (e : Entry) (text partners act : List ℕ) → text ≡ decimal e.moment ++ 32 ∷ (partners ++ 32 ∷ act) → partners ≡ partners_text e.partners → act ≡ said_text (message_in e.act) → text ≡ entry_text e
+pub entry_text_is : (e : Entry) (text partners act : List ℕ)
+    → text ≡ decimal e.moment ++ 32 ∷ (partners ++ 32 ∷ act) → partners ≡ partners_text e.partners
+    → act ≡ said_text (message_in e.act) → text ≡ entry_text e
 entry_text_is e text partners act is same same' =
-    is ∙ (λ i. decimal e.moment ++ 32 ∷ (same i ++ 32 ∷ same' i)) ∙ sym (append_assoc (decimal e.moment) (32 ∷ partners_text e.partners) (32 ∷ said_text (message_in e.act)))
+    is ∙ (λ i. decimal e.moment ++ 32 ∷ (same i ++ 32 ∷ same' i)) ∙ sym (append_assoc (decimal e.moment)
+    (32 ∷ partners_text e.partners) (32 ∷ said_text (message_in e.act)))
 
-pub entry_is_short : (e : Entry) (text partners act : List ℕ) → text ≡ decimal e.moment ++ 32 ∷ (partners ++ 32 ∷ act) → e.moment < 2 ^ 64 → partners ≡ partners_text e.partners → FitPartners e → length act ≤ 65535
+pub entry_is_short : (e : Entry) (text partners act : List ℕ)
+    → text ≡ decimal e.moment ++ 32 ∷ (partners ++ 32 ∷ act) → e.moment < 2 ^ 64
+    → partners ≡ partners_text e.partners → FitPartners e → length act ≤ 65535
     → length text < 65727
 entry_is_short e text partners act is small same fits few =
     omega (

@@ -1,13 +1,10 @@
 -- Which sides, waits and items go together in one call.
-use Rattle.std.proofs.Common.{◌≡◌, ℕ, List, Option, Some, None, refl, subst}
+use Rattle.rv_rules.proofs.Words.{◌≡◌, ℕ, List, Option, Some, None, refl, subst, Side, Gives, Takes, Looks}
+use Rattle.rv_rules.proofs.Words.{Exchanges, Call, side_of, MayMeet, Stays, may_name, opposite}
 use Rattle.rv_text.specs.declared.call.Wait.{Wait}
-use Rattle.rv_text.specs.declared.call.Side.{Side}
-use Rattle.rv_text.specs.declared.call.Side.TheVariants.{Gives, Takes, Looks, Exchanges}
-use Rattle.rv_text.specs.declared.call.Call.{Call}
-use Rattle.rv_text.specs.declared.call.Call as call
-use Rattle.rv_text.specs.Calls.{side_of, wait_of, item_of}
+use Rattle.rv_text.specs.Calls.{wait_of, item_of}
 use Rattle.std.specs.Prelude.{IsSome}
-use Rattle.rv_account.specs.Calls.{MayMeet, Stays, may_name, opposite}
+use Rattle.rv_text.specs.declared.call.Call as call
 
 abbrev pub IsKind : Side → Option Wait → Option (List ℕ) → Type 0
 IsKind (Gives queue) wait (Some item) = Unit {0}
@@ -23,26 +20,33 @@ kind_of _ = tt
 pub kind_at : (call : Call) (side : Side) → side_of call ≡ side → IsKind side (wait_of call) (item_of call)
 kind_at call side is = subst (λ s. IsKind s (wait_of call) (item_of call)) is (kind_of call)
 
-giver_has : (wait : Option Wait) (item : Option (List ℕ)) (queue : ℕ) → IsKind (Gives queue) wait item → (bytes : List ℕ) × (item ≡ Some bytes)
+giver_has : (wait : Option Wait) (item : Option (List ℕ)) (queue : ℕ) → IsKind (Gives queue) wait item
+    → (bytes : List ℕ) × (item ≡ Some bytes)
 giver_has wait (Some bytes) queue kind = (bytes, refl)
 giver_has None None queue kind = absurd kind
 giver_has (Some wait) None queue kind = absurd kind
 
 -- what gives hands over an item
-pub gives_item : (call : Call) (queue : ℕ) → side_of call ≡ Gives queue → (item : List ℕ) × (item_of call ≡ Some item)
+pub gives_item : (call : Call) (queue : ℕ) → side_of call ≡ Gives queue
+    → (item : List ℕ) × (item_of call ≡ Some item)
 gives_item call queue is = giver_has (wait_of call) (item_of call) queue (kind_at call (Gives queue) is)
 
-exchanger_has : (wait : Option Wait) (item : Option (List ℕ)) (exchanger : ℕ) → IsKind (Exchanges exchanger) wait item → (it : Wait) × (bytes : List ℕ) × (wait ≡ Some it) × (item ≡ Some bytes)
+exchanger_has : (wait : Option Wait) (item : Option (List ℕ)) (exchanger : ℕ)
+    → IsKind (Exchanges exchanger) wait item → (it : Wait) × (bytes : List ℕ) × (wait ≡ Some it)
+    × (item ≡ Some bytes)
 exchanger_has (Some wait) (Some bytes) exchanger kind = (wait, bytes, refl, refl)
 exchanger_has (Some wait) None exchanger kind = absurd kind
 exchanger_has None (Some bytes) exchanger kind = absurd kind
 exchanger_has None None exchanger kind = absurd kind
 
 -- what exchanges hands over an item
-pub exchanges_item : (call : Call) (exchanger : ℕ) → side_of call ≡ Exchanges exchanger → (item : List ℕ) × (item_of call ≡ Some item)
-exchanges_item call exchanger is = let has = exchanger_has (wait_of call) (item_of call) exchanger (kind_at call (Exchanges exchanger) is) in (has.1, has.3)
+pub exchanges_item : (call : Call) (exchanger : ℕ) → side_of call ≡ Exchanges exchanger
+    → (item : List ℕ) × (item_of call ≡ Some item)
+exchanges_item call exchanger is = let has = exchanger_has (wait_of call) (item_of call) exchanger
+    (kind_at call (Exchanges exchanger) is) in (has.1, has.3)
 
-waiter_meets : (side : Side) (wait : Wait) (item : Option (List ℕ)) → IsKind side (Some wait) item → IsSome (opposite side)
+waiter_meets : (side : Side) (wait : Wait) (item : Option (List ℕ)) → IsKind side (Some wait) item
+    → IsSome (opposite side)
 waiter_meets (Gives queue) wait item kind = refl
 waiter_meets (Takes queue) wait item kind = refl
 waiter_meets (Looks queue) wait None kind = absurd kind
@@ -51,7 +55,8 @@ waiter_meets (Exchanges exchanger) wait item kind = refl
 
 -- what may wait may meet
 pub waiting_meets : (call : Call) (wait : Wait) → wait_of call ≡ Some wait → MayMeet call
-waiting_meets call wait is = waiter_meets (side_of call) wait (item_of call) (subst (λ w. IsKind (side_of call) w (item_of call)) is (kind_of call))
+waiting_meets call wait is = waiter_meets (side_of call) wait (item_of call)
+    (subst (λ w. IsKind (side_of call) w (item_of call)) is (kind_of call))
 
 -- what stays may name one
 pub staying_single : (call : Call) → Stays call → may_name call ≡ 1

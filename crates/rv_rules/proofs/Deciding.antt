@@ -1,31 +1,26 @@
--- What any list of entries decides: a client's last hello and last number, and who is met, stopped, open or waiting.
-use Rattle.rv_account.specs.declared.entry.Act.{Act}
-use Rattle.rv_account.specs.declared.entry.Act.TheVariants.{Arrive, Cancel, Hello, Tick}
-use Rattle.std.proofs.Common.{Bool, List, None, Option, Some, ap, arith, false, inl, inr, length, refl, subst, suc, sym, true, zero, ℕ, ◌<◌, ◌∙◌, ◌≡◌, ◌≤◌, ◌⊎◌, [], ◌+◌, ◌∷◌}
-use Rattle.rv_text.specs.declared.call.Call.{Call}
-use Rattle.rv_text.specs.declared.version.Version.{Version}
-use Rattle.rv_account.specs.declared.entry.Entry.{Entry}
-use Rattle.rv_text.specs.declared.call.Side.TheVariants.{Exchanges, Gives, Looks, Takes}
-use Rattle.rv_rules.specs.Sessions.{HasIncarnation, LastHello, LastNumber, NamesKey, SaidHello}
-use Rattle.rv_text.specs.declared.message.Key.{Key}
-use Rattle.rv_account.specs.Calls.{IsPut, Lasts, MayMeet, Stays, opposite}
-use Rattle.rv_rules.specs.Waiting.{EndsWait, HasElapsed, IsOldest, Met, NamesPartner, Open, OpenAt, Stopped, StoppedAt, Waiting, limit_at}
+-- What any list of entries decides: a client's last hello and last number, and who is met, stopped, open or
+-- waiting.
+use Rattle.rv_rules.proofs.Words.{◌<◌, ◌∙◌, ◌≡◌, ◌≤◌, ◌⊎◌, ◌+◌, ◌∷◌, Act, Arrive, Cancel, Hello, Tick, List}
+use Rattle.rv_rules.proofs.Words.{None, Option, Some, ap, arith, inl, inr, length, refl, subst, suc, sym}
+use Rattle.rv_rules.proofs.Words.{zero, ℕ, [], Call, Version, Entry, Exchanges, Gives, Looks, Takes}
+use Rattle.rv_rules.proofs.Words.{HasIncarnation, LastHello, LastNumber, NamesKey, Key, IsPut, MayMeet, Stays}
+use Rattle.rv_rules.proofs.Words.{opposite, EndsWait, Met, NamesPartner, Open, OpenAt, Stopped, StoppedAt}
+use Rattle.rv_rules.proofs.Words.{Waiting, limit_at, Side, Among, act_at, call_at, key_at, cases_lt, is_some}
+use Rattle.rv_rules.proofs.Words.{none-some, same_Some, side_of, HasWaiting, slice_get, NumberOf}
+use Rattle.std.proofs.Common.{Bool, false, true}
+use Rattle.rv_rules.specs.Sessions.{SaidHello}
+use Rattle.rv_account.specs.Calls.{Lasts}
+use Rattle.rv_rules.specs.Waiting.{HasElapsed, IsOldest}
 use Rattle.rv_text.specs.declared.call.Wait.TheVariants.{Now, Millis, Forever}
-use Rattle.rv_text.specs.declared.call.Side.{Side}
 use Rattle.rv_text.specs.declared.call.Wait.{Wait}
-use Rattle.rv_account.specs.Account.{Among, act_at, call_at, key_at}
 use Rattle.rv_rules.proofs.Growing.{act_read, call_read, reads_within}
-use Rattle.std.proofs.lemmas.Bool.{cases_lt}
 use Rattle.rv_rules.proofs.Places.{within}
 use Rattle.rv_rules.proofs.Numbers.{first_below, last_below, same_or_not}
-use Rattle.std.specs.Prelude.{is_some}
-use Rattle.rv_rules.proofs.Naming.{among_named, among_none, among_or_not, first_among, named_among, partners_of}
-use Rattle.rv_rules.proofs.Keys.{key_read, client_of, hello_is_own, cancel_no_hello, no_hello, same_hello, tick_no_hello}
-use Rattle.std.proofs.lemmas.Option.{none-some, same_Some}
-use Rattle.rv_text.specs.Calls.{side_of, wait_of}
-use Rattle.rv_rules.specs.Legal.{HasWaiting}
-use Rattle.std.specs.List.{slice_get}
-use Rattle.rv_rules.specs.Counting.{NumberOf}
+use Rattle.rv_rules.proofs.Naming.{among_named, among_none, among_or_not, first_among, named_among}
+use Rattle.rv_rules.proofs.Naming.{partners_of}
+use Rattle.rv_rules.proofs.Keys.{key_read, client_of, hello_is_own, cancel_no_hello, no_hello, same_hello}
+use Rattle.rv_rules.proofs.Keys.{tick_no_hello}
+use Rattle.rv_text.specs.Calls.{wait_of}
 use Rattle.rv_rules.proofs.Counting.{find_number}
 
 -- ---- sessions
@@ -34,7 +29,8 @@ use Rattle.rv_rules.proofs.Counting.{find_number}
 abbrev pub HelloAt : List Entry → ℕ → ℕ → Type 0
 HelloAt es c r = (i : ℕ) × (v : Version) × (act_at es r ≡ Some (Hello c i v))
 
-hello_of : (c : ℕ) (o : Option Act) → ((i : ℕ) × (v : Version) × (o ≡ Some (Hello c i v))) ⊎ ((i : ℕ) × (v : Version) × (o ≡ Some (Hello c i v)) → ⊥)
+hello_of : (c : ℕ) (o : Option Act) → ((i : ℕ) × (v : Version) × (o ≡ Some (Hello c i v)))
+    ⊎ ((i : ℕ) × (v : Version) × (o ≡ Some (Hello c i v)) → ⊥)
 hello_of c None = inr (λ h. none-some (Hello c h.0 h.1) h.2)
 hello_of c (Some (Hello d j w)) = elim (same_or_not d c) [
   | inl same ↦ inl (j, w, ap (λ n. Some (Hello n j w)) same)
@@ -44,7 +40,8 @@ hello_of c (Some (Arrive key call)) = inr (λ h. no_hello key call c h.0 h.1 h.2
 hello_of c (Some (Cancel key)) = inr (λ h. cancel_no_hello key c h.0 h.1 h.2)
 hello_of c (Some Tick) = inr (λ h. tick_no_hello c h.0 h.1 h.2)
 
-pub find_hello : (es : List Entry) (c : ℕ) → ((i : ℕ) × HasIncarnation es c i) ⊎ ((r i : ℕ) (v : Version) → act_at es r ≡ Some (Hello c i v) → ⊥)
+pub find_hello : (es : List Entry) (c : ℕ)
+    → ((i : ℕ) × HasIncarnation es c i) ⊎ ((r i : ℕ) (v : Version) → act_at es r ≡ Some (Hello c i v) → ⊥)
 find_hello es c = elim (last_below (HelloAt es c) (λ r. hello_of c (act_at es r)) (length es)) [
   | inl found ↦ inl (
     found.2.0,
@@ -53,7 +50,8 @@ find_hello es c = elim (last_below (HelloAt es c) (λ r. hello_of c (act_at es r
       record {
         version = found.2.1;
         hello = found.2.2;
-        last = λ r j v later hello. found.3 r later (reads_within act_read refl es r (Hello c j v) hello) (j, v, hello);
+        last = λ r j v later hello. found.3 r later (reads_within act_read refl es r (Hello c j v) hello)
+            (j, v, hello);
       },
     ),
   )
@@ -71,21 +69,26 @@ abbrev clients_below : List Entry → ℕ
 clients_below [] = 0
 clients_below (e ∷ es) = client_of e.act + 1 + clients_below es
 
-is_below : (es : List Entry) (c r i : ℕ) (v : Version) → act_at es r ≡ Some (Hello c i v) → c < clients_below es
+is_below : (es : List Entry) (c r i : ℕ) (v : Version) → act_at es r ≡ Some (Hello c i v)
+    → c < clients_below es
 is_below [] c r i v hello = absurd (none-some _ hello)
-is_below (e ∷ es) c zero i v hello = let own : client_of e.act ≡ c = hello_is_own e.act c i v hello in omega arith
-is_below (e ∷ es) c (suc r) i v hello = let below : c < clients_below es = is_below es c r i v hello in omega arith
+is_below (e ∷ es) c zero i v hello = let own : client_of e.act ≡ c = hello_is_own e.act c i v hello in
+    omega arith
+is_below (e ∷ es) c (suc r) i v hello = let below : c < clients_below es = is_below es c r i v hello in
+    omega arith
 
 -- how many clients said a hello
 pub find_clients : (es : List Entry) → (n : ℕ) × NumberOf (SaidHello es) n
-find_clients es = find_number (SaidHello es) (said_or_not es) (clients_below es) (λ c said. is_below es c said.0 said.1 said.2 said.3)
+find_clients es = find_number (SaidHello es) (said_or_not es) (clients_below es) (λ c said. is_below es c
+    said.0 said.1 said.2 said.3)
 
 -- the greatest number of the client's keys behind h and below n
 pub record Greatest (es : List Entry) (c h n m : ℕ) : Type 0 where
   pub most : (r : ℕ) (key : Key) → h < r → r < n → NamesKey es c r key → key.number ≤ m
   pub reached : (m ≡ 0) ⊎ ((r : ℕ) × (key : Key) × (h < r) × NamesKey es c r key × (key.number ≡ m))
 
-key_of : (c : ℕ) (o : Option Key) → ((key : Key) × (o ≡ Some key) × (key.client ≡ c)) ⊎ ((key : Key) → o ≡ Some key → key.client ≡ c → ⊥)
+key_of : (c : ℕ) (o : Option Key) → ((key : Key) × (o ≡ Some key) × (key.client ≡ c))
+    ⊎ ((key : Key) → o ≡ Some key → key.client ≡ c → ⊥)
 key_of c None = inr (λ key is own. none-some key is)
 key_of c (Some key) = elim (same_or_not key.client c) [
   | inl own ↦ inl (key, refl, own)
@@ -93,18 +96,33 @@ key_of c (Some key) = elim (same_or_not key.client c) [
 ]
 
 greatest_number : (es : List Entry) (c h n : ℕ) → (m : ℕ) × Greatest es c h n m
-greatest_number es c h zero = (0, record { most = λ r key later less names. absurd (omega arith); reached = inl refl })
+greatest_number es c h zero = (
+  0,
+  record {
+    most = λ r key later less names. absurd (omega arith);
+    reached =
+        inl refl;
+  },
+)
 greatest_number es c h (suc n) =
     let before = greatest_number es c h n in
     elim (cases_lt h n) [
-      | inr early ↦ (before.0, record { most = λ r key later less names. absurd (omega arith); reached = before.1.reached })
+      | inr early ↦ (
+        before.0,
+        record {
+          most = λ r key later less names. absurd (omega arith);
+          reached =
+              before.1.reached;
+        },
+      )
       | inl late ↦ elim (key_of c (key_at es n)) [
         | inr none ↦ (
           before.0,
           record {
             most = λ r key later less names. elim (cases_lt r n) [
               | inl below ↦ before.1.most r key later below names
-              | inr here ↦ let is : r ≡ n = omega arith in absurd (none key (ap (key_at es) (sym is) ∙ names.named) names.of_client)
+              | inr here ↦ let is : r ≡ n = omega arith in
+                  absurd (none key (ap (key_at es) (sym is) ∙ names.named) names.of_client)
             ];
             reached = before.1.reached;
           },
@@ -116,8 +134,11 @@ greatest_number es c h (suc n) =
                 key.number,
                 record {
                   most = λ r other later less names. elim (cases_lt r n) [
-                    | inl below ↦ let most : other.number ≤ before.0 = before.1.most r other later below names in omega arith
-                    | inr here ↦ let is : r ≡ n = omega arith in let same : key.number ≡ other.number = ap (λ (x : Key). x.number) (same_Some _ _ (sym found.1 ∙ ap (key_at es) (sym is) ∙ names.named)) in omega arith
+                    | inl below ↦ let most : other.number ≤ before.0 = before.1.most r other later below
+                        names in omega arith
+                    | inr here ↦ let is : r ≡ n = omega arith in let same : key.number ≡ other.number =
+                        ap (λ (x : Key). x.number) (same_Some _ _ (sym found.1 ∙ ap (key_at es) (sym is)
+                        ∙ names.named)) in omega arith
                   ];
                   reached = inr (n, key, late, record { named = found.1; of_client = found.2 }, refl);
                 },
@@ -127,7 +148,9 @@ greatest_number es c h (suc n) =
                 record {
                   most = λ r other later less names. elim (cases_lt r n) [
                     | inl early ↦ before.1.most r other later early names
-                    | inr here ↦ let is : r ≡ n = omega arith in let same : key.number ≡ other.number = ap (λ (x : Key). x.number) (same_Some _ _ (sym found.1 ∙ ap (key_at es) (sym is) ∙ names.named)) in omega arith
+                    | inr here ↦ let is : r ≡ n = omega arith in let same : key.number ≡ other.number =
+                        ap (λ (x : Key). x.number) (same_Some _ _ (sym found.1 ∙ ap (key_at es) (sym is)
+                        ∙ names.named)) in omega arith
                   ];
                   reached = before.1.reached;
                 },
@@ -144,7 +167,8 @@ find_last es c i h hello =
         incarnation = i;
         h = h;
         hello = hello;
-        greatest = λ r key later names. found.1.most r key later (reads_within key_read refl es r key names.named) names;
+        greatest = λ r key later names. found.1.most r key later (reads_within key_read refl es r key
+            names.named) names;
         reached = found.1.reached;
       },
     )
@@ -171,8 +195,15 @@ can_name es p (Some call) calls = elim (meets_or_not call) [
   | inr alone ↦ inr (λ can. alone (subst MayMeet (same_Some _ _ (sym can.arrived ∙ calls)) can.meets))
 ]
 
-as_named : (es : List Entry) (p q : ℕ) → CanName es p → Among (partners_of (slice_get es p)) q → NamesPartner es p q
-as_named es p q can at = record { call = can.call; arrived = can.arrived; meets = can.meets; named = among_named es p q at }
+as_named : (es : List Entry) (p q : ℕ) → CanName es p → Among (partners_of (slice_get es p)) q
+    → NamesPartner es p q
+as_named es p q can at = record {
+  call = can.call;
+  arrived = can.arrived;
+  meets = can.meets;
+  named =
+      among_named es p q at;
+}
 
 by_name : (es : List Entry) (p q : ℕ) → NamesPartner es p q → CanName es p
 by_name es p q names = record { call = names.call; arrived = names.arrived; meets = names.meets }
@@ -187,12 +218,14 @@ names_or_not es p q = elim (can_name es p (call_at es p) refl) [
 ]
 
 -- the first that the arrival at p names, or that it names nobody
-first_named : (es : List Entry) (p : ℕ) → ((q : ℕ) × NamesPartner es p q) ⊎ ((q : ℕ) → NamesPartner es p q → ⊥)
+first_named : (es : List Entry) (p : ℕ) → ((q : ℕ) × NamesPartner es p q) ⊎ ((q : ℕ) → NamesPartner es p q
+    → ⊥)
 first_named es p = elim (can_name es p (call_at es p) refl) [
   | inr cannot ↦ inr (λ q names. cannot (by_name es p q names))
   | inl can ↦ elim (first_among (partners_of (slice_get es p))) [
     | inl first ↦ inl (first.0, as_named es p first.0 can first.1)
-    | inr none ↦ inr (λ q names. among_none (partners_of (slice_get es p)) q none (named_among es p q names.named))
+    | inr none ↦ inr (λ q names. among_none (partners_of (slice_get es p)) q none
+        (named_among es p q names.named))
   ]
 ]
 
@@ -204,7 +237,11 @@ part_at : (es : List Entry) (r p : ℕ) → PartAt es r p ⊎ (PartAt es r p →
 part_at es r p = elim (names_or_not es p r) [
   | inl names ↦ inl (r, names, inr refl)
   | inr unnamed ↦ elim (same_or_not r p) [
-    | inr apart ↦ inr (λ part. elim part.2 [ inl is ↦ apart is | inr is ↦ unnamed (subst (NamesPartner es p) (sym is) part.1) ])
+    | inr apart ↦ inr (λ part. elim part.2 [
+      | inl is ↦ apart is
+      | inr is ↦ unnamed (subst (NamesPartner es p)
+          (sym is) part.1)
+    ])
     | inl own ↦ elim (first_named es p) [
       | inl first ↦ inl (first.0, first.1, inl own)
       | inr none ↦ inr (λ part. none part.0 part.1)
@@ -215,17 +252,21 @@ part_at es r p = elim (names_or_not es p r) [
 pub met_or_not : (es : List Entry) (r : ℕ) → Met es r ⊎ (Met es r → ⊥)
 met_or_not es r = elim (first_below (PartAt es r) (part_at es r) (length es)) [
   | inl found ↦ inl (record { later = found.0; earlier = found.2.0; names = found.2.1; part = found.2.2 })
-  | inr none ↦ inr (λ met. none met.later (reads_within call_read refl es met.later met.names.call met.names.arrived) (met.earlier, met.names, met.part))
+  | inr none ↦ inr (λ met. none met.later (reads_within call_read refl es met.later met.names.call
+      met.names.arrived) (met.earlier, met.names, met.part))
 ]
 
 -- ---- who is stopped
 
 same_fields : (a b c d e f g h : ℕ) → a ≡ b → c ≡ d → e ≡ f → g ≡ h
-    → ◌≡◌ {A = Key} (record { epoch = a; client = c; incarnation = e; number = g }) (record { epoch = b; client = d; incarnation = f; number = h })
+    → ◌≡◌ {A = Key} (record { epoch = a; client = c; incarnation = e; number = g })
+    (record { epoch = b; client = d; incarnation = f; number = h })
 same_fields a b c d e f g h p q r s = cc
 
-pub same_key : (k key : Key) → k.epoch ≡ key.epoch → k.client ≡ key.client → k.incarnation ≡ key.incarnation → k.number ≡ key.number → k ≡ key
-same_key k key p q r s = same_fields k.epoch key.epoch k.client key.client k.incarnation key.incarnation k.number key.number p q r s
+pub same_key : (k key : Key) → k.epoch ≡ key.epoch → k.client ≡ key.client → k.incarnation ≡ key.incarnation
+    → k.number ≡ key.number → k ≡ key
+same_key k key p q r s = same_fields k.epoch key.epoch k.client key.client k.incarnation key.incarnation
+    k.number key.number p q r s
 
 pub key_or_other : (k key : Key) → (k ≡ key) ⊎ (k ≡ key → ⊥)
 key_or_other k key = elim (same_or_not k.epoch key.epoch) [
@@ -244,9 +285,13 @@ key_or_other k key = elim (same_or_not k.epoch key.epoch) [
 
 elapsed_or_not : (limit : Option ℕ) (moment : ℕ) → HasElapsed limit moment ⊎ (HasElapsed limit moment → ⊥)
 elapsed_or_not None moment = inr (λ over. over)
-elapsed_or_not (Some limit) moment = elim (cases_lt moment limit) [ inl early ↦ inr (λ over. omega arith) | inr over ↦ inl over ]
+elapsed_or_not (Some limit) moment = elim (cases_lt moment limit) [
+  | inl early ↦ inr (λ over. omega arith)
+  | inr over ↦ inl over
+]
 
-ends_or_not : (act : Act) (moment : ℕ) (key : Key) (limit : Option ℕ) → EndsWait act moment key limit ⊎ (EndsWait act moment key limit → ⊥)
+ends_or_not : (act : Act) (moment : ℕ) (key : Key) (limit : Option ℕ)
+    → EndsWait act moment key limit ⊎ (EndsWait act moment key limit → ⊥)
 ends_or_not (Hello client i v) moment key limit = same_or_not client key.client
 ends_or_not (Arrive other call) moment key limit = inr (λ ends. ends)
 ends_or_not (Cancel other) moment key limit = key_or_other other key
@@ -259,7 +304,11 @@ none_or_some (Some wait) = inr (λ is. none-some wait (sym is))
 pub put_or_not : (call : Call) → IsPut call ⊎ (IsPut call → ⊥)
 put_or_not call = elim (meets_or_not call) [
   | inr alone ↦ inr (λ put. alone put.0)
-  | inl meets ↦ elim (none_or_some (wait_of call)) [ inl none ↦ inl (meets, none) | inr waits ↦ inr (λ put. waits put.1) ]
+  | inl meets ↦ elim (none_or_some (wait_of call)) [
+    | inl none ↦ inl (meets, none)
+    | inr waits ↦ inr
+        (λ put. waits put.1)
+  ]
 ]
 
 -- behind r stands what ends a wait with this key and this limit
@@ -269,45 +318,64 @@ record EndBehind (es : List Entry) (key : Key) (limit : Option ℕ) (r s : ℕ) 
   there : slice_get es s ≡ Some stopper
   ends : EndsWait stopper.act stopper.moment key limit
 
-end_of : (es : List Entry) (key : Key) (limit : Option ℕ) (r s : ℕ) (o : Option Entry) → slice_get es s ≡ o → r < s → EndBehind es key limit r s ⊎ (EndBehind es key limit r s → ⊥)
+end_of : (es : List Entry) (key : Key) (limit : Option ℕ) (r s : ℕ) (o : Option Entry) → slice_get es s ≡ o
+    → r < s → EndBehind es key limit r s ⊎ (EndBehind es key limit r s → ⊥)
 end_of es key limit r s None there later = inr (λ h. none-some h.stopper (sym there ∙ h.there))
 end_of es key limit r s (Some e) there later = elim (ends_or_not e.act e.moment key limit) [
   | inl ends ↦ inl (record { later = later; stopper = e; there = there; ends = ends })
-  | inr not_here ↦ inr (λ h. not_here (subst (λ (x : Entry). EndsWait x.act x.moment key limit) (same_Some _ _ (sym h.there ∙ there)) h.ends))
+  | inr not_here ↦ inr (λ h. not_here (subst (λ (x : Entry). EndsWait x.act x.moment key limit)
+      (same_Some _ _ (sym h.there ∙ there)) h.ends))
 ]
 
-end_behind : (es : List Entry) (key : Key) (limit : Option ℕ) (r s : ℕ) → EndBehind es key limit r s ⊎ (EndBehind es key limit r s → ⊥)
+end_behind : (es : List Entry) (key : Key) (limit : Option ℕ) (r s : ℕ)
+    → EndBehind es key limit r s ⊎ (EndBehind es key limit r s → ⊥)
 end_behind es key limit r s = elim (cases_lt r s) [
   | inr most ↦ inr (λ h. let later : r < s = h.later in omega arith)
   | inl later ↦ end_of es key limit r s (slice_get es s) refl later
 ]
 
-same_parts : (key other : Key) (call more : Call) → Some (Arrive key call) ≡ Some (Arrive other more) → (key ≡ other) × (call ≡ more)
+same_parts : (key other : Key) (call more : Call) → Some (Arrive key call) ≡ Some (Arrive other more)
+    → (key ≡ other) × (call ≡ more)
 same_parts key other call more e = (cc, cc)
 
-stops_by : (es : List Entry) (r s : ℕ) (key : Key) (call : Call) → act_at es r ≡ Some (Arrive key call) → (IsPut call → ⊥) → StoppedAt es r s ⊎ (StoppedAt es r s → ⊥)
+stops_by : (es : List Entry) (r s : ℕ) (key : Key) (call : Call) → act_at es r ≡ Some (Arrive key call)
+    → (IsPut call → ⊥) → StoppedAt es r s ⊎ (StoppedAt es r s → ⊥)
 stops_by es r s key call arrived no_put = elim (end_behind es key (limit_at es r) r s) [
-  | inl at ↦ inl (record { key = key; call = call; stopper = at.stopper; arrived = arrived; no_put = no_put; later = at.later; there = at.there; ends = at.ends })
+  | inl at ↦ inl (record {
+    key = key;
+    call = call;
+    stopper = at.stopper;
+    arrived = arrived;
+    no_put = no_put;
+    later = at.later;
+    there = at.there;
+    ends = at.ends;
+  })
   | inr none ↦ inr (λ h.
       let own : h.key ≡ key = (same_parts h.key key h.call call (sym h.arrived ∙ arrived)).0 in
       let ends = subst (λ (k : Key). EndsWait h.stopper.act h.stopper.moment k (limit_at es r)) own h.ends in
       none (record { later = h.later; stopper = h.stopper; there = h.there; ends = ends }))
 ]
 
-pub arrives_no_cancel : (key : Key) (call : Call) (other : Key) → Some (Arrive key call) ≡ Some (Cancel other) → ⊥
+pub arrives_no_cancel : (key : Key) (call : Call) (other : Key) → Some (Arrive key call) ≡ Some (Cancel other)
+    → ⊥
 arrives_no_cancel key call other e = cc
 
 pub arrives_no_tick : (key : Key) (call : Call) → Some (Arrive key call) ≡ Some Tick → ⊥
 arrives_no_tick key call e = cc
 
-stops_of : (es : List Entry) (r s : ℕ) (o : Option Act) → act_at es r ≡ o → StoppedAt es r s ⊎ (StoppedAt es r s → ⊥)
+stops_of : (es : List Entry) (r s : ℕ) (o : Option Act) → act_at es r ≡ o
+    → StoppedAt es r s ⊎ (StoppedAt es r s → ⊥)
 stops_of es r s None there = inr (λ h. none-some _ (sym there ∙ h.arrived))
-stops_of es r s (Some (Hello client i v)) there = inr (λ h. no_hello h.key h.call client i v (sym h.arrived ∙ there))
-stops_of es r s (Some (Cancel key)) there = inr (λ h. arrives_no_cancel h.key h.call key (sym h.arrived ∙ there))
+stops_of es r s (Some (Hello client i v)) there = inr (λ h. no_hello h.key h.call client i v (sym h.arrived
+    ∙ there))
+stops_of es r s (Some (Cancel key)) there = inr (λ h. arrives_no_cancel h.key h.call key (sym h.arrived
+    ∙ there))
 stops_of es r s (Some Tick) there = inr (λ h. arrives_no_tick h.key h.call (sym h.arrived ∙ there))
 stops_of es r s (Some (Arrive key call)) there = elim (put_or_not call) [
   | inr no_put ↦ stops_by es r s key call there no_put
-  | inl put ↦ inr (λ h. h.no_put (subst IsPut (sym (same_parts h.key key h.call call (sym h.arrived ∙ there)).1) put))
+  | inl put ↦ inr
+      (λ h. h.no_put (subst IsPut (sym (same_parts h.key key h.call call (sym h.arrived ∙ there)).1) put))
 ]
 
 pub stops_or_not : (es : List Entry) (r s : ℕ) → StoppedAt es r s ⊎ (StoppedAt es r s → ⊥)
@@ -316,7 +384,8 @@ stops_or_not es r s = stops_of es r s (act_at es r) refl
 pub stopped_or_not : (es : List Entry) (r : ℕ) → Stopped es r ⊎ (Stopped es r → ⊥)
 stopped_or_not es r = elim (first_below (StoppedAt es r) (stops_or_not es r) (length es)) [
   | inl found ↦ inl (found.0, found.2)
-  | inr none ↦ inr (λ stopped. none stopped.0 (within es stopped.0 stopped.1.stopper stopped.1.there) stopped.1)
+  | inr none ↦ inr (λ stopped. none stopped.0 (within es stopped.0 stopped.1.stopper stopped.1.there)
+      stopped.1)
 ]
 
 -- ---- who is open on a side
@@ -334,33 +403,57 @@ looks_apart : (p q : ℕ) → (p ≡ q → ⊥) → Looks p ≡ Looks q → ⊥
 looks_apart p q apart e = apart (cc)
 
 pub same_side : (s t : Side) → (s ≡ t) ⊎ (s ≡ t → ⊥)
-same_side (Gives p) (Gives q) = elim (same_or_not p q) [ inl same ↦ inl (ap Gives same) | inr apart ↦ inr (gives_apart p q apart) ]
+same_side (Gives p) (Gives q) = elim (same_or_not p q) [
+  | inl same ↦ inl (ap Gives same)
+  | inr apart ↦ inr
+      (gives_apart p q apart)
+]
 same_side (Gives p) (Takes q) = inr (λ e. let no : ⊥ = cc in no)
 same_side (Gives p) (Looks q) = inr (λ e. let no : ⊥ = cc in no)
 same_side (Takes p) (Gives q) = inr (λ e. let no : ⊥ = cc in no)
-same_side (Takes p) (Takes q) = elim (same_or_not p q) [ inl same ↦ inl (ap Takes same) | inr apart ↦ inr (takes_apart p q apart) ]
+same_side (Takes p) (Takes q) = elim (same_or_not p q) [
+  | inl same ↦ inl (ap Takes same)
+  | inr apart ↦ inr
+      (takes_apart p q apart)
+]
 same_side (Takes p) (Looks q) = inr (λ e. let no : ⊥ = cc in no)
 same_side (Looks p) (Gives q) = inr (λ e. let no : ⊥ = cc in no)
 same_side (Looks p) (Takes q) = inr (λ e. let no : ⊥ = cc in no)
-same_side (Looks p) (Looks q) = elim (same_or_not p q) [ inl same ↦ inl (ap Looks same) | inr apart ↦ inr (looks_apart p q apart) ]
+same_side (Looks p) (Looks q) = elim (same_or_not p q) [
+  | inl same ↦ inl (ap Looks same)
+  | inr apart ↦ inr
+      (looks_apart p q apart)
+]
 same_side (Gives p) (Exchanges q) = inr (λ e. let no : ⊥ = cc in no)
 same_side (Takes p) (Exchanges q) = inr (λ e. let no : ⊥ = cc in no)
 same_side (Looks p) (Exchanges q) = inr (λ e. let no : ⊥ = cc in no)
 same_side (Exchanges p) (Gives q) = inr (λ e. let no : ⊥ = cc in no)
 same_side (Exchanges p) (Takes q) = inr (λ e. let no : ⊥ = cc in no)
 same_side (Exchanges p) (Looks q) = inr (λ e. let no : ⊥ = cc in no)
-same_side (Exchanges p) (Exchanges q) = elim (same_or_not p q) [ inl same ↦ inl (ap Exchanges same) | inr apart ↦ inr (exchanges_apart p q apart) ]
+same_side (Exchanges p) (Exchanges q) = elim (same_or_not p q) [
+  | inl same ↦ inl (ap Exchanges same)
+  | inr
+      apart ↦ inr (exchanges_apart p q apart)
+]
 
 pub lasts_or_not : (wait : Option Wait) → Lasts wait ⊎ (Lasts wait → ⊥)
 lasts_or_not None = inl tt
 lasts_or_not (Some Now) = inr (λ lasts. lasts)
-lasts_or_not (Some (Millis n)) = elim (cases_lt 0 n) [ inl lasts ↦ inl lasts | inr over ↦ inr (λ lasts. omega arith) ]
+lasts_or_not (Some (Millis n)) = elim (cases_lt 0 n) [
+  | inl lasts ↦ inl lasts
+  | inr over ↦ inr
+      (λ lasts. omega arith)
+]
 lasts_or_not (Some Forever) = inl tt
 
 stays_or_not : (call : Call) → Stays call ⊎ (Stays call → ⊥)
 stays_or_not call = elim (meets_or_not call) [
   | inr alone ↦ inr (λ stays. alone stays.0)
-  | inl meets ↦ elim (lasts_or_not (wait_of call)) [ inl lasts ↦ inl (meets, lasts) | inr goes ↦ inr (λ stays. goes stays.1) ]
+  | inl meets ↦ elim (lasts_or_not (wait_of call)) [
+    | inl lasts ↦ inl (meets, lasts)
+    | inr goes ↦ inr
+        (λ stays. goes stays.1)
+  ]
 ]
 
 -- an arrival of this call is open there or not
@@ -371,12 +464,19 @@ open_of es r call arrived = elim (stays_or_not call) [
     | inl met ↦ inr (λ h. h.unmet met)
     | inr unmet ↦ elim (stopped_or_not es r) [
       | inl stopped ↦ inr (λ h. h.unstopped stopped)
-      | inr unstopped ↦ inl (record { call = call; arrived = arrived; stays = stays; unmet = unmet; unstopped = unstopped })
+      | inr unstopped ↦ inl (record {
+        call = call;
+        arrived = arrived;
+        stays = stays;
+        unmet = unmet;
+        unstopped = unstopped;
+      })
     ]
   ]
 ]
 
-called_or_not : (es : List Entry) (r : ℕ) (c : Option Call) → call_at es r ≡ c → ((call : Call) × (call_at es r ≡ Some call)) ⊎ ((call : Call) → call_at es r ≡ Some call → ⊥)
+called_or_not : (es : List Entry) (r : ℕ) (c : Option Call) → call_at es r ≡ c
+    → ((call : Call) × (call_at es r ≡ Some call)) ⊎ ((call : Call) → call_at es r ≡ Some call → ⊥)
 called_or_not es r None calls = inr (λ call arrived. none-some call (sym calls ∙ arrived))
 called_or_not es r (Some call) calls = inl (call, calls)
 
@@ -397,7 +497,8 @@ waits_or_not es r = elim (open_or_not es r) [
 
 -- how many requests wait
 pub find_waiting : (es : List Entry) → (n : ℕ) × NumberOf (Waiting es) n
-find_waiting es = find_number (Waiting es) (waits_or_not es) (length es) (λ r w. reads_within call_read refl es r w.is_open.call w.is_open.arrived)
+find_waiting es = find_number (Waiting es) (waits_or_not es) (length es) (λ r w. reads_within call_read refl
+    es r w.is_open.call w.is_open.arrived)
 
 -- a request of the client waits at r
 abbrev pub WaitsForAt : List Entry → ℕ → ℕ → Type 0
@@ -415,22 +516,31 @@ waits_at es client r = elim (waits_or_not es r) [
 pub has_waiting_or_not : (es : List Entry) (client : ℕ) → HasWaiting es client ⊎ (HasWaiting es client → ⊥)
 has_waiting_or_not es client = elim (first_below (WaitsForAt es client) (waits_at es client) (length es)) [
   | inl found ↦ inl (record { place = found.0; key = found.2.0; waits = found.2.1; names = found.2.2 })
-  | inr none ↦ inr (λ h. none h.place (reads_within call_read refl es h.place h.waits.is_open.call h.waits.is_open.arrived) (h.key, h.waits, h.names))
+  | inr none ↦ inr (λ h. none h.place (reads_within call_read refl es h.place h.waits.is_open.call
+      h.waits.is_open.arrived) (h.key, h.waits, h.names))
 ]
 
-pub open_by : (es : List Entry) (side : Side) (r : ℕ) (c : Option Call) → call_at es r ≡ c → OpenAt es side r ⊎ (OpenAt es side r → ⊥)
+pub open_by : (es : List Entry) (side : Side) (r : ℕ) (c : Option Call) → call_at es r ≡ c
+    → OpenAt es side r ⊎ (OpenAt es side r → ⊥)
 open_by es side r None calls = inr (λ h. none-some h.of_side.call (sym calls ∙ h.of_side.arrived))
 open_by es side r (Some call) calls = elim (same_side (side_of call) side) [
   | inl same ↦ elim (open_of es r call calls) [
-    | inl opened ↦ inl (record { of_side = record { call = call; arrived = calls; is = same }; is_open = opened })
+    | inl opened ↦ inl (record {
+      of_side = record { call = call; arrived = calls; is = same };
+      is_open =
+          opened;
+    })
     | inr closed ↦ inr (λ h. closed h.is_open)
   ]
   | inr apart ↦ inr (λ h. apart (ap side_of (same_Some _ _ (sym calls ∙ h.of_side.arrived)) ∙ h.of_side.is))
 ]
 
 -- the side's oldest open arrival, or that there is none
-pub find_oldest : (es : List Entry) (side : Side) → ((p : ℕ) × IsOldest es side p) ⊎ ((r : ℕ) → OpenAt es side r → ⊥)
-find_oldest es side = elim (first_below (OpenAt es side) (λ r. open_by es side r (call_at es r) refl) (length es)) [
-  | inl found ↦ inl (found.0, record { there = found.2; oldest = found.3 })
-  | inr none ↦ inr (λ r opened. none r (reads_within call_read refl es r opened.of_side.call opened.of_side.arrived) opened)
-]
+pub find_oldest : (es : List Entry) (side : Side)
+    → ((p : ℕ) × IsOldest es side p) ⊎ ((r : ℕ) → OpenAt es side r → ⊥)
+find_oldest es side = elim (first_below (OpenAt es side) (λ r. open_by es side r (call_at es r) refl)
+    (length es)) [
+      | inl found ↦ inl (found.0, record { there = found.2; oldest = found.3 })
+      | inr none ↦ inr (λ r opened. none r (reads_within call_read refl es r opened.of_side.call
+          opened.of_side.arrived) opened)
+    ]

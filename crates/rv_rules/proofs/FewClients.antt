@@ -1,14 +1,9 @@
 -- That at most 1,024 clients said a hello stays so, entry by entry.
-use Rattle.std.proofs.Common.{◌≡◌, inl, inr, ℕ, ◌+◌, ◌≤◌, List, [], ◌∷◌, ◌++◌, length, Some, refl, sym, ap, subst, ◌∙◌, arith}
-use Rattle.std.proofs.lemmas.Bool.{cases_lt}
-use Rattle.std.proofs.lemmas.Option.{none-some}
+use Rattle.rv_rules.proofs.Words.{◌≡◌, ◌+◌, ◌≤◌, ◌∷◌, ◌++◌, ◌∙◌, inl, inr, ℕ, List, [], length, Some, refl}
+use Rattle.rv_rules.proofs.Words.{sym, ap, subst, arith, cases_lt, none-some, Version, Hello, Entry, Account}
+use Rattle.rv_rules.proofs.Words.{act_at, NumberOf}
 use Rattle.rv_text.specs.declared.answer.Refusal.{Refusal}
 use Rattle.rv_text.specs.declared.answer.Refusal.TheVariants.{ClientsFull}
-use Rattle.rv_text.specs.declared.version.Version.{Version}
-use Rattle.rv_account.specs.declared.entry.Act.TheVariants.{Hello}
-use Rattle.rv_account.specs.declared.entry.Entry.{Entry}
-use Rattle.rv_account.specs.Account.{Account, act_at}
-use Rattle.rv_rules.specs.Counting.{NumberOf}
 use Rattle.rv_rules.specs.Sessions.{SaidHello}
 use Rattle.rv_rules.specs.Steps.{ClientsFullDue, max_clients}
 use Rattle.rv_rules.proofs.Counting.{number_at_most, number_below, number_drop}
@@ -23,14 +18,19 @@ FewClients es = (clients : ℕ) → NumberOf (SaidHello es) clients → clients 
 -- with no entry
 pub few_none : (es : List Entry) → es ≡ [] → FewClients es
 few_none es none clients count =
-    let zero : clients ≤ 0 = number_below (SaidHello es) clients 0 (λ c said. absurd (none-some _ (sym (ap (λ (l : List Entry). act_at l said.0) none) ∙ said.3))) count in
+    let zero : clients ≤ 0 = number_below (SaidHello es) clients 0
+    (λ c said. absurd (none-some _ (sym (ap (λ (l : List Entry). act_at l said.0) none) ∙ said.3))) count
+    in
     omega arith
 
 -- behind an entry that is no hello of a new client
-pub few_still : (es : List Entry) (e : Entry) → ((client incarnation : ℕ) (v : Version) → Some e.act ≡ Some (Hello client incarnation v) → SaidHello es client) → FewClients es → FewClients (es ++ e ∷ [])
+pub few_still : (es : List Entry) (e : Entry)
+    → ((client incarnation : ℕ) (v : Version) → Some e.act ≡ Some (Hello client incarnation v) → SaidHello es
+    client) → FewClients es → FewClients (es ++ e ∷ [])
 few_still es e known few clients count =
     let found = find_clients es in
-    let most : clients ≤ found.0 = number_at_most (SaidHello (es ++ e ∷ [])) (SaidHello es) clients found.0 (λ c said. elim (reads_back act_read refl es e said.0 _ said.3) [
+    let most : clients ≤ found.0 = number_at_most (SaidHello (es ++ e ∷ [])) (SaidHello es) clients found.0
+    (λ c said. elim (reads_back act_read refl es e said.0 _ said.3) [
       | inl before ↦ (said.0, said.1, said.2, before.1)
       | inr last ↦ known c said.1 said.2 last.1
     ]) count found.1 in
@@ -38,17 +38,30 @@ few_still es e known few clients count =
     omega arith
 
 -- behind a hello for whose client there is room
-module _ (a : Account) (e : Entry) (client incarnation : ℕ) (v : Version) (says : Some e.act ≡ Some (Hello client incarnation v)) where
+module _ (a : Account) (e : Entry) (client incarnation : ℕ) (v : Version) (says : Some e.act ≡ Some
+    (Hello client incarnation v)) where
   own_client : (c i : ℕ) (w : Version) → Some e.act ≡ Some (Hello c i w) → client ≡ c
   own_client c i w own = sym (hello_is_own e.act client incarnation v says) ∙ hello_is_own e.act c i w own
 
-  pub few_with : ((refusal : Refusal) → ClientsFullDue a client refusal → ⊥) → FewClients a.entries → FewClients (a.entries ++ e ∷ [])
+  pub few_with : ((refusal : Refusal) → ClientsFullDue a client refusal → ⊥) → FewClients a.entries
+      → FewClients (a.entries ++ e ∷ [])
   few_with room few clients count = elim (said_or_not a.entries client) [
-    | inl known ↦ few_still a.entries e (λ c i w own. subst (SaidHello a.entries) (own_client c i w own) known) few clients count
+    | inl known ↦ few_still a.entries e (λ c i w own. subst (SaidHello a.entries) (own_client c i w own)
+        known) few clients count
     | inr new ↦
-        let own : SaidHello (a.entries ++ e ∷ []) client = (length a.entries, incarnation, v, ap act_read (get-append_end a.entries e) ∙ says) in
-        let rest = number_drop (SaidHello (a.entries ++ e ∷ [])) (SaidHello a.entries) clients client count own (λ c. (
-          (λ said. ((said.0, said.1, said.2, reads_on act_read refl a.entries (e ∷ []) said.0 _ said.3), λ same. new (subst (SaidHello a.entries) same said))),
+        let own : SaidHello (a.entries ++ e ∷ []) client = (
+          length a.entries,
+          incarnation,
+          v,
+          ap act_read
+              (get-append_end a.entries e) ∙ says,
+        ) in
+        let rest = number_drop (SaidHello (a.entries ++ e ∷ [])) (SaidHello a.entries) clients client count
+        own (λ c. (
+          (λ said. (
+            (said.0, said.1, said.2, reads_on act_read refl a.entries (e ∷ []) said.0 _ said.3),
+            λ same. new (subst (SaidHello a.entries) same said),
+          )),
           (λ other. elim (reads_back act_read refl a.entries e other.0.0 _ other.0.3) [
             | inl before ↦ (other.0.0, other.0.1, other.0.2, before.1)
             | inr last ↦ absurd (other.1 (sym (own_client c other.0.1 other.0.2 last.1)))
@@ -57,6 +70,12 @@ module _ (a : Account) (e : Entry) (client incarnation : ℕ) (v : Version) (say
         let is : clients ≡ rest.0 + 1 = rest.1 in
         elim (cases_lt rest.0 1024) [
           | inl less ↦ omega arith
-          | inr full ↦ absurd (room ClientsFull (record { is_new = new; clients = rest.0; count = rest.2; full = full; is = refl }))
+          | inr full ↦ absurd (room ClientsFull (record {
+            is_new = new;
+            clients = rest.0;
+            count = rest.2;
+            full = full;
+            is = refl;
+          }))
         ]
   ]

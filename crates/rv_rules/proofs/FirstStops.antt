@@ -1,12 +1,8 @@
 -- The first entry that stops a request: that it is there or not, is one, and stays.
-use Rattle.std.proofs.Common.{◌≡◌, ◌⊎◌, inl, inr, ℕ, ◌<◌, List, [], ◌∷◌, ◌++◌, length, refl, sym, ap, ◌∙◌, arith}
-use Rattle.std.specs.List.{slice_get}
-use Rattle.std.proofs.lemmas.Bool.{cases_order}
-use Rattle.std.proofs.lemmas.Option.{same_Some}
+use Rattle.rv_rules.proofs.Words.{◌≡◌, ◌⊎◌, ◌<◌, ◌∷◌, ◌++◌, ◌∙◌, inl, inr, ℕ, List, [], length, refl, sym, ap}
+use Rattle.rv_rules.proofs.Words.{arith, slice_get, cases_order, same_Some, Entry, Stopped, StoppedAt}
 use Rattle.rv_text.specs.declared.answer.Reply.{Reply}
-use Rattle.rv_account.specs.declared.entry.Entry.{Entry}
 use Rattle.rv_rules.specs.Replies.{FirstStop, ToldStopped, told_by}
-use Rattle.rv_rules.specs.Waiting.{Stopped, StoppedAt}
 use Rattle.rv_rules.proofs.Deciding.{stops_or_not}
 use Rattle.rv_rules.proofs.Growing.{StoppedAt-back, StoppedAt-on}
 use Rattle.rv_rules.proofs.Numbers.{first_below}
@@ -17,7 +13,8 @@ use Rattle.rv_rules.proofs.Places.{get-append_end, within}
 pub first_stop : (es : List Entry) (r : ℕ) → ((s : ℕ) × FirstStop es r s) ⊎ (Stopped es r → ⊥)
 first_stop es r = elim (first_below (StoppedAt es r) (stops_or_not es r) (length es)) [
   | inl found ↦ inl (found.0, record { stops = found.2; first = found.3 })
-  | inr none ↦ inr (λ stopped. none stopped.0 (within es stopped.0 stopped.1.stopper stopped.1.there) stopped.1)
+  | inr none ↦ inr (λ stopped. none stopped.0 (within es stopped.0 stopped.1.stopper stopped.1.there)
+      stopped.1)
 ]
 
 pub told_or_not : (es : List Entry) (r : ℕ) → ((told : Reply) × ToldStopped es r told) ⊎ (Stopped es r → ⊥)
@@ -31,31 +28,40 @@ told_or_not es r = elim (first_stop es r) [
 one_first : (es : List Entry) (r s t : ℕ) → FirstStop es r s → FirstStop es r t → s ≡ t
 one_first es r s t first second = elim (cases_order s t) [
   | inl same ↦ same
-  | inr differ ↦ elim differ [ inl less ↦ absurd (second.first s less first.stops) | inr more ↦ absurd (first.first t more second.stops) ]
+  | inr differ ↦ elim differ [
+    | inl less ↦ absurd (second.first s less first.stops)
+    | inr more ↦ absurd
+        (first.first t more second.stops)
+  ]
 ]
 
-pub one_told_stopped : (es : List Entry) (r : ℕ) (x y : Reply) → ToldStopped es r x → ToldStopped es r y → y ≡ x
+pub one_told_stopped : (es : List Entry) (r : ℕ) (x y : Reply) → ToldStopped es r x → ToldStopped es r y
+    → y ≡ x
 one_told_stopped es r x y first second =
     let place : second.place ≡ first.place = one_first es r second.place first.place second.stop first.stop in
-    let stopper : second.stop.stops.stopper ≡ first.stop.stops.stopper = same_Some _ _ (sym second.stop.stops.there ∙ ap (slice_get es) place ∙ first.stop.stops.there) in
+    let stopper : second.stop.stops.stopper ≡ first.stop.stops.stopper = same_Some _ _
+    (sym second.stop.stops.there ∙ ap (slice_get es) place ∙ first.stop.stops.there) in
     second.is ∙ ap (λ (e : Entry). told_by e.act) stopper ∙ sym first.is
 
 -- ---- it stays
 
-pub told_on : (es more : List Entry) (r : ℕ) (told : Reply) → ToldStopped es r told → ToldStopped (es ++ more) r told
+pub told_on : (es more : List Entry) (r : ℕ) (told : Reply) → ToldStopped es r told
+    → ToldStopped (es ++ more) r told
 unfolding StoppedAt-on
 told_on es more r told h =
     let s = h.place in
     let inside : s < length es = within es s h.stop.stops.stopper h.stop.stops.there in
     let stop : FirstStop (es ++ more) r s = record {
       stops = StoppedAt-on es more r s h.stop.stops;
-      first = λ earlier less stopped. h.stop.first earlier less (StoppedAt-back es more r earlier (omega arith) stopped);
+      first = λ earlier less stopped. h.stop.first earlier less (StoppedAt-back es more r earlier
+          (omega arith) stopped);
     } in
     record { place = s; stop = stop; is = h.is }
 
 -- ---- the last entry is the first that stops a request that wasn't stopped
 
-pub told_by_last : (es : List Entry) (e : Entry) (r : ℕ) → (Stopped es r → ⊥) → StoppedAt (es ++ e ∷ []) r (length es) → ToldStopped (es ++ e ∷ []) r (told_by e.act)
+pub told_by_last : (es : List Entry) (e : Entry) (r : ℕ) → (Stopped es r → ⊥)
+    → StoppedAt (es ++ e ∷ []) r (length es) → ToldStopped (es ++ e ∷ []) r (told_by e.act)
 told_by_last es e r unstopped stopped =
     let own : e ≡ stopped.stopper = same_Some _ _ (sym (get-append_end es e) ∙ stopped.there) in
     let stop : FirstStop (es ++ e ∷ []) r (length es) = record {

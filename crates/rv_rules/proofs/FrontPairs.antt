@@ -1,22 +1,14 @@
--- An arrival that names the oldest open arrivals of the other side, as many as it may, keeps the pairs; there is such a one.
-use Rattle.std.proofs.Common.{◌≡◌, inl, inr, ℕ, ◌+◌, ◌<◌, ◌≤◌, List, [], length, take, Option, Some, None, refl, sym, ap, subst, ◌∙◌, arith, length-take}
-use Rattle.std.specs.Prelude.{is_some}
-use Rattle.std.specs.List.{slice_index}
-use Rattle.std.specs.List.Sorted.{IsStrictlyIncreasing}
-use Rattle.std.proofs.lemmas.Bool.{cases_lt}
+-- An arrival that names the oldest open arrivals of the other side, as many as it may, keeps the pairs; there
+-- is such a one.
+use Rattle.rv_rules.proofs.Words.{◌≡◌, ◌+◌, ◌<◌, ◌≤◌, ◌∙◌, inl, inr, ℕ, List, [], length, take, Option, Some}
+use Rattle.rv_rules.proofs.Words.{None, refl, sym, ap, subst, arith, length-take, is_some, slice_index}
+use Rattle.rv_rules.proofs.Words.{IsStrictlyIncreasing, cases_lt, get_or_from_slice_get, none-some, same_Some}
+use Rattle.rv_rules.proofs.Words.{Key, Call, Side, side_of, Arrive, Entry, Among, call_at, may_name, opposite}
+use Rattle.rv_rules.proofs.Words.{NumberOf, IsOpenOpposite, OpenAt}
 use Rattle.std.proofs.lemmas.List.{get_or-take}
-use Rattle.std.proofs.lemmas.Option.{get_or_from_slice_get, none-some, same_Some}
-use Rattle.rv_text.specs.declared.message.Key.{Key}
-use Rattle.rv_text.specs.declared.call.Call.{Call}
-use Rattle.rv_text.specs.declared.call.Side.{Side}
-use Rattle.rv_text.specs.Calls.{side_of}
-use Rattle.rv_account.specs.declared.entry.Act.TheVariants.{Arrive}
-use Rattle.rv_account.specs.declared.entry.Entry.{Entry}
-use Rattle.rv_account.specs.Account.{Among, call_at, entry}
-use Rattle.rv_account.specs.Calls.{may_name, opposite}
-use Rattle.rv_rules.specs.Counting.{NumberOf}
-use Rattle.rv_rules.specs.Legal.{IsFreePartner, IsOpenOpposite, KeepsPairs}
-use Rattle.rv_rules.specs.Waiting.{OpenAt, SideAt}
+use Rattle.rv_account.specs.Account.{entry}
+use Rattle.rv_rules.specs.Legal.{IsFreePartner, KeepsPairs}
+use Rattle.rv_rules.specs.Waiting.{SideAt}
 use Rattle.rv_rules.proofs.Counting.{find_number, later_is_greater}
 use Rattle.rv_rules.proofs.Deciding.{open_by}
 use Rattle.rv_rules.proofs.Growing.{call_read, reads_within}
@@ -27,12 +19,16 @@ use Rattle.rv_rules.proofs.Sides.{one_side}
 
 -- ---- fronts of places that rise
 
-pub front_rises : (places : List ℕ) (n : ℕ) → IsStrictlyIncreasing places → IsStrictlyIncreasing (take n places)
+pub front_rises : (places : List ℕ) (n : ℕ) → IsStrictlyIncreasing places
+    → IsStrictlyIncreasing (take n places)
 front_rises places n rising k less =
     let inside : k + 1 < length (take n places) = less in
-    let here : slice_index (take n places) k ≡ slice_index places k = get_or-take n places k 0 (omega (arith, length-take n places)) in
-    let next : slice_index (take n places) (k + 1) ≡ slice_index places (k + 1) = get_or-take n places (k + 1) 0 (omega (arith, length-take n places)) in
-    let rises : slice_index places k < slice_index places (k + 1) = rising k (omega (arith, length-take n places)) in
+    let here : slice_index (take n places) k ≡ slice_index places k = get_or-take n places k 0
+    (omega (arith, length-take n places)) in
+    let next : slice_index (take n places) (k + 1) ≡ slice_index places (k + 1) = get_or-take n places (k + 1)
+    0 (omega (arith, length-take n places)) in
+    let rises : slice_index places k < slice_index places (k + 1) =
+    rising k (omega (arith, length-take n places)) in
     omega arith
 
 abbrev pub front_among : (places : List ℕ) (n p : ℕ) → Among (take n places) p → Among places p
@@ -44,7 +40,8 @@ pub among_front : (places : List ℕ) (n p : ℕ) (at : Among places p) → at.0
 among_front places n p at less = (at.0, get-take places n at.0 less ∙ at.1)
 
 -- of places that rise, the lesser stands first
-pub stands_first : (places : List ℕ) (p r : ℕ) → IsStrictlyIncreasing places → (here : Among places p) → (there : Among places r) → r < p → there.0 < here.0
+pub stands_first : (places : List ℕ) (p r : ℕ) → IsStrictlyIncreasing places → (here : Among places p)
+    → (there : Among places r) → r < p → there.0 < here.0
 stands_first places p r rising here there less = elim (cases_lt there.0 here.0) [
   | inl first ↦ first
   | inr most ↦
@@ -52,14 +49,17 @@ stands_first places p r rising here there less = elim (cases_lt there.0 here.0) 
       let r_is : slice_index places there.0 ≡ r = get_or_from_slice_get places there.0 r 0 there.1 in
       let inside : there.0 < length places = within places there.0 r there.1 in
       elim (cases_lt here.0 there.0) [
-        | inl later ↦ let rises : slice_index places here.0 < slice_index places there.0 = later_is_greater places here.0 there.0 rising later inside in absurd (omega arith)
-        | inr least ↦ let one : here.0 ≡ there.0 = omega arith in let equal : slice_index places here.0 ≡ slice_index places there.0 = ap (slice_index places) one in absurd (omega arith)
+        | inl later ↦ let rises : slice_index places here.0 < slice_index places there.0 = later_is_greater
+            places here.0 there.0 rising later inside in absurd (omega arith)
+        | inr least ↦ let one : here.0 ≡ there.0 = omega arith in let equal : slice_index places here.0 ≡
+            slice_index places there.0 = ap (slice_index places) one in absurd (omega arith)
       ]
 ]
 
 -- ---- the pairs of an arrival
 
-module _ (es : List Entry) (moment : ℕ) (key : Key) (call : Call) (other : Side) (n : ℕ) (opposes : opposite (side_of call) ≡ Some other) (count : NumberOf (OpenAt es other) n) where
+module _ (es : List Entry) (moment : ℕ) (key : Key) (call : Call) (other : Side) (n : ℕ) (opposes :
+    opposite (side_of call) ≡ Some other) (count : NumberOf (OpenAt es other) n) where
   abbrev named : List ℕ
   named = take (may_name call) count.places
 
@@ -67,7 +67,8 @@ module _ (es : List Entry) (moment : ℕ) (key : Key) (call : Call) (other : Sid
   own = entry moment (Arrive key call) named
 
   opened : (p : ℕ) → Among named p → OpenAt es other p
-  opened p names = (count.are p).0 (among_contains count.places p (front_among count.places (may_name call) p names))
+  opened p names = (count.are p).0 (among_contains count.places p (front_among count.places (may_name call) p
+      names))
 
   stands : (r : ℕ) → OpenAt es other r → Among count.places r
   stands r there = contains_among count.places r ((count.are r).1 there)
@@ -86,12 +87,14 @@ module _ (es : List Entry) (moment : ℕ) (key : Key) (call : Call) (other : Sid
         unmet = there.is_open.unmet;
       }
 
-  oldest : (p r : ℕ) (side : Side) → Among named p → SideAt es side p → r < p → OpenAt es side r → Among named r
+  oldest : (p r : ℕ) (side : Side) → Among named p → SideAt es side p → r < p → OpenAt es side r
+      → Among named r
   oldest p r side names at less there =
       let sides : side ≡ other = one_side es side other p at (opened p names).of_side in
       let here : Among count.places p = front_among count.places (may_name call) p names in
       let stands_there : Among count.places r = stands r (subst (λ s. OpenAt es s r) sides there) in
-      let first : stands_there.0 < here.0 = stands_first count.places p r count.rising here stands_there less in
+      let first : stands_there.0 < here.0 = stands_first count.places p r count.rising here stands_there less
+      in
       let inside : names.0 < length named = within named names.0 p names.1 in
       let below : names.0 < may_name call = omega (arith, few) in
       among_front count.places (may_name call) r stands_there (omega arith)
@@ -104,7 +107,8 @@ module _ (es : List Entry) (moment : ℕ) (key : Key) (call : Call) (other : Sid
 
   opposed : (r : ℕ) (theirs : Call) → call ≡ theirs → IsOpenOpposite es theirs r → OpenAt es other r
   opposed r theirs same partner =
-      let sides : partner.side ≡ other = same_Some _ _ (sym partner.opposes ∙ ap (λ c. opposite (side_of c)) (sym same) ∙ opposes) in
+      let sides : partner.side ≡ other = same_Some _ _ (sym partner.opposes ∙ ap (λ c. opposite (side_of c))
+      (sym same) ∙ opposes) in
       subst (λ s. OpenAt es s r) sides partner.there
 
   pub front_pairs : KeepsPairs es own
@@ -114,7 +118,8 @@ module _ (es : List Entry) (moment : ℕ) (key : Key) (call : Call) (other : Sid
       few = λ theirs calls. subst (λ c. length named ≤ may_name c) (same_Some _ _ calls) few;
       free = free;
     };
-    pairs_opposites = λ p theirs names calls meets. subst (λ c. IsOpenOpposite es c p) (same_Some _ _ calls) (record { side = other; opposes = opposes; there = opened p names });
+    pairs_opposites = λ p theirs names calls meets. subst (λ c. IsOpenOpposite es c p) (same_Some _ _ calls)
+        (record { side = other; opposes = opposes; there = opened p names });
     pairs_oldest = oldest;
     pairs_where_possible = λ r theirs calls fewer partner.
         let same : call ≡ theirs = same_Some _ _ calls in
@@ -123,7 +128,8 @@ module _ (es : List Entry) (moment : ℕ) (key : Key) (call : Call) (other : Sid
 
 -- ---- there is such an arrival
 
-alone_pairs : (es : List Entry) (moment : ℕ) (key : Key) (call : Call) → opposite (side_of call) ≡ None → KeepsPairs es (entry moment (Arrive key call) [])
+alone_pairs : (es : List Entry) (moment : ℕ) (key : Key) (call : Call) → opposite (side_of call) ≡ None
+    → KeepsPairs es (entry moment (Arrive key call) [])
 alone_pairs es moment key call looks = record {
   names_free_partners = record {
     rising = just_rises None;
@@ -133,19 +139,23 @@ alone_pairs es moment key call looks = record {
   pairs_opposites = λ p theirs names calls meets. absurd (among_none [] p refl names);
   pairs_oldest = λ p r side names at less there. absurd (among_none [] p refl names);
   pairs_where_possible = λ r theirs calls fewer partner.
-      absurd (none-some partner.side (sym looks ∙ ap (λ c. opposite (side_of c)) (same_Some _ _ calls) ∙ partner.opposes));
+      absurd (none-some partner.side (sym looks ∙ ap (λ c. opposite (side_of c)) (same_Some _ _ calls)
+      ∙ partner.opposes));
 }
 
 -- the open arrivals of a side have a number
 pub find_open : (es : List Entry) (side : Side) → (n : ℕ) × NumberOf (OpenAt es side) n
-find_open es side = find_number (OpenAt es side) (λ r. open_by es side r (call_at es r) refl) (length es) (λ r there. reads_within call_read refl es r there.of_side.call there.of_side.arrived)
+find_open es side = find_number (OpenAt es side) (λ r. open_by es side r (call_at es r) refl) (length es)
+    (λ r there. reads_within call_read refl es r there.of_side.call there.of_side.arrived)
 
-pairs_by : (es : List Entry) (moment : ℕ) (key : Key) (call : Call) (o : Option Side) → opposite (side_of call) ≡ o → (places : List ℕ) × KeepsPairs es (entry moment (Arrive key call) places)
+pairs_by : (es : List Entry) (moment : ℕ) (key : Key) (call : Call) (o : Option Side)
+    → opposite (side_of call) ≡ o → (places : List ℕ) × KeepsPairs es (entry moment (Arrive key call) places)
 pairs_by es moment key call None looks = ([], alone_pairs es moment key call looks)
 pairs_by es moment key call (Some other) opposes =
     let found = find_open es other in
     (take (may_name call) found.1.places, front_pairs es moment key call other found.0 opposes found.1)
 
 -- whom an arrival names
-pub find_pairs : (es : List Entry) (moment : ℕ) (key : Key) (call : Call) → (places : List ℕ) × KeepsPairs es (entry moment (Arrive key call) places)
+pub find_pairs : (es : List Entry) (moment : ℕ) (key : Key) (call : Call)
+    → (places : List ℕ) × KeepsPairs es (entry moment (Arrive key call) places)
 find_pairs es moment key call = pairs_by es moment key call (opposite (side_of call)) refl

@@ -1,15 +1,8 @@
 -- Whose session an act belongs to, and what one more entry leaves of hellos and keys.
-use Rattle.rv_account.specs.Account.{call_in, key_in}
-use Rattle.rv_account.specs.declared.entry.Act.{Act}
-use Rattle.rv_account.specs.declared.entry.Act.TheVariants.{Arrive, Cancel, Hello, Tick}
-use Rattle.rv_text.specs.declared.call.Call.{Call}
-use Rattle.rv_text.specs.declared.version.Version.{Version}
-use Rattle.rv_account.specs.declared.entry.Entry.{Entry}
-use Rattle.rv_rules.specs.Sessions.{LastHello, NamesKey}
-use Rattle.rv_text.specs.declared.message.Key.{Key}
-use Rattle.std.proofs.Common.{List, None, Option, Some, [], ap, inl, inr, length, option_and_then, refl, ℕ, ◌++◌, ◌∙◌, ◌∷◌, ◌≡◌, ◌⊎◌}
+use Rattle.rv_rules.proofs.Words.{◌++◌, ◌∙◌, ◌∷◌, ◌≡◌, ◌⊎◌, call_in, key_in, Act, Arrive, Cancel, Hello, Tick}
+use Rattle.rv_rules.proofs.Words.{Call, Version, Entry, LastHello, NamesKey, Key, List, None, Option, Some}
+use Rattle.rv_rules.proofs.Words.{[], ap, inl, inr, length, option_and_then, refl, ℕ, none-some, same_Some}
 use Rattle.rv_rules.proofs.Growing.{act_read, reads_back, reads_on}
-use Rattle.std.proofs.lemmas.Option.{none-some, same_Some}
 
 abbrev pub key_read : Option Entry → Option Key
 key_read o = option_and_then key_in (act_read o)
@@ -23,14 +16,16 @@ client_of Tick = 0
 
 -- ---- where a call stands, an arrival does; where a key stands, that or a cancel
 
-pub act_named : (o : Option Act) (key : Key) → option_and_then key_in o ≡ Some key → ((call : Call) × (o ≡ Some (Arrive key call))) ⊎ (o ≡ Some (Cancel key))
+pub act_named : (o : Option Act) (key : Key) → option_and_then key_in o ≡ Some key
+    → ((call : Call) × (o ≡ Some (Arrive key call))) ⊎ (o ≡ Some (Cancel key))
 act_named None key is = absurd (none-some key is)
 act_named (Some (Hello client incarnation version)) key is = absurd (none-some key is)
 act_named (Some (Arrive other call)) key is = inl (call, ap (λ k. Some (Arrive k call)) (same_Some _ _ is))
 act_named (Some (Cancel other)) key is = inr (ap (λ k. Some (Cancel k)) (same_Some _ _ is))
 act_named (Some Tick) key is = absurd (none-some key is)
 
-pub act_called : (o : Option Act) (call : Call) → option_and_then call_in o ≡ Some call → (key : Key) × (o ≡ Some (Arrive key call))
+pub act_called : (o : Option Act) (call : Call) → option_and_then call_in o ≡ Some call
+    → (key : Key) × (o ≡ Some (Arrive key call))
 act_called None call is = absurd (none-some call is)
 act_called (Some (Hello client incarnation version)) call is = absurd (none-some call is)
 act_called (Some (Arrive key other)) call is = (key, ap (λ c. Some (Arrive key c)) (same_Some _ _ is))
@@ -38,16 +33,19 @@ act_called (Some (Cancel key)) call is = absurd (none-some call is)
 act_called (Some Tick) call is = absurd (none-some call is)
 
 -- where both stand, the arrival has both
-pub act_arrives : (o : Option Act) (key : Key) (call : Call) → option_and_then key_in o ≡ Some key → option_and_then call_in o ≡ Some call → o ≡ Some (Arrive key call)
+pub act_arrives : (o : Option Act) (key : Key) (call : Call) → option_and_then key_in o ≡ Some key
+    → option_and_then call_in o ≡ Some call → o ≡ Some (Arrive key call)
 act_arrives None key call names calls = absurd (none-some key names)
 act_arrives (Some (Hello client incarnation version)) key call names calls = absurd (none-some key names)
-act_arrives (Some (Arrive other more)) key call names calls = ap (λ k. Some (Arrive k more)) (same_Some _ _ names) ∙ ap (λ c. Some (Arrive key c)) (same_Some _ _ calls)
+act_arrives (Some (Arrive other more)) key call names calls = ap (λ k. Some (Arrive k more))
+    (same_Some _ _ names) ∙ ap (λ c. Some (Arrive key c)) (same_Some _ _ calls)
 act_arrives (Some (Cancel other)) key call names calls = absurd (none-some call calls)
 act_arrives (Some Tick) key call names calls = absurd (none-some call calls)
 
 -- ---- one more entry
 
-pub no_hello : (key : Key) (call : Call) (c i : ℕ) (v : Version) → Some (Arrive key call) ≡ Some (Hello c i v) → ⊥
+pub no_hello : (key : Key) (call : Call) (c i : ℕ) (v : Version) → Some (Arrive key call) ≡ Some (Hello c i v)
+    → ⊥
 no_hello key call c i v e = cc
 
 pub cancel_no_hello : (key : Key) (c i : ℕ) (v : Version) → Some (Cancel key) ≡ Some (Hello c i v) → ⊥
@@ -73,7 +71,9 @@ key_is_own (Arrive own call) key e = ap (λ (k : Key). k.client) (same_Some _ _ 
 key_is_own (Cancel own) key e = ap (λ (k : Key). k.client) (same_Some _ _ e)
 key_is_own Tick key e = absurd (none-some key e)
 
-unfoldable pub LastHello-on : (es : List Entry) (e : Entry) (c i h : ℕ) → ((j : ℕ) (v : Version) → Some e.act ≡ Some (Hello c j v) → ⊥) → LastHello es c i h → LastHello (es ++ e ∷ []) c i h
+unfoldable pub LastHello-on : (es : List Entry) (e : Entry) (c i h : ℕ)
+    → ((j : ℕ) (v : Version) → Some e.act ≡ Some (Hello c j v) → ⊥) → LastHello es c i h
+    → LastHello (es ++ e ∷ []) c i h
 LastHello-on es e c i h other last = record {
   version = last.version;
   hello = reads_on act_read refl es (e ∷ []) h (Hello c i last.version) last.hello;
@@ -83,10 +83,16 @@ LastHello-on es e c i h other last = record {
   ];
 }
 
-pub NamesKey-on : (es more : List Entry) (c r : ℕ) (key : Key) → NamesKey es c r key → NamesKey (es ++ more) c r key
-NamesKey-on es more c r key h = record { named = reads_on key_read refl es more r key h.named; of_client = h.of_client }
+pub NamesKey-on : (es more : List Entry) (c r : ℕ) (key : Key) → NamesKey es c r key
+    → NamesKey (es ++ more) c r key
+NamesKey-on es more c r key h = record {
+  named = reads_on key_read refl es more r key h.named;
+  of_client =
+      h.of_client;
+}
 
-pub NamesKey-back : (es : List Entry) (e : Entry) (c r : ℕ) (key : Key) → NamesKey (es ++ e ∷ []) c r key → NamesKey es c r key ⊎ ((r ≡ length es) × (key_in e.act ≡ Some key))
+pub NamesKey-back : (es : List Entry) (e : Entry) (c r : ℕ) (key : Key) → NamesKey (es ++ e ∷ []) c r key
+    → NamesKey es c r key ⊎ ((r ≡ length es) × (key_in e.act ≡ Some key))
 NamesKey-back es e c r key h =
     elim (reads_back key_read refl es e r key h.named) [
       | inl inside ↦ inl (record { named = inside.1; of_client = h.of_client })

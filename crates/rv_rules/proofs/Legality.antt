@@ -1,24 +1,27 @@
 -- When an account stays legal with one entry more.
-use Rattle.std.proofs.Common.{◌≡◌, inl, inr, ◌≤◌, List, [], ◌∷◌, ◌++◌, length, take, sym, ap, subst, ◌∙◌, arith}
-use Rattle.std.proofs.lemmas.List.{take-append-le}
+use Rattle.rv_rules.proofs.Words.{◌≡◌, ◌≤◌, ◌∷◌, ◌++◌, ◌∙◌, inl, inr, List, [], length, take, sym, ap, subst}
+use Rattle.rv_rules.proofs.Words.{arith, take-append-le, Entry, Account, Legal, MayFollow}
 use Rattle.std.proofs.Math.Seq.{take-append_seam}
-use Rattle.rv_account.specs.declared.entry.Entry.{Entry}
-use Rattle.rv_account.specs.Account.{Account, with_entry}
-use Rattle.rv_rules.specs.Legal.{Legal, MayFollow}
+use Rattle.rv_account.specs.Account.{with_entry}
 use Rattle.rv_rules.proofs.Places.{get-append_cases, get-append_end}
 
 pub Legal-with_entry : (a : Account) (e : Entry) → Legal a → MayFollow a e → Legal (with_entry a e)
 Legal-with_entry a e legal follows j x there =
-    let P : List Entry → Type 0 = λ entries. MayFollow (record { epoch = a.epoch; opened = a.opened; entries = entries }) x in
+    let P : List Entry
+    → Type 0 = λ entries. MayFollow (record { epoch = a.epoch; opened = a.opened; entries = entries }) x
+    in
     elim (get-append_cases a.entries e x j there) [
-      | inl inside ↦ let short : j ≤ length a.entries = omega arith in subst P (sym (take-append-le j a.entries (e ∷ []) short)) (legal j x inside.1)
+      | inl inside ↦ let short : j ≤ length a.entries = omega arith in
+          subst P (sym (take-append-le j a.entries (e ∷ []) short)) (legal j x inside.1)
       | inr last ↦
-          let whole : take j (a.entries ++ e ∷ []) ≡ a.entries = ap (λ n. take n (a.entries ++ e ∷ [])) last.0 ∙ take-append_seam a.entries (e ∷ []) in
+          let whole : take j (a.entries ++ e ∷ []) ≡ a.entries = ap (λ n. take n (a.entries ++ e ∷ [])) last.0
+          ∙ take-append_seam a.entries (e ∷ []) in
           subst P (sym whole) (subst (MayFollow a) last.1 follows)
     ]
 
 -- the last entry of a legal account may follow those before it
 pub follows_itself : (a : Account) (e : Entry) → Legal (with_entry a e) → MayFollow a e
 follows_itself a e legal =
-    let P : List Entry → Type 0 = λ es. MayFollow (record { epoch = a.epoch; opened = a.opened; entries = es }) e in
+    let P : List Entry
+    → Type 0 = λ es. MayFollow (record { epoch = a.epoch; opened = a.opened; entries = es }) e in
     subst P (take-append_seam a.entries (e ∷ [])) (legal (length a.entries) e (get-append_end a.entries e))

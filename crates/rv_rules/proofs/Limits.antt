@@ -1,17 +1,13 @@
 -- What stands in an account that is within its limits is within them too.
 use Rattle.rv_account.specs.declared.entry.Act as act
-use Rattle.rv_account.specs.declared.entry.Act.{Act}
-use Rattle.rv_account.specs.Account.{Account, act_at, call_in, key_in}
+use Rattle.rv_rules.proofs.Words.{◌≡◌, Act, Account, act_at, call_in, key_in, Call, Key, None, Option, Some}
+use Rattle.rv_rules.proofs.Words.{option_and_then, refl, subst, ℕ, none-some, same_Some, slice_get}
 use Rattle.rv_rules.specs.Limits.{FitsAccount, FitsAct}
-use Rattle.rv_text.specs.declared.call.Call.{Call}
-use Rattle.rv_text.specs.declared.message.Key.{Key}
 use Rattle.rv_text.specs.Limits.{FitsCall, FitsKey}
-use Rattle.std.proofs.Common.{None, Option, Some, option_and_then, refl, subst, ℕ, ◌≡◌}
-use Rattle.std.proofs.lemmas.Option.{none-some, same_Some}
-use Rattle.std.specs.List.{slice_get}
 use Rattle.rv_rules.proofs.Growing.{act_read, read_there}
 
-pub act_fits : (a : Account) (r : ℕ) (does : Act) → FitsAccount a → act_at a.entries r ≡ Some does → FitsAct does
+pub act_fits : (a : Account) (r : ℕ) (does : Act) → FitsAccount a → act_at a.entries r ≡ Some does
+    → FitsAct does
 act_fits a r does fits there =
     let entry = read_there act_read refl (slice_get a.entries r) does there in
     subst FitsAct (same_Some _ _ entry.2) (fits.entries r entry.0 entry.1).1
@@ -28,6 +24,7 @@ call_of_act (act.TheVariants.Arrive key other) call fits is = subst FitsCall (sa
 call_of_act (act.TheVariants.Cancel key) call fits is = absurd (none-some call is)
 call_of_act act.TheVariants.Tick call fits is = absurd (none-some call is)
 
-pub act_there : {B : Type 0} (f : Act → Option B) (o : Option Act) (y : B) → option_and_then f o ≡ Some y → (does : Act) × (o ≡ Some does) × (f does ≡ Some y)
+pub act_there : {B : Type 0} (f : Act → Option B) (o : Option Act) (y : B) → option_and_then f o ≡ Some y
+    → (does : Act) × (o ≡ Some does) × (f does ≡ Some y)
 act_there f None y h = absurd (none-some y h)
 act_there f (Some does) y h = (does, refl, h)

@@ -1,24 +1,18 @@
 -- What calls that only look read: the entries before them, which stay as they are, and that they never wait.
-use Rattle.std.proofs.Common.{◌≡◌, ℕ, ◌<◌, List, ◌++◌, length, take, Some, refl, sym, ap, ◌∙◌, arith}
+use Rattle.rv_rules.proofs.Words.{◌≡◌, ◌<◌, ◌++◌, ◌∙◌, ℕ, List, length, take, Some, refl, sym, ap, arith}
+use Rattle.rv_rules.proofs.Words.{take-append-le, same_Some, is_some, Call, Looks, side_of, Entry, call_at}
+use Rattle.rv_rules.proofs.Words.{opposite, Waiting}
 use Rattle.std.proofs.lemmas.Bool.{false≢true}
-use Rattle.std.proofs.lemmas.List.{take-append-le}
-use Rattle.std.proofs.lemmas.Option.{same_Some}
-use Rattle.std.specs.Prelude.{is_some}
-use Rattle.rv_text.specs.declared.call.Call.{Call}
-use Rattle.rv_text.specs.declared.call.Side.TheVariants.{Looks}
-use Rattle.rv_text.specs.Calls.{side_of}
-use Rattle.rv_account.specs.declared.entry.Entry.{Entry}
-use Rattle.rv_account.specs.Account.{call_at}
-use Rattle.rv_account.specs.Calls.{opposite}
-use Rattle.rv_rules.specs.Waiting.{Waiting}
 use Rattle.rv_rules.proofs.Growing.{call_read, reads_within}
 
-pub same_before : (es more : List Entry) (r : ℕ) (call : Call) → call_at es r ≡ Some call → take r es ≡ take r (es ++ more)
+pub same_before : (es more : List Entry) (r : ℕ) (call : Call) → call_at es r ≡ Some call
+    → take r es ≡ take r (es ++ more)
 same_before es more r call arrived =
     let inside : r < length es = reads_within call_read refl es r call arrived in
     sym (take-append-le r es more (omega arith))
 
-pub looks_waits_not : (es : List Entry) (r queue : ℕ) (call : Call) → call_at es r ≡ Some call → side_of call ≡ Looks queue → Waiting es r → ⊥
+pub looks_waits_not : (es : List Entry) (r queue : ℕ) (call : Call) → call_at es r ≡ Some call
+    → side_of call ≡ Looks queue → Waiting es r → ⊥
 looks_waits_not es r queue call arrived is w =
     let same : w.is_open.call ≡ call = same_Some _ _ (sym w.is_open.arrived ∙ arrived) in
     let side : side_of w.is_open.call ≡ Looks queue = ap side_of same ∙ is in

@@ -1,11 +1,9 @@
 -- The partners of an entry: where it names one at most, whether it names a place, and how many it names.
-use Rattle.std.proofs.Common.{◌≡◌, ◌⊎◌, inl, inr, ℕ, zero, suc, ◌<◌, ◌≤◌, List, [], ◌∷◌, length, Option, Some, None, refl, sym, ap, subst, ◌∙◌, arith}
-use Rattle.std.specs.List.{slice_get}
-use Rattle.std.specs.List.Sorted.{IsStrictlyIncreasing}
-use Rattle.std.proofs.lemmas.Bool.{cases_lt}
-use Rattle.std.proofs.lemmas.Option.{none-some, same_Some}
-use Rattle.rv_account.specs.declared.entry.Entry.{Entry}
-use Rattle.rv_account.specs.Account.{Among, Names, NamesAt, just}
+use Rattle.rv_rules.proofs.Words.{◌≡◌, ◌⊎◌, ◌<◌, ◌≤◌, ◌∷◌, ◌∙◌, inl, inr, ℕ, zero, suc, List, [], length}
+use Rattle.rv_rules.proofs.Words.{Option, Some, None, refl, sym, ap, subst, arith, slice_get}
+use Rattle.rv_rules.proofs.Words.{IsStrictlyIncreasing, cases_lt, none-some, same_Some, Entry, Among, Names}
+use Rattle.rv_rules.proofs.Words.{NamesAt}
+use Rattle.rv_account.specs.Account.{just}
 use Rattle.rv_rules.proofs.Numbers.{same_or_not}
 
 -- ---- one at most
@@ -19,7 +17,8 @@ pub just_names : (p : ℕ) → Among (just (Some p)) p
 just_names p = (0, refl)
 
 -- an entry whose partners are one at most names that one alone
-pub names_only : (e : Entry) (partner : Option ℕ) (p : ℕ) → e.partners ≡ just partner → Names e p → partner ≡ Some p
+pub names_only : (e : Entry) (partner : Option ℕ) (p : ℕ) → e.partners ≡ just partner → Names e p
+    → partner ≡ Some p
 names_only e partner p is names = named_just partner p (subst (λ (places : List ℕ). Among places p) is names)
 
 pub names_it : (e : Entry) (p : ℕ) → e.partners ≡ just (Some p) → Names e p
@@ -48,7 +47,8 @@ one_among (x ∷ []) p q few (suc i, at) other = absurd (none-some p at)
 one_among (x ∷ y ∷ rest) p q few at other = absurd (omega arith)
 
 -- two that differ are two
-pub two_among : (places : List ℕ) (p q : ℕ) → (p ≡ q → ⊥) → Among places p → Among places q → 1 < length places
+pub two_among : (places : List ℕ) (p q : ℕ) → (p ≡ q → ⊥) → Among places p → Among places q
+    → 1 < length places
 two_among places p q differ at other = elim (cases_lt 1 (length places)) [
   | inl several ↦ several
   | inr few ↦ absurd (differ (one_among places p q few at other))
@@ -85,7 +85,8 @@ partners_of (Some e) = e.partners
 pub named_among : (es : List Entry) (p q : ℕ) → NamesAt es p q → Among (partners_of (slice_get es p)) q
 named_among es p q h = subst (λ (o : Option Entry). Among (partners_of o) q) (sym h.there) h.names
 
-named_by : (es : List Entry) (p q : ℕ) (o : Option Entry) → slice_get es p ≡ o → Among (partners_of o) q → NamesAt es p q
+named_by : (es : List Entry) (p q : ℕ) (o : Option Entry) → slice_get es p ≡ o → Among (partners_of o) q
+    → NamesAt es p q
 named_by es p q None there at = absurd (none-some q at.1)
 named_by es p q (Some e) there at = record { entry = e; there = there; names = at }
 

@@ -1,9 +1,6 @@
 -- The key that a session asks with next.
+use Rattle.rv_rules.proofs.Words.{Key, Account, HasIncarnation, LastNumber, HasWaiting}
 use Rattle.std.specs.Prelude.{◌≡◌, ◌+◌, ℕ}
-use Rattle.rv_text.specs.declared.message.Key.{Key}
-use Rattle.rv_account.specs.Account.{Account}
-use Rattle.rv_rules.specs.Sessions.{HasIncarnation, LastNumber}
-use Rattle.rv_rules.specs.Legal.{HasWaiting}
 
 -- the key is of its client's session in this epoch, with the next number
 pub record IsNext (a : Account) (key : Key) : Type 0 where

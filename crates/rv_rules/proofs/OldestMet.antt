@@ -1,9 +1,7 @@
 -- Whom an arrival meets: the oldest that is open on the other side.
+use Rattle.rv_rules.proofs.Words.{Side, Entry, opposite, OpenAt}
 use Rattle.std.specs.Prelude.{◌≡◌, ℕ, List, Option, Some, None}
-use Rattle.rv_text.specs.declared.call.Side.{Side}
-use Rattle.rv_account.specs.declared.entry.Entry.{Entry}
-use Rattle.rv_account.specs.Calls.{opposite}
-use Rattle.rv_rules.specs.Waiting.{IsOldest, OpenAt}
+use Rattle.rv_rules.specs.Waiting.{IsOldest}
 
 -- the partner is the oldest open arrival of the side that a call of this side meets; none where none is open
 abbrev pub MeetsOldest : List Entry → Side → Option ℕ → Type 0

@@ -1,23 +1,27 @@
 -- Sides that meet: opposite goes both ways, so each side has one at most that it meets and that meets it.
-use Rattle.std.proofs.Common.{◌≡◌, ℕ, Some, IsSome, refl, sym, subst, ◌∙◌}
-use Rattle.std.proofs.lemmas.Option.{none-some, same_Some}
-use Rattle.rv_text.specs.declared.call.Side.{Side}
-use Rattle.rv_text.specs.declared.call.Side.TheVariants.{Exchanges, Gives, Looks, Takes}
-use Rattle.rv_account.specs.Calls.{opposite}
+use Rattle.rv_rules.proofs.Words.{◌≡◌, ◌∙◌, ℕ, Some, refl, sym, subst, none-some, same_Some, Side, Exchanges}
+use Rattle.rv_rules.proofs.Words.{Gives, Looks, Takes, opposite}
+use Rattle.std.proofs.Common.{IsSome}
 
 pub opposite_back : (side other : Side) → opposite side ≡ Some other → opposite other ≡ Some side
-opposite_back (Gives queue) other opposes = subst (λ s. opposite s ≡ Some (Gives queue)) (same_Some _ _ opposes) refl
-opposite_back (Takes queue) other opposes = subst (λ s. opposite s ≡ Some (Takes queue)) (same_Some _ _ opposes) refl
+opposite_back (Gives queue) other opposes = subst (λ s. opposite s ≡ Some (Gives queue))
+    (same_Some _ _ opposes) refl
+opposite_back (Takes queue) other opposes = subst (λ s. opposite s ≡ Some (Takes queue))
+    (same_Some _ _ opposes) refl
 opposite_back (Looks queue) other opposes = absurd (none-some _ opposes)
-opposite_back (Exchanges exchanger) other opposes = subst (λ s. opposite s ≡ Some (Exchanges exchanger)) (same_Some _ _ opposes) refl
+opposite_back (Exchanges exchanger) other opposes = subst (λ s. opposite s ≡ Some (Exchanges exchanger))
+    (same_Some _ _ opposes) refl
 
 -- whom a side meets
-pub one_opposite : (side other third : Side) → opposite side ≡ Some other → opposite side ≡ Some third → third ≡ other
+pub one_opposite : (side other third : Side) → opposite side ≡ Some other → opposite side ≡ Some third
+    → third ≡ other
 one_opposite side other third opposes also = same_Some _ _ (sym also ∙ opposes)
 
 -- who meets it
-pub one_opposed : (side other third : Side) → opposite side ≡ Some other → opposite third ≡ Some side → third ≡ other
-one_opposed side other third opposes back = one_opposite side other third opposes (opposite_back third side back)
+pub one_opposed : (side other third : Side) → opposite side ≡ Some other → opposite third ≡ Some side
+    → third ≡ other
+one_opposed side other third opposes back = one_opposite side other third opposes (opposite_back third side
+    back)
 
 -- who looks meets nobody
 pub looks_alone : (queue : ℕ) → IsSome (opposite (Looks queue)) → ⊥

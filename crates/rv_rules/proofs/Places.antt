@@ -1,10 +1,10 @@
 -- What stands at a place of a list that grew at its end, and of a front of a list.
-use Rattle.std.proofs.Common.{◌≡◌, ◌⊎◌, inl, inr, ℕ, zero, suc, ◌<◌, List, [], ◌∷◌, ◌++◌, length, take, Some, refl, ap, ◌∙◌, arith}
-use Rattle.std.specs.List.{slice_get}
+use Rattle.rv_rules.proofs.Words.{◌≡◌, ◌⊎◌, ◌<◌, ◌∷◌, ◌++◌, ◌∙◌, inl, inr, ℕ, zero, suc, List, [], length}
+use Rattle.rv_rules.proofs.Words.{take, Some, refl, ap, arith, slice_get, same_Some, none-some}
 use Rattle.std.proofs.Math.ListN.{set}
-use Rattle.std.proofs.lemmas.Option.{same_Some, none-some}
 
-pub get-append_within : {X : Type 0} (xs ys : List X) (i : ℕ) → i < length xs → slice_get (xs ++ ys) i ≡ slice_get xs i
+pub get-append_within : {X : Type 0} (xs ys : List X) (i : ℕ) → i < length xs
+    → slice_get (xs ++ ys) i ≡ slice_get xs i
 get-append_within [] ys i h = absurd (omega arith)
 get-append_within (x ∷ xs) ys zero h = refl
 get-append_within (x ∷ xs) ys (suc i) h = get-append_within xs ys i (omega arith)
@@ -29,7 +29,8 @@ within [] i x e = absurd (none-some x e)
 within (y ∷ xs) zero x e = omega arith
 within (y ∷ xs) (suc i) x e = let h : i < length xs = within xs i x e in omega arith
 
-pub get-append : {X : Type 0} (xs ys : List X) (i : ℕ) (x : X) → slice_get xs i ≡ Some x → slice_get (xs ++ ys) i ≡ Some x
+pub get-append : {X : Type 0} (xs ys : List X) (i : ℕ) (x : X) → slice_get xs i ≡ Some x
+    → slice_get (xs ++ ys) i ≡ Some x
 get-append xs ys i x e = get-append_within xs ys i (within xs i x e) ∙ e
 
 -- a front reads as the list does
@@ -42,12 +43,14 @@ get-take (x ∷ xs) (suc n) (suc i) h = get-take xs n i (omega arith)
 
 -- ---- a list with one element changed
 
-pub get-set_same : {X : Type 0} (xs : List X) (i : ℕ) (v : X) → i < length xs → slice_get (set xs i v) i ≡ Some v
+pub get-set_same : {X : Type 0} (xs : List X) (i : ℕ) (v : X) → i < length xs
+    → slice_get (set xs i v) i ≡ Some v
 get-set_same [] i v h = absurd (omega arith)
 get-set_same (x ∷ xs) zero v h = refl
 get-set_same (x ∷ xs) (suc i) v h = get-set_same xs i v (omega arith)
 
-pub get-set_other : {X : Type 0} (xs : List X) (i j : ℕ) (v : X) → (j ≡ i → ⊥) → slice_get (set xs i v) j ≡ slice_get xs j
+pub get-set_other : {X : Type 0} (xs : List X) (i j : ℕ) (v : X) → (j ≡ i → ⊥)
+    → slice_get (set xs i v) j ≡ slice_get xs j
 get-set_other [] i j v h = refl
 get-set_other (x ∷ xs) zero zero v h = absurd (h refl)
 get-set_other (x ∷ xs) zero (suc j) v h = refl

@@ -1,24 +1,26 @@
 -- What stands on a side, with one entry more: who was open there before, and whether the entry is.
-use Rattle.std.proofs.Common.{◌≡◌, ◌⊎◌, inl, inr, ℕ, ◌<◌, ◌≤◌, List, [], ◌∷◌, ◌++◌, length, take, Option, Some, None, option_and_then, refl, sym, ap, subst, ◌∙◌, arith, length-take}
-use Rattle.rv_account.specs.Account.{Account, Names, act_at, call_at, call_in, just}
-use Rattle.rv_text.specs.declared.call.Call.{Call}
-use Rattle.rv_text.specs.declared.version.Version.{Version}
-use Rattle.rv_account.specs.declared.entry.Entry.{Entry}
-use Rattle.rv_text.specs.declared.call.Side.{Side}
-use Rattle.std.proofs.lemmas.Option.{same_Some}
-use Rattle.rv_text.specs.Calls.{side_of}
-use Rattle.rv_rules.specs.Legal.{IsDueAt, Legal, NamesFreePartners}
-use Rattle.rv_rules.specs.Waiting.{EndsWait, HasElapsed, Met, NamesPartner, Open, OpenAt, SideAt, Stopped, StoppedAt, Waiting, limit_at}
-use Rattle.rv_rules.proofs.Growing.{NamesAt-last, NamesPartner-back, Open-back, Open-on, act_read, call_read, limit_on, reads_back, reads_on, reads_within}
-use Rattle.rv_account.specs.Calls.{IsPut, Stays}
-use Rattle.rv_account.specs.declared.entry.Act.TheVariants.{Arrive, Cancel, Hello, Tick}
-use Rattle.rv_text.specs.declared.message.Key.{Key}
+use Rattle.rv_rules.proofs.Words.{◌≡◌, ◌⊎◌, ◌<◌, ◌≤◌, ◌∷◌, ◌++◌, ◌∙◌, inl, inr, ℕ, List, [], length, take}
+use Rattle.rv_rules.proofs.Words.{Option, Some, None, option_and_then, refl, sym, ap, subst, arith}
+use Rattle.rv_rules.proofs.Words.{length-take, Account, Names, act_at, call_at, call_in, Call, Version, Entry}
+use Rattle.rv_rules.proofs.Words.{Side, same_Some, side_of, Legal, EndsWait, Met, NamesPartner, Open, OpenAt}
+use Rattle.rv_rules.proofs.Words.{Stopped, StoppedAt, Waiting, limit_at, IsPut, Stays, Arrive, Cancel, Hello}
+use Rattle.rv_rules.proofs.Words.{Tick, Key}
+use Rattle.rv_account.specs.Account.{just}
+use Rattle.rv_rules.specs.Legal.{IsDueAt, NamesFreePartners}
+use Rattle.rv_rules.specs.Waiting.{HasElapsed, SideAt}
+use Rattle.rv_rules.proofs.Growing.{NamesAt-last, NamesPartner-back, Open-back, Open-on, act_read, call_read}
+use Rattle.rv_rules.proofs.Growing.{limit_on, reads_back, reads_on, reads_within}
 use Rattle.rv_rules.proofs.Keys.{act_called}
 use Rattle.rv_rules.proofs.Naming.{just_none}
 use Rattle.rv_rules.proofs.Places.{get-append_cases, get-append_end}
 
 pub SideAt-on : (es more : List Entry) (side : Side) (r : ℕ) → SideAt es side r → SideAt (es ++ more) side r
-SideAt-on es more side r h = record { call = h.call; arrived = reads_on call_read refl es more r h.call h.arrived; is = h.is }
+SideAt-on es more side r h = record {
+  call = h.call;
+  arrived = reads_on call_read refl es more r h.call
+      h.arrived;
+  is = h.is;
+}
 
 -- an arrival is of one side
 pub one_side : (es : List Entry) (s t : Side) (r : ℕ) → SideAt es s r → SideAt es t r → s ≡ t
@@ -36,10 +38,12 @@ pub record ComesOn (e : Entry) (side : Side) : Type 0 where
 -- ---- whom an entry stops
 
 -- an arrival stops nobody
-pub arrival_stops_nobody : (es : List Entry) (e : Entry) (key : Key) (call : Call) (r : ℕ) → e.act ≡ Arrive key call → StoppedAt (es ++ e ∷ []) r (length es) → ⊥
+pub arrival_stops_nobody : (es : List Entry) (e : Entry) (key : Key) (call : Call) (r : ℕ)
+    → e.act ≡ Arrive key call → StoppedAt (es ++ e ∷ []) r (length es) → ⊥
 arrival_stops_nobody es e key call r arrives stopped =
     let own : e ≡ stopped.stopper = same_Some _ _ (sym (get-append_end es e) ∙ stopped.there) in
-    subst (λ act. EndsWait act stopped.stopper.moment stopped.key (limit_at (es ++ e ∷ []) r)) (sym (ap (λ (x : Entry). x.act) own) ∙ arrives) stopped.ends
+    subst (λ act. EndsWait act stopped.stopper.moment stopped.key (limit_at (es ++ e ∷ []) r))
+    (sym (ap (λ (x : Entry). x.act) own) ∙ arrives) stopped.ends
 
 -- a request of the client other than a put arrived at r
 pub record IsRequestOf (es : List Entry) (client r : ℕ) : Type 0 where
@@ -50,7 +54,8 @@ pub record IsRequestOf (es : List Entry) (client r : ℕ) : Type 0 where
   pub no_put : IsPut call → ⊥
 
 -- a hello stops the requests of its client that are no puts
-pub hello_stops : (es : List Entry) (e : Entry) (client incarnation r : ℕ) (v : Version) → e.act ≡ Hello client incarnation v → IsRequestOf es client r → StoppedAt (es ++ e ∷ []) r (length es)
+pub hello_stops : (es : List Entry) (e : Entry) (client incarnation r : ℕ) (v : Version)
+    → e.act ≡ Hello client incarnation v → IsRequestOf es client r → StoppedAt (es ++ e ∷ []) r (length es)
 hello_stops es e client incarnation r v says request = record {
   key = request.key;
   call = request.call;
@@ -59,19 +64,23 @@ hello_stops es e client incarnation r v says request = record {
   no_put = request.no_put;
   later = reads_within act_read refl es r (Arrive request.key request.call) request.arrived;
   there = get-append_end es e;
-  ends = subst (λ act. EndsWait act e.moment request.key (limit_at (es ++ e ∷ []) r)) (sym says) request.of_client;
+  ends = subst (λ act. EndsWait act e.moment request.key (limit_at (es ++ e ∷ []) r)) (sym says)
+      request.of_client;
 }
 
 -- and no others
-pub stopped_by_hello : (es : List Entry) (e : Entry) (client incarnation r : ℕ) (v : Version) → e.act ≡ Hello client incarnation v → StoppedAt (es ++ e ∷ []) r (length es) → IsRequestOf es client r
+pub stopped_by_hello : (es : List Entry) (e : Entry) (client incarnation r : ℕ) (v : Version)
+    → e.act ≡ Hello client incarnation v → StoppedAt (es ++ e ∷ []) r (length es) → IsRequestOf es client r
 stopped_by_hello es e client incarnation r v says stopped =
     let own : e ≡ stopped.stopper = same_Some _ _ (sym (get-append_end es e) ∙ stopped.there) in
     let later : r < length es = stopped.later in
     record {
       key = stopped.key;
       call = stopped.call;
-      arrived = elim (reads_back act_read refl es e r (Arrive stopped.key stopped.call) stopped.arrived) [ inl inside ↦ inside.1 | inr last ↦ absurd (omega arith) ];
-      of_client = subst (λ act. EndsWait act stopped.stopper.moment stopped.key (limit_at (es ++ e ∷ []) r)) (sym (ap (λ (x : Entry). x.act) own) ∙ says) stopped.ends;
+      arrived = elim (reads_back act_read refl es e r (Arrive stopped.key stopped.call) stopped.arrived)
+          [ inl inside ↦ inside.1 | inr last ↦ absurd (omega arith) ];
+      of_client = subst (λ act. EndsWait act stopped.stopper.moment stopped.key (limit_at (es ++ e ∷ []) r))
+          (sym (ap (λ (x : Entry). x.act) own) ∙ says) stopped.ends;
       no_put = stopped.no_put;
     }
 
@@ -82,7 +91,8 @@ pub record IsRequestUnder (es : List Entry) (key : Key) (r : ℕ) : Type 0 where
   pub no_put : IsPut call → ⊥
 
 -- a cancel stops the request with its key, but no put
-pub cancel_stops : (es : List Entry) (e : Entry) (key : Key) (r : ℕ) → e.act ≡ Cancel key → IsRequestUnder es key r → StoppedAt (es ++ e ∷ []) r (length es)
+pub cancel_stops : (es : List Entry) (e : Entry) (key : Key) (r : ℕ) → e.act ≡ Cancel key
+    → IsRequestUnder es key r → StoppedAt (es ++ e ∷ []) r (length es)
 cancel_stops es e key r says request = record {
   key = key;
   call = request.call;
@@ -95,12 +105,19 @@ cancel_stops es e key r says request = record {
 }
 
 -- and no other
-pub stopped_by_cancel : (es : List Entry) (e : Entry) (key : Key) (r : ℕ) → e.act ≡ Cancel key → StoppedAt (es ++ e ∷ []) r (length es) → IsRequestUnder es key r
+pub stopped_by_cancel : (es : List Entry) (e : Entry) (key : Key) (r : ℕ) → e.act ≡ Cancel key
+    → StoppedAt (es ++ e ∷ []) r (length es) → IsRequestUnder es key r
 stopped_by_cancel es e key r says stopped =
     let own : e ≡ stopped.stopper = same_Some _ _ (sym (get-append_end es e) ∙ stopped.there) in
     let later : r < length es = stopped.later in
-    let named : key ≡ stopped.key = subst (λ act. EndsWait act stopped.stopper.moment stopped.key (limit_at (es ++ e ∷ []) r)) (sym (ap (λ (x : Entry). x.act) own) ∙ says) stopped.ends in
-    let arrived : act_at es r ≡ Some (Arrive stopped.key stopped.call) = elim (reads_back act_read refl es e r (Arrive stopped.key stopped.call) stopped.arrived) [ inl inside ↦ inside.1 | inr last ↦ absurd (omega arith) ] in
+    let named : key ≡ stopped.key = subst (λ act. EndsWait act stopped.stopper.moment stopped.key
+    (limit_at (es ++ e ∷ []) r)) (sym (ap (λ (x : Entry). x.act) own) ∙ says) stopped.ends in
+    let arrived : act_at es r ≡ Some (Arrive stopped.key stopped.call) = elim (reads_back act_read refl es e r
+    (Arrive stopped.key stopped.call) stopped.arrived) [
+      | inl inside ↦ inside.1
+      | inr last ↦ absurd
+          (omega arith)
+    ] in
     record {
       call = stopped.call;
       arrived = subst (λ (k : Key). act_at es r ≡ Some (Arrive k stopped.call)) (sym named) arrived;
@@ -118,10 +135,13 @@ pub record IsRequestUntil (es : List Entry) (moment r : ℕ) : Type 0 where
   pub elapsed : limit ≤ moment
 
 -- a tick stops the requests whose limit is at or below its moment
-pub tick_stops : (es : List Entry) (e : Entry) (r : ℕ) → e.act ≡ Tick → IsRequestUntil es e.moment r → StoppedAt (es ++ e ∷ []) r (length es)
+pub tick_stops : (es : List Entry) (e : Entry) (r : ℕ) → e.act ≡ Tick → IsRequestUntil es e.moment r
+    → StoppedAt (es ++ e ∷ []) r (length es)
 tick_stops es e r says request =
-    let limit : limit_at (es ++ e ∷ []) r ≡ Some request.limit = limit_on es (e ∷ []) r (Arrive request.key request.call) request.arrived ∙ request.has in
-    let over : HasElapsed (limit_at (es ++ e ∷ []) r) e.moment = subst (λ o. HasElapsed o e.moment) (sym limit) request.elapsed in
+    let limit : limit_at (es ++ e ∷ []) r ≡ Some request.limit = limit_on es (e ∷ []) r
+    (Arrive request.key request.call) request.arrived ∙ request.has in
+    let over : HasElapsed (limit_at (es ++ e ∷ []) r) e.moment = subst (λ o. HasElapsed o e.moment)
+    (sym limit) request.elapsed in
     record {
       key = request.key;
       call = request.call;
@@ -133,18 +153,28 @@ tick_stops es e r says request =
       ends = subst (λ act. EndsWait act e.moment request.key (limit_at (es ++ e ∷ []) r)) (sym says) over;
     }
 
-elapsed_limit : (limit : Option ℕ) (moment : ℕ) → HasElapsed limit moment → (n : ℕ) × (limit ≡ Some n) × (n ≤ moment)
+elapsed_limit : (limit : Option ℕ) (moment : ℕ) → HasElapsed limit moment
+    → (n : ℕ) × (limit ≡ Some n) × (n ≤ moment)
 elapsed_limit None moment over = absurd over
 elapsed_limit (Some n) moment over = (n, refl, over)
 
 -- and no others
-pub stopped_by_tick : (es : List Entry) (e : Entry) (r : ℕ) → e.act ≡ Tick → StoppedAt (es ++ e ∷ []) r (length es) → IsRequestUntil es e.moment r
+pub stopped_by_tick : (es : List Entry) (e : Entry) (r : ℕ) → e.act ≡ Tick
+    → StoppedAt (es ++ e ∷ []) r (length es) → IsRequestUntil es e.moment r
 stopped_by_tick es e r says stopped =
     let own : e ≡ stopped.stopper = same_Some _ _ (sym (get-append_end es e) ∙ stopped.there) in
     let later : r < length es = stopped.later in
-    let arrived : act_at es r ≡ Some (Arrive stopped.key stopped.call) = elim (reads_back act_read refl es e r (Arrive stopped.key stopped.call) stopped.arrived) [ inl inside ↦ inside.1 | inr last ↦ absurd (omega arith) ] in
-    let ends : EndsWait e.act e.moment stopped.key (limit_at (es ++ e ∷ []) r) = subst (λ (x : Entry). EndsWait x.act x.moment stopped.key (limit_at (es ++ e ∷ []) r)) (sym own) stopped.ends in
-    let over : HasElapsed (limit_at (es ++ e ∷ []) r) e.moment = subst (λ act. EndsWait act e.moment stopped.key (limit_at (es ++ e ∷ []) r)) says ends in
+    let arrived : act_at es r ≡ Some (Arrive stopped.key stopped.call) = elim (reads_back act_read refl es e r
+    (Arrive stopped.key stopped.call) stopped.arrived) [
+      | inl inside ↦ inside.1
+      | inr last ↦ absurd
+          (omega arith)
+    ] in
+    let ends : EndsWait e.act e.moment stopped.key (limit_at (es ++ e ∷ []) r) =
+    subst (λ (x : Entry). EndsWait x.act x.moment stopped.key (limit_at (es ++ e ∷ []) r)) (sym own)
+    stopped.ends in
+    let over : HasElapsed (limit_at (es ++ e ∷ []) r) e.moment = subst (λ act. EndsWait act e.moment
+    stopped.key (limit_at (es ++ e ∷ []) r)) says ends in
     let limit = elapsed_limit (limit_at (es ++ e ∷ []) r) e.moment over in
     record {
       key = stopped.key;
@@ -172,9 +202,11 @@ due_until es moment r due =
     }
 
 -- and an open one is due
-pub until_due : (es : List Entry) (moment r : ℕ) → Open es r → IsRequestUntil es moment r → IsDueAt es moment r
+pub until_due : (es : List Entry) (moment r : ℕ) → Open es r → IsRequestUntil es moment r
+    → IsDueAt es moment r
 until_due es moment r opened request =
-    let same : request.call ≡ opened.call = same_Some _ _ (sym (ap (option_and_then call_in) request.arrived) ∙ opened.arrived) in
+    let same : request.call ≡ opened.call = same_Some _ _ (sym (ap (option_and_then call_in) request.arrived)
+    ∙ opened.arrived) in
     record {
       waits = record { is_open = opened; no_put = subst (λ c. IsPut c → ⊥) same request.no_put };
       limit = request.limit;
@@ -185,14 +217,16 @@ until_due es moment r opened request =
 -- ---- who stays open, and who was
 
 -- an open arrival that the entry neither names nor stops stays open
-pub OpenAt-on : (es : List Entry) (e : Entry) (side : Side) (r : ℕ) → OpenAt es side r → (Names e r → ⊥) → (StoppedAt (es ++ e ∷ []) r (length es) → ⊥) → OpenAt (es ++ e ∷ []) side r
+pub OpenAt-on : (es : List Entry) (e : Entry) (side : Side) (r : ℕ) → OpenAt es side r → (Names e r → ⊥)
+    → (StoppedAt (es ++ e ∷ []) r (length es) → ⊥) → OpenAt (es ++ e ∷ []) side r
 OpenAt-on es e side r h unnamed unstopped = record {
   of_side = SideAt-on es (e ∷ []) side r h.of_side;
   is_open = Open-on es e r h.is_open unnamed unstopped;
 }
 
 -- each partner of the last entry is met
-pub names_last : (es : List Entry) (e : Entry) (p : ℕ) → NamesFreePartners es e → Names e p → Met (es ++ e ∷ []) p
+pub names_last : (es : List Entry) (e : Entry) (p : ℕ) → NamesFreePartners es e → Names e p
+    → Met (es ++ e ∷ []) p
 names_last es e p free named =
     let partner = free.free p named in
     record {
@@ -214,7 +248,8 @@ pub record WasOpen (es : List Entry) (e : Entry) (side : Side) (r : ℕ) : Type 
   pub unstopped : StoppedAt (es ++ e ∷ []) r (length es) → ⊥
 
 -- who is open on a side with one entry more was so before, or is that entry
-pub OpenAt-back : (es : List Entry) (e : Entry) (side : Side) (r : ℕ) → NamesFreePartners es e → OpenAt (es ++ e ∷ []) side r → WasOpen es e side r ⊎ ((r ≡ length es) × ComesOn e side)
+pub OpenAt-back : (es : List Entry) (e : Entry) (side : Side) (r : ℕ) → NamesFreePartners es e
+    → OpenAt (es ++ e ∷ []) side r → WasOpen es e side r ⊎ ((r ≡ length es) × ComesOn e side)
 OpenAt-back es e side r free h =
     let opened = h.is_open in
     let at = h.of_side in
@@ -228,7 +263,16 @@ OpenAt-back es e side r free h =
         unnamed = λ named. opened.unmet (names_last es e r free named);
         unstopped = λ stopped. opened.unstopped (length es, stopped);
       })
-      | inr last ↦ inr (last.0, record { call = at.call; arrives = last.1; is = at.is; stays = subst Stays (sym same) opened.stays })
+      | inr last ↦ inr (
+        last.0,
+        record {
+          call = at.call;
+          arrives = last.1;
+          is = at.is;
+          stays =
+              subst Stays (sym same) opened.stays;
+        },
+      )
     ]
 
 -- ---- a legal account's partners stand before the entries that name them
@@ -241,11 +285,13 @@ partner_before a p q legal names =
     omega (arith, length-take p a.entries)
 
 -- a last entry without a partner is not met
-pub last_unmet : (a : Account) (e : Entry) → Legal a → e.partners ≡ just None → Met (a.entries ++ e ∷ []) (length a.entries) → ⊥
+pub last_unmet : (a : Account) (e : Entry) → Legal a → e.partners ≡ just None
+    → Met (a.entries ++ e ∷ []) (length a.entries) → ⊥
 last_unmet a e legal none met =
     elim (NamesPartner-back a.entries e met.later met.earlier met.names) [
       | inl names ↦
-          let inside : met.later < length a.entries = reads_within call_read refl a.entries met.later names.call names.arrived in
+          let inside : met.later < length a.entries = reads_within call_read refl a.entries met.later
+          names.call names.arrived in
           let below : met.earlier < met.later = partner_before a met.later met.earlier legal names in
           elim met.part [ inl is ↦ omega arith | inr is ↦ omega arith ]
       | inr new ↦ just_none e met.earlier none new.1
@@ -254,16 +300,29 @@ last_unmet a e legal none met =
 last_unstopped : (es : List Entry) (e : Entry) → Stopped (es ++ e ∷ []) (length es) → ⊥
 last_unstopped es e stopped =
     let later : length es < stopped.0 = stopped.1.later in
-    elim (get-append_cases es e stopped.1.stopper stopped.0 stopped.1.there) [ inl inside ↦ omega arith | inr last ↦ omega arith ]
+    elim (get-append_cases es e stopped.1.stopper stopped.0 stopped.1.there) [
+      | inl inside ↦ omega arith
+      | inr
+          last ↦ omega arith
+    ]
 
 -- an entry that arrives, stays and names nobody is open
-pub OpenAt-last : (a : Account) (e : Entry) (side : Side) → Legal a → e.partners ≡ just None → ComesOn e side → OpenAt (a.entries ++ e ∷ []) side (length a.entries)
+pub OpenAt-last : (a : Account) (e : Entry) (side : Side) → Legal a → e.partners ≡ just None → ComesOn e side
+    → OpenAt (a.entries ++ e ∷ []) side (length a.entries)
 OpenAt-last a e side legal none new =
     let es : List Entry = a.entries in
-    let arrived : call_at (es ++ e ∷ []) (length es) ≡ Some new.call = ap call_read (get-append_end es e) ∙ new.arrives in
+    let arrived : call_at (es ++ e ∷ []) (length es) ≡ Some new.call = ap call_read (get-append_end es e)
+    ∙ new.arrives in
     record {
       of_side = record { call = new.call; arrived = arrived; is = new.is };
-      is_open = record { call = new.call; arrived = arrived; stays = new.stays; unmet = last_unmet a e legal none; unstopped = last_unstopped es e };
+      is_open = record {
+        call = new.call;
+        arrived = arrived;
+        stays = new.stays;
+        unmet = last_unmet a e legal
+            none;
+        unstopped = last_unstopped es e;
+      };
     }
 
 -- ---- who waits
@@ -276,9 +335,13 @@ pub record ComesToWait (e : Entry) : Type 0 where
   pub no_put : IsPut call → ⊥
 
 -- a waiting request that the entry neither names nor stops still waits
-pub Waiting-on : (es : List Entry) (e : Entry) (r : ℕ) → Waiting es r → (Names e r → ⊥) → (StoppedAt (es ++ e ∷ []) r (length es) → ⊥) → Waiting (es ++ e ∷ []) r
+pub Waiting-on : (es : List Entry) (e : Entry) (r : ℕ) → Waiting es r → (Names e r → ⊥)
+    → (StoppedAt (es ++ e ∷ []) r (length es) → ⊥) → Waiting (es ++ e ∷ []) r
 unfolding Open-on
-Waiting-on es e r h unnamed unstopped = record { is_open = Open-on es e r h.is_open unnamed unstopped; no_put = h.no_put }
+Waiting-on es e r h unnamed unstopped = record {
+  is_open = Open-on es e r h.is_open unnamed unstopped;
+  no_put = h.no_put;
+}
 
 -- the request waited before, and the entry neither names nor stops it
 pub record WasWaiting (es : List Entry) (e : Entry) (r : ℕ) : Type 0 where
@@ -287,7 +350,8 @@ pub record WasWaiting (es : List Entry) (e : Entry) (r : ℕ) : Type 0 where
   pub unstopped : StoppedAt (es ++ e ∷ []) r (length es) → ⊥
 
 -- who waits with one entry more waited before, or is that entry
-pub Waiting-back : (es : List Entry) (e : Entry) (r : ℕ) → NamesFreePartners es e → Waiting (es ++ e ∷ []) r → WasWaiting es e r ⊎ ((r ≡ length es) × ComesToWait e)
+pub Waiting-back : (es : List Entry) (e : Entry) (r : ℕ) → NamesFreePartners es e → Waiting (es ++ e ∷ []) r
+    → WasWaiting es e r ⊎ ((r ≡ length es) × ComesToWait e)
 unfolding Open-back
 Waiting-back es e r free h =
     let opened = h.is_open in
@@ -297,15 +361,33 @@ Waiting-back es e r free h =
         unnamed = λ named. opened.unmet (names_last es e r free named);
         unstopped = λ stopped. opened.unstopped (length es, stopped);
       })
-      | inr last ↦ inr (last.0, record { call = opened.call; arrives = last.1; stays = opened.stays; no_put = h.no_put })
+      | inr last ↦ inr (
+        last.0,
+        record {
+          call = opened.call;
+          arrives = last.1;
+          stays = opened.stays;
+          no_put =
+              h.no_put;
+        },
+      )
     ]
 
 -- a request that arrives, stays and names nobody waits
-pub Waiting-last : (a : Account) (e : Entry) → Legal a → e.partners ≡ just None → ComesToWait e → Waiting (a.entries ++ e ∷ []) (length a.entries)
+pub Waiting-last : (a : Account) (e : Entry) → Legal a → e.partners ≡ just None → ComesToWait e
+    → Waiting (a.entries ++ e ∷ []) (length a.entries)
 Waiting-last a e legal none new =
     let es : List Entry = a.entries in
-    let arrived : call_at (es ++ e ∷ []) (length es) ≡ Some new.call = ap call_read (get-append_end es e) ∙ new.arrives in
-    let opened : Open (es ++ e ∷ []) (length es) = record { call = new.call; arrived = arrived; stays = new.stays; unmet = last_unmet a e legal none; unstopped = last_unstopped es e } in
+    let arrived : call_at (es ++ e ∷ []) (length es) ≡ Some new.call = ap call_read (get-append_end es e)
+    ∙ new.arrives in
+    let opened : Open (es ++ e ∷ []) (length es) = record {
+      call = new.call;
+      arrived = arrived;
+      stays =
+          new.stays;
+      unmet = last_unmet a e legal none;
+      unstopped = last_unstopped es e;
+    } in
     record { is_open = opened; no_put = new.no_put }
 
 -- a waiting request is open on its call's side

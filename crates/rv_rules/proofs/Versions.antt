@@ -1,18 +1,11 @@
--- Which version the session of a request has: one, the same where the account goes on, and that of the client's session while it waits.
-use Rattle.std.proofs.Common.{◌≡◌, inl, inr, ℕ, ◌<◌, List, [], ◌∷◌, ◌++◌, length, take, Some, option_and_then, refl, sym, ap, subst, ◌∙◌, arith}
-use Rattle.std.proofs.lemmas.Bool.{cases_order}
-use Rattle.std.proofs.lemmas.List.{take-append-le}
-use Rattle.std.proofs.lemmas.Option.{none-some, same_Some}
+-- Which version the session of a request has: one, the same where the account goes on, and that of the
+-- client's session while it waits.
+use Rattle.rv_rules.proofs.Words.{◌≡◌, ◌<◌, ◌∷◌, ◌++◌, ◌∙◌, inl, inr, ℕ, List, [], length, take, Some}
+use Rattle.rv_rules.proofs.Words.{option_and_then, refl, sym, ap, subst, arith, cases_order, take-append-le}
+use Rattle.rv_rules.proofs.Words.{none-some, same_Some, Version, Key, Call, Entry, Arrive, Hello, Account}
+use Rattle.rv_rules.proofs.Words.{act_at, call_at, key_at, key_in, Legal, HasIncarnation, Waiting}
 use Rattle.std.proofs.Math.Seq.{take-append_seam}
-use Rattle.rv_text.specs.declared.version.Version.{Version}
-use Rattle.rv_text.specs.declared.message.Key.{Key}
-use Rattle.rv_text.specs.declared.call.Call.{Call}
-use Rattle.rv_account.specs.declared.entry.Entry.{Entry}
-use Rattle.rv_account.specs.declared.entry.Act.TheVariants.{Arrive, Hello}
-use Rattle.rv_account.specs.Account.{Account, act_at, call_at, key_at, key_in}
-use Rattle.rv_rules.specs.Legal.{Legal}
-use Rattle.rv_rules.specs.Sessions.{AskedIn, HasIncarnation, HasOpened}
-use Rattle.rv_rules.specs.Waiting.{Waiting}
+use Rattle.rv_rules.specs.Sessions.{AskedIn, HasOpened}
 use Rattle.rv_rules.proofs.Fronts.{read_front, read_whole}
 use Rattle.rv_rules.proofs.Growing.{act_read, reads_on, reads_within}
 use Rattle.rv_rules.proofs.Histories.{one_last_hello}
@@ -23,12 +16,19 @@ use Rattle.rv_rules.proofs.Waits.{arrival, no_hello_behind}
 -- ---- a session's version
 
 -- the hello that opened it, with its version
-pub opened_hello : (es : List Entry) (c i : ℕ) (v : Version) (o : HasOpened es c i v) → act_at es o.h ≡ Some (Hello c i v)
-opened_hello es c i v o = subst (λ (w : Version). act_at es o.h ≡ Some (Hello c i w)) (sym o.version_is) o.last.hello
+pub opened_hello : (es : List Entry) (c i : ℕ) (v : Version) (o : HasOpened es c i v)
+    → act_at es o.h ≡ Some (Hello c i v)
+opened_hello es c i v o = subst (λ (w : Version). act_at es o.h ≡ Some (Hello c i w)) (sym o.version_is)
+    o.last.hello
 
 -- a last hello of a version opens a session of that version
-pub opened_by : (es : List Entry) (c i : ℕ) (v : Version) (h : ℕ) → act_at es h ≡ Some (Hello c i v) → ((r j : ℕ) (w : Version) → h < r → act_at es r ≡ Some (Hello c j w) → ⊥) → HasOpened es c i v
-opened_by es c i v h hello last = record { h = h; last = record { version = v; hello = hello; last = last }; version_is = refl }
+pub opened_by : (es : List Entry) (c i : ℕ) (v : Version) (h : ℕ) → act_at es h ≡ Some (Hello c i v)
+    → ((r j : ℕ) (w : Version) → h < r → act_at es r ≡ Some (Hello c j w) → ⊥) → HasOpened es c i v
+opened_by es c i v h hello last = record {
+  h = h;
+  last = record { version = v; hello = hello; last = last };
+  version_is = refl;
+}
 
 -- a session of an incarnation has a version
 pub has_version : (es : List Entry) (c i : ℕ) → HasIncarnation es c i → (v : Version) × HasOpened es c i v
@@ -37,19 +37,28 @@ has_version es c i has = (has.1.version, record { h = has.0; last = has.1; versi
 one_version_of : (c i j : ℕ) (v w : Version) → Some (Hello c i v) ≡ Some (Hello c j w) → v ≡ w
 one_version_of c i j v w e = cc
 
-pub one_opened : (es : List Entry) (c i j : ℕ) (v w : Version) → HasOpened es c i v → HasOpened es c j w → v ≡ w
+pub one_opened : (es : List Entry) (c i j : ℕ) (v w : Version) → HasOpened es c i v → HasOpened es c j w
+    → v ≡ w
 one_opened es c i j v w first second =
     let same : first.h ≡ second.h = one_last_hello es c i j first.h second.h first.last second.last in
-    one_version_of c i j v w (sym (opened_hello es c i v first) ∙ ap (act_at es) same ∙ opened_hello es c j w second)
+    one_version_of c i j v w (sym (opened_hello es c i v first) ∙ ap (act_at es) same ∙ opened_hello es c j w
+    second)
 
 -- it stays behind an entry that is no hello of its client
-pub HasOpened-on : (es : List Entry) (e : Entry) (c i : ℕ) (v : Version) → ((j : ℕ) (w : Version) → Some e.act ≡ Some (Hello c j w) → ⊥) → HasOpened es c i v → HasOpened (es ++ e ∷ []) c i v
+pub HasOpened-on : (es : List Entry) (e : Entry) (c i : ℕ) (v : Version)
+    → ((j : ℕ) (w : Version) → Some e.act ≡ Some (Hello c j w) → ⊥) → HasOpened es c i v
+    → HasOpened (es ++ e ∷ []) c i v
 unfolding LastHello-on
-HasOpened-on es e c i v other o = record { h = o.h; last = LastHello-on es e c i o.h other o.last; version_is = o.version_is }
+HasOpened-on es e c i v other o = record {
+  h = o.h;
+  last = LastHello-on es e c i o.h other o.last;
+  version_is = o.version_is;
+}
 
 -- ---- the version that a request was asked in
 
-pub asked_in : (es : List Entry) (r : ℕ) (key : Key) (i : ℕ) (v : Version) → key_at es r ≡ Some key → HasOpened (take r es) key.client i v → AskedIn es r v
+pub asked_in : (es : List Entry) (r : ℕ) (key : Key) (i : ℕ) (v : Version) → key_at es r ≡ Some key
+    → HasOpened (take r es) key.client i v → AskedIn es r v
 asked_in es r key i v named opened = record { key = key; named = named; incarnation = i; opened = opened }
 
 -- it is one
@@ -64,51 +73,69 @@ pub asked_on : (es more : List Entry) (r : ℕ) (v : Version) → AskedIn es r v
 asked_on es more r v asked =
     let inside : r < length es = reads_within key_read refl es r asked.key asked.named in
     let front : take r (es ++ more) ≡ take r es = take-append-le r es more (omega arith) in
-    let opened = subst (λ (l : List Entry). HasOpened l asked.key.client asked.incarnation v) (sym front) asked.opened in
-    asked_in (es ++ more) r asked.key asked.incarnation v (reads_on key_read refl es more r asked.key asked.named) opened
+    let opened = subst (λ (l : List Entry). HasOpened l asked.key.client asked.incarnation v) (sym front)
+    asked.opened in
+    asked_in (es ++ more) r asked.key asked.incarnation v (reads_on key_read refl es more r asked.key
+    asked.named) opened
 
-pub asked_back : (es more : List Entry) (r : ℕ) (v : Version) → r < length es → AskedIn (es ++ more) r v → AskedIn es r v
+pub asked_back : (es more : List Entry) (r : ℕ) (v : Version) → r < length es → AskedIn (es ++ more) r v
+    → AskedIn es r v
 asked_back es more r v inside asked =
     let front : take r (es ++ more) ≡ take r es = take-append-le r es more (omega arith) in
-    let opened = subst (λ (l : List Entry). HasOpened l asked.key.client asked.incarnation v) front asked.opened in
-    asked_in es r asked.key asked.incarnation v (ap key_read (sym (get-append_within es more r inside)) ∙ asked.named) opened
+    let opened = subst (λ (l : List Entry). HasOpened l asked.key.client asked.incarnation v) front
+    asked.opened in
+    asked_in es r asked.key asked.incarnation v (ap key_read (sym (get-append_within es more r inside))
+    ∙ asked.named) opened
 
 -- ---- where there is one
 
 -- each request that arrived was asked in some version
-pub arrival_asked : (a : Account) (r : ℕ) (key : Key) (call : Call) → Legal a → act_at a.entries r ≡ Some (Arrive key call) → (v : Version) × AskedIn a.entries r v
+pub arrival_asked : (a : Account) (r : ℕ) (key : Key) (call : Call) → Legal a
+    → act_at a.entries r ≡ Some (Arrive key call) → (v : Version) × AskedIn a.entries r v
 arrival_asked a r key call legal arrived =
-    let has = has_version (take r a.entries) key.client key.incarnation (arrival a r key call legal arrived).incarnation in
+    let has = has_version (take r a.entries) key.client key.incarnation (arrival a r key call legal
+    arrived).incarnation in
     (has.0, asked_in a.entries r key key.incarnation has.0 (ap (option_and_then key_in) arrived) has.1)
 
-pub call_asked : (a : Account) (r : ℕ) (call : Call) → Legal a → call_at a.entries r ≡ Some call → (v : Version) × AskedIn a.entries r v
+pub call_asked : (a : Account) (r : ℕ) (call : Call) → Legal a → call_at a.entries r ≡ Some call
+    → (v : Version) × AskedIn a.entries r v
 call_asked a r call legal called =
     let named = act_called (act_at a.entries r) call called in
     arrival_asked a r named.0 call legal named.1
 
 -- the last entry's request is asked in the session that its client has before it
-pub asked_last : (es : List Entry) (e : Entry) (key : Key) (i : ℕ) (v : Version) → key_in e.act ≡ Some key → HasOpened es key.client i v → AskedIn (es ++ e ∷ []) (length es) v
+pub asked_last : (es : List Entry) (e : Entry) (key : Key) (i : ℕ) (v : Version) → key_in e.act ≡ Some key
+    → HasOpened es key.client i v → AskedIn (es ++ e ∷ []) (length es) v
 asked_last es e key i v named opened =
     let front : take (length es) (es ++ e ∷ []) ≡ es = take-append_seam es (e ∷ []) in
-    asked_in (es ++ e ∷ []) (length es) key i v (ap key_read (get-append_end es e) ∙ named) (subst (λ (l : List Entry). HasOpened l key.client i v) (sym front) opened)
+    asked_in (es ++ e ∷ []) (length es) key i v (ap key_read (get-append_end es e) ∙ named)
+    (subst (λ (l : List Entry). HasOpened l key.client i v) (sym front) opened)
 
-key_or_hello : (es : List Entry) (r : ℕ) (key : Key) (c i : ℕ) (v : Version) → key_at es r ≡ Some key → act_at es r ≡ Some (Hello c i v) → ⊥
+key_or_hello : (es : List Entry) (r : ℕ) (key : Key) (c i : ℕ) (v : Version) → key_at es r ≡ Some key
+    → act_at es r ≡ Some (Hello c i v) → ⊥
 key_or_hello es r key c i v named hello = none-some key (sym (ap (option_and_then key_in) hello) ∙ named)
 
 -- a request behind which its client says no hello was asked in the session that the client has
-pub asked_before : (es : List Entry) (r : ℕ) (key : Key) (i : ℕ) (v : Version) → key_at es r ≡ Some key → ((s j : ℕ) (w : Version) → r < s → act_at es s ≡ Some (Hello key.client j w) → ⊥) → HasOpened es key.client i v → AskedIn es r v
+pub asked_before : (es : List Entry) (r : ℕ) (key : Key) (i : ℕ) (v : Version) → key_at es r ≡ Some key
+    → ((s j : ℕ) (w : Version) → r < s → act_at es s ≡ Some (Hello key.client j w) → ⊥)
+    → HasOpened es key.client i v → AskedIn es r v
 asked_before es r key i v named none opened =
     let hello = opened_hello es key.client i v opened in
     elim (cases_order opened.h r) [
       | inl is ↦ absurd (key_or_hello es r key key.client i v named (ap (act_at es) (sym is) ∙ hello))
       | inr differ ↦ elim differ [
-        | inl less ↦ asked_in es r key i v named (opened_by (take r es) key.client i v opened.h (read_front act_read es r opened.h (Hello key.client i v) less hello)
-            (λ s j w later other. opened.last.last s j w later (read_whole act_read refl es r s (Hello key.client j w) other).1))
+        | inl less ↦ asked_in es r key i v named (opened_by (take r es) key.client i v opened.h
+            (read_front act_read es r opened.h (Hello key.client i v) less hello)
+            (λ s j w later other. opened.last.last s j w later (read_whole act_read refl es r s
+            (Hello key.client j w) other).1))
         | inr more ↦ absurd (none opened.h i v more hello)
       ]
     ]
 
 -- so a request that waits
-pub waiting_asked : (a : Account) (r : ℕ) (key : Key) (call : Call) (i : ℕ) (v : Version) → Waiting a.entries r → act_at a.entries r ≡ Some (Arrive key call) → HasOpened a.entries key.client i v → AskedIn a.entries r v
+pub waiting_asked : (a : Account) (r : ℕ) (key : Key) (call : Call) (i : ℕ) (v : Version)
+    → Waiting a.entries r → act_at a.entries r ≡ Some (Arrive key call) → HasOpened a.entries key.client i v
+    → AskedIn a.entries r v
 waiting_asked a r key call i v waits arrived opened =
-    asked_before a.entries r key i v (ap (option_and_then key_in) arrived) (λ s j w later hello. no_hello_behind a r s key call j w waits arrived hello later) opened
+    asked_before a.entries r key i v (ap (option_and_then key_in) arrived)
+    (λ s j w later hello. no_hello_behind a r s key call j w waits arrived hello later) opened

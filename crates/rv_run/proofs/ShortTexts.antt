@@ -5,6 +5,14 @@ use Rattle.std.proofs.lemmas.Fmt.{length-decimal-le}
 use Rattle.rv_run.specs.Output.{IsShort}
 
 -- a number behind a few letters
-pub number_is_short : (text word : List ℕ) (n : ℕ) → text ≡ word ++ decimal n → length word ≤ 20 → n < 2 ^ 64 → IsShort text
+pub number_is_short : (text word : List ℕ) (n : ℕ) → text ≡ word ++ decimal n → length word ≤ 20 → n < 2 ^ 64
+    → IsShort text
 number_is_short text word n is few small =
-    omega (arith, ap length is, length-append word (decimal n), few, length-decimal-le 20 n (omega arith) (omega arith) small)
+    omega (
+      arith,
+      ap length is,
+      length-append word (decimal n),
+      few,
+      length-decimal-le 20 n (omega arith)
+          (omega arith) small,
+    )

@@ -1,5 +1,6 @@
 -- One frame is answered: from what was got and told of it to the answered frame.
-use Rattle.std.proofs.Common.{inl, inr, ◌≡◌, ◌<◌, ◌++◌, ◌∷◌, [], ℕ, List, Err, IsErrAnd, IfErr, IfOk, Ok, OnErr, OnOk, Option, Result, arith, length, refl, subst, sym, take, true}
+use Rattle.std.proofs.Common.{inl, inr, ◌≡◌, ◌<◌, ◌++◌, ◌∷◌, [], ℕ, List, Err, IsErrAnd, IfErr, IfOk, Ok}
+use Rattle.std.proofs.Common.{OnErr, OnOk, Option, Result, arith, length, refl, subst, sym, take, true}
 use Rattle.rv_text.specs.Bodies.{HasBodyLength}
 use Rattle.rv_frame.specs.Cut.{IsFrameBody, frame_bytes}
 use Rattle.rv_frame.specs.Sink.{SinkTakes, sink_failed}
@@ -15,7 +16,8 @@ use Rattle.rv_server.specs.Writing.{IsAnswer, WritesAnswer, WritesPart}
 use Rattle.rv_server.specs.declared.asking.FrameAnswer.{FrameAnswer}
 use Rattle.rv_server.specs.declared.asking.FrameAnswer.TheVariants as told
 use Rattle.rv_server.specs.declared.fault.WorkFault.{WorkFault}
-use Rattle.rv_server.specs.declared.fault.WorkFault.TheVariants.{BadLength, CutFrame, NoMemory, ReadFault, TooLong, WriteFault}
+use Rattle.rv_server.specs.declared.fault.WorkFault.TheVariants.{BadLength, CutFrame, NoMemory, ReadFault}
+use Rattle.rv_server.specs.declared.fault.WorkFault.TheVariants.{TooLong, WriteFault}
 use Rattle.rv_server.proofs.Getting.{nothing_got}
 use Rattle.rv_server.specs.declared.served.Item.{Item}
 use Rattle.rv_server.specs.declared.served.Item.TheVariants as item
@@ -25,14 +27,23 @@ fits_frame : (body : List ℕ) → HasBodyLength body → IsFrameBody body
 fits_frame body long = (long.0, omega (arith, long.1))
 
 module _ {W : Type 0} (contents : W → Option (List ℕ)) where
-  pub whole_written : (old new : Sink W) (t : FrameAnswer) (i : Item) (body : List ℕ) (r : Result Item SinkFault) → IsAnswer t i body → HasBodyLength body
-      → IfOk r (λ written. written ≡ i) → OnOk r (SinkTakes contents old new (frame_bytes body)) → IfOk r (WritesAnswer contents old new t)
+  pub whole_written : (old new : Sink W) (t : FrameAnswer) (i : Item) (body : List ℕ)
+      (r : Result Item SinkFault) → IsAnswer t i body → HasBodyLength body
+      → IfOk r (λ written. written ≡ i) → OnOk r (SinkTakes contents old new (frame_bytes body))
+      → IfOk r (WritesAnswer contents old new t)
   whole_written old new t i body (Ok written) is fits same takes =
-      subst (λ (own : Item). WritesAnswer contents old new t own) (sym same) (record { answer = body; is = is; fits = fits_frame body fits; written = takes })
+      subst (λ (own : Item). WritesAnswer contents old new t own) (sym same) (record {
+        answer = body;
+        is = is;
+        fits = fits_frame body fits;
+        written = takes;
+      })
   whole_written old new t i body (Err fault) is fits same takes = tt
 
-  pub part_written : (old new : Sink W) (t : FrameAnswer) (i : Item) (body : List ℕ) (r : Result Item SinkFault) → IsAnswer t i body → HasBodyLength body
-      → IfErr r (λ fault. SinkTakes contents old new (take fault.sent (frame_bytes body))) → IfErr r (λ fault. fault.sent < length (frame_bytes body))
+  pub part_written : (old new : Sink W) (t : FrameAnswer) (i : Item) (body : List ℕ)
+      (r : Result Item SinkFault) → IsAnswer t i body → HasBodyLength body
+      → IfErr r (λ fault. SinkTakes contents old new (take fault.sent (frame_bytes body)))
+      → IfErr r (λ fault. fault.sent < length (frame_bytes body))
       → OnErr r (sink_failed new ≡ true) → IfErr r (λ fault. WritesPart contents old new t fault.sent)
   part_written old new t i body (Ok written) is fits takes part failed = tt
   part_written old new t i body (Err fault) is fits takes part failed = record {
@@ -46,7 +57,8 @@ module _ {W : Type 0} (contents : W → Option (List ℕ)) where
   }
 
 -- what is told of a frame and the item that stands for it say what the answer says
-says_of : (body : List ℕ) (got : List Numbered) (t : FrameAnswer) (i : Item) (answer : List ℕ) → TellsFrame body got t → IsAnswer t i answer → BodySays i body got answer
+says_of : (body : List ℕ) (got : List Numbered) (t : FrameAnswer) (i : Item) (answer : List ℕ)
+    → TellsFrame body got t → IsAnswer t i answer → BodySays i body got answer
 says_of body got told.BadText item.BadText answer tells is = (tells, is)
 says_of body got told.BadText item.NoMemory answer tells is = is
 says_of body got told.BadText item.Said answer tells is = absurd is
@@ -60,8 +72,10 @@ says_of body got (told.Said said) item.Said answer tells is = (said, tells.0, is
 abbrev frame_of : (body : List ℕ) (got : List Numbered) (i : Item) (answer : List ℕ) → AnsweredFrame
 frame_of body got i answer = record { body = body; stamps = got; item = i; answer = answer }
 
-frame_is : (number : ℕ) (body : List ℕ) (share share' : ℕ) (old new : List Numbered) (t : FrameAnswer) (i : Item) (answer : List ℕ)
-    → (told : GetsTold number body share old share' new t) → IsAnswer t i answer → IsFrameBody answer → IsAnsweredFrame number (frame_of body told.got i answer)
+frame_is : (number : ℕ) (body : List ℕ) (share share' : ℕ) (old new : List Numbered) (t : FrameAnswer)
+    (i : Item) (answer : List ℕ)
+    → (told : GetsTold number body share old share' new t) → IsAnswer t i answer → IsFrameBody answer
+    → IsAnsweredFrame number (frame_of body told.got i answer)
 frame_is number body share share' old new t i answer told is fits = record {
   own = told.gets.own;
   fits = fits;
@@ -69,41 +83,52 @@ frame_is number body share share' old new t i answer told is fits = record {
 }
 
 -- a fault that a `?` made
-pub fault_gives : {X : Type 0} (r : Result X WorkFault) (P Q : WorkFault → Type 0) → IsErrAnd r P → ((fault : WorkFault) → P fault → Q fault) → IfErr r Q
+pub fault_gives : {X : Type 0} (r : Result X WorkFault) (P Q : WorkFault → Type 0) → IsErrAnd r P
+    → ((fault : WorkFault) → P fault → Q fault) → IfErr r Q
 fault_gives (Ok x) P Q h f = tt
 fault_gives (Err fault) P Q h f = f fault h
 
 module _ {W : Type 0} (contents : W → Option (List ℕ)) where
-  pub lacks_room : (number : ℕ) (body : List ℕ) (at : Out W) (old new : Listed) (fault : WorkFault) → fault ≡ NoMemory → new.items ≡ old.items
+  pub lacks_room : (number : ℕ) (body : List ℕ) (at : Out W) (old new : Listed) (fault : WorkFault)
+      → fault ≡ NoMemory → new.items ≡ old.items
       → new.stamps ≡ old.stamps → StopsAtFrame contents number body at at old new fault
   lacks_room number body at old new fault is items stamps =
       subst (λ (f : WorkFault). StopsAtFrame contents number body at at old new f) (sym is) (record {
         got = [];
         items = items;
-        stamps = subst (λ (l : List Numbered). GetsStamps number body at.share old.stamps at.share l []) (sym stamps) (nothing_got number body at.share old.stamps);
+        stamps = subst (λ (l : List Numbered). GetsStamps number body at.share old.stamps at.share l [])
+            (sym stamps) (nothing_got number body at.share old.stamps);
         none_written = Appends-nil _;
       })
 
-  pub answers_frame : (number : ℕ) (body : List ℕ) (before after : Out W) (old new : Listed) (mid : Sink W) (t : FrameAnswer) (i : Item)
-      → SinkTakes contents before.sink mid [] → GetsTold number body before.share old.stamps after.share new.stamps t → WritesAnswer contents mid after.sink t i
+  pub answers_frame : (number : ℕ) (body : List ℕ) (before after : Out W) (old new : Listed) (mid : Sink W)
+      (t : FrameAnswer) (i : Item)
+      → SinkTakes contents before.sink mid [] → GetsTold number body before.share old.stamps after.share
+      new.stamps t → WritesAnswer contents mid after.sink t i
       → new.items ≡ old.items ++ i ∷ [] → AnswersFrame contents number body before after old new
   answers_frame number body before after old new mid t i none told writes items = record {
     frame = frame_of body told.got i writes.answer;
     of = refl;
-    is = frame_is number body before.share after.share old.stamps new.stamps t i writes.answer told writes.is writes.fits;
+    is = frame_is number body before.share after.share old.stamps new.stamps t i writes.answer told writes.is
+        writes.fits;
     items = items;
     stamps = told.gets;
     written = Appends-trans _ _ _ _ _ none writes.written;
   }
 
-  pub breaks_frame : (number : ℕ) (body : List ℕ) (before after : Out W) (old new : Listed) (mid : Sink W) (t : FrameAnswer) (sent : ℕ) (fault : WorkFault)
-      → fault ≡ WriteFault sent → SinkTakes contents before.sink mid [] → GetsTold number body before.share old.stamps after.share new.stamps t
-      → WritesPart contents mid after.sink t sent → new.items ≡ old.items → StopsAtFrame contents number body before after old new fault
+  pub breaks_frame : (number : ℕ) (body : List ℕ) (before after : Out W) (old new : Listed) (mid : Sink W)
+      (t : FrameAnswer) (sent : ℕ) (fault : WorkFault)
+      → fault ≡ WriteFault sent → SinkTakes contents before.sink mid []
+      → GetsTold number body before.share old.stamps after.share new.stamps t
+      → WritesPart contents mid after.sink t sent → new.items ≡ old.items
+      → StopsAtFrame contents number body before after old new fault
   breaks_frame number body before after old new mid t sent fault is none told writes items =
-      subst (λ (f : WorkFault). StopsAtFrame contents number body before after old new f) (sym is) (inl (record {
+      subst (λ (f : WorkFault). StopsAtFrame contents number body before after old new f) (sym is)
+      (inl (record {
         frame = frame_of body told.got writes.item writes.answer;
         of = refl;
-        is = frame_is number body before.share after.share old.stamps new.stamps t writes.item writes.answer told writes.is writes.fits;
+        is = frame_is number body before.share after.share old.stamps new.stamps t writes.item writes.answer
+            told writes.is writes.fits;
         items = items;
         stamps = told.gets;
         part = writes.part;
@@ -114,8 +139,15 @@ module _ {W : Type 0} (contents : W → Option (List ℕ)) where
   -- asking stopped before there was an answer
   stops_asking : (number : ℕ) (body : List ℕ) (before after : Out W) (old new : Listed) (fault : WorkFault)
       → SinkTakes contents before.sink after.sink [] → new.items ≡ old.items
-      → StopsAsking number body before.share old.stamps after.share new.stamps (sink_failed after.sink) fault → StopsAtFrame contents number body before after old new fault
-  stops_asking number body before after old new NoMemory none items stops = record { got = stops.got; items = items; stamps = stops.gets; none_written = none }
+      → StopsAsking number body before.share old.stamps after.share new.stamps (sink_failed after.sink) fault
+      → StopsAtFrame contents number body before after old new fault
+  stops_asking number body before after old new NoMemory none items stops = record {
+    got = stops.got;
+    items =
+        items;
+    stamps = stops.gets;
+    none_written = none;
+  }
   stops_asking number body before after old new (WriteFault sent) none items stops = inr (record {
     none = stops.0;
     items = items;
@@ -128,8 +160,11 @@ module _ {W : Type 0} (contents : W → Option (List ℕ)) where
   stops_asking number body before after old new (BadLength n) none items stops = absurd stops
   stops_asking number body before after old new TooLong none items stops = absurd stops
 
-  pub stopped_asking : (number : ℕ) (body : List ℕ) (before after : Out W) (old new : Listed) (cause fault : WorkFault) → fault ≡ cause
+  pub stopped_asking : (number : ℕ) (body : List ℕ) (before after : Out W) (old new : Listed) (cause fault :
+      WorkFault) → fault ≡ cause
       → SinkTakes contents before.sink after.sink [] → new.items ≡ old.items
-      → StopsAsking number body before.share old.stamps after.share new.stamps (sink_failed after.sink) cause → StopsAtFrame contents number body before after old new fault
+      → StopsAsking number body before.share old.stamps after.share new.stamps (sink_failed after.sink) cause
+      → StopsAtFrame contents number body before after old new fault
   stopped_asking number body before after old new cause fault is none items stops =
-      subst (λ (f : WorkFault). StopsAtFrame contents number body before after old new f) (sym is) (stops_asking number body before after old new cause none items stops)
+      subst (λ (f : WorkFault). StopsAtFrame contents number body before after old new f) (sym is)
+      (stops_asking number body before after old new cause none items stops)

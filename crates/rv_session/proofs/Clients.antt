@@ -1,5 +1,7 @@
--- The clients of a table as a rising list: it has each client with a session, no other, and its length is the number of sessions.
-use Rattle.std.proofs.Common.{◌≡◌, ℕ, zero, suc, add-one, Bool, true, false, ◌&&◌, T, ◌<◌, List, [], ◌∷◌, length, map, IsSome, refl, sym, ◌∙◌, arith}
+-- The clients of a table as a rising list: it has each client with a session, no other, and its length is the
+-- number of sessions.
+use Rattle.std.proofs.Common.{◌≡◌, ℕ, zero, suc, add-one, Bool, true, false, ◌&&◌, T, ◌<◌, List, [], ◌∷◌}
+use Rattle.std.proofs.Common.{length, map, IsSome, refl, sym, ◌∙◌, arith}
 use Rattle.std.specs.Prelude.{Contains, ◌↔◌}
 use Rattle.std.specs.List.Sorted.{IsStrictlyIncreasing}
 use Rattle.std.specs.declared.cmp.Ordering.{Ordering}
@@ -48,6 +50,8 @@ clients_rise t = rises (entries t.sessions) (entries_sorted t.sessions)
 
 pub clients_are : (t : Table) (client : ℕ) → Contains (clients_of t) client ↔ IsSome (session_of t client)
 clients_are t client = (
-  λ in_list. contains_key-keys t.sessions client ∙ list_any-from_Contains (eq_by_cmp_equiv nat_cmp_total) client (clients_of t) in_list,
-  λ known. Contains-from_any are_same client (clients_of t) (sym (contains_key-keys t.sessions client) ∙ known),
+  λ in_list. contains_key-keys t.sessions client ∙ list_any-from_Contains (eq_by_cmp_equiv nat_cmp_total)
+      client (clients_of t) in_list,
+  λ known. Contains-from_any are_same client (clients_of t) (sym (contains_key-keys t.sessions client)
+      ∙ known),
 )

@@ -1,11 +1,14 @@
 -- The map that the entries are: what a look-up finds in it, and what it is after an insertion.
-use Rattle.std.proofs.Common.{◌≡◌, ◌≢◌, inl, inr, ℕ, ◌+◌, ◌<◌, ◌≤◌, true, false, cond, if◌then◌else◌, nat_eq, List, [], ◌∷◌, length, Option, Some, None, IsSome, is_some, refl, sym, ap, ◌∙◌, subst, arith}
+use Rattle.std.proofs.Common.{◌≡◌, ◌≢◌, inl, inr, ℕ, ◌+◌, ◌<◌, ◌≤◌, true, false, cond, if◌then◌else◌, nat_eq}
+use Rattle.std.proofs.Common.{List, [], ◌∷◌, length, Option, Some, None, IsSome, is_some, refl, sym, ap, ◌∙◌}
+use Rattle.std.proofs.Common.{subst, arith}
 use Rattle.std.specs.Ordering.{nat_cmp, eq_by_cmp}
 use Rattle.std.specs.Map.{lookup}
 use Rattle.std.specs.Cmp.{unsigned_tied, nat_cmp_total}
 use Rattle.std.proofs.lemmas.Bool.{cases_eq, false≢true}
 use Rattle.std.proofs.lemmas.Bool.Decides.{nat_tests}
-use Rattle.std.specs.FinMap.{FinMap, get, insert, find, len, len-empty, len-insert, same_map, get-insert, get-from_entries, nat_cmp-IsAntisymmetric}
+use Rattle.std.specs.FinMap.{FinMap, get, insert, find, len, len-empty, len-insert, same_map, get-insert}
+use Rattle.std.specs.FinMap.{get-from_entries, nat_cmp-IsAntisymmetric}
 use Rattle.rv_session.specs.declared.session.Session.{Session}
 use Rattle.rv_session.specs.Entries.{map_of, IsTable}
 
@@ -31,9 +34,11 @@ get_kept es q = get-from_entries nat_cmp_total es q ∙ find_lookup es q
 
 -- the new entries have this session of the client, and of all others what the old ones have
 abbrev pub PutsSession : (old new : List (ℕ × Session)) (client : ℕ) (session : Session) → Type 0
-PutsSession old new client session = (q : ℕ) → lookup (nat_eq q) new ≡ cond (nat_eq client q) (Some session) (lookup (nat_eq q) old)
+PutsSession old new client session = (q : ℕ) → lookup (nat_eq q) new ≡ cond (nat_eq client q) (Some session)
+    (lookup (nat_eq q) old)
 
-pub map_put : (old new : List (ℕ × Session)) (k : ℕ) (v : Session) → PutsSession old new k v → map_of new ≡ insert (map_of old) k v
+pub map_put : (old new : List (ℕ × Session)) (k : ℕ) (v : Session) → PutsSession old new k v
+    → map_of new ≡ insert (map_of old) k v
 map_put old new k v puts = same_map nat_cmp_total nat_cmp-IsAntisymmetric _ _ (λ q.
     get_kept new q
     ∙ puts q
@@ -49,23 +54,30 @@ known_stays : (o : Option Session) (n : ℕ) → IsSome o → cond (is_some o) n
 known_stays None n known = absurd (false≢true known)
 known_stays (Some v) n known = refl
 
-pub len_known : (m : FinMap nat_cmp Session) (k : ℕ) (v : Session) → IsSome (get m k) → len (insert m k v) ≡ len m
+pub len_known : (m : FinMap nat_cmp Session) (k : ℕ) (v : Session) → IsSome (get m k)
+    → len (insert m k v) ≡ len m
 len_known m k v known = len-insert nat_cmp_total m k v ∙ known_stays (get m k) (len m) known
 
-pub len_unknown : (m : FinMap nat_cmp Session) (k : ℕ) (v : Session) → get m k ≡ None → len (insert m k v) ≡ len m + 1
-len_unknown m k v none = len-insert nat_cmp_total m k v ∙ ap (λ (o : Option Session). cond (is_some o) (len m) (len m + 1)) none
+pub len_unknown : (m : FinMap nat_cmp Session) (k : ℕ) (v : Session) → get m k ≡ None
+    → len (insert m k v) ≡ len m + 1
+len_unknown m k v none = len-insert nat_cmp_total m k v ∙ ap (λ (o : Option Session). cond (is_some o) (len m)
+    (len m + 1)) none
 
 -- as many more as the map has, whatever stood at the client
-as_many : (before : Option Session) (n : ℕ) → cond (is_some before) n (n + 1) ≡ n + (if is_some before then 0 else 1)
+as_many : (before : Option Session) (n : ℕ)
+    → cond (is_some before) n (n + 1) ≡ n + (if is_some before then 0 else 1)
 as_many None n = refl
 as_many (Some v) n = omega arith
 
-still_room : (before : Option Session) (n count : ℕ) → n ≤ 1024 → (before ≡ None → n < 1024) → count ≡ n + (if is_some before then 0 else 1) → count ≤ 1024
+still_room : (before : Option Session) (n count : ℕ) → n ≤ 1024 → (before ≡ None → n < 1024)
+    → count ≡ n + (if is_some before then 0 else 1) → count ≤ 1024
 still_room None n count within room is = let below : n < 1024 = room refl in omega (arith, below, is)
 still_room (Some v) n count within room is = omega (arith, within, is)
 
-pub put_table : (old new : List (ℕ × Session)) (k : ℕ) (v : Session) (before : Option Session) → IsTable old → PutsSession old new k v → before ≡ lookup (nat_eq k) old
-    → length new ≡ length old + (if is_some before then 0 else 1) → (get (map_of old) k ≡ None → len (map_of old) < 1024) → IsTable new
+pub put_table : (old new : List (ℕ × Session)) (k : ℕ) (v : Session) (before : Option Session) → IsTable old
+    → PutsSession old new k v → before ≡ lookup (nat_eq k) old
+    → length new ≡ length old + (if is_some before then 0 else 1)
+    → (get (map_of old) k ≡ None → len (map_of old) < 1024) → IsTable new
 put_table old new k v before is puts was longer room =
     let there : get (map_of old) k ≡ before = get_kept old k ∙ sym was in
     record {
@@ -77,7 +89,8 @@ put_table old new k v before is puts was longer room =
     }
 
 -- a session that was replaced
-pub written_table : (old new : List (ℕ × Session)) (k : ℕ) (v : Session) → IsTable old → PutsSession old new k v → length new ≡ length old → IsSome (get (map_of old) k) → IsTable new
+pub written_table : (old new : List (ℕ × Session)) (k : ℕ) (v : Session) → IsTable old
+    → PutsSession old new k v → length new ≡ length old → IsSome (get (map_of old) k) → IsTable new
 written_table old new k v is puts same known = record {
   distinct = ap len (map_put old new k v puts) ∙ len_known (map_of old) k v known ∙ is.distinct ∙ sym same;
   room = subst (λ n. n ≤ 1024) (sym same) is.room;

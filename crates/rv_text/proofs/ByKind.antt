@@ -1,5 +1,7 @@
--- What holds of a member by its kind, said once for each: no float, its limit, how long its text is, that it is text.
-use Rattle.std.proofs.Common.{◌≡◌, ℕ, ◌+◌, ◌*◌, ◌^◌, ◌<◌, ◌≤◌, Bool, true, false, ◌&&◌, List, [], ◌∷◌, ◌++◌, length, map, IsUtf8, refl, arith}
+-- What holds of a member by its kind, said once for each: no float, its limit, how long its text is, that it
+-- is text.
+use Rattle.std.proofs.Common.{◌≡◌, ℕ, ◌+◌, ◌*◌, ◌^◌, ◌<◌, ◌≤◌, Bool, true, false, ◌&&◌, List, [], ◌∷◌, ◌++◌}
+use Rattle.std.proofs.Common.{length, map, IsUtf8, refl, arith}
 use Rattle.std.proofs.lemmas.Bool.{and_parts, leb-true, ltb-true}
 use Rattle.std.proofs.lemmas.List.Elements.{recursion_from_All}
 use Rattle.std.specs.List.{All, AllByRecursion}
@@ -10,7 +12,9 @@ use Rattle.serde_json.specs.View.{items_of}
 use Rattle.serde_json.specs.Written.{has_float, items_have_float}
 use Rattle.rv_item.specs.Limits.{FitsItem}
 use Rattle.rv_text.specs.declared.call.Wait.TheVariants as wait
-use Rattle.rv_text.specs.Members.{Limit, up_to, from_one_to, Keeps, Member, word, whole, item_text, item_texts, wait_time, field_of, IsWithin, limited_members, WithinFrom, WithinEach, AllWithin}
+use Rattle.rv_text.specs.Members.{Limit, up_to, from_one_to, Keeps, Member, word, whole, item_text}
+use Rattle.rv_text.specs.Members.{item_texts, wait_time, field_of, IsWithin, limited_members, WithinFrom}
+use Rattle.rv_text.specs.Members.{WithinEach, AllWithin}
 use Rattle.rv_text.proofs.Objects.{AllFields}
 use Rattle.rv_text.proofs.Sizes.{items_size, field_size, fields_size, IsFlat, IsFlatMember}
 use Rattle.rv_text.proofs.Texts.{IsTextMember}
@@ -32,10 +36,14 @@ within_parts m (n ∷ row) h = h
 pub each_within : (row : List Member) → AllWithin row → Each IsWithin row
 each_within [] h = tt
 each_within (word name bytes ∷ row) h = (tt, each_within row h)
-each_within (whole name limit n ∷ row) h = let p = within_parts (whole name limit n) (limited_members row) h in (p.0, each_within row p.1)
-each_within (item_text name bytes ∷ row) h = let p = within_parts (item_text name bytes) (limited_members row) h in (p.0, each_within row p.1)
-each_within (item_texts name texts ∷ row) h = let p = within_parts (item_texts name texts) (limited_members row) h in (p.0, each_within row p.1)
-each_within (wait_time name waits ∷ row) h = let p = within_parts (wait_time name waits) (limited_members row) h in (p.0, each_within row p.1)
+each_within (whole name limit n ∷ row) h = let p = within_parts (whole name limit n) (limited_members row)
+    h in (p.0, each_within row p.1)
+each_within (item_text name bytes ∷ row) h = let p = within_parts (item_text name bytes) (limited_members row)
+    h in (p.0, each_within row p.1)
+each_within (item_texts name texts ∷ row) h = let p = within_parts (item_texts name texts)
+    (limited_members row) h in (p.0, each_within row p.1)
+each_within (wait_time name waits ∷ row) h = let p = within_parts (wait_time name waits) (limited_members row)
+    h in (p.0, each_within row p.1)
 
 -- ---- no float
 
@@ -52,7 +60,8 @@ no_float (wait_time name wait.Now) = refl
 no_float (wait_time name (wait.Millis millis)) = refl
 no_float (wait_time name wait.Forever) = refl
 
-pub row_has_no_float : (row : List Member) → AllFields (λ name value. has_float value ≡ false) (map field_of row)
+pub row_has_no_float : (row : List Member)
+    → AllFields (λ name value. has_float value ≡ false) (map field_of row)
 row_has_no_float [] = tt
 row_has_no_float (m ∷ row) = (no_float m, row_has_no_float row)
 
@@ -83,7 +92,8 @@ are_plain (m ∷ row) = is_plain m && are_plain row
 is_flat : (m : Member) → is_plain m ≡ true → IsWithin m → IsFlat (field_of m).1
 is_flat (word name bytes) plain h = tt
 is_flat (whole name limit n) plain h =
-    let small : greatest limit < 2 ^ 64 = ltb-true (greatest limit) (2 ^ 64) (and_parts (are_ascii name) _ plain).1 in
+    let small : greatest limit < 2 ^ 64 = ltb-true (greatest limit) (2 ^ 64) (and_parts (are_ascii name) _
+    plain).1 in
     omega (arith, small, below_greatest limit n h)
 is_flat (item_text name bytes) plain h = tt
 is_flat (item_texts name texts) plain h = (texts, refl)
@@ -91,9 +101,14 @@ is_flat (wait_time name wait.Now) plain h = tt
 is_flat (wait_time name (wait.Millis millis)) plain h = omega (arith, h)
 is_flat (wait_time name wait.Forever) plain h = tt
 
-pub row_is_flat : (row : List Member) → are_plain row ≡ true → Each IsWithin row → AllFields IsFlatMember (map field_of row)
+pub row_is_flat : (row : List Member) → are_plain row ≡ true → Each IsWithin row
+    → AllFields IsFlatMember (map field_of row)
 row_is_flat [] plain h = tt
-row_is_flat (m ∷ row) plain h = let each = and_parts _ _ plain in (is_flat m each.0 h.0, row_is_flat row each.1 h.1)
+row_is_flat (m ∷ row) plain h = let each = and_parts _ _ plain in (
+  is_flat m each.0 h.0,
+  row_is_flat row
+      each.1 h.1,
+)
 
 -- ---- items
 
@@ -119,7 +134,8 @@ rooms [] = 0
 rooms (m ∷ row) = room m + rooms row
 
 -- 512 bytes, escaped sixfold, with two quotes and a comma
-texts_size : (texts : List (List ℕ)) → AllByRecursion FitsItem texts → items_size (items_of (map string texts)) ≤ 3075 * length texts
+texts_size : (texts : List (List ℕ)) → AllByRecursion FitsItem texts
+    → items_size (items_of (map string texts)) ≤ 3075 * length texts
 texts_size [] h = omega arith
 texts_size (s ∷ texts) h = omega (arith, item_short s h.0, texts_size texts h.1)
 
@@ -128,12 +144,18 @@ size_within (word name bytes) plain h =
     omega (arith, leb-true (length bytes) 16 (and_parts _ _ (and_parts (are_ascii name) _ plain).1).1)
 size_within (whole name limit n) plain h = omega arith
 size_within (item_text name bytes) plain h = omega (arith, item_short bytes h)
-size_within (item_texts name texts) plain h = omega (arith, h.0, texts_size texts (recursion_from_All FitsItem texts h.1))
+size_within (item_texts name texts) plain h = omega (
+  arith,
+  h.0,
+  texts_size texts (recursion_from_All FitsItem
+      texts h.1),
+)
 size_within (wait_time name wait.Now) plain h = omega arith
 size_within (wait_time name (wait.Millis millis)) plain h = omega arith
 size_within (wait_time name wait.Forever) plain h = omega arith
 
-pub row_size : (row : List Member) → are_plain row ≡ true → Each IsWithin row → fields_size (map field_of row) ≤ rooms row
+pub row_size : (row : List Member) → are_plain row ≡ true → Each IsWithin row
+    → fields_size (map field_of row) ≤ rooms row
 row_size [] plain h = omega arith
 row_size (m ∷ row) plain h =
     let each = and_parts (is_plain m) (are_plain row) plain in
@@ -148,13 +170,22 @@ is_text : (m : Member) → is_plain m ≡ true → IsWithin m → IsTextMember (
 is_text (word name bytes) plain h =
     let parts = and_parts (are_ascii name) _ plain in
     (IsUtf8-are_ascii name parts.0, IsUtf8-are_ascii bytes (and_parts _ _ parts.1).0)
-is_text (whole name limit n) plain h = (IsUtf8-are_ascii name (and_parts _ _ plain).0, is_flat (whole name limit n) plain h)
+is_text (whole name limit n) plain h = (
+  IsUtf8-are_ascii name (and_parts _ _ plain).0,
+  is_flat
+      (whole name limit n) plain h,
+)
 is_text (item_text name bytes) plain h = (IsUtf8-are_ascii name plain, item_utf8 bytes h)
 is_text (item_texts name texts) plain h = (IsUtf8-are_ascii name plain, (texts, refl, texts_utf8 texts h.1))
 is_text (wait_time name wait.Now) plain h = (IsUtf8-are_ascii name plain, IsUtf8-are_ascii _ refl)
 is_text (wait_time name (wait.Millis millis)) plain h = (IsUtf8-are_ascii name plain, omega (arith, h))
 is_text (wait_time name wait.Forever) plain h = (IsUtf8-are_ascii name plain, IsUtf8-are_ascii _ refl)
 
-pub row_is_text : (row : List Member) → are_plain row ≡ true → Each IsWithin row → AllFields IsTextMember (map field_of row)
+pub row_is_text : (row : List Member) → are_plain row ≡ true → Each IsWithin row
+    → AllFields IsTextMember (map field_of row)
 row_is_text [] plain h = tt
-row_is_text (m ∷ row) plain h = let each = and_parts _ _ plain in (is_text m each.0 h.0, row_is_text row each.1 h.1)
+row_is_text (m ∷ row) plain h = let each = and_parts _ _ plain in (
+  is_text m each.0 h.0,
+  row_is_text row
+      each.1 h.1,
+)

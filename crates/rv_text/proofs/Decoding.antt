@@ -1,5 +1,6 @@
 -- From what an object's readers answer to what a decoder promises of the bytes.
-use Rattle.std.proofs.Common.{◌≡◌, ℕ, List, map, Some, Result, Ok, Err, String, Global, BTreeMap, string_cmp, refl, sym, ap, ◌∙◌, inl, inr}
+use Rattle.std.proofs.Common.{◌≡◌, ℕ, List, map, Some, Result, Ok, Err, String, Global, BTreeMap, string_cmp}
+use Rattle.std.proofs.Common.{refl, sym, ap, ◌∙◌, inl, inr}
 use Rattle.std.proofs.lemmas.List.{length-map}
 use Rattle.std.proofs.lemmas.Option.{same_Some}
 use Rattle.std.specs.BTreeMap.{IsOrdered}
@@ -14,7 +15,8 @@ use Rattle.rv_text.specs.Members.{Field, field_of, members_of, object_of}
 use Rattle.rv_text.specs.Laws.{AtMostOne}
 use Rattle.rv_text.specs.Reading.{Shape, IsAlone, IsAloneIn, HasNone, FindsIn}
 use Rattle.rv_text.proofs.Steps.{IsReader}
-use Rattle.rv_text.proofs.Objects.{IsSorted-entries, with_fields-found, found-with_fields, members_len-with_fields}
+use Rattle.rv_text.proofs.Objects.{IsSorted-entries, with_fields-found, found-with_fields}
+use Rattle.rv_text.proofs.Objects.{members_len-with_fields}
 
 module _ (A : Type 0) (shape : Shape A) (reader : IsReader A shape) where
   abbrev fields_of : A → List Field
@@ -25,17 +27,20 @@ module _ (A : Type 0) (shape : Shape A) (reader : IsReader A shape) where
   IsAlone-members_of x fits =
       let distinct = (reader.sound x).distinct in
       record {
-        found = reader.finds (members_of (shape.row x)) x fits (found-with_fields (fields_of x) distinct) (reader.lacks x);
+        found = reader.finds (members_of (shape.row x)) x fits (found-with_fields (fields_of x) distinct)
+            (reader.lacks x);
         whole = members_len-with_fields (fields_of x) distinct ∙ length-map (shape.row x) field_of;
         fits = fits;
       }
 
   -- where a value is alone, the object is that of its row
-  alone_object : (m : BTreeMap (String Global) Value) (x : A) → IsOrdered string_cmp m → IsAlone A shape (members_view m.entries) x
+  alone_object : (m : BTreeMap (String Global) Value) (x : A) → IsOrdered string_cmp m
+      → IsAlone A shape (members_view m.entries) x
       → object (members_view m.entries) ≡ object_of (shape.row x)
   alone_object m x ordered alone =
       let ms = members_view m.entries in
-      ap object (with_fields-found (fields_of x) ms (IsSorted-entries m.entries ordered) (reader.sound x).distinct
+      ap object (with_fields-found (fields_of x) ms (IsSorted-entries m.entries ordered)
+      (reader.sound x).distinct
       (reader.has ms x alone.found) (alone.whole ∙ sym (length-map (shape.row x) field_of)))
 
   -- each value is found again in its object
@@ -43,12 +48,17 @@ module _ (A : Type 0) (shape : Shape A) (reader : IsReader A shape) where
   at_most_one bytes x y p q =
       let same : Some (object_of (shape.row x)) ≡ Some (object_of (shape.row y)) = sym p.1.1 ∙ q.1.1 in
       let members : members_of (shape.row x) ≡ members_of (shape.row y) = cc in
-      same_Some _ _ (sym (IsAlone-members_of x p.2).found ∙ ap shape.found members ∙ (IsAlone-members_of y q.2).found)
+      same_Some _ _ (sym (IsAlone-members_of x p.2).found ∙ ap shape.found members
+      ∙ (IsAlone-members_of y q.2).found)
 
   -- what the bytes read as is the object of the row of what is alone in it
-  body_of : (bytes : List ℕ) (x : A) → HasBodyLength bytes → IsAloneIn A shape bytes x → IsBody shape.row shape.Fits bytes x
-  body_of bytes x long alone =
-      (long, (alone.reads.0, alone.reads.1 ∙ ap Some (alone_object alone.map x alone.ordered alone.alone)), alone.alone.fits)
+  body_of : (bytes : List ℕ) (x : A) → HasBodyLength bytes → IsAloneIn A shape bytes x
+      → IsBody shape.row shape.Fits bytes x
+  body_of bytes x long alone = (
+    long,
+    (alone.reads.0, alone.reads.1 ∙ ap Some (alone_object alone.map x alone.ordered alone.alone)),
+    alone.alone.fits,
+  )
 
   -- bytes that have a body hold no object in which nothing is alone
   has_some : (bytes : List ℕ) (x : A) → IsBody shape.row shape.Fits bytes x → HasNone A shape bytes → ⊥

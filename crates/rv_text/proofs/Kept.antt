@@ -1,5 +1,7 @@
--- For crates that keep calls and give replies: what fits, part by part, and that two calls are the same or not.
-use Rattle.std.proofs.Common.{◌≡◌, ◌⊎◌, inl, inr, ℕ, List, ◌++◌, Bool, true, false, Option, Some, None, refl, subst, arith, Decides}
+-- For crates that keep calls and give replies: what fits, part by part, and that two calls are the same or
+-- not.
+use Rattle.std.proofs.Common.{◌≡◌, ◌⊎◌, inl, inr, ℕ, List, ◌++◌, Bool, true, false, Option, Some, None, refl}
+use Rattle.std.proofs.Common.{subst, arith, Decides}
 use Rattle.std.specs.Str.{bytes_eq}
 use Rattle.std.proofs.lemmas.Slice.Eq.{bytes_eq-Decides}
 use Rattle.std.proofs.lemmas.Bool.{cases_order, false≢true}
@@ -18,7 +20,8 @@ use Rattle.rv_text.specs.Rows.{side_row, max_or_wait_row, item_row, call_row}
 use Rattle.rv_text.specs.Limits.{FitsSide, FitsMax, FitsItem, FitsItems, FitsCall, FitsKey, FitsReply}
 use Rattle.rv_text.proofs.ByKind.{Each, Each-parts, each_within}
 
-item_alone : (gives : Option (List ℕ)) (item : List ℕ) → gives ≡ Some item → Each IsWithin (item_row gives) → FitsItem item
+item_alone : (gives : Option (List ℕ)) (item : List ℕ) → gives ≡ Some item → Each IsWithin (item_row gives)
+    → FitsItem item
 item_alone None item is h = absurd (none-some item is)
 item_alone (Some other) item is h = subst FitsItem (same_Some _ _ is) h.0
 
@@ -27,10 +30,12 @@ pub item_fits : (call : Call) (item : List ℕ) → FitsCall call → item_of ca
 item_fits call item fits is =
     let n = nature_of call in
     let max_or_wait = max_or_wait_row n.drains n.wait in
-    let rest = (Each-parts IsWithin (side_row n.side) (max_or_wait ++ item_row n.item) (each_within (call_row call) fits.0).1).1 in
+    let rest = (Each-parts IsWithin (side_row n.side) (max_or_wait ++ item_row n.item)
+    (each_within (call_row call) fits.0).1).1 in
     item_alone n.item item is (Each-parts IsWithin max_or_wait (item_row n.item) rest).1
 
-max_alone : (drains : Option ℕ) (waits : Option Wait) (max : ℕ) → drains ≡ Some max → Each IsWithin (max_or_wait_row drains waits) → FitsMax max
+max_alone : (drains : Option ℕ) (waits : Option Wait) (max : ℕ) → drains ≡ Some max
+    → Each IsWithin (max_or_wait_row drains waits) → FitsMax max
 max_alone None waits max is h = absurd (none-some max is)
 max_alone (Some other) waits max is h = subst FitsMax (same_Some _ _ is) h.0
 
@@ -39,7 +44,8 @@ pub max_fits : (call : Call) (max : ℕ) → FitsCall call → drains_of call �
 max_fits call max fits is =
     let n = nature_of call in
     let max_or_wait = max_or_wait_row n.drains n.wait in
-    let rest = (Each-parts IsWithin (side_row n.side) (max_or_wait ++ item_row n.item) (each_within (call_row call) fits.0).1).1 in
+    let rest = (Each-parts IsWithin (side_row n.side) (max_or_wait ++ item_row n.item)
+    (each_within (call_row call) fits.0).1).1 in
     max_alone n.drains n.wait max is (Each-parts IsWithin max_or_wait (item_row n.item) rest).0
 
 -- a call that fits has a wait of its side
@@ -111,10 +117,12 @@ same_wait _ _ = inr (λ e. absurd (let no : ⊥ = cc in no))
 put_parts : (q r : ℕ) (i j : List ℕ) → call.Put q i ≡ call.Put r j → (q ≡ r) × (i ≡ j)
 put_parts q r i j e = (cc, cc)
 
-transfer_parts : (q r : ℕ) (i j : List ℕ) (v w : Wait) → call.Transfer q i v ≡ call.Transfer r j w → (call.Put q i ≡ call.Put r j) × (v ≡ w)
+transfer_parts : (q r : ℕ) (i j : List ℕ) (v w : Wait) → call.Transfer q i v ≡ call.Transfer r j w
+    → (call.Put q i ≡ call.Put r j) × (v ≡ w)
 transfer_parts q r i j v w e = let queue : q ≡ r = cc in let item : i ≡ j = cc in (cc, cc)
 
-swap_parts : (m n : ℕ) (i j : List ℕ) (v w : Wait) → call.Swap m i v ≡ call.Swap n j w → (call.Put m i ≡ call.Put n j) × (v ≡ w)
+swap_parts : (m n : ℕ) (i j : List ℕ) (v w : Wait) → call.Swap m i v ≡ call.Swap n j w
+    → (call.Put m i ≡ call.Put n j) × (v ≡ w)
 swap_parts m n i j v w e = let exchanger : m ≡ n = cc in let item : i ≡ j = cc in (cc, cc)
 
 take_parts : (q r : ℕ) (v w : Wait) → call.Take q v ≡ call.Take r w → (q ≡ r) × (v ≡ w)
@@ -128,10 +136,14 @@ same_put q r i j = both (same_number q r) (same_text i j) (λ queue item. cc) (p
 
 pub same_call : (c d : Call) → (c ≡ d) ⊎ (c ≡ d → ⊥)
 same_call (call.Put q i) (call.Put r j) = same_put q r i j
-same_call (call.Transfer q i v) (call.Transfer r j w) = both (same_put q r i j) (same_wait v w) (λ put wait. let parts = put_parts q r i j put in cc) (transfer_parts q r i j v w)
-same_call (call.Take q v) (call.Take r w) = both (same_number q r) (same_wait v w) (λ queue wait. cc) (take_parts q r v w)
-same_call (call.Swap m i v) (call.Swap n j w) = both (same_put m n i j) (same_wait v w) (λ put wait. let parts = put_parts m n i j put in cc) (swap_parts m n i j v w)
+same_call (call.Transfer q i v) (call.Transfer r j w) = both (same_put q r i j) (same_wait v w)
+    (λ put wait. let parts = put_parts q r i j put in cc) (transfer_parts q r i j v w)
+same_call (call.Take q v) (call.Take r w) = both (same_number q r) (same_wait v w) (λ queue wait. cc)
+    (take_parts q r v w)
+same_call (call.Swap m i v) (call.Swap n j w) = both (same_put m n i j) (same_wait v w)
+    (λ put wait. let parts = put_parts m n i j put in cc) (swap_parts m n i j v w)
 same_call (call.Count q) (call.Count r) = alone (same_number q r) (λ queue. cc) (λ e. cc)
 same_call (call.Peek q) (call.Peek r) = alone (same_number q r) (λ queue. cc) (λ e. cc)
-same_call (call.Drain q m) (call.Drain r n) = both (same_number q r) (same_number m n) (λ queue max. cc) (drain_parts q r m n)
+same_call (call.Drain q m) (call.Drain r n) = both (same_number q r) (same_number m n) (λ queue max. cc)
+    (drain_parts q r m n)
 same_call _ _ = inr (λ e. absurd (let no : ⊥ = cc in no))

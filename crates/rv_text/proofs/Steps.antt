@@ -1,12 +1,14 @@
 -- The steps of a reader: each finds just what stands in the object.
 use Rattle.std.proofs.Common.{String, Global, ◌≡◌, ℕ, suc, List, [], ◌∷◌, length, map, codes}
-use Rattle.std.proofs.Common.{Bool, true, false, cond, Option, Some, None, option_and_then, bytes_eq, nat_eq, refl, sym, ap, ap₂, subst, inl, inr}
+use Rattle.std.proofs.Common.{Bool, true, false, cond, Option, Some, None, option_and_then, bytes_eq, nat_eq}
+use Rattle.std.proofs.Common.{refl, sym, ap, ap₂, subst, inl, inr}
 use Rattle.std.proofs.lemmas.Bool.Decides.{Decides-eqb}
 use Rattle.std.proofs.lemmas.Bool.{le-leb}
 use Rattle.std.proofs.lemmas.Option.{same_Some}
 use Rattle.std.proofs.lemmas.Slice.Eq.{bytes_eq-Decides}
 use Rattle.std.specs.Prelude.{◌⊎◌, ◌≤◌, nat_le}
-use Rattle.serde_json.specs.Data.{unsigned, negative, float, Data, null, boolean, number, string, array, object, Items, no_items, item, Members}
+use Rattle.serde_json.specs.Data.{unsigned, negative, float, Data, null, boolean, number, string, array}
+use Rattle.serde_json.specs.Data.{object, Items, no_items, item, Members}
 use Rattle.serde_json.specs.View.{items_of, members_view}
 use Rattle.serde_json.specs.declared.value.Value.{Value}
 use Rattle.serde_json.proofs.Views.{members_len-members_view}
@@ -32,7 +34,8 @@ pub last_found : {B : Type 0} (P : B → Type 0) (x : B) → P x → (y : B) →
 last_found P x h y e = subst P (same_Some _ _ e) h
 
 -- which of two ways a test went
-chosen : {A : Type 0} (b : Bool) (x y : Option A) (z : A) → cond b x y ≡ Some z → ((b ≡ true) × (x ≡ Some z)) ⊎ (y ≡ Some z)
+chosen : {A : Type 0} (b : Bool) (x y : Option A) (z : A) → cond b x y ≡ Some z
+    → ((b ≡ true) × (x ≡ Some z)) ⊎ (y ≡ Some z)
 chosen true x y z e = inl (refl, e)
 chosen false x y z e = inr e
 
@@ -68,7 +71,8 @@ few_in_is (number n) ds e = absurd (cc)
 few_in_is (string s) ds e = absurd (cc)
 few_in_is (object ms) ds e = absurd (cc)
 
-number_found : (o : Option Data) (n : ℕ) → option_and_then as_u64 (option_and_then as_number o) ≡ Some n → o ≡ Some (number (unsigned n))
+number_found : (o : Option Data) (n : ℕ) → option_and_then as_u64 (option_and_then as_number o) ≡ Some n
+    → o ≡ Some (number (unsigned n))
 number_found None n e = absurd (cc)
 number_found (Some d) n e = ap Some (as_u64_is d n e)
 
@@ -92,12 +96,15 @@ as_many [] = refl
 as_many (s ∷ texts) = ap suc (as_many texts)
 
 -- and they are few, where the texts are
-pub are_few : (texts : List (List ℕ)) → length texts ≤ 16 → nat_le (items_len (items_of (map string texts))) 16 ≡ true
+pub are_few : (texts : List (List ℕ)) → length texts ≤ 16
+    → nat_le (items_len (items_of (map string texts))) 16 ≡ true
 are_few texts few = subst (λ n. nat_le n 16 ≡ true) (sym (as_many texts)) (le-leb (length texts) 16 few)
 
-each_found : (d : Data) (ds : Items) (head : Option (List ℕ)) (tail : Option (List (List ℕ))) → as_str d ≡ head → texts_of ds ≡ tail
+each_found : (d : Data) (ds : Items) (head : Option (List ℕ)) (tail : Option (List (List ℕ)))
+    → as_str d ≡ head → texts_of ds ≡ tail
     → ((texts : List (List ℕ)) → tail ≡ Some texts → ds ≡ items_of (map string texts))
-    → (texts : List (List ℕ)) → (head >>= λ s. tail >>= λ rest. Some (s ∷ rest)) ≡ Some texts → item d ds ≡ items_of (map string texts)
+    → (texts : List (List ℕ)) → (head >>= λ s. tail >>= λ rest. Some (s ∷ rest)) ≡ Some texts
+    → item d ds ≡ items_of (map string texts)
 each_found d ds None tail is are later texts e = absurd (cc)
 each_found d ds (Some s) None is are later texts e = absurd (cc)
 each_found d ds (Some s) (Some rest) is are later texts e =
@@ -110,7 +117,8 @@ texts_are : (ds : Items) (texts : List (List ℕ)) → texts_of ds ≡ Some text
 texts_are no_items texts e = subst (λ all. no_items ≡ items_of (map string all)) (same_Some _ _ e) refl
 texts_are (item d ds) texts e = each_found d ds (as_str d) (texts_of ds) refl refl (texts_are ds) texts e
 
-list_found : (o : Option Items) (texts : List (List ℕ)) → (o >>= texts_of) ≡ Some texts → o ≡ Some (items_of (map string texts))
+list_found : (o : Option Items) (texts : List (List ℕ)) → (o >>= texts_of) ≡ Some texts
+    → o ≡ Some (items_of (map string texts))
 list_found None texts e = absurd (cc)
 list_found (Some ds) texts e = ap Some (texts_are ds texts e)
 
@@ -130,33 +138,41 @@ module _ (ms : Members) where
   pub text_found : (name s : List ℕ) → text_among name ms ≡ Some s → Has (name, string s)
   text_found name s e = string_found (get_member name ms) s e
 
-  pub texts_found : (texts : List (List ℕ)) → texts_among ms ≡ Some texts → Has (codes "texts", texts_value texts)
-  texts_found texts e = few_found (get_member (codes "texts") ms) (items_of (map string texts)) (list_found (option_and_then few_in (get_member (codes "texts") ms)) texts e)
+  pub texts_found : (texts : List (List ℕ)) → texts_among ms ≡ Some texts
+      → Has (codes "texts", texts_value texts)
+  texts_found texts e = few_found (get_member (codes "texts") ms) (items_of (map string texts))
+      (list_found (option_and_then few_in (get_member (codes "texts") ms)) texts e)
 
   -- each line finds what has P, where its word or number is found
   abbrev pub AreLines : {K A : Type 0} → (A → Type 0) → (K → Type 0) → List (ReaderLine K A) → Type 0
   AreLines P Is [] = Unit {0}
   AreLines P Is (line ∷ lines) = (Is line.0 → (x : _) → line.1 ms ≡ Some x → P x) × AreLines P Is lines
 
-  line_found : {K A : Type 0} (same : K → K → Bool) → ((a b : K) → same a b ≡ true → a ≡ b) → (P : A → Type 0) (Is : K → Type 0) (lines : List (ReaderLine K A)) → AreLines P Is lines
+  line_found : {K A : Type 0} (same : K → K → Bool) → ((a b : K) → same a b ≡ true → a ≡ b)
+      → (P : A → Type 0) (Is : K → Type 0) (lines : List (ReaderLine K A)) → AreLines P Is lines
       → (key : K) → Is key → (x : A) → under same key lines ms ≡ Some x → P x
   line_found same equal P Is [] are key is x e = absurd (cc)
-  line_found same equal P Is (line ∷ lines) are key is x e = elim (chosen (same key line.0) (line.1 ms) (under same key lines ms) x e) [
-    | inl way ↦ are.0 (subst Is (equal key line.0 way.0) is) x way.1
-    | inr way ↦ line_found same equal P Is lines are.1 key is x way
-  ]
+  line_found same equal P Is (line ∷ lines) are key is x e = elim (chosen (same key line.0) (line.1 ms)
+      (under same key lines ms) x e) [
+        | inl way ↦ are.0 (subst Is (equal key line.0 way.0) is) x way.1
+        | inr way ↦ line_found same equal P Is lines are.1 key is x way
+      ]
 
-  pub among_found : {A : Type 0} (P : A → Type 0) (name : List ℕ) (lines : List (ReaderLine (List ℕ) A)) → AreLines P (λ s. Has (name, string s)) lines
+  pub among_found : {A : Type 0} (P : A → Type 0) (name : List ℕ) (lines : List (ReaderLine (List ℕ) A))
+      → AreLines P (λ s. Has (name, string s)) lines
       → (x : A) → among name lines ms ≡ Some x → P x
   among_found P name lines are =
       step_found P (text_among name ms) _ (λ s read.
-      line_found bytes_eq (λ a b. (bytes_eq-Decides a b).0) P (λ s. Has (name, string s)) lines are s (text_found name s read))
+      line_found bytes_eq (λ a b. (bytes_eq-Decides a b).0) P (λ s. Has (name, string s)) lines are s
+      (text_found name s read))
 
-  pub numbered_found : {A : Type 0} (P : A → Type 0) (name : List ℕ) (lines : List (ReaderLine ℕ A)) → AreLines P (λ n. Has (name, number (unsigned n))) lines
+  pub numbered_found : {A : Type 0} (P : A → Type 0) (name : List ℕ) (lines : List (ReaderLine ℕ A))
+      → AreLines P (λ n. Has (name, number (unsigned n))) lines
       → (x : A) → numbered_among name lines ms ≡ Some x → P x
   numbered_found P name lines are =
       step_found P (whole_among name ms) _ (λ n read.
-      line_found nat_eq (λ a b. (Decides-eqb a b).0) P (λ n. Has (name, number (unsigned n))) lines are n (whole_found name n read))
+      line_found nat_eq (λ a b. (Decides-eqb a b).0) P (λ n. Has (name, number (unsigned n))) lines are n
+      (whole_found name n read))
 
 -- no member has one of these names
 abbrev pub Lacks : List (List ℕ) → Members → Type 0

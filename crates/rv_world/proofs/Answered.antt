@@ -1,30 +1,23 @@
--- What a step of the book leaves and tells: at most the message's own entry is new, and a reply is that of the message's own request.
-use Rattle.std.proofs.Common.{◌≡◌, ◌⊎◌, inl, inr, ℕ, Some, None, refl, sym, ap, subst, ◌∙◌}
-use Rattle.std.proofs.lemmas.Option.{none-some, same_Some}
-use Rattle.rv_text.specs.declared.version.Version.{Version}
-use Rattle.rv_text.specs.declared.message.Key.{Key}
-use Rattle.rv_text.specs.declared.message.Message.{Message}
+-- What a step of the book leaves and tells: at most the message's own entry is new, and a reply is that of
+-- the message's own request.
+use Rattle.rv_world.proofs.Words.{◌≡◌, ◌⊎◌, ◌∙◌, inl, inr, ℕ, Some, None, refl, sym, ap, subst, none-some}
+use Rattle.rv_world.proofs.Words.{same_Some, Version, Key, Message, Call, Reply, Answer, Act, Entry, Account}
+use Rattle.rv_world.proofs.Words.{call_in, need_of, Legal, HasReply, Adds, Next, Ticks, step_moment}
+use Rattle.rv_world.proofs.Words.{same_or_not}
 use Rattle.rv_text.specs.declared.message.Message.TheVariants.{Cancel, Hello, Request}
-use Rattle.rv_text.specs.declared.call.Call.{Call}
-use Rattle.rv_text.specs.declared.answer.Reply.{Reply}
-use Rattle.rv_text.specs.declared.answer.Reply.TheVariants as reply
 use Rattle.rv_text.specs.declared.answer.Refusal.{Refusal}
-use Rattle.rv_text.specs.declared.answer.Answer.{Answer}
 use Rattle.rv_text.specs.declared.answer.Answer.TheVariants.{Refused, Replied, Waiting, Welcome}
-use Rattle.rv_account.specs.declared.entry.Act.{Act}
-use Rattle.rv_account.specs.declared.entry.Act.TheVariants as act
-use Rattle.rv_account.specs.declared.entry.Entry.{Entry}
-use Rattle.rv_account.specs.Account.{Account, act_at, call_in, just, with_entry}
-use Rattle.rv_account.specs.Calls.{need_of}
-use Rattle.rv_book.specs.Legal.{Legal, WaitsUnder}
-use Rattle.rv_book.specs.Replies.{HasReply}
-use Rattle.rv_book.specs.Steps.{Adds, Answers, ClientsFullDue, EntersOrNoMemory, EpochFullDue, KeyLines, Next, NextAt, RefuseOr, Refuses, Replies, Ticks, step_moment}
+use Rattle.rv_account.specs.Account.{act_at, just, with_entry}
+use Rattle.rv_book.specs.Legal.{WaitsUnder}
+use Rattle.rv_book.specs.Steps.{Answers, ClientsFullDue, EntersOrNoMemory, EpochFullDue, KeyLines, NextAt}
+use Rattle.rv_book.specs.Steps.{RefuseOr, Refuses, Replies}
 use Rattle.rv_rules.proofs.Growing.{act_read, reads_back}
 use Rattle.rv_rules.proofs.Legality.{follows_itself}
 use Rattle.rv_rules.proofs.Lines.{RefuseOr-elim, WhereElse-elim}
 use Rattle.rv_rules.proofs.Naming.{first_among}
-use Rattle.rv_rules.proofs.Numbers.{same_or_not}
 use Rattle.rv_book.proofs.ToldCancelled.{waiting_replies}
+use Rattle.rv_text.specs.declared.answer.Reply.TheVariants as reply
+use Rattle.rv_account.specs.declared.entry.Act.TheVariants as act
 
 -- ---- what is new in the account
 
@@ -40,10 +33,13 @@ arrival_of (Request other own) key call is = cc
 arrival_of (Cancel other) key call is = absurd (let no : ⊥ = cc in no)
 
 -- an arrival behind one entry more was there before, or is that entry
-added_arrives : (a b : Account) (moment : ℕ) (does : Act) (r : ℕ) (key : Key) (call : Call) → Adds a moment does b
-    → act_at b.entries r ≡ Some (act.Arrive key call) → (act_at a.entries r ≡ Some (act.Arrive key call)) ⊎ (does ≡ act.Arrive key call)
+added_arrives : (a b : Account) (moment : ℕ) (does : Act) (r : ℕ) (key : Key) (call : Call)
+    → Adds a moment does b
+    → act_at b.entries r ≡ Some (act.Arrive key call) → (act_at a.entries r ≡ Some (act.Arrive key call))
+    ⊎ (does ≡ act.Arrive key call)
 added_arrives a b moment does r key call added arrived =
-    let there : act_at (with_entry a added.entry).entries r ≡ Some (act.Arrive key call) = subst (λ (c : Account). act_at c.entries r ≡ Some (act.Arrive key call)) added.follows arrived in
+    let there : act_at (with_entry a added.entry).entries r ≡ Some (act.Arrive key call) =
+    subst (λ (c : Account). act_at c.entries r ≡ Some (act.Arrive key call)) added.follows arrived in
     elim (reads_back act_read refl a.entries added.entry r (act.Arrive key call) there) [
       | inl before ↦ inl before.1
       | inr last ↦ inr (sym added.act_is ∙ same_Some _ _ last.1)
@@ -68,9 +64,11 @@ pub record IsToldReply (m : Message) (b : Account) (key : Key) (told : Reply) : 
 abbrev pub HasRoom : Account → ℕ → Type 0
 HasRoom a need = (refusal : Refusal) → ¬ EpochFullDue a need refusal
 
--- for all that the message may come to need, and for the client of a hello; the cancel of a request that waits needs nothing further
+-- for all that the message may come to need, and for the client of a hello; the cancel of a request that
+-- waits needs nothing further
 abbrev pub HasRoomToHandle : Account → Message → Type 0
-HasRoomToHandle a (Hello client incarnation version) = HasRoom a 1 × ((refusal : Refusal) → ¬ ClientsFullDue a client refusal)
+HasRoomToHandle a (Hello client incarnation version) = HasRoom a 1 × ((refusal : Refusal) → ¬ ClientsFullDue a
+    client refusal)
 HasRoomToHandle a (Request key call) = HasRoom a (need_of call)
 HasRoomToHandle a (Cancel key) = WaitsUnder a.entries key ⊎ HasRoom a 1
 
@@ -87,39 +85,54 @@ pub record Became (a : Account) (moment : ℕ) (m : Message) (b : Account) (x : 
 one_reply : (own key : Key) (is told : Reply) → Replied own is ≡ Replied key told → (own ≡ key) × (is ≡ told)
 one_reply own key is told same = (cc, cc)
 
-replies_tell : (m : Message) (b : Account) (own key : Key) (x : Answer) (told : Reply) → AsksFor m own → own.epoch ≡ b.epoch → Replies b own x → x ≡ Replied key told → IsToldReply m b key told
+replies_tell : (m : Message) (b : Account) (own key : Key) (x : Answer) (told : Reply) → AsksFor m own
+    → own.epoch ≡ b.epoch → Replies b own x → x ≡ Replied key told → IsToldReply m b key told
 replies_tell m b own key x told asks epoch replies is =
     let same = one_reply own key replies.reply told (sym replies.is ∙ is) in
     record {
       asks = subst (AsksFor m) same.0 asks;
       epoch = ap (λ (k : Key). k.epoch) (sym same.0) ∙ epoch;
-      has = subst (HasReply b.entries key) same.1 (subst (λ (k : Key). HasReply b.entries k replies.reply) same.0 replies.has);
+      has = subst (HasReply b.entries key) same.1 (subst (λ (k : Key). HasReply b.entries k replies.reply)
+          same.0 replies.has);
     }
 
 waiting_no_reply : (own key : Key) (told : Reply) → ◌≡◌ {A = Answer} (Waiting own) (Replied key told) → ⊥
 waiting_no_reply own key told is = cc
 
-refused_no_reply : (refusal : Refusal) (key : Key) (told : Reply) → ◌≡◌ {A = Answer} (Refused refusal) (Replied key told) → ⊥
+refused_no_reply : (refusal : Refusal) (key : Key) (told : Reply)
+    → ◌≡◌ {A = Answer} (Refused refusal) (Replied key told) → ⊥
 refused_no_reply refusal key told is = cc
 
-welcome_no_reply : (epoch client incarnation : ℕ) (version : Version) (key : Key) (told : Reply) → ◌≡◌ {A = Answer} (Welcome epoch client incarnation version) (Replied key told) → ⊥
+welcome_no_reply : (epoch client incarnation : ℕ) (version : Version) (key : Key) (told : Reply)
+    → ◌≡◌ {A = Answer} (Welcome epoch client incarnation version) (Replied key told) → ⊥
 welcome_no_reply epoch client incarnation version key told is = cc
 
-welcome_tells : (m : Message) (b : Account) (epoch client incarnation : ℕ) (version : Version) (x : Answer) → x ≡ Welcome epoch client incarnation version → (key : Key) (told : Reply) → x ≡ Replied key told → IsToldReply m b key told
-welcome_tells m b epoch client incarnation version x is key told says = absurd (welcome_no_reply epoch client incarnation version key told (sym is ∙ says))
+welcome_tells : (m : Message) (b : Account) (epoch client incarnation : ℕ) (version : Version) (x : Answer)
+    → x ≡ Welcome epoch client incarnation version → (key : Key) (told : Reply) → x ≡ Replied key told
+    → IsToldReply m b key told
+welcome_tells m b epoch client incarnation version x is key told says = absurd (welcome_no_reply epoch client
+    incarnation version key told (sym is ∙ says))
 
-answers_tell : (m : Message) (b : Account) (own key : Key) (x : Answer) (told : Reply) → AsksFor m own → own.epoch ≡ b.epoch → Answers b own x → x ≡ Replied key told → IsToldReply m b key told
-answers_tell m b own key x told asks epoch (inl replies) is = replies_tell m b own key x told asks epoch replies is
-answers_tell m b own key x told asks epoch (inr waits) is = absurd (waiting_no_reply own key told (sym waits.1 ∙ is))
+answers_tell : (m : Message) (b : Account) (own key : Key) (x : Answer) (told : Reply) → AsksFor m own
+    → own.epoch ≡ b.epoch → Answers b own x → x ≡ Replied key told → IsToldReply m b key told
+answers_tell m b own key x told asks epoch (inl replies) is = replies_tell m b own key x told asks epoch
+    replies is
+answers_tell m b own key x told asks epoch (inr waits) is = absurd (waiting_no_reply own key told (sym waits.1
+    ∙ is))
 
 -- ---- the lines of a step
 
 -- what each line for a key leads to; behind the first the key is of the account's epoch
-key_lines : (R : Refusal → Type 0) (L G T : Type 0) (a : Account) (key : Key) → ((refusal : Refusal) → R refusal → T) → (key.epoch ≡ a.epoch → L → T) → (key.epoch ≡ a.epoch → G → T)
+key_lines : (R : Refusal → Type 0) (L G T : Type 0) (a : Account) (key : Key)
+    → ((refusal : Refusal) → R refusal → T) → (key.epoch ≡ a.epoch → L → T) → (key.epoch ≡ a.epoch → G → T)
     → KeyLines a key R L G → T
 key_lines R L G T a key refuses last above (inl refused) = refuses refused.refusal refused.refuses_it
 key_lines R L G T a key refuses last above (inr own) =
-    let epoch : key.epoch ≡ a.epoch = elim (same_or_not key.epoch a.epoch) [ inl same ↦ same | inr other ↦ absurd (own.0 _ (other, refl)) ] in
+    let epoch : key.epoch ≡ a.epoch = elim (same_or_not key.epoch a.epoch) [
+      | inl same ↦ same
+      | inr other
+          ↦ absurd (own.0 _ (other, refl))
+    ] in
     RefuseOr-elim _ _ _ T (λ refusal due. refuses refusal)
     (RefuseOr-elim _ _ _ T (λ refusal due. refuses refusal)
     (RefuseOr-elim _ _ _ T (λ refusal due. refuses refusal)
@@ -135,25 +148,33 @@ module _ (a b : Account) (moment : ℕ) (m : Message) (x : Answer) where
     told = λ key told is. absurd (refused_no_reply refusal key told (sym refuses.1 ∙ is));
   }
 
-  stays_became : b ≡ a → ((key : Key) (told : Reply) → x ≡ Replied key told → IsToldReply m a key told) → Became a moment m b x
+  stays_became : b ≡ a → ((key : Key) (told : Reply) → x ≡ Replied key told → IsToldReply m a key told)
+      → Became a moment m b x
   stays_became same told = record {
     account = inl same;
     told = λ key reply is. subst (λ (c : Account). IsToldReply m c key reply) (sym same) (told key reply is);
   }
 
-  entered_became : (T : Type 0) → HasRoomToHandle a m → (Adds a moment (act_of m) b → T → (key : Key) (told : Reply) → x ≡ Replied key told → IsToldReply m b key told)
+  entered_became : (T : Type 0) → HasRoomToHandle a m
+      → (Adds a moment (act_of m) b → T → (key : Key) (told : Reply) → x ≡ Replied key told → IsToldReply m b
+      key told)
       → EntersOrNoMemory a moment (act_of m) b x T → Became a moment m b x
   entered_became T room told (inl refuses) = refused_became _ refuses
-  entered_became T room told (inr entered) = record { account = inr (record { adds = entered.0; room = room }); told = told entered.0 entered.1 }
+  entered_became T room told (inr entered) =
+      record { account = inr (record { adds = entered.0; room = room }); told = told entered.0 entered.1 }
 
   -- where there is room for what the message needs
-  room_became : (T : Type 0) (need : ℕ) → (HasRoom a need → HasRoomToHandle a m) → (Adds a moment (act_of m) b → T → (key : Key) (told : Reply) → x ≡ Replied key told → IsToldReply m b key told)
-      → RefuseOr (EpochFullDue a need) (Refuses a b x) (EntersOrNoMemory a moment (act_of m) b x T) → Became a moment m b x
+  room_became : (T : Type 0) (need : ℕ) → (HasRoom a need → HasRoomToHandle a m)
+      → (Adds a moment (act_of m) b → T → (key : Key) (told : Reply) → x ≡ Replied key told → IsToldReply m b
+      key told)
+      → RefuseOr (EpochFullDue a need) (Refuses a b x) (EntersOrNoMemory a moment (act_of m) b x T)
+      → Became a moment m b x
   room_became T need room told (inl refused) = refused_became refused.refusal refused.refuses_it
   room_became T need room told (inr enters) = entered_became T (room enters.0) told enters.1
 
 -- a cancel has no partner
-cancel_alone : (a : Account) (e : Entry) (key : Key) → Legal (with_entry a e) → e.act ≡ act.Cancel key → e.partners ≡ just None
+cancel_alone : (a : Account) (e : Entry) (key : Key) → Legal (with_entry a e) → e.act ≡ act.Cancel key
+    → e.partners ≡ just None
 cancel_alone a e key legal says = elim (first_among e.partners) [
   | inr none ↦ none
   | inl named ↦
@@ -162,48 +183,62 @@ cancel_alone a e key legal says = elim (first_among e.partners) [
 ]
 
 -- the cancel of a request that waits ends it
-ended_tells : (a b : Account) (moment : ℕ) (key : Key) → Adds a moment (act.Cancel key) b → WaitsUnder a.entries key → Replies b key (Replied key reply.Cancelled)
+ended_tells : (a b : Account) (moment : ℕ) (key : Key) → Adds a moment (act.Cancel key) b
+    → WaitsUnder a.entries key → Replies b key (Replied key reply.Cancelled)
 ended_tells a b moment key added waits =
     let e = added.entry in
     let says : e.act ≡ act.Cancel key = added.act_is in
     let alone = cancel_alone a e key (subst Legal added.follows added.legal) says in
-    subst (λ (c : Account). Replies c key (Replied key reply.Cancelled)) (sym added.follows) (waiting_replies a e key says alone waits)
+    subst (λ (c : Account). Replies c key (Replied key reply.Cancelled)) (sym added.follows)
+    (waiting_replies a e key says alone waits)
 
 -- where there is room for the client of a hello
 hello_became : (a b : Account) (moment client incarnation : ℕ) (version : Version) (x : Answer)
-    → RefuseOr (ClientsFullDue a client) (Refuses a b x) (RefuseOr (EpochFullDue a 1) (Refuses a b x) (EntersOrNoMemory a moment (act.Hello client incarnation version) b x (x ≡ Welcome a.epoch client incarnation version)))
+    → RefuseOr (ClientsFullDue a client) (Refuses a b x) (RefuseOr (EpochFullDue a 1) (Refuses a b x)
+    (EntersOrNoMemory a moment (act.Hello client incarnation version) b x (x ≡ Welcome a.epoch client
+    incarnation version)))
     → Became a moment (Hello client incarnation version) b x
-hello_became a b moment client incarnation version x (inl refused) = refused_became a b moment (Hello client incarnation version) x refused.refusal refused.refuses_it
+hello_became a b moment client incarnation version x (inl refused) = refused_became a b moment
+    (Hello client incarnation version) x refused.refusal refused.refuses_it
 hello_became a b moment client incarnation version x (inr enters) =
     let m : Message = Hello client incarnation version in
-    room_became a b moment m x _ 1 (λ room. (room, enters.0)) (λ added. welcome_tells m b a.epoch client incarnation version x) enters.1
+    room_became a b moment m x _ 1 (λ room. (room, enters.0)) (λ added. welcome_tells m b a.epoch client
+    incarnation version x) enters.1
 
-pub became_at : (a b : Account) (moment : ℕ) (m : Message) (x : Answer) → NextAt a moment m b x → Became a moment m b x
+pub became_at : (a b : Account) (moment : ℕ) (m : Message) (x : Answer) → NextAt a moment m b x
+    → Became a moment m b x
 became_at a b moment (Hello client incarnation version) x next =
     let m : Message = Hello client incarnation version in
     RefuseOr-elim _ _ _ (Became a moment m b x) (λ refusal due. refused_became a b moment m x refusal)
     (RefuseOr-elim _ _ _ (Became a moment m b x) (λ refusal due. refused_became a b moment m x refusal)
-    (WhereElse-elim _ _ _ (Became a moment m b x) (λ has again. stays_became a b moment m x again.0 (welcome_tells m a a.epoch client incarnation version x again.1))
+    (WhereElse-elim _ _ _ (Became a moment m b x) (λ has again. stays_became a b moment m x again.0
+    (welcome_tells m a a.epoch client incarnation version x again.1))
     (hello_became a b moment client incarnation version x))) next
 became_at a b moment (Request key call) x next =
     let m : Message = Request key call in
     let asks : AsksFor m key = inl (call, refl) in
     key_lines (Refuses a b x) _ _ (Became a moment m b x) a key (refused_became a b moment m x)
-    (λ epoch. RefuseOr-elim _ _ _ (Became a moment m b x) (λ refusal due. refused_became a b moment m x refusal)
-    (λ again. stays_became a b moment m x again.account (λ other told. answers_tell m a key other x told asks epoch again.answers)))
+    (λ epoch. RefuseOr-elim _ _ _ (Became a moment m b x) (λ refusal due. refused_became a b moment m x
+    refusal)
+    (λ again. stays_became a b moment m x again.account (λ other told. answers_tell m a key other x told asks
+    epoch again.answers)))
     (λ epoch. room_became a b moment m x _ (need_of call) (λ room. room)
-    (λ added answers other told. answers_tell m b key other x told asks (epoch ∙ sym (added_epoch a b moment _ added)) answers)) next
+    (λ added answers other told. answers_tell m b key other x told asks
+    (epoch ∙ sym (added_epoch a b moment _ added)) answers)) next
 became_at a b moment (Cancel key) x next =
     let m : Message = Cancel key in
     let asks : AsksFor m key = inr refl in
-    let own = λ (added : Adds a moment (act.Cancel key) b) (epoch : key.epoch ≡ a.epoch). epoch ∙ sym (added_epoch a b moment (act.Cancel key) added) in
+    let own = λ (added : Adds a moment (act.Cancel key) b) (epoch : key.epoch ≡ a.epoch). epoch
+    ∙ sym (added_epoch a b moment (act.Cancel key) added) in
     key_lines (Refuses a b x) _ _ (Became a moment m b x) a key (refused_became a b moment m x)
     (λ epoch. WhereElse-elim _ _ _ (Became a moment m b x)
     (λ waits ends. record {
       account = inr (record { adds = ends.0; room = inl waits });
-      told = λ other told is. replies_tell m b key other x told asks (own ends.0 epoch) (subst (Replies b key) (sym ends.1) (ended_tells a b moment key ends.0 waits)) is;
+      told = λ other told is. replies_tell m b key other x told asks (own ends.0 epoch) (subst (Replies b key)
+          (sym ends.1) (ended_tells a b moment key ends.0 waits)) is;
     })
-    (λ again. stays_became a b moment m x again.account (λ other told. answers_tell m a key other x told asks epoch again.answers)))
+    (λ again. stays_became a b moment m x again.account (λ other told. answers_tell m a key other x told asks
+    epoch again.answers)))
     (λ epoch. room_became a b moment m x _ 1 (λ room. inr room)
     (λ added replies other told. replies_tell m b key other x told asks (own added epoch) replies)) next
 
@@ -213,7 +248,8 @@ became_at a b moment (Cancel key) x next =
 record IsTicked (a t : Account) : Type 0 where
   legal : Legal a → Legal t
   epoch : t.epoch ≡ a.epoch
-  arrives : (r : ℕ) (key : Key) (call : Call) → act_at t.entries r ≡ Some (act.Arrive key call) → act_at a.entries r ≡ Some (act.Arrive key call)
+  arrives : (r : ℕ) (key : Key) (call : Call) → act_at t.entries r ≡ Some (act.Arrive key call)
+      → act_at a.entries r ≡ Some (act.Arrive key call)
 
 ticked_itself : (a : Account) → IsTicked a a
 ticked_itself a = record { legal = λ legal. legal; epoch = refl; arrives = λ r key call arrived. arrived }
@@ -222,7 +258,8 @@ ticked : (a t : Account) (moment : ℕ) → Ticks a moment t → IsTicked a t
 ticked a t moment (inl ticks) = record {
   legal = λ legal. ticks.1.legal;
   epoch = added_epoch a t moment act.Tick ticks.1;
-  arrives = λ r key call arrived. elim (added_arrives a t moment act.Tick r key call ticks.1 arrived) [ inl before ↦ before | inr tick ↦ absurd (no_arrival key call tick) ];
+  arrives = λ r key call arrived. elim (added_arrives a t moment act.Tick r key call ticks.1 arrived)
+      [ inl before ↦ before | inr tick ↦ absurd (no_arrival key call tick) ];
 }
   where
     no_arrival : (key : Key) (call : Call) → act.Tick ≡ act.Arrive key call → ⊥
@@ -239,19 +276,26 @@ next_legal a b now m x legal next =
       | inr entered ↦ entered.adds.legal
     ]
 
-pub next_told : (a b : Account) (now : ℕ) (m : Message) (key : Key) (told : Reply) → Next a now m b (Replied key told) → IsToldReply m b key told
-next_told a b now m key told next = (became_at next.ticked b (step_moment a now) m (Replied key told) next.steps).told key told refl
+pub next_told : (a b : Account) (now : ℕ) (m : Message) (key : Key) (told : Reply)
+    → Next a now m b (Replied key told) → IsToldReply m b key told
+next_told a b now m key told next = (became_at next.ticked b (step_moment a now) m (Replied key told)
+    next.steps).told key told refl
 
 -- an arrival that is new is the message's own
-pub next_arrives : (a b : Account) (now : ℕ) (m : Message) (x : Answer) (r : ℕ) (key : Key) (call : Call) → Next a now m b x
-    → act_at b.entries r ≡ Some (act.Arrive key call) → (act_at a.entries r ≡ Some (act.Arrive key call)) ⊎ (m ≡ Request key call)
+pub next_arrives : (a b : Account) (now : ℕ) (m : Message) (x : Answer) (r : ℕ) (key : Key) (call : Call)
+    → Next a now m b x
+    → act_at b.entries r ≡ Some (act.Arrive key call) → (act_at a.entries r ≡ Some (act.Arrive key call))
+    ⊎ (m ≡ Request key call)
 next_arrives a b now m x r key call next arrived =
     let t = next.ticked in
     let before = ticked a t (step_moment a now) next.ticks in
     elim (became_at t b (step_moment a now) m x next.steps).account [
-      | inl same ↦ inl (before.arrives r key call (subst (λ (c : Account). act_at c.entries r ≡ Some (act.Arrive key call)) same arrived))
-      | inr entered ↦ elim (added_arrives t b (step_moment a now) (act_of m) r key call entered.adds arrived) [
-        | inl there ↦ inl (before.arrives r key call there)
-        | inr new ↦ inr (arrival_of m key call new)
-      ]
+      | inl same ↦ inl (before.arrives r key call (subst (λ (c : Account). act_at c.entries r ≡ Some
+          (act.Arrive key call)) same arrived))
+      | inr entered ↦
+          let when = added_arrives t b (step_moment a now) (act_of m) r key call entered.adds arrived in
+          elim when [
+            | inl there ↦ inl (before.arrives r key call there)
+            | inr new ↦ inr (arrival_of m key call new)
+          ]
     ]

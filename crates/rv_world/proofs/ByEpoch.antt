@@ -1,18 +1,18 @@
 -- The account of an epoch is the present one, or one of those before it.
-use Rattle.std.proofs.Common.{◌≢◌, ℕ, [], ◌∷◌, inl, inr, ap, ◌∙◌}
-use Rattle.std.proofs.lemmas.List.Elements.{Contains-append_left, Contains-push_cases}
-use Rattle.rv_account.specs.Account.{Account}
-use Rattle.rv_world.specs.World.{World, IsAccountOf}
+use Rattle.rv_world.proofs.Words.{◌≢◌, ◌∷◌, ◌∙◌, ℕ, [], inl, inr, ap, Contains-append_left}
+use Rattle.rv_world.proofs.Words.{Contains-push_cases, Account, World, IsAccountOf}
 use Rattle.rv_world.specs.Parts.{IsBookOf}
 use Rattle.rv_world.proofs.Listing.{place_of, stands_at}
 
 pub earlier_of : (w : World) (epoch i : ℕ) (is : IsBookOf w.earlier epoch i) → IsAccountOf w epoch is.account
 earlier_of w epoch i is = record {
-  is_there = Contains-append_left w.earlier (w.present ∷ []) is.account (stands_at w.earlier i is.account is.there);
+  is_there = Contains-append_left w.earlier (w.present ∷ []) is.account (stands_at w.earlier i is.account
+      is.there);
   epoch_is = is.epoch_is;
 }
 
-pub none_of : (w : World) (epoch : ℕ) → ((i : ℕ) → ¬ IsBookOf w.earlier epoch i) → w.present.epoch ≢ epoch → (a : Account) → ¬ IsAccountOf w epoch a
+pub none_of : (w : World) (epoch : ℕ) → ((i : ℕ) → ¬ IsBookOf w.earlier epoch i) → w.present.epoch ≢ epoch
+    → (a : Account) → ¬ IsAccountOf w epoch a
 none_of w epoch nowhere other a is = elim (Contains-push_cases w.earlier w.present a is.is_there) [
   | inl before ↦
       let at = place_of w.earlier a before in

@@ -1,22 +1,19 @@
 -- Whom a drain meets in a legal account: those that its entry names, each with its item in the drain's list.
-use Rattle.std.proofs.Common.{◌≡◌, inl, inr, ℕ, List, length, Option, Some, None, option_and_then, option_map, refl, sym, ap, subst, ◌∙◌}
-use Rattle.std.specs.List.{slice_get}
+use Rattle.rv_world.proofs.Words.{◌≡◌, ◌∙◌, inl, inr, ℕ, List, length, Option, Some, None, option_map, refl}
+use Rattle.rv_world.proofs.Words.{sym, ap, subst, slice_get, none-some, same_Some, Key, Call, Entry, Account}
+use Rattle.rv_world.proofs.Words.{call_at, Legal, Meet, ArrivesAt}
+use Rattle.std.proofs.Common.{option_and_then}
 use Rattle.std.specs.List.Sorted.{IsStrictlyIncreasing}
-use Rattle.std.proofs.lemmas.Option.{none-some, same_Some}
-use Rattle.rv_text.specs.declared.message.Key.{Key}
-use Rattle.rv_text.specs.declared.call.Call.{Call}
 use Rattle.rv_text.specs.declared.call.Call.TheVariants.{Drain}
 use Rattle.rv_text.specs.Calls.{item_of}
-use Rattle.rv_account.specs.declared.entry.Entry.{Entry}
-use Rattle.rv_account.specs.Account.{Account, Names, call_at, items_at}
+use Rattle.rv_account.specs.Account.{Names, items_at}
 use Rattle.rv_account.specs.Calls.{Stays}
 use Rattle.rv_account.proofs.Items.{item_among}
-use Rattle.rv_book.specs.Legal.{Legal}
-use Rattle.rv_book.specs.Replies.{Drains, Meet}
+use Rattle.rv_book.specs.Replies.{Drains}
 use Rattle.rv_book.proofs.Drains.{has_items, items_count}
 use Rattle.rv_rules.proofs.Keys.{act_called}
 use Rattle.rv_rules.proofs.OnePartner.{goes_unnamed}
-use Rattle.rv_world.specs.Headline.{ArrivesAt, HandsOverAt, IsToldAmong}
+use Rattle.rv_world.specs.Headline.{HandsOverAt, IsToldAmong}
 
 -- ---- the entry of a drain
 
@@ -26,25 +23,31 @@ pub record TakesItems (es : List Entry) (t : ℕ) (items : List (List ℕ)) : Ty
   pub there : slice_get es t ≡ Some entry
   pub has : items_at es entry.partners ≡ Some items
 
-takes_by : (es : List Entry) (t : ℕ) (items : List (List ℕ)) (o : Option Entry) → slice_get es t ≡ o → option_and_then (items_at es) (option_map (λ (e : Entry). e.partners) o) ≡ Some items
+takes_by : (es : List Entry) (t : ℕ) (items : List (List ℕ)) (o : Option Entry) → slice_get es t ≡ o
+    → option_and_then (items_at es) (option_map (λ (e : Entry). e.partners) o) ≡ Some items
     → TakesItems es t items
 takes_by es t items None there is = absurd (none-some items is)
 takes_by es t items (Some e) there is = record { entry = e; there = there; has = is }
 
-pub takes_items : (es : List Entry) (t : ℕ) (items : List (List ℕ)) → Drains es t items → TakesItems es t items
+pub takes_items : (es : List Entry) (t : ℕ) (items : List (List ℕ)) → Drains es t items
+    → TakesItems es t items
 takes_items es t items is = takes_by es t items (slice_get es t) refl is
 
-pub as_many : (es : List Entry) (t : ℕ) (items : List (List ℕ)) → (takes : TakesItems es t items) → length takes.entry.partners ≡ length items
+pub as_many : (es : List Entry) (t : ℕ) (items : List (List ℕ)) → (takes : TakesItems es t items)
+    → length takes.entry.partners ≡ length items
 as_many es t items takes = sym (items_count es takes.entry.partners items takes.has)
 
 -- ---- who hands over an item
 
-called_by : (o : Option Call) (item : List ℕ) → option_and_then item_of o ≡ Some item → (call : Call) × (o ≡ Some call) × (item_of call ≡ Some item)
+called_by : (o : Option Call) (item : List ℕ) → option_and_then item_of o ≡ Some item
+    → (call : Call) × (o ≡ Some call) × (item_of call ≡ Some item)
 called_by None item is = absurd (none-some item is)
 called_by (Some call) item is = (call, refl, is)
 
 -- each partner hands over the item in its place
-pub hands_over_at : (es : List Entry) (t place g : ℕ) (items : List (List ℕ)) → (takes : TakesItems es t items) → slice_get takes.entry.partners place ≡ Some g → HandsOverAt es items place g
+pub hands_over_at : (es : List Entry) (t place g : ℕ) (items : List (List ℕ))
+    → (takes : TakesItems es t items) → slice_get takes.entry.partners place ≡ Some g
+    → HandsOverAt es items place g
 hands_over_at es t place g items takes there =
     let its = item_among es takes.entry.partners items place g takes.has there in
     let giver = called_by (call_at es g) its.0 its.1 in
@@ -53,7 +56,8 @@ hands_over_at es t place g items takes there =
 
 -- ---- whom a drain meets
 
-module _ (a : Account) (t queue max : ℕ) (legal : Legal a) (arrived : call_at a.entries t ≡ Some (Drain queue max)) where
+module _ (a : Account) (t queue max : ℕ) (legal : Legal a) (arrived : call_at a.entries t ≡ Some
+    (Drain queue max)) where
   goes : Stays (Drain queue max) → ⊥
   goes stays = stays.1
 
@@ -77,7 +81,8 @@ module _ (a : Account) (t queue max : ℕ) (legal : Legal a) (arrived : call_at 
   partners_rise e there = (legal t e there).pairs.names_free_partners.rising
 
   -- and it is told the item of each whom it meets
-  pub told_among : (g : ℕ) (giver : Call) (item : List ℕ) (key : Key) → call_at a.entries g ≡ Some giver → item_of giver ≡ Some item → ArrivesAt a.entries key t (Drain queue max) → Meet a.entries g t
+  pub told_among : (g : ℕ) (giver : Call) (item : List ℕ) (key : Key) → call_at a.entries g ≡ Some giver
+      → item_of giver ≡ Some item → ArrivesAt a.entries key t (Drain queue max) → Meet a.entries g t
       → IsToldAmong a.entries key g t item
   told_among g giver item key given hands there meet =
       let has = has_items queue max a t legal arrived in
@@ -89,7 +94,13 @@ module _ (a : Account) (t queue max : ℕ) (legal : Legal a) (arrived : call_at 
         partners = takes.entry.partners;
         named = ap (option_map (λ (e : Entry). e.partners)) takes.there;
         items = has.0;
-        told = inl (record { place = t; call = Drain queue max; arrived = there; replies = (has.0, has.1, refl) });
+        told = inl (record {
+          place = t;
+          call = Drain queue max;
+          arrived = there;
+          replies =
+              (has.0, has.1, refl);
+        });
         place = named.0;
         giver_there = named.1;
         item_there = its.2 ∙ ap Some same;

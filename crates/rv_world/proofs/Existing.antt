@@ -1,48 +1,41 @@
 -- A step is there wherever no refusal is due.
-use Rattle.std.proofs.Common.{◌≡◌, ◌≢◌, ◌⊎◌, inl, inr, ℕ, ◌+◌, ◌<◌, List, [], ◌∷◌, ◌++◌, Option, Some, None, Bool, true, cond, nat_eq, length, refl, sym, ap, ◌∙◌, arith}
-use Rattle.std.specs.Prelude.{option_and_then, slice_get}
-use Rattle.std.specs.Map.{lookup}
+use Rattle.rv_world.proofs.Words.{◌≡◌, ◌≢◌, ◌⊎◌, ◌+◌, ◌<◌, ◌∷◌, ◌++◌, ◌∙◌, inl, inr, ℕ, List, [], Option}
+use Rattle.rv_world.proofs.Words.{Some, None, Bool, true, cond, nat_eq, length, refl, sym, ap, arith}
+use Rattle.rv_world.proofs.Words.{option_and_then, lookup, nat_tests, Version, Key, Message, Call, Answer}
+use Rattle.rv_world.proofs.Words.{Reply, Act, Account, need_of, Legal, Adds, Next, Ticks, step_moment}
+use Rattle.rv_world.proofs.Words.{same_or_not, Process, New, Idle, Outstanding, Starting, Asking, Hears}
+use Rattle.rv_world.proofs.Words.{first_key, key_after, cancel_of, hello_of, request_of, Outcome, Welcomed}
+use Rattle.rv_world.proofs.Words.{TurnedAway, Settled, EpochEnded, Replaced, Ignored, Event, Packet, Seen}
+use Rattle.rv_world.proofs.Words.{WorldRefusal, World, accounts, empty_account, process_of, ChangesProcess}
+use Rattle.rv_world.proofs.Words.{ComesTo, IsAsking, OnlyChangesProcess, ProcessSays, RefusalDue, RunsBut}
+use Rattle.rv_world.proofs.Words.{RunsNone, Steps, WorldBecomes, sender, with_message, start_of}
+use Rattle.std.specs.Prelude.{slice_get}
 use Rattle.std.proofs.lemmas.Bool.{cases_lt}
-use Rattle.std.proofs.lemmas.Bool.Decides.{nat_tests}
 use Rattle.std.proofs.lemmas.List.{append_cancel_left, length-append}
-use Rattle.rv_text.specs.declared.version.Version.{Version}
 use Rattle.rv_text.specs.declared.version.Version.TheVariants.{One, Two}
-use Rattle.rv_text.specs.declared.message.Key.{Key}
-use Rattle.rv_text.specs.declared.message.Message.{Message}
-use Rattle.rv_text.specs.declared.message.Message.TheVariants as message
-use Rattle.rv_text.specs.declared.call.Call.{Call}
-use Rattle.rv_text.specs.declared.answer.Answer.{Answer}
-use Rattle.rv_text.specs.declared.answer.Answer.TheVariants as answers
 use Rattle.rv_text.specs.declared.answer.Refusal.{Refusal}
-use Rattle.rv_text.specs.declared.answer.Refusal.TheVariants as refusals
-use Rattle.rv_text.specs.declared.answer.Reply.{Reply}
-use Rattle.rv_text.specs.declared.answer.Reply.TheVariants as reply
-use Rattle.rv_account.specs.declared.entry.Act.{Act}
-use Rattle.rv_account.specs.declared.entry.Act.TheVariants as act
-use Rattle.rv_account.specs.Account.{Account}
-use Rattle.rv_account.specs.Calls.{need_of}
 use Rattle.rv_book.specs.Laws.{CanCancel, CanEnter}
-use Rattle.rv_book.specs.Legal.{Legal, WaitsUnder}
+use Rattle.rv_book.specs.Legal.{WaitsUnder}
 use Rattle.rv_book.specs.Sessions.{HasIncarnation, LastNumber}
-use Rattle.rv_book.specs.Steps.{Adds, Answers, BusyDue, ClientsFullDue, EntersOrNoMemory, EpochFullDue, GapDue, KeyLines, Next, NextAt, NoSessionDue, OldIncarnationDue, OldNumberDue, OtherCallDue, OtherEpochDue, OtherVersionDue, RefuseOr, Refuses, Repeats, Replies, Ticks, WhereElse, HelloLines, step_moment}
+use Rattle.rv_book.specs.Steps.{Answers, BusyDue, ClientsFullDue, EntersOrNoMemory, EpochFullDue, GapDue}
+use Rattle.rv_book.specs.Steps.{KeyLines, NextAt, NoSessionDue, OldIncarnationDue, OldNumberDue, OtherCallDue}
+use Rattle.rv_book.specs.Steps.{OtherEpochDue, OtherVersionDue, RefuseOr, Refuses, Repeats, Replies}
+use Rattle.rv_book.specs.Steps.{WhereElse, HelloLines}
 use Rattle.rv_rules.proofs.Deciding.{key_or_other}
 use Rattle.rv_book.proofs.Entering.{cancels_can_enter, hellos_can_enter, requests_can_enter, ticks_can_enter}
-use Rattle.rv_rules.proofs.Numbers.{same_or_not}
 use Rattle.rv_book.proofs.Staying.{one_told}
-use Rattle.rv_client.specs.Process.{Process, New, Idle, Outstanding, Starting, Asking, Hears, first_key, key_after}
-use Rattle.rv_client.specs.Process.{cancel_of, hello_of, request_of, SaysNothingFinal}
-use Rattle.rv_client.specs.Process.{Outcome, Welcomed, TurnedAway, Settled, EpochEnded, Replaced, Ignored}
-use Rattle.rv_world.specs.declared.event.Event.{Event}
-use Rattle.rv_world.specs.declared.event.Event.TheVariants as event
-use Rattle.rv_world.specs.declared.packet.Packet.{Packet}
-use Rattle.rv_world.specs.declared.seen.Seen.{Seen}
-use Rattle.rv_world.specs.declared.seen.Seen.TheVariants as sees
-use Rattle.rv_world.specs.declared.seen.WorldRefusal.{WorldRefusal}
-use Rattle.rv_world.specs.declared.seen.WorldRefusal.TheVariants as refuses
-use Rattle.rv_world.specs.World.{World, accounts, empty_account, process_of}
-use Rattle.rv_world.specs.Events.{ChangesProcess, ComesTo, IsAsking, OnlyChangesProcess, ProcessSays, RefusalDue, RunsBut, RunsNone, Steps, WorldBecomes, next_answer, next_message, sender, with_message, start_of}
+use Rattle.rv_client.specs.Process.{SaysNothingFinal}
+use Rattle.rv_world.specs.Events.{next_answer, next_message}
 use Rattle.rv_world.specs.Laws.{CanStep, SentNoMemory, StepsExist}
 use Rattle.rv_world.proofs.TableWrites.{apart_from}
+use Rattle.rv_text.specs.declared.message.Message.TheVariants as message
+use Rattle.rv_text.specs.declared.answer.Answer.TheVariants as answers
+use Rattle.rv_text.specs.declared.answer.Refusal.TheVariants as refusals
+use Rattle.rv_text.specs.declared.answer.Reply.TheVariants as reply
+use Rattle.rv_account.specs.declared.entry.Act.TheVariants as act
+use Rattle.rv_world.specs.declared.event.Event.TheVariants as event
+use Rattle.rv_world.specs.declared.seen.Seen.TheVariants as sees
+use Rattle.rv_world.specs.declared.seen.WorldRefusal.TheVariants as refuses
 
 -- ---- a step of the book
 
@@ -57,8 +50,10 @@ record Chosen (Is : Account → Answer → Type 0) : Type 0 where
 same_refusal : (p q : Refusal) → answers.Refused p ≡ answers.Refused q → p ≡ q
 same_refusal p q e = cc
 
-refuse_or : (D : Refusal → Type 0) (O : Type 0) (Is : Account → Answer → Type 0) (a : Account) → ((refusal : Refusal) → D refusal → refusal ≢ refusals.NoMemory)
-    → (O → Chosen Is) → RefuseOr D (λ refusal. Unit {0}) O → Chosen (λ b x. RefuseOr D (Refuses a b x) (Is b x))
+refuse_or : (D : Refusal → Type 0) (O : Type 0) (Is : Account → Answer → Type 0) (a : Account)
+    → ((refusal : Refusal) → D refusal → refusal ≢ refusals.NoMemory)
+    → (O → Chosen Is) → RefuseOr D (λ refusal. Unit {0}) O
+    → Chosen (λ b x. RefuseOr D (Refuses a b x) (Is b x))
 refuse_or D O Is a named goes_on (inl h) = record {
   after = a;
   said = answers.Refused h.refusal;
@@ -69,10 +64,21 @@ refuse_or D O Is a named goes_on (inr h) =
     let k = goes_on h.1 in
     record { after = k.after; said = k.said; is = inr (h.0, k.is); ample = k.ample }
 
-where_else : (C T O : Type 0) (This That : Account → Answer → Type 0) → (T → Chosen This) → (O → Chosen That) → WhereElse C T O
+where_else : (C T O : Type 0) (This That : Account → Answer → Type 0) → (T → Chosen This) → (O → Chosen That)
+    → WhereElse C T O
     → Chosen (λ b x. WhereElse C (This b x) (That b x))
-where_else C T O This That this that (inl h) = let k = this h.1 in record { after = k.after; said = k.said; is = inl (h.0, k.is); ample = k.ample }
-where_else C T O This That this that (inr h) = let k = that h.1 in record { after = k.after; said = k.said; is = inr (h.0, k.is); ample = k.ample }
+where_else C T O This That this that (inl h) = let k = this h.1 in record {
+  after = k.after;
+  said = k.said;
+  is = inl (h.0, k.is);
+  ample = k.ample;
+}
+where_else C T O This That this that (inr h) = let k = that h.1 in record {
+  after = k.after;
+  said = k.said;
+  is = inr (h.0, k.is);
+  ample = k.ample;
+}
 
 -- what is due is no want of memory
 other_epoch : (a : Account) (key : Key) (p : Refusal) → OtherEpochDue a key p → p ≢ refusals.NoMemory
@@ -81,16 +87,19 @@ other_epoch a key p due none = let is = due.1 in cc
 no_session : (a : Account) (key : Key) (p : Refusal) → NoSessionDue a key p → p ≢ refusals.NoMemory
 no_session a key p due none = let is = due.1 in cc
 
-old_incarnation : (a : Account) (client incarnation : ℕ) (p : Refusal) → OldIncarnationDue a client incarnation p → p ≢ refusals.NoMemory
+old_incarnation : (a : Account) (client incarnation : ℕ) (p : Refusal)
+    → OldIncarnationDue a client incarnation p → p ≢ refusals.NoMemory
 old_incarnation a client incarnation p due none = let is = due.is in cc
 
-other_version : (a : Account) (client incarnation : ℕ) (version : Version) (p : Refusal) → OtherVersionDue a client incarnation version p → p ≢ refusals.NoMemory
+other_version : (a : Account) (client incarnation : ℕ) (version : Version) (p : Refusal)
+    → OtherVersionDue a client incarnation version p → p ≢ refusals.NoMemory
 other_version a client incarnation version p due none = let is = due.is in cc
 
 old_number : (a : Account) (key : Key) (p : Refusal) → OldNumberDue a key p → p ≢ refusals.NoMemory
 old_number a key p due none = let is = due.is in cc
 
-other_call : (a : Account) (key : Key) (call : Call) (p : Refusal) → OtherCallDue a key call p → p ≢ refusals.NoMemory
+other_call : (a : Account) (key : Key) (call : Call) (p : Refusal) → OtherCallDue a key call p
+    → p ≢ refusals.NoMemory
 other_call a key call p due none = let is = due.is in cc
 
 busy : (a : Account) (key : Key) (p : Refusal) → BusyDue a key p → p ≢ refusals.NoMemory
@@ -105,21 +114,25 @@ clients_full a client p due none = let is = due.is in cc
 epoch_full : (a : Account) (need : ℕ) (p : Refusal) → EpochFullDue a need p → p ≢ refusals.NoMemory
 epoch_full a need p due none = let is = due.is in cc
 
-replied_ample : (key : Key) (told : Reply) (x : Answer) → x ≡ answers.Replied key told → x ≢ answers.Refused refusals.NoMemory
+replied_ample : (key : Key) (told : Reply) (x : Answer) → x ≡ answers.Replied key told
+    → x ≢ answers.Refused refusals.NoMemory
 replied_ample key told x is none = cc
 
 waits_ample : (key : Key) (x : Answer) → x ≡ answers.Waiting key → x ≢ answers.Refused refusals.NoMemory
 waits_ample key x is none = cc
 
-welcome_ample : (epoch client incarnation : ℕ) (version : Version) → answers.Welcome epoch client incarnation version ≢ answers.Refused refusals.NoMemory
+welcome_ample : (epoch client incarnation : ℕ) (version : Version)
+    → answers.Welcome epoch client incarnation version ≢ answers.Refused refusals.NoMemory
 welcome_ample epoch client incarnation version none = cc
 
-answer_ample : (a : Account) (key : Key) (x : Answer) → Answers a key x → x ≢ answers.Refused refusals.NoMemory
+answer_ample : (a : Account) (key : Key) (x : Answer) → Answers a key x
+    → x ≢ answers.Refused refusals.NoMemory
 answer_ample a key x (inl replies) = replied_ample key replies.reply x replies.is
 answer_ample a key x (inr waits) = waits_ample key x waits.1
 
 -- a repeat is told what its key is told
-repeat : (a : Account) (key : Key) (x : Answer) → Legal a → Answers a key x → Chosen (λ b y. Repeats a b key y)
+repeat : (a : Account) (key : Key) (x : Answer) → Legal a → Answers a key x
+    → Chosen (λ b y. Repeats a b key y)
 repeat a key x legal told = record {
   after = a;
   said = x;
@@ -128,9 +141,11 @@ repeat a key x legal told = record {
 }
 
 -- the lines for a key, with what is chosen at the last number and above it
-key_lines : (a : Account) (key : Key) (need : ℕ) (L G : Type 0) (Last Above : Account → Answer → Type 0) → (L → Chosen Last) → (G → Chosen Above)
+key_lines : (a : Account) (key : Key) (need : ℕ) (L G : Type 0) (Last Above : Account → Answer → Type 0)
+    → (L → Chosen Last) → (G → Chosen Above)
     → KeyLines a key (λ refusal. Unit {0}) L (RefuseOr (EpochFullDue a need) (λ refusal. Unit {0}) G)
-    → Chosen (λ b x. KeyLines a key (Refuses a b x) (Last b x) (RefuseOr (EpochFullDue a need) (Refuses a b x) (Above b x)))
+    → Chosen (λ b x. KeyLines a key (Refuses a b x) (Last b x) (RefuseOr (EpochFullDue a need) (Refuses a b x)
+    (Above b x)))
 key_lines a key need L G Last Above last above =
     refuse_or _ _ _ a (other_epoch a key)
     (refuse_or _ _ _ a (no_session a key)
@@ -143,36 +158,60 @@ key_lines a key need L G Last Above last above =
     above)))))))
 
 request_lines : (before a : Account) (now : ℕ) (key : Key) (call : Call) → Legal a
-    → KeyLines a key (λ refusal. Unit {0}) (RefuseOr (OtherCallDue a key call) (λ refusal. Unit {0}) ((x : Answer) × Answers a key x))
-    (RefuseOr (EpochFullDue a (need_of call)) (λ refusal. Unit {0}) (CanEnter a (step_moment before now) key call))
+    → KeyLines a key (λ refusal. Unit {0}) (RefuseOr (OtherCallDue a key call) (λ refusal. Unit {0})
+    ((x : Answer) × Answers a key x))
+    (RefuseOr (EpochFullDue a (need_of call)) (λ refusal. Unit {0}) (CanEnter a (step_moment before now) key
+    call))
     → Chosen (λ b x. NextAt a (step_moment before now) (message.Request key call) b x)
 request_lines before a now key call legal lines =
     let moment : ℕ = step_moment before now in
     key_lines a key (need_of call) _ _
     (λ b x. RefuseOr (OtherCallDue a key call) (Refuses a b x) (Repeats a b key x))
     (λ b x. EntersOrNoMemory a moment (act.Arrive key call) b x (Answers b key x))
-    (refuse_or (OtherCallDue a key call) ((x : Answer) × Answers a key x) (λ b x. Repeats a b key x) a (other_call a key call) (λ told. repeat a key told.0 legal told.1))
-    (λ can. record { after = can.after; said = can.answer; is = inr (can.adds, can.answers); ample = answer_ample can.after key can.answer can.answers })
+    (refuse_or (OtherCallDue a key call) ((x : Answer) × Answers a key x) (λ b x. Repeats a b key x) a
+    (other_call a key call) (λ told. repeat a key told.0 legal told.1))
+    (λ can. record {
+      after = can.after;
+      said = can.answer;
+      is = inr (can.adds, can.answers);
+      ample =
+          answer_ample can.after key can.answer can.answers;
+    })
     lines
 
 cancel_lines : (before a : Account) (now : ℕ) (key : Key) → Legal a
-    → KeyLines a key (λ refusal. Unit {0}) (WhereElse (WaitsUnder a.entries key) (CanCancel a (step_moment before now) key) ((x : Answer) × Replies a key x))
+    → KeyLines a key (λ refusal. Unit {0}) (WhereElse (WaitsUnder a.entries key)
+    (CanCancel a (step_moment before now) key) ((x : Answer) × Replies a key x))
     (RefuseOr (EpochFullDue a 1) (λ refusal. Unit {0}) (CanCancel a (step_moment before now) key))
     → Chosen (λ b x. NextAt a (step_moment before now) (message.Cancel key) b x)
 cancel_lines before a now key legal lines =
     let moment : ℕ = step_moment before now in
     key_lines a key 1 _ _
-    (λ b x. WhereElse (WaitsUnder a.entries key) (Adds a moment (act.Cancel key) b × (x ≡ answers.Replied key reply.Cancelled)) (Repeats a b key x))
+    (λ b x. WhereElse (WaitsUnder a.entries key) (Adds a moment (act.Cancel key) b
+    × (x ≡ answers.Replied key reply.Cancelled)) (Repeats a b key x))
     (λ b x. EntersOrNoMemory a moment (act.Cancel key) b x (Replies b key x))
     (where_else (WaitsUnder a.entries key) (CanCancel a moment key) ((x : Answer) × Replies a key x)
-    (λ b x. Adds a moment (act.Cancel key) b × (x ≡ answers.Replied key reply.Cancelled)) (λ b x. Repeats a b key x)
-    (λ can. record { after = can.after; said = answers.Replied key reply.Cancelled; is = (can.adds, refl); ample = replied_ample key reply.Cancelled _ refl })
+    (λ b x. Adds a moment (act.Cancel key) b × (x ≡ answers.Replied key reply.Cancelled))
+    (λ b x. Repeats a b key x)
+    (λ can. record {
+      after = can.after;
+      said = answers.Replied key reply.Cancelled;
+      is = (can.adds, refl);
+      ample = replied_ample key reply.Cancelled _ refl;
+    })
     (λ told. repeat a key told.0 legal (inl told.1)))
-    (λ can. record { after = can.after; said = answers.Replied key reply.Cancelled; is = inr (can.adds, can.replies); ample = replied_ample key reply.Cancelled _ refl })
+    (λ can. record {
+      after = can.after;
+      said = answers.Replied key reply.Cancelled;
+      is =
+          inr (can.adds, can.replies);
+      ample = replied_ample key reply.Cancelled _ refl;
+    })
     lines
 
 hello_lines : (a : Account) (moment client incarnation : ℕ) (version : Version)
-    → HelloLines a client incarnation version (λ refusal. Unit {0}) (Unit {0}) ((b : Account) × Adds a moment (act.Hello client incarnation version) b)
+    → HelloLines a client incarnation version (λ refusal. Unit {0}) (Unit {0}) ((b : Account) × Adds a moment
+    (act.Hello client incarnation version) b)
     → Chosen (λ b x. NextAt a moment (message.Hello client incarnation version) b x)
 hello_lines a moment client incarnation version lines =
     let welcome : Answer = answers.Welcome a.epoch client incarnation version in
@@ -183,21 +222,32 @@ hello_lines a moment client incarnation version lines =
     (where_else (HasIncarnation a.entries client incarnation) (Unit {0}) _ (λ b x. (b ≡ a) × (x ≡ welcome)) _
     (λ again. record { after = a; said = welcome; is = (refl, refl); ample = ample })
     (refuse_or _ _ _ a (clients_full a client)
-    (refuse_or _ ((b : Account) × Adds a moment says b) (λ b x. EntersOrNoMemory a moment says b x (x ≡ welcome)) a (epoch_full a 1)
+    (refuse_or _ ((b : Account) × Adds a moment says b) (λ b x. EntersOrNoMemory a moment says b x
+    (x ≡ welcome)) a (epoch_full a 1)
     (λ can. record { after = can.0; said = welcome; is = inr (can.1, refl); ample = ample })))))
     lines
 
 -- each message leads on, whatever its moment
-chosen : (before a : Account) (now : ℕ) (m : Message) → Legal before → Ticks before (step_moment before now) a → Legal a → Chosen (λ b x. NextAt a (step_moment before now) m b x)
-chosen before a now (message.Hello client incarnation version) legal ticks then = hello_lines a (step_moment before now) client incarnation version (hellos_can_enter before a now client incarnation version legal ticks)
-chosen before a now (message.Request key call) legal ticks then = request_lines before a now key call then (requests_can_enter before a now key call legal ticks)
-chosen before a now (message.Cancel key) legal ticks then = cancel_lines before a now key then (cancels_can_enter before a now key legal ticks)
+chosen : (before a : Account) (now : ℕ) (m : Message) → Legal before → Ticks before (step_moment before now) a
+    → Legal a → Chosen (λ b x. NextAt a (step_moment before now) m b x)
+chosen before a now (message.Hello client incarnation version) legal ticks then = hello_lines a
+    (step_moment before now) client incarnation version (hellos_can_enter before a now client incarnation
+    version legal ticks)
+chosen before a now (message.Request key call) legal ticks then = request_lines before a now key call then
+    (requests_can_enter before a now key call legal ticks)
+chosen before a now (message.Cancel key) legal ticks then = cancel_lines before a now key then
+    (cancels_can_enter before a now key legal ticks)
 
 next_exists : (a : Account) (now : ℕ) (m : Message) → Legal a → Chosen (λ b x. Next a now m b x)
 next_exists a now m legal =
     let ticks = ticks_can_enter a now legal in
     let k = chosen a ticks.0 now m legal ticks.1 ticks.2 in
-    record { after = k.after; said = k.said; is = record { ticked = ticks.0; ticks = ticks.1; steps = k.is }; ample = k.ample }
+    record {
+      after = k.after;
+      said = k.said;
+      is = record { ticked = ticks.0; ticks = ticks.1; steps = k.is };
+      ample = k.ample;
+    }
 
 -- ---- what a process makes of an answer
 
@@ -212,23 +262,34 @@ same_version One Two = inr (λ is. cc)
 same_version Two One = inr (λ is. cc)
 
 -- a welcome that is not for it
-passes_welcome : (s : Starting) (epoch client incarnation : ℕ) (version : Version) → (client ≡ s.client → incarnation ≡ s.incarnation → version ≡ s.version → ⊥)
+passes_welcome : (s : Starting) (epoch client incarnation : ℕ) (version : Version)
+    → (client ≡ s.client → incarnation ≡ s.incarnation → version ≡ s.version → ⊥)
     → CanHear (New s) (answers.Welcome epoch client incarnation version)
 passes_welcome s epoch client incarnation version apart = record {
   outcome = Ignored (New s);
-  hears = (record { no_welcome = λ e is. apart (same_client e is) (same_incarnation e is) (versions e is); no_refusal = λ refusal is. cc }, refl);
+  hears = (
+    record {
+      no_welcome = λ e is. apart (same_client e is) (same_incarnation e is) (versions e is);
+      no_refusal = λ refusal is. cc;
+    },
+    refl,
+  );
 }
   where
-    same_client : (e : ℕ) → answers.Welcome epoch client incarnation version ≡ answers.Welcome e s.client s.incarnation s.version → client ≡ s.client
+    same_client : (e : ℕ) → answers.Welcome epoch client incarnation version ≡ answers.Welcome e s.client
+        s.incarnation s.version → client ≡ s.client
     same_client e is = cc
 
-    same_incarnation : (e : ℕ) → answers.Welcome epoch client incarnation version ≡ answers.Welcome e s.client s.incarnation s.version → incarnation ≡ s.incarnation
+    same_incarnation : (e : ℕ) → answers.Welcome epoch client incarnation version ≡ answers.Welcome e s.client
+        s.incarnation s.version → incarnation ≡ s.incarnation
     same_incarnation e is = cc
 
-    versions : (e : ℕ) → answers.Welcome epoch client incarnation version ≡ answers.Welcome e s.client s.incarnation s.version → version ≡ s.version
+    versions : (e : ℕ) → answers.Welcome epoch client incarnation version ≡ answers.Welcome e s.client
+        s.incarnation s.version → version ≡ s.version
     versions e is = cc
 
-welcome_heard : (s : Starting) (epoch client incarnation : ℕ) (version : Version) → CanHear (New s) (answers.Welcome epoch client incarnation version)
+welcome_heard : (s : Starting) (epoch client incarnation : ℕ) (version : Version)
+    → CanHear (New s) (answers.Welcome epoch client incarnation version)
 welcome_heard s epoch client incarnation version = elim (same_or_not client s.client) [
   | inr apart ↦ passes_welcome s epoch client incarnation version (λ one other third. apart one)
   | inl one ↦ elim (same_or_not incarnation s.incarnation) [
@@ -240,39 +301,63 @@ welcome_heard s epoch client incarnation version = elim (same_or_not client s.cl
   ]
 ]
 
-passes_by : (s : Starting) (answer : Answer) → ((e : ℕ) → answer ≢ answers.Welcome e s.client s.incarnation s.version) → ((refusal : Refusal) → answer ≢ answers.Refused refusal) → CanHear (New s) answer
-passes_by s answer no_welcome no_refusal = record { outcome = Ignored (New s); hears = (record { no_welcome = no_welcome; no_refusal = no_refusal }, refl) }
+passes_by : (s : Starting) (answer : Answer)
+    → ((e : ℕ) → answer ≢ answers.Welcome e s.client s.incarnation s.version)
+    → ((refusal : Refusal) → answer ≢ answers.Refused refusal) → CanHear (New s) answer
+passes_by s answer no_welcome no_refusal = record {
+  outcome = Ignored (New s);
+  hears =
+      (record { no_welcome = no_welcome; no_refusal = no_refusal }, refl);
+}
 
 new_hears : (s : Starting) (answer : Answer) → CanHear (New s) answer
-new_hears s (answers.Welcome epoch client incarnation version) = welcome_heard s epoch client incarnation version
-new_hears s (answers.Replied key told) = passes_by s (answers.Replied key told) (λ e is. cc) (λ refusal is. cc)
+new_hears s (answers.Welcome epoch client incarnation version) = welcome_heard s epoch client incarnation
+    version
+new_hears s (answers.Replied key told) = passes_by s (answers.Replied key told) (λ e is. cc)
+    (λ refusal is. cc)
 new_hears s (answers.Waiting key) = passes_by s (answers.Waiting key) (λ e is. cc) (λ refusal is. cc)
 new_hears s (answers.Refused refusal) = record { outcome = TurnedAway s refusal; hears = (refl, refl) }
 
-says_nothing : (asking : Asking) (answer : Answer) → SaysNothingFinal asking.key answer → CanHear (Outstanding asking) answer
-says_nothing asking answer nothing = record { outcome = Ignored (Outstanding asking); hears = (nothing, refl) }
+says_nothing : (asking : Asking) (answer : Answer) → SaysNothingFinal asking.key answer
+    → CanHear (Outstanding asking) answer
+says_nothing asking answer nothing = record {
+  outcome = Ignored (Outstanding asking);
+  hears = (nothing, refl);
+}
 
-other_key : (key same : Key) (told also : Reply) → answers.Replied key told ≡ answers.Replied same also → key ≡ same
+other_key : (key same : Key) (told also : Reply) → answers.Replied key told ≡ answers.Replied same also
+    → key ≡ same
 other_key key same told also e = cc
 
-other_current : (n m : ℕ) → answers.Refused (refusals.OtherEpoch n) ≡ answers.Refused (refusals.OtherEpoch m) → n ≡ m
+other_current : (n m : ℕ) → answers.Refused (refusals.OtherEpoch n) ≡ answers.Refused (refusals.OtherEpoch m)
+    → n ≡ m
 other_current n m e = cc
 
-old_current : (n m : ℕ) → answers.Refused (refusals.OldIncarnation n) ≡ answers.Refused (refusals.OldIncarnation m) → n ≡ m
+old_current : (n m : ℕ) → answers.Refused (refusals.OldIncarnation n) ≡ answers.Refused
+    (refusals.OldIncarnation m) → n ≡ m
 old_current n m e = cc
 
 -- an answer that is neither a reply nor one of the two refusals
-no_reply : (asking : Asking) (answer : Answer) → ((key : Key) (told : Reply) → answer ≢ answers.Replied key told)
-    → ((n : ℕ) → answer ≢ answers.Refused (refusals.OtherEpoch n)) → ((n : ℕ) → answer ≢ answers.Refused (refusals.OldIncarnation n)) → CanHear (Outstanding asking) answer
+no_reply : (asking : Asking) (answer : Answer)
+    → ((key : Key) (told : Reply) → answer ≢ answers.Replied key told)
+    → ((n : ℕ) → answer ≢ answers.Refused (refusals.OtherEpoch n))
+    → ((n : ℕ) → answer ≢ answers.Refused (refusals.OldIncarnation n))
+    → CanHear (Outstanding asking) answer
 no_reply asking answer replies epoch incarnation =
-    says_nothing asking answer (record { no_reply = λ told is. replies asking.key told is; no_epoch = λ n is. epoch n is.0; no_incarnation = λ n is. incarnation n is.0 })
+    says_nothing asking answer (record {
+      no_reply = λ told is. replies asking.key told is;
+      no_epoch =
+          λ n is. epoch n is.0;
+      no_incarnation = λ n is. incarnation n is.0;
+    })
 
 refused_hears : (asking : Asking) (refusal : Refusal) → CanHear (Outstanding asking) (answers.Refused refusal)
 refused_hears asking (refusals.OtherEpoch current) = elim (cases_lt asking.key.epoch current) [
   | inl less ↦ record { outcome = EpochEnded asking.key current; hears = ((refl, less), refl) }
   | inr not ↦ says_nothing asking (answers.Refused (refusals.OtherEpoch current)) (record {
     no_reply = λ told is. cc;
-    no_epoch = λ n is. let same : current ≡ n = other_current current n is.0 in let less : asking.key.epoch < n = is.1 in omega (arith, not, same, less);
+    no_epoch = λ n is. let same : current ≡ n = other_current current n is.0 in let less : asking.key.epoch <
+        n = is.1 in omega (arith, not, same, less);
     no_incarnation = λ n is. let e = is.0 in cc;
   })
 ]
@@ -281,17 +366,25 @@ refused_hears asking (refusals.OldIncarnation current) = elim (cases_lt asking.k
   | inr not ↦ says_nothing asking (answers.Refused (refusals.OldIncarnation current)) (record {
     no_reply = λ told is. cc;
     no_epoch = λ n is. let e = is.0 in cc;
-    no_incarnation = λ n is. let same : current ≡ n = old_current current n is.0 in let less : asking.key.incarnation < n = is.1 in omega (arith, not, same, less);
+    no_incarnation = λ n is. let same : current ≡ n = old_current current n is.0 in let less :
+        asking.key.incarnation < n = is.1 in omega (arith, not, same, less);
   })
 ]
-refused_hears asking refusal = no_reply asking (answers.Refused refusal) (λ key told is. cc) (λ n is. cc) (λ n is. cc)
+refused_hears asking refusal = no_reply asking (answers.Refused refusal) (λ key told is. cc) (λ n is. cc)
+    (λ n is. cc)
 
 asking_hears : (asking : Asking) (answer : Answer) → CanHear (Outstanding asking) answer
-asking_hears asking (answers.Welcome epoch client incarnation version) = no_reply asking (answers.Welcome epoch client incarnation version) (λ key told is. cc) (λ n is. cc) (λ n is. cc)
-asking_hears asking (answers.Waiting key) = no_reply asking (answers.Waiting key) (λ key told is. cc) (λ n is. cc) (λ n is. cc)
+asking_hears asking (answers.Welcome epoch client incarnation version) = no_reply asking
+    (answers.Welcome epoch client incarnation version) (λ key told is. cc) (λ n is. cc) (λ n is. cc)
+asking_hears asking (answers.Waiting key) = no_reply asking (answers.Waiting key) (λ key told is. cc)
+    (λ n is. cc) (λ n is. cc)
 asking_hears asking (answers.Refused refusal) = refused_hears asking refusal
 asking_hears asking (answers.Replied key told) = elim (key_or_other key asking.key) [
-  | inl same ↦ record { outcome = Settled (key_after asking.key) told; hears = (ap (λ (k : Key). answers.Replied k told) same, refl) }
+  | inl same ↦ record {
+    outcome = Settled (key_after asking.key) told;
+    hears =
+        (ap (λ (k : Key). answers.Replied k told) same, refl);
+  }
   | inr apart ↦ says_nothing asking (answers.Replied key told) (record {
     no_reply = λ also is. apart (other_key key asking.key told also is);
     no_epoch = λ n is. let e = is.0 in cc;
@@ -313,34 +406,45 @@ turned w client process = record w { clients = (client, process) ∷ w.clients }
 tests_itself : (client : ℕ) → nat_eq client client ≡ true
 tests_itself client = grind (arith, nat_tests)
 
-turned_own : (w : World) (client : ℕ) (process : Option Process) → process_of (turned w client process) client ≡ process
+turned_own : (w : World) (client : ℕ) (process : Option Process)
+    → process_of (turned w client process) client ≡ process
 turned_own w client process =
-    ap (λ (b : Bool). option_and_then (λ (p : Option Process). p) (cond b (Some process) (lookup (nat_eq client) w.clients))) (tests_itself client)
+    ap (λ (b : Bool). option_and_then (λ (p : Option Process). p) (cond b (Some process)
+    (lookup (nat_eq client) w.clients))) (tests_itself client)
 
-turned_other : (w : World) (client other : ℕ) (process : Option Process) → other ≢ client → process_of (turned w client process) other ≡ process_of w other
+turned_other : (w : World) (client other : ℕ) (process : Option Process) → other ≢ client
+    → process_of (turned w client process) other ≡ process_of w other
 turned_other w client other process apart =
-    ap (λ (b : Bool). option_and_then (λ (p : Option Process). p) (cond b (Some process) (lookup (nat_eq other) w.clients)))
+    ap (λ (b : Bool). option_and_then (λ (p : Option Process). p) (cond b (Some process)
+    (lookup (nat_eq other) w.clients)))
     (apart_from client other client apart (tests_itself client))
 
-only_turned : (w v : World) (client : ℕ) (process : Option Process) → v.clients ≡ (client, process) ∷ w.clients → OnlyChangesProcess w v client process
+only_turned : (w v : World) (client : ℕ) (process : Option Process)
+    → v.clients ≡ (client, process) ∷ w.clients → OnlyChangesProcess w v client process
 only_turned w v client process is = record {
   own = read client ∙ turned_own w client process;
   others = λ other apart. read other ∙ turned_other w client other process apart;
 }
   where
     read : (c : ℕ) → process_of v c ≡ process_of (turned w client process) c
-    read c = ap (λ (cs : List (ℕ × Option Process)). option_and_then (λ (p : Option Process). p) (lookup (nat_eq c) cs)) is
+    read c = ap (λ (cs : List (ℕ × Option Process)). option_and_then (λ (p : Option Process). p)
+        (lookup (nat_eq c) cs)) is
 
 -- no answer was sent
 quiet : (w v : World) → v.to_client ≡ w.to_client → ¬ SentNoMemory w v
 quiet w v same sent =
-    let more : List Packet = record { client = sent.client; answer = answers.Refused refusals.NoMemory } ∷ [] in
-    let longer : length w.to_client ≡ length w.to_client + 1 = ap (λ (l : List Packet). length l) (sym same ∙ sent.sent) ∙ length-append w.to_client more in
+    let more : List Packet = record { client = sent.client; answer = answers.Refused refusals.NoMemory } ∷ []
+    in
+    let longer : length w.to_client ≡ length w.to_client + 1 = ap (λ (l : List Packet). length l) (sym same
+    ∙ sent.sent) ∙ length-append w.to_client more in
     omega (arith, longer)
 
 -- one was, and it was no want of memory
-told : (w v : World) (client : ℕ) (x : Answer) → v.to_client ≡ w.to_client ++ record { client = client; answer = x } ∷ [] → x ≢ answers.Refused refusals.NoMemory → ¬ SentNoMemory w v
-told w v client x is ample sent = ample (ap (λ (p : Packet). p.answer) (same_packet _ _ (append_cancel_left w.to_client _ _ (sym is ∙ sent.sent))))
+told : (w v : World) (client : ℕ) (x : Answer)
+    → v.to_client ≡ w.to_client ++ record { client = client; answer = x } ∷ []
+    → x ≢ answers.Refused refusals.NoMemory → ¬ SentNoMemory w v
+told w v client x is ample sent = ample (ap (λ (p : Packet). p.answer)
+    (same_packet _ _ (append_cancel_left w.to_client _ _ (sym is ∙ sent.sent))))
   where
     same_packet : (p q : Packet) → p ∷ [] ≡ q ∷ [] → p ≡ q
     same_packet p q e = cc
@@ -353,25 +457,71 @@ record CanBecome (w : World) (client : ℕ) (answer : Answer) (outcome : Outcome
   becomes : WorldBecomes w client answer outcome after shows
   is_quiet : after.to_client ≡ w.to_client
 
-changes : (w : World) (client : ℕ) (process : Option Process) → ChangesProcess w client process (turned w client process)
-changes w client process = record { changes = only_turned w (turned w client process) client process refl; rest = refl }
+changes : (w : World) (client : ℕ) (process : Option Process)
+    → ChangesProcess w client process (turned w client process)
+changes w client process = record {
+  changes = only_turned w (turned w client process) client process refl;
+  rest = refl;
+}
 
-becomes : (w : World) (client : ℕ) (process : Process) (answer : Answer) (outcome : Outcome) → Hears process answer outcome → CanBecome w client answer outcome
-becomes w client process answer (Welcomed next) is = record { after = turned w client (Some (Idle next)); shows = sees.Welcomed; becomes = (changes w client _, refl); is_quiet = refl }
-becomes w client process answer (TurnedAway same refusal) is = record { after = turned w client (Some (New same)); shows = sees.TurnedAway refusal; becomes = (changes w client _, refl); is_quiet = refl }
+becomes : (w : World) (client : ℕ) (process : Process) (answer : Answer) (outcome : Outcome)
+    → Hears process answer outcome → CanBecome w client answer outcome
+becomes w client process answer (Welcomed next) is = record {
+  after = turned w client (Some (Idle next));
+  shows = sees.Welcomed;
+  becomes = (changes w client _, refl);
+  is_quiet = refl;
+}
+becomes w client process answer (TurnedAway same refusal) is =
+    record {
+      after = turned w client (Some (New same));
+      shows = sees.TurnedAway refusal;
+      becomes =
+          (changes w client _, refl);
+      is_quiet = refl;
+    }
 becomes w client (New starting) answer (Settled next reply) is = absurd is
 becomes w client (Idle other) answer (Settled next reply) is = absurd is
 becomes w client (Outstanding asking) answer (Settled next reply) is =
-    let v : World = record w { clients = (client, Some (Idle next)) ∷ w.clients; held = w.held ++ (asking.key, reply) ∷ [] } in
+    let v : World = record w {
+      clients = (client, Some (Idle next)) ∷ w.clients;
+      held =
+          w.held ++ (asking.key, reply) ∷ [];
+    } in
     record {
       after = v;
       shows = sees.Settled asking.key;
-      becomes = record { key = asking.key; settles = is.0; changes = only_turned w v client _ refl; rest = refl; shown = refl };
+      becomes = record {
+        key = asking.key;
+        settles = is.0;
+        changes = only_turned w v client _ refl;
+        rest =
+            refl;
+        shown = refl;
+      };
       is_quiet = refl;
     }
-becomes w client process answer (EpochEnded key current) is = record { after = turned w client None; shows = sees.Ended current; becomes = (changes w client _, refl); is_quiet = refl }
-becomes w client process answer (Replaced key current) is = record { after = turned w client None; shows = sees.Replaced current; becomes = (changes w client _, refl); is_quiet = refl }
-becomes w client process answer (Ignored same) is = record { after = w; shows = sees.Ignored; becomes = (refl, refl); is_quiet = refl }
+becomes w client process answer (EpochEnded key current) is = record {
+  after = turned w client None;
+  shows =
+      sees.Ended current;
+  becomes = (changes w client _, refl);
+  is_quiet = refl;
+}
+becomes w client process answer (Replaced key current) is = record {
+  after = turned w client None;
+  shows =
+      sees.Replaced current;
+  becomes = (changes w client _, refl);
+  is_quiet = refl;
+}
+becomes w client process answer (Ignored same) is = record {
+  after = w;
+  shows = sees.Ignored;
+  becomes =
+      (refl, refl);
+  is_quiet = refl;
+}
 
 record CanCome (process : Option Process) (w : World) (packet : Packet) : Type 0 where
   after : World
@@ -384,14 +534,26 @@ can_come None w packet = record { after = w; shows = sees.Ignored; comes = (refl
 can_come (Some process) w packet =
     let heard = hears process packet.answer in
     let can = becomes w packet.client process packet.answer heard.outcome heard.hears in
-    record { after = can.after; shows = can.shows; comes = record { outcome = heard.outcome; hears = heard.hears; becomes = can.becomes }; is_quiet = can.is_quiet }
+    record {
+      after = can.after;
+      shows = can.shows;
+      comes = record {
+        outcome = heard.outcome;
+        hears =
+            heard.hears;
+        becomes = can.becomes;
+      };
+      is_quiet = can.is_quiet;
+    }
 
 -- ---- events
 
 abbrev NoRefusalDue : World → Event → Type 0
 NoRefusalDue w e = (refusal : WorldRefusal) → ¬ RefusalDue w e refusal
 
-can_start : (w : World) (client incarnation : ℕ) (version : Version) → NoRefusalDue w (event.Start client incarnation version) → CanStep w (event.Start client incarnation version)
+can_start : (w : World) (client incarnation : ℕ) (version : Version)
+    → NoRefusalDue w (event.Start client incarnation version)
+    → CanStep w (event.Start client incarnation version)
 can_start w client incarnation version nothing =
     let v : World = with_message (record w {
       clients = (client, Some (New (start_of client incarnation version))) ∷ w.clients;
@@ -403,7 +565,14 @@ can_start w client incarnation version nothing =
       steps = record {
         newest = λ earlier there. elim (cases_lt earlier incarnation) [
           | inl less ↦ less
-          | inr not ↦ absurd (nothing refuses.IncarnationNotGreater (record { other = earlier; there = there; reaches = omega (arith, not) }, refl))
+          | inr not ↦ absurd (nothing refuses.IncarnationNotGreater (
+            record {
+              other = earlier;
+              there = there;
+              reaches = omega (arith, not);
+            },
+            refl,
+          ))
         ];
         changes = only_turned w v client _ refl;
         rest = refl;
@@ -412,7 +581,8 @@ can_start w client incarnation version nothing =
       not_sent = quiet w v refl;
     }
 
-can_begin : (w : World) (client : ℕ) (call : Call) → NoRefusalDue w (event.Begin client call) → (process : Option Process) → process_of w client ≡ process → CanStep w (event.Begin client call)
+can_begin : (w : World) (client : ℕ) (call : Call) → NoRefusalDue w (event.Begin client call)
+    → (process : Option Process) → process_of w client ≡ process → CanStep w (event.Begin client call)
 can_begin w client call nothing None is = absurd (nothing refuses.NoSuchClient (inl (is, refl)))
 can_begin w client call nothing (Some (Idle (Some key))) is =
     let v : World = with_message (record w {
@@ -422,20 +592,55 @@ can_begin w client call nothing (Some (Idle (Some key))) is =
     record {
       after = v;
       shows = next_message w;
-      steps = record { key = key; idle = is; changes = only_turned w v client _ refl; rest = refl; shown = refl };
+      steps = record {
+        key = key;
+        idle = is;
+        changes = only_turned w v client _ refl;
+        rest = refl;
+        shown =
+            refl;
+      };
       not_sent = quiet w v refl;
     }
 can_begin w client call nothing (Some (Idle None)) is =
-    absurd (nothing refuses.NotIdle (inr (record { process = Idle None; runs = is; is_not = λ ready. let e = ready.1 in cc }, refl)))
+    absurd (nothing refuses.NotIdle (inr (
+      record {
+        process = Idle None;
+        runs = is;
+        is_not = λ ready. let e =
+            ready.1 in cc;
+      },
+      refl,
+    )))
 can_begin w client call nothing (Some (New starting)) is =
-    absurd (nothing refuses.NotIdle (inr (record { process = New starting; runs = is; is_not = λ ready. let e = ready.1 in cc }, refl)))
+    absurd (nothing refuses.NotIdle (inr (
+      record {
+        process = New starting;
+        runs = is;
+        is_not =
+            λ ready. let e = ready.1 in cc;
+      },
+      refl,
+    )))
 can_begin w client call nothing (Some (Outstanding asking)) is =
-    absurd (nothing refuses.NotIdle (inr (record { process = Outstanding asking; runs = is; is_not = λ ready. let e = ready.1 in cc }, refl)))
+    absurd (nothing refuses.NotIdle (inr (
+      record {
+        process = Outstanding asking;
+        runs = is;
+        is_not =
+            λ ready. let e = ready.1 in cc;
+      },
+      refl,
+    )))
 
 -- what a process says that is outstanding
-can_ask : (w : World) (client : ℕ) (e : Event) → NoRefusalDue w e → ((p : WorldRefusal) → RunsNone w client p → RefusalDue w e p) → (RunsBut w client IsAsking → RefusalDue w e refuses.NotOutstanding)
-    → (says : Asking → Message) → ((v : World) (s : Seen) → ProcessSays w client says v s → Steps w e v s) → (process : Option Process) → process_of w client ≡ process → CanStep w e
-can_ask w client e nothing none but says steps None is = absurd (nothing refuses.NoSuchClient (none refuses.NoSuchClient (is, refl)))
+can_ask : (w : World) (client : ℕ) (e : Event) → NoRefusalDue w e
+    → ((p : WorldRefusal) → RunsNone w client p → RefusalDue w e p)
+    → (RunsBut w client IsAsking → RefusalDue w e refuses.NotOutstanding)
+    → (says : Asking → Message) → ((v : World) (s : Seen) → ProcessSays w client says v s → Steps w e v s)
+    → (process : Option Process) → process_of w client ≡ process → CanStep w e
+can_ask w client e nothing none but says steps None is = absurd (nothing refuses.NoSuchClient
+    (none refuses.NoSuchClient (is, refl)))
 can_ask w client e nothing none but says steps (Some (Outstanding asking)) is = record {
   after = with_message w (says asking);
   shows = next_message w;
@@ -443,11 +648,22 @@ can_ask w client e nothing none but says steps (Some (Outstanding asking)) is = 
   not_sent = quiet w (with_message w (says asking)) refl;
 }
 can_ask w client e nothing none but says steps (Some (New starting)) is =
-    absurd (nothing refuses.NotOutstanding (but (record { process = New starting; runs = is; is_not = λ such. let e = such.1 in cc })))
+    absurd (nothing refuses.NotOutstanding (but (record {
+      process = New starting;
+      runs = is;
+      is_not =
+          λ such. let e = such.1 in cc;
+    })))
 can_ask w client e nothing none but says steps (Some (Idle next)) is =
-    absurd (nothing refuses.NotOutstanding (but (record { process = Idle next; runs = is; is_not = λ such. let e = such.1 in cc })))
+    absurd (nothing refuses.NotOutstanding (but (record {
+      process = Idle next;
+      runs = is;
+      is_not =
+          λ such. let e = such.1 in cc;
+    })))
 
-can_crash : (w : World) (client : ℕ) → NoRefusalDue w (event.Crash client) → (process : Option Process) → process_of w client ≡ process → CanStep w (event.Crash client)
+can_crash : (w : World) (client : ℕ) → NoRefusalDue w (event.Crash client) → (process : Option Process)
+    → process_of w client ≡ process → CanStep w (event.Crash client)
 can_crash w client nothing None is = absurd (nothing refuses.NoSuchClient (is, refl))
 can_crash w client nothing (Some process) is = record {
   after = turned w client None;
@@ -456,20 +672,38 @@ can_crash w client nothing (Some process) is = record {
   not_sent = quiet w (turned w client None) refl;
 }
 
-can_reach_server : (w : World) (packet moment : ℕ) → Legal w.present → NoRefusalDue w (event.ToServer packet moment) → (m : Option Message) → slice_get w.to_server packet ≡ m
+can_reach_server : (w : World) (packet moment : ℕ) → Legal w.present
+    → NoRefusalDue w (event.ToServer packet moment) → (m : Option Message) → slice_get w.to_server packet ≡ m
     → CanStep w (event.ToServer packet moment)
 can_reach_server w packet moment legal nothing None is = absurd (nothing refuses.NoSuchPacket (is, refl))
 can_reach_server w packet moment legal nothing (Some m) is =
     let next = next_exists w.present moment m legal in
-    let v : World = record w { present = next.after; to_client = w.to_client ++ record { client = sender m; answer = next.said } ∷ [] } in
+    let v : World = record w {
+      present = next.after;
+      to_client = w.to_client ++ record {
+        client = sender m;
+        answer = next.said;
+      } ∷ [];
+    } in
     record {
       after = v;
       shows = next_answer w;
-      steps = record { message = m; there = is; said = next.said; next = next.is; told = next.said; is_told = inl refl; rest = refl; shown = refl };
+      steps = record {
+        message = m;
+        there = is;
+        said = next.said;
+        next = next.is;
+        told = next.said;
+        is_told =
+            inl refl;
+        rest = refl;
+        shown = refl;
+      };
       not_sent = told w v (sender m) next.said refl next.ample;
     }
 
-can_reach_client : (w : World) (packet : ℕ) → NoRefusalDue w (event.ToClient packet) → (sent : Option Packet) → slice_get w.to_client packet ≡ sent → CanStep w (event.ToClient packet)
+can_reach_client : (w : World) (packet : ℕ) → NoRefusalDue w (event.ToClient packet) → (sent : Option Packet)
+    → slice_get w.to_client packet ≡ sent → CanStep w (event.ToClient packet)
 can_reach_client w packet nothing None is = absurd (nothing refuses.NoSuchPacket (is, refl))
 can_reach_client w packet nothing (Some sent) is =
     let can = can_come (process_of w sent.client) w sent in
@@ -498,13 +732,19 @@ can_open w epoch nothing =
     }
 
 pub steps_exist : StepsExist
-steps_exist w (event.Start client incarnation version) legal nothing = can_start w client incarnation version nothing
-steps_exist w (event.Begin client call) legal nothing = can_begin w client call nothing (process_of w client) refl
+steps_exist w (event.Start client incarnation version) legal nothing = can_start w client incarnation version
+    nothing
+steps_exist w (event.Begin client call) legal nothing = can_begin w client call nothing (process_of w client)
+    refl
 steps_exist w (event.Resend client) legal nothing =
-    can_ask w client (event.Resend client) nothing (λ p none. inl none) (λ but. inr (but, refl)) request_of (λ v s says. says) (process_of w client) refl
+    can_ask w client (event.Resend client) nothing (λ p none. inl none) (λ but. inr (but, refl)) request_of
+    (λ v s says. says) (process_of w client) refl
 steps_exist w (event.CancelSent client) legal nothing =
-    can_ask w client (event.CancelSent client) nothing (λ p none. inl none) (λ but. inr (but, refl)) cancel_of (λ v s says. says) (process_of w client) refl
+    can_ask w client (event.CancelSent client) nothing (λ p none. inl none) (λ but. inr (but, refl)) cancel_of
+    (λ v s says. says) (process_of w client) refl
 steps_exist w (event.Crash client) legal nothing = can_crash w client nothing (process_of w client) refl
-steps_exist w (event.ToServer packet moment) legal nothing = can_reach_server w packet moment legal nothing (slice_get w.to_server packet) refl
-steps_exist w (event.ToClient packet) legal nothing = can_reach_client w packet nothing (slice_get w.to_client packet) refl
+steps_exist w (event.ToServer packet moment) legal nothing = can_reach_server w packet moment legal nothing
+    (slice_get w.to_server packet) refl
+steps_exist w (event.ToClient packet) legal nothing = can_reach_client w packet nothing (slice_get w.to_client
+    packet) refl
 steps_exist w (event.NewEpoch epoch) legal nothing = can_open w epoch nothing

@@ -1,20 +1,16 @@
 -- The world only grows: what was asked, held and answered stays, and so does each account.
-use Rattle.std.proofs.Common.{◌≡◌, inl, inr, ℕ, List, [], ◌∷◌, ◌++◌, Option, Some, None, refl, sym, ap, subst, ◌∙◌, append-nil}
-use Rattle.std.specs.List.{Contains}
+use Rattle.rv_world.proofs.Words.{◌≡◌, ◌∷◌, ◌++◌, ◌∙◌, inl, inr, ℕ, List, [], Option, Some, None, refl, sym}
+use Rattle.rv_world.proofs.Words.{ap, subst, Contains, Contains-append_left, Contains-push}
+use Rattle.rv_world.proofs.Words.{Contains-push_cases, Account, Outcome, Welcomed, TurnedAway, Settled}
+use Rattle.rv_world.proofs.Words.{EpochEnded, Replaced, Ignored, Process, Answer, Event, Packet, Seen, World}
+use Rattle.rv_world.proofs.Words.{accounts, empty_account, process_of, ChangesProcess, ComesTo, ReachesServer}
+use Rattle.rv_world.proofs.Words.{Steps, WorldBecomes, sender, OnlyGrows, Runs}
+use Rattle.std.proofs.Common.{append-nil}
 use Rattle.std.proofs.lemmas.List.{append_assoc}
-use Rattle.std.proofs.lemmas.List.Elements.{Contains-append_left, Contains-push, Contains-push_cases}
-use Rattle.rv_account.specs.Account.{Account, Extends}
+use Rattle.rv_account.specs.Account.{Extends}
 use Rattle.rv_book.proofs.Staying.{steps_extend}
-use Rattle.rv_client.specs.Process.{Outcome, Welcomed, TurnedAway, Settled, EpochEnded, Replaced, Ignored, Process}
-use Rattle.rv_text.specs.declared.answer.Answer.{Answer}
-use Rattle.rv_world.specs.declared.event.Event.{Event}
+use Rattle.rv_world.specs.Headline.{GoesOn, IsExtended}
 use Rattle.rv_world.specs.declared.event.Event.TheVariants as event
-use Rattle.rv_world.specs.declared.packet.Packet.{Packet}
-use Rattle.rv_world.specs.declared.seen.Seen.{Seen}
-use Rattle.rv_world.specs.World.{World, accounts, empty_account, process_of}
-use Rattle.rv_world.specs.Events.{ChangesProcess, ComesTo, ReachesServer, Steps, WorldBecomes, sender}
-use Rattle.rv_world.specs.Headline.{GoesOn, IsExtended, OnlyGrows}
-use Rattle.rv_world.specs.Runs.{Runs}
 
 -- ---- lists
 
@@ -44,7 +40,8 @@ extends_trans a b c first then = record {
   epoch = then.epoch ∙ first.epoch;
   opened = then.opened ∙ first.opened;
   more = first.more ++ then.more;
-  entries = then.entries ∙ ap (λ list. list ++ then.more) first.entries ∙ append_assoc a.entries first.more then.more;
+  entries = then.entries ∙ ap (λ list. list ++ then.more) first.entries ∙ append_assoc a.entries first.more
+      then.more;
 }
 
 -- ---- together
@@ -65,13 +62,19 @@ grows_trans u v w first then = record {
   accounts_extended = λ a there.
       let between = first.accounts_extended a there in
       let last = then.accounts_extended between.account between.is_there in
-      record { account = last.account; is_there = last.is_there; extends = extends_trans a between.account last.account between.extends last.extends };
+      record {
+        account = last.account;
+        is_there = last.is_there;
+        extends = extends_trans a between.account
+            last.account between.extends last.extends;
+      };
 }
 
 -- ---- one event
 
 -- where the accounts stay
-same_accounts : (w v : World) → GoesOn w.asked v.asked → GoesOn w.held v.held → GoesOn w.to_client v.to_client → accounts v ≡ accounts w → OnlyGrows w v
+same_accounts : (w v : World) → GoesOn w.asked v.asked → GoesOn w.held v.held → GoesOn w.to_client v.to_client
+    → accounts v ≡ accounts w → OnlyGrows w v
 same_accounts w v asked held answers same = record {
   asked = asked;
   held = held;
@@ -80,30 +83,37 @@ same_accounts w v asked held answers same = record {
 }
 
 -- where only processes are others
-turns_grow : (w : World) (client : ℕ) (process : Option Process) (v : World) → ChangesProcess w client process v → OnlyGrows w v
+turns_grow : (w : World) (client : ℕ) (process : Option Process) (v : World)
+    → ChangesProcess w client process v → OnlyGrows w v
 turns_grow w client process v changes =
-    subst (OnlyGrows w) (sym changes.rest) (same_accounts w (record w { clients = v.clients }) (goes_on_itself w.asked) (goes_on_itself w.held) (goes_on_itself w.to_client) refl)
+    subst (OnlyGrows w) (sym changes.rest) (same_accounts w (record w { clients = v.clients })
+    (goes_on_itself w.asked) (goes_on_itself w.held) (goes_on_itself w.to_client) refl)
 
 stays_grows : (w v : World) → v ≡ w → OnlyGrows w v
 stays_grows w v same = subst (OnlyGrows w) (sym same) (grows_itself w)
 
-becomes_grow : (w : World) (client : ℕ) (answer : Answer) (outcome : Outcome) (v : World) (shows : Seen) → WorldBecomes w client answer outcome v shows → OnlyGrows w v
+becomes_grow : (w : World) (client : ℕ) (answer : Answer) (outcome : Outcome) (v : World) (shows : Seen)
+    → WorldBecomes w client answer outcome v shows → OnlyGrows w v
 becomes_grow w client answer (Welcomed next) v shows is = turns_grow w client _ v is.0
 becomes_grow w client answer (TurnedAway same refusal) v shows is = turns_grow w client _ v is.0
 becomes_grow w client answer (Settled next reply) v shows is =
     let more = (is.key, reply) ∷ [] in
     subst (OnlyGrows w) (sym is.rest)
-    (same_accounts w (record w { clients = v.clients; held = w.held ++ more }) (goes_on_itself w.asked) (goes_on w.held more) (goes_on_itself w.to_client) refl)
+    (same_accounts w (record w { clients = v.clients; held = w.held ++ more }) (goes_on_itself w.asked)
+    (goes_on w.held more) (goes_on_itself w.to_client) refl)
 becomes_grow w client answer (EpochEnded key current) v shows is = turns_grow w client _ v is.0
 becomes_grow w client answer (Replaced key current) v shows is = turns_grow w client _ v is.0
 becomes_grow w client answer (Ignored same) v shows is = stays_grows w v is.0
 
-comes_grow : (process : Option Process) (w : World) (packet : Packet) (v : World) (shows : Seen) → ComesTo process w packet v shows → OnlyGrows w v
+comes_grow : (process : Option Process) (w : World) (packet : Packet) (v : World) (shows : Seen)
+    → ComesTo process w packet v shows → OnlyGrows w v
 comes_grow None w packet v shows is = stays_grows w v is.0
-comes_grow (Some process) w packet v shows is = becomes_grow w packet.client packet.answer is.outcome v shows is.becomes
+comes_grow (Some process) w packet v shows is = becomes_grow w packet.client packet.answer is.outcome v shows
+    is.becomes
 
 -- the present account is extended by a step of the book
-reaches_server_grows : (w : World) (packet moment : ℕ) (v : World) (shows : Seen) → ReachesServer w packet moment v shows → OnlyGrows w v
+reaches_server_grows : (w : World) (packet moment : ℕ) (v : World) (shows : Seen)
+    → ReachesServer w packet moment v shows → OnlyGrows w v
 reaches_server_grows w packet moment v shows is =
     let more : List Packet = record { client = sender is.message; answer = is.told } ∷ [] in
     let extends = steps_extend w.present v.present moment is.message is.said is.next in
@@ -112,33 +122,49 @@ reaches_server_grows w packet moment v shows is =
       held = goes_on_itself w.held;
       answers = goes_on w.to_client more;
       accounts_extended = λ a there. elim (Contains-push_cases w.earlier w.present a there) [
-        | inl before ↦ still_there (record w { present = v.present; to_client = w.to_client ++ more }) a (Contains-append_left w.earlier (v.present ∷ []) a before)
-        | inr last ↦ record { account = v.present; is_there = Contains-push w.earlier v.present; extends = subst (λ (b : Account). Extends b v.present) last extends }
+        | inl before ↦ still_there (record w { present = v.present; to_client = w.to_client ++ more }) a
+            (Contains-append_left w.earlier (v.present ∷ []) a before)
+        | inr last ↦ record {
+          account = v.present;
+          is_there = Contains-push w.earlier v.present;
+          extends =
+              subst (λ (b : Account). Extends b v.present) last extends;
+        }
       ];
     })
 
 pub step_grows : (w : World) (e : Event) (v : World) (shows : Seen) → Steps w e v shows → OnlyGrows w v
 step_grows w (event.Start client incarnation version) v shows is =
-    subst (OnlyGrows w) (sym is.rest) (same_accounts w _ (goes_on_itself w.asked) (goes_on_itself w.held) (goes_on_itself w.to_client) refl)
+    subst (OnlyGrows w) (sym is.rest) (same_accounts w _ (goes_on_itself w.asked) (goes_on_itself w.held)
+    (goes_on_itself w.to_client) refl)
 step_grows w (event.Begin client call) v shows is =
-    subst (OnlyGrows w) (sym is.rest) (same_accounts w _ (goes_on w.asked ((is.key, call) ∷ [])) (goes_on_itself w.held) (goes_on_itself w.to_client) refl)
+    subst (OnlyGrows w) (sym is.rest) (same_accounts w _ (goes_on w.asked ((is.key, call) ∷ []))
+    (goes_on_itself w.held) (goes_on_itself w.to_client) refl)
 step_grows w (event.Resend client) v shows is =
-    subst (OnlyGrows w) (sym is.after) (same_accounts w _ (goes_on_itself w.asked) (goes_on_itself w.held) (goes_on_itself w.to_client) refl)
+    subst (OnlyGrows w) (sym is.after) (same_accounts w _ (goes_on_itself w.asked) (goes_on_itself w.held)
+    (goes_on_itself w.to_client) refl)
 step_grows w (event.CancelSent client) v shows is =
-    subst (OnlyGrows w) (sym is.after) (same_accounts w _ (goes_on_itself w.asked) (goes_on_itself w.held) (goes_on_itself w.to_client) refl)
+    subst (OnlyGrows w) (sym is.after) (same_accounts w _ (goes_on_itself w.asked) (goes_on_itself w.held)
+    (goes_on_itself w.to_client) refl)
 step_grows w (event.Crash client) v shows is = turns_grow w client None v is.ends
 step_grows w (event.ToServer packet moment) v shows is = reaches_server_grows w packet moment v shows is
-step_grows w (event.ToClient packet) v shows is = comes_grow (process_of w is.sent.client) w is.sent v shows is.comes
+step_grows w (event.ToClient packet) v shows is = comes_grow (process_of w is.sent.client) w is.sent v shows
+    is.comes
 step_grows w (event.NewEpoch epoch) v shows is =
     subst (OnlyGrows w) (sym is.after) (record {
       asked = goes_on_itself w.asked;
       held = goes_on_itself w.held;
       answers = goes_on_itself w.to_client;
-      accounts_extended = λ a there. still_there (record w { earlier = accounts w; present = empty_account epoch }) a (Contains-append_left (accounts w) (empty_account epoch ∷ []) a there);
+      accounts_extended = λ a there. still_there (record w {
+        earlier = accounts w;
+        present = empty_account
+            epoch;
+      }) a (Contains-append_left (accounts w) (empty_account epoch ∷ []) a there);
     })
 
 -- ---- lists of events
 
 pub runs_grow : (w : World) (events : List Event) (v : World) → Runs w events v → OnlyGrows w v
 runs_grow w [] v same = stays_grows w v same
-runs_grow w (e ∷ events) v runs = grows_trans w runs.0 v (step_grows w e runs.0 runs.1 runs.2) (runs_grow runs.0 events v runs.3)
+runs_grow w (e ∷ events) v runs = grows_trans w runs.0 v (step_grows w e runs.0 runs.1 runs.2)
+    (runs_grow runs.0 events v runs.3)

@@ -1,3 +1,4 @@
+pub mod Words
 pub mod Tables
 pub mod TableWrites
 pub mod Starting

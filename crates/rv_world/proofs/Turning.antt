@@ -1,20 +1,14 @@
 -- The clients' processes: what an event says of one leaves those of the others as they are.
-use Rattle.std.proofs.Common.{◌≡◌, inl, inr, ℕ, Option, Some, None, sym, subst, ◌∙◌}
-use Rattle.std.specs.Prelude.{◌≢◌, List, nat_eq, option_and_then}
-use Rattle.std.specs.Map.{lookup}
-use Rattle.std.specs.List.{Contains}
-use Rattle.rv_text.specs.declared.message.Key.{Key}
-use Rattle.rv_text.specs.declared.call.Call.{Call}
-use Rattle.rv_text.specs.declared.answer.Reply.{Reply}
-use Rattle.rv_rules.proofs.Numbers.{same_or_not}
-use Rattle.rv_client.specs.Process.{Process, New, Idle, Outstanding}
-use Rattle.rv_world.specs.World.{World, IsHeld, WasAsked, process_of}
-use Rattle.rv_world.specs.Events.{OnlyChangesProcess}
+use Rattle.rv_world.proofs.Words.{◌≡◌, ◌∙◌, inl, inr, ℕ, Option, Some, None, sym, subst, option_and_then}
+use Rattle.rv_world.proofs.Words.{lookup, Contains, Key, Call, Reply, same_or_not, Process, New, Idle}
+use Rattle.rv_world.proofs.Words.{Outstanding, World, IsHeld, WasAsked, process_of, OnlyChangesProcess}
+use Rattle.std.specs.Prelude.{◌≢◌, List, nat_eq}
 use Rattle.rv_world.specs.Sound.{IsLastStart, IsProcessOf}
 
 -- each process is that of its client
 abbrev pub AreOwn : World → Type 0
-AreOwn w = (client : ℕ) (process : Process) → process_of w client ≡ Some process → IsProcessOf w client process
+AreOwn w = (client : ℕ) (process : Process) → process_of w client ≡ Some process
+    → IsProcessOf w client process
 
 -- what was started, asked and held by a client is the same in both worlds, as far as its process goes
 pub record SameFor (w v : World) (client : ℕ) : Type 0 where
@@ -24,7 +18,8 @@ pub record SameFor (w v : World) (client : ℕ) : Type 0 where
   pub asked_back : (key : Key) (call : Call) → key.client ≡ client → WasAsked v key call → WasAsked w key call
   pub held_back : (key : Key) (told : Reply) → key.client ≡ client → IsHeld v key told → IsHeld w key told
 
-pub same_for : (w v : World) (client : ℕ) → v.started ≡ w.started → v.asked ≡ w.asked → v.held ≡ w.held → SameFor w v client
+pub same_for : (w v : World) (client : ℕ) → v.started ≡ w.started → v.asked ≡ w.asked → v.held ≡ w.held
+    → SameFor w v client
 same_for w v client started asked held = record {
   started_on = λ n there. subst (λ list. Contains list (client, n)) (sym started) there;
   started_back = λ n there. subst (λ list. Contains list (client, n)) started there;
@@ -33,13 +28,15 @@ same_for w v client started asked held = record {
   held_back = λ key told own there. subst (λ list. Contains list (key, told)) held there;
 }
 
-still_last : (w v : World) (client incarnation : ℕ) → SameFor w v client → IsLastStart w client incarnation → IsLastStart v client incarnation
+still_last : (w v : World) (client incarnation : ℕ) → SameFor w v client → IsLastStart w client incarnation
+    → IsLastStart v client incarnation
 still_last w v client incarnation same last = record {
   there = same.started_on incarnation last.there;
   greatest = λ other there. last.greatest other (same.started_back other there);
 }
 
-pub still_own : (w v : World) (client : ℕ) (process : Process) → SameFor w v client → IsProcessOf w client process → IsProcessOf v client process
+pub still_own : (w v : World) (client : ℕ) (process : Process) → SameFor w v client
+    → IsProcessOf w client process → IsProcessOf v client process
 still_own w v client (New starting) same own = record {
   client_is = own.client_is;
   last_start = still_last w v client starting.incarnation same own.last_start;
@@ -60,19 +57,24 @@ still_own w v client (Outstanding asking) same own = record {
 }
 
 -- of the processes one alone is another, and is its client's own
-pub turned_own : (w v : World) (client : ℕ) (process : Option Process) → AreOwn w → OnlyChangesProcess w v client process → ((other : ℕ) → other ≢ client → SameFor w v other)
+pub turned_own : (w v : World) (client : ℕ) (process : Option Process) → AreOwn w
+    → OnlyChangesProcess w v client process → ((other : ℕ) → other ≢ client → SameFor w v other)
     → ((turned : Process) → process ≡ Some turned → IsProcessOf v client turned) → AreOwn v
 turned_own w v client process own changes same turned other is there = elim (same_or_not other client) [
   | inl equal ↦
       let here : process_of v client ≡ Some is = subst (λ c. process_of v c ≡ Some is) equal there in
       subst (λ c. IsProcessOf v c is) (sym equal) (turned is (sym changes.own ∙ here))
-  | inr differ ↦ still_own w v other is (same other differ) (own other is (sym (changes.others other differ) ∙ there))
+  | inr differ ↦ still_own w v other is (same other differ) (own other is (sym (changes.others other differ)
+      ∙ there))
 ]
 
 -- the same, where no process is another
-pub all_own : (w v : World) → AreOwn w → v.clients ≡ w.clients → v.started ≡ w.started → v.asked ≡ w.asked → v.held ≡ w.held → AreOwn v
+pub all_own : (w v : World) → AreOwn w → v.clients ≡ w.clients → v.started ≡ w.started → v.asked ≡ w.asked
+    → v.held ≡ w.held → AreOwn v
 all_own w v own clients started asked held client process there =
-    still_own w v client process (same_for w v client started asked held) (own client process (subst (λ (list : List (ℕ × Option Process)). process_in_list list client ≡ Some process) clients there))
+    still_own w v client process (same_for w v client started asked held)
+    (own client process (subst (λ (list : List (ℕ × Option Process)). process_in_list list client ≡ Some
+    process) clients there))
   where
     process_in_list : List (ℕ × Option Process) → ℕ → Option Process
     process_in_list list client = option_and_then (λ process. process) (lookup (nat_eq client) list)

@@ -7,7 +7,8 @@ use Rattle.rv_app.proofs.account.write_lines.Given as goal
 
 abbrev pub invariant-loop-entry : goal.invariant-loop-entry
 invariant-loop-entry g l = record {
-  wrote : Wrote (sink_contents g.W.Write.contents l.fn.sink) l.account.account (sink_contents g.W.Write.contents l.sink) l.place (gathered_bytes l.output) (sent_before l.output);
+  wrote : Wrote (sink_contents g.W.Write.contents l.fn.sink) l.account.account
+      (sink_contents g.W.Write.contents l.sink) l.place (gathered_bytes l.output) (sent_before l.output);
   unfailed : sink_failed l.sink ≡ sink_failed l.fn.sink;
 }
 

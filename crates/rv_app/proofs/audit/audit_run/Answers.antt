@@ -31,19 +31,25 @@ returns-clause-stopped_writing g c fault is =
     let new = c.write_all.new.self in
     let line = c.as_bytes.result.now in
     let sent = c.in-Err.fault.sent in
-    let tells = subst (λ (bytes : List ℕ). TellsLine c.deref.result.now c.in_ok-said.said bytes) (sym c.as_bytes.ensures.value) c.in_ok-said.ensures.ok in
-    let none_sent = λ (stale : sink_failed sink ≡ true). none_of c.in-Err.fault (c.in-Err.ensures.refused stale) in
+    let tells = subst (λ (bytes : List ℕ). TellsLine c.deref.result.now c.in_ok-said.said bytes)
+    (sym c.as_bytes.ensures.value) c.in_ok-said.ensures.ok in
+    let none_sent = λ (stale : sink_failed sink ≡ true). none_of c.in-Err.fault (c.in-Err.ensures.refused
+    stale) in
     let front : WritesFrontOfLine g.W.Write.contents c.deref.result.now sink new sent = record {
       said = c.in_ok-said.said;
       line = line;
       tells = tells;
-      not_all = not_all_sent c.deref.result.now line c.in_ok-said.said (sink_failed sink) sent tells c.in-Err.ensures.short none_sent;
+      not_all = not_all_sent c.deref.result.now line c.in_ok-said.said (sink_failed sink) sent tells
+          c.in-Err.ensures.short none_sent;
       went_out = c.in-Err.ensures.sent;
     } in
-    let part = subst (WritesFrontOfLine g.W.Write.contents c.deref.result.now sink new) (ap sent_in is) front in
+    let part = subst (WritesFrontOfLine g.W.Write.contents c.deref.result.now sink new) (ap sent_in is) front
+    in
     record {
       whole_input = c.in_ok-input.ensures.all;
-      front_of_output = read_bytes (source_remaining g.R.Read.remaining c.args.source.now) c.in_ok-input.input.items (λ input. WritesFrontOfLine g.W.Write.contents input sink new fault.sent)
-          c.in_ok-input.ensures.bytes (subst (λ input. WritesFrontOfLine g.W.Write.contents input sink new fault.sent) c.deref.ensures.value part);
+      front_of_output = read_bytes (source_remaining g.R.Read.remaining c.args.source.now)
+          c.in_ok-input.input.items (λ input. WritesFrontOfLine g.W.Write.contents input sink new fault.sent)
+          c.in_ok-input.ensures.bytes (subst (λ input. WritesFrontOfLine g.W.Write.contents input sink new
+          fault.sent) c.deref.ensures.value part);
       sink_fails = c.in-Err.ensures.fault;
     }

@@ -12,7 +12,8 @@ invariant-loop-line g l = record {
   numbers : HasNumbers l.idle (length l.rest);
   small : l.printed + 65727 * length l.rest ≤ 65727 * length l.input;
   so_far : (key : Key) → l.initial.idle ≡ Some key
-      → SoFar g.O.Write.contents g.R.Read.remaining g.W.Write.contents l.caller.tries (lines l.input) key (link l.initial.from l.initial.to) (link l.from l.to) l.initial.out l.out l.idle l.rest l.printed;
+      → SoFar g.O.Write.contents g.R.Read.remaining g.W.Write.contents l.caller.tries (lines l.input) key
+      (link l.initial.from l.initial.to) (link l.from l.to) l.initial.out l.out l.idle l.rest l.printed;
 }
 
 abbrev pub decreases-loop-line : goal.decreases-loop-line

@@ -11,7 +11,9 @@ returns-in_err-digits-clause-none c none digits body moment same writes =
 
 pub returns-in_err-read_number-clause-none : goal.returns-in_err-read_number-clause-none
 returns-in_err-read_number-clause-none c none digits body moment same writes =
-    let parts : c.args.line.now ≡ c.in_ok-digits.digits.now ++ 32 ∷ c.in_ok-digits.body.now = c.in_ok-digits.ensures.parts in
+    let parts : c.args.line.now ≡ c.in_ok-digits.digits.now ++ 32 ∷ c.in_ok-digits.body.now =
+    c.in_ok-digits.ensures.parts in
     let lacks : Lacks 32 c.in_ok-digits.digits.now = c.in_ok-digits.ensures.first in
-    let one = cut_once 32 digits body c.in_ok-digits.digits.now c.in_ok-digits.body.now (digits_lack_space digits writes.0.are_digits) lacks (sym same ∙ parts) in
+    let one = cut_once 32 digits body c.in_ok-digits.digits.now c.in_ok-digits.body.now
+    (digits_lack_space digits writes.0.are_digits) lacks (sym same ∙ parts) in
     absurd (false≢true (c.in_err-read_number.ensures.some.1 (subst IsDigits one.0 writes.0)))

@@ -7,7 +7,9 @@ use Rattle.rv_app.proofs.run.answer_lines.Given as goal
 
 abbrev pub invariant-loop-line : goal.invariant-loop-line
 invariant-loop-line g l = record {
-  progress : Progress (sink_contents g.W.Write.contents l.initial.sink) l.initial.book l.input (sink_contents g.W.Write.contents l.sink) l.book l.rest (gathered_bytes l.output) (sent_before l.output);
+  progress : Progress (sink_contents g.W.Write.contents l.initial.sink) l.initial.book l.input
+      (sink_contents g.W.Write.contents l.sink) l.book l.rest (gathered_bytes l.output)
+      (sent_before l.output);
   unfailed : sink_failed l.sink ≡ sink_failed l.initial.sink;
 }
 

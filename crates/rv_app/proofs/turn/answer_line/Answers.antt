@@ -3,4 +3,9 @@ use Rattle.std.proofs.Common.{refl, inl}
 use Rattle.rv_app.proofs.turn.answer_line.Goals as goal
 
 pub returns-in-Err-Bad-clause-answers : goal.returns-in-Err-Bad-clause-answers
-returns-in-Err-Bad-clause-answers c = inl (record { is_bad = c.in-Err-Bad.ensures.bad (cc); account_stays = refl; body_is = refl })
+returns-in-Err-Bad-clause-answers c = inl (record {
+  is_bad = c.in-Err-Bad.ensures.bad (cc);
+  account_stays =
+      refl;
+  body_is = refl;
+})

@@ -1,5 +1,4 @@
-use Rattle.std.proofs.Common.{◌≡◌, ◌-◌, length}
-use Rattle.rv_audit.specs.Passed.{IsFront}
+use Rattle.rv_audit.proofs.Words.{◌≡◌, ◌-◌, length, IsFront}
 use Rattle.rv_audit.proofs.auditing.audit.Given as goal
 
 abbrev pub invariant-loop-entry : goal.invariant-loop-entry

@@ -1,4 +1,4 @@
-use Rattle.rv_audit.specs.Passed.{AmongFirst, SetsFlags}
+use Rattle.rv_audit.proofs.Words.{AmongFirst, SetsFlags}
 use Rattle.rv_audit.proofs.front.set_flags.Given as goal
 
 abbrev pub invariant-loop-place : goal.invariant-loop-place

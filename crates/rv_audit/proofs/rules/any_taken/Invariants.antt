@@ -1,5 +1,4 @@
-use Rattle.rv_audit.specs.Breaking.{IsNoFreePlace}
-use Rattle.rv_audit.specs.Passed.{NoneBefore, passed_account}
+use Rattle.rv_audit.proofs.Words.{IsNoFreePlace, NoneBefore, passed_account}
 use Rattle.rv_audit.proofs.rules.any_taken.Given as goal
 
 abbrev pub invariant-loop-place : goal.invariant-loop-place

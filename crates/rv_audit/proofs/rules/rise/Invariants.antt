@@ -1,4 +1,4 @@
-use Rattle.std.proofs.Common.{ℕ, ◌+◌, ◌<◌, get_or}
+use Rattle.rv_audit.proofs.Words.{◌+◌, ◌<◌, ℕ, get_or}
 use Rattle.rv_audit.proofs.rules.rise.Given as goal
 
 abbrev pub invariant-loop-next : goal.invariant-loop-next

@@ -10,5 +10,6 @@ invariant-loop-tried g l = record {
   same : l.outstanding ≡ l.initial.outstanding;
   key : FitsKey l.outstanding.key;
   call : FitsCall l.outstanding.call;
-  in_vain : AsksInVain g.R.Read.remaining g.W.Write.contents l.initial.outstanding (link l.initial.source l.initial.sink) (link l.source l.sink) l._tried;
+  in_vain : AsksInVain g.R.Read.remaining g.W.Write.contents l.initial.outstanding (link l.initial.source
+      l.initial.sink) (link l.source l.sink) l._tried;
 }

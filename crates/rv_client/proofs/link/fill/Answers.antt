@@ -20,7 +20,8 @@ pub loop-filled-preserved : goal.loop-filled-preserved
 loop-filled-preserved g c = record {
   within = search rules;
   given = subst (SourceGives g.R.Read.remaining c.args.source.now c.read.new.self)
-      (sym (front_filled c.loop-filled.filled c.in_ok-count.count _ c.loop-filled.buffer c.read.new.buffer c.loop-filled.invariant.within c.in_ok-count.ensures.count.0))
+      (sym (front_filled c.loop-filled.filled c.in_ok-count.count _ c.loop-filled.buffer c.read.new.buffer
+      c.loop-filled.invariant.within c.in_ok-count.ensures.count.0))
       (Consumes-trans _ _ _ _ _ c.loop-filled.invariant.given c.in_ok-count.ensures.bytes.0);
   same = search rules;
   first = search rules;
@@ -32,7 +33,8 @@ returns-then-count-eq0-clause-fault g c = record {
   bytes = take c.loop-filled.filled c.loop-filled.buffer;
   fewer = search rules;
   given = subst (SourceGives g.R.Read.remaining c.args.source.now c.read.new.self)
-      (ap (λ n. take c.loop-filled.filled c.loop-filled.buffer ++ take n c.read.new.buffer) c.if-count-eq0.true ∙ append-nil _)
+      (ap (λ n. take c.loop-filled.filled c.loop-filled.buffer ++ take n c.read.new.buffer)
+      c.if-count-eq0.true ∙ append-nil _)
       (Consumes-trans _ _ _ _ _ c.loop-filled.invariant.given c.in_ok-count.ensures.bytes.0);
   stops = search rules;
 }

@@ -1,4 +1,5 @@
--- The bytes before `filled` are what the source gave, no read failed so far, and each turn takes at least one byte.
+-- The bytes before `filled` are what the source gave, no read failed so far, and each turn takes at least one
+-- byte.
 use Rattle.std.proofs.Common.{◌≡◌, ◌-◌, ◌<◌, ◌≤◌, false, length, take}
 use Rattle.rv_frame.specs.Source.{SourceGives, source_failed}
 use Rattle.rv_client.proofs.link.fill.Given as goal

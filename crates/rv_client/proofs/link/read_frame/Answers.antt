@@ -12,6 +12,8 @@ returns g c =
     let fits : FitsLength size = search rules in
     let unfailed : Unfailed c.args.source.now c.fill.new.source = search rules in
     let said : length_bytes size ≡ c.fill.new.buffer = search rules in
-    let head = subst (SourceGives g.R.Read.remaining c.args.source.now c.fill.new.source) (sym said) c.in_ok-fill.ensures.bytes in
-    reads_on g.R.Read.remaining c.args.source.now c.fill.new.source c.fill_body.new.source c.fill_body.new.body.items size c.fill_body.result fits head unfailed
+    let head = subst (SourceGives g.R.Read.remaining c.args.source.now c.fill.new.source) (sym said)
+    c.in_ok-fill.ensures.bytes in
+    reads_on g.R.Read.remaining c.args.source.now c.fill.new.source c.fill_body.new.source
+    c.fill_body.new.body.items size c.fill_body.result fits head unfailed
     c.fill_body.ensures.bytes c.fill_body.ensures.long c.fill_body.ensures.ok c.fill_body.ensures.fault

@@ -19,11 +19,14 @@ simple = refl
 pub returns-clause-taken : goal.returns-clause-taken
 returns-clause-taken c =
     let app = c.in_ok-program.ensures in
-    subst (λ (a : App). fault_of a (texts c.args.words.now) ≡ []) app (c.in_ok-try_get_matches_from.ensures.kinds (ap is_simple_and_free app ∙ simple_and_free))
+    subst (λ (a : App). fault_of a (texts c.args.words.now) ≡ []) app
+    (c.in_ok-try_get_matches_from.ensures.kinds (ap is_simple_and_free app ∙ simple_and_free))
 
 pub returns-clause-found : goal.returns-clause-found
 returns-clause-found c =
-    let found = subst (λ (a : App). HasMatchesOf a (texts c.args.words.now) c.in_ok-try_get_matches_from.field-0) c.in_ok-program.ensures c.in_ok-try_get_matches_from.ensures.matches in
+    let found = subst (λ (a : App). HasMatchesOf a (texts c.args.words.now)
+    c.in_ok-try_get_matches_from.field-0) c.in_ok-program.ensures
+    c.in_ok-try_get_matches_from.ensures.matches in
     (found simple).1
 
 pub returns-in_err-try_get_matches_from-clause-bad : goal.returns-in_err-try_get_matches_from-clause-bad
@@ -33,5 +36,9 @@ returns-in_err-try_get_matches_from-clause-bad c bad none =
     let result = c.from_residual-in_err-try_get_matches_from in
     let exit = err_from_is_err_and result.result result.ensures.1 in
     let kinds = c.in_err-try_get_matches_from.ensures.kinds (ap is_simple_and_free app ∙ simple_and_free) in
-    let of_none = subst (λ (ks : Kinds). HasKind ks error) (ap (λ (a : App). fault_of a (texts c.args.words.now)) app ∙ none) kinds in
-    elim of_none [ inl out ↦ let no_memory : exit.0 ≡ NoMemory = exit.2.0 out in (cc) | inr nothing ↦ nothing ]
+    let of_none = subst (λ (ks : Kinds). HasKind ks error)
+    (ap (λ (a : App). fault_of a (texts c.args.words.now)) app ∙ none) kinds in
+    elim of_none [
+      | inl out ↦ let no_memory : exit.0 ≡ NoMemory = exit.2.0 out in (cc)
+      | inr nothing ↦ nothing
+    ]

@@ -9,7 +9,21 @@ named : BookOneIsNamed
 unfolding clap_on_literals
 named = record {
   taken = refl;
-  said = (refl, ((record { some = lit≤ tt; within = lit≤ tt; are_digits = all_in_range (codes "1") (lit< tt, tt) }, refl), (lit≤ tt, lit≤ tt)));
+  said = (
+    refl,
+    (
+      (
+        record {
+          some = lit≤ tt;
+          within = lit≤ tt;
+          are_digits = all_in_range (codes "1")
+              (lit< tt, tt);
+        },
+        refl,
+      ),
+      (lit≤ tt, lit≤ tt),
+    ),
+  );
 }
 
 pub returns : goal.returns

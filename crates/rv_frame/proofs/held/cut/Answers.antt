@@ -8,7 +8,8 @@ use Rattle.rv_frame.proofs.held.cut.Goals as goal
 
 pub loop-size-preserved : goal.loop-size-preserved
 loop-size-preserved c =
-    let frame = subst (λ (l : List ℕ). BeginsFrame l c.in-Whole.size) (take_rest c.args.bytes.now c.loop-size.whole) c.in-Whole.ensures in
+    let frame = subst (λ (l : List ℕ). BeginsFrame l c.in-Whole.size) (take_rest c.args.bytes.now
+    c.loop-size.whole) c.in-Whole.ensures in
     front_more c.args.bytes.now c.loop-size.whole c.in-Whole.size c.loop-size.invariant frame
 
 pub returns-in-Open : goal.returns-in-Open
@@ -18,5 +19,6 @@ returns-in-Open c =
 
 pub returns-in-Bad : goal.returns-in-Bad
 returns-in-Bad c =
-    let bad = subst (λ (l : List ℕ). BeginsBad l c.in-Bad.n) (take_rest c.args.bytes.now c.loop-size.whole) c.in-Bad.ensures in
+    let bad = subst (λ (l : List ℕ). BeginsBad l c.in-Bad.n) (take_rest c.args.bytes.now c.loop-size.whole)
+    c.in-Bad.ensures in
     cut_bad c.args.bytes.now c.loop-size.whole c.in-Bad.n c.loop-size.invariant bad

@@ -5,4 +5,5 @@ use Rattle.serde_json.proofs.Views.{view_of_ref, view-lookup}
 use Rattle.rv_json.proofs.members.member.Goals as goal
 
 pub returns : goal.returns
-returns c = view_of_ref c.get.result ∙ ap (option_map view) c.get.ensures.value ∙ view-lookup c.args.name.now c.args.members.now.entries
+returns c = view_of_ref c.get.result ∙ ap (option_map view) c.get.ensures.value ∙ view-lookup c.args.name.now
+    c.args.members.now.entries

@@ -7,5 +7,6 @@ use Rattle.rv_json.proofs.members.take_each_text.Given as goal
 
 abbrev pub invariant-loop-value : goal.invariant-loop-value
 invariant-loop-value l =
-    (texts_of (items_view l.fn.values.items) ≡ option_map (λ rest. l.items ++ rest) (texts_of (items_view (into_iter_items l.value-iterator))))
+    (texts_of (items_view l.fn.values.items) ≡ option_map (λ rest. l.items ++ rest)
+    (texts_of (items_view (into_iter_items l.value-iterator))))
     × (into_iter_len l.value-iterator ≡ length (into_iter_items l.value-iterator))

@@ -9,10 +9,13 @@ use Rattle.rv_lines.proofs.account.read_account.Goals as goal
 pub returns-in_default-read_head-clause-bad : goal.returns-in_default-read_head-clause-bad
 returns-in_default-read_head-clause-bad c n told =
     let h = c.in-Some in
-    bad_head (lines c.args.input.now) (lines c.in-Some.rest.now) c.in-Some.head.now n c.in-Some.ensures.some (c.in_default-read_head.ensures.none refl) (cc)
+    bad_head (lines c.args.input.now) (lines c.in-Some.rest.now) c.in-Some.head.now n c.in-Some.ensures.some
+    (c.in_default-read_head.ensures.none refl) (cc)
 
 pub returns-in_err-entries-clause-bad : goal.returns-in_err-entries-clause-bad
 returns-in_err-entries-clause-bad c n told =
     let exit = err_from_is_err_and c.from_residual.result c.from_residual.ensures.1 in
     let is : c.in_err-entries.field-0.0 ≡ BadLine n = sym exit.2 ∙ cc in
-    bad_line (c.in_err-entries.ensures.bad n (ap Err is)) (lines c.args.input.now) c.in-Some.head.now c.in-Some-read_head.epoch c.in-Some-read_head.opened c.in-Some.ensures.some c.in-Some-read_head.ensures.some
+    bad_line (c.in_err-entries.ensures.bad n (ap Err is)) (lines c.args.input.now) c.in-Some.head.now
+    c.in-Some-read_head.epoch c.in-Some-read_head.opened c.in-Some.ensures.some
+    c.in-Some-read_head.ensures.some

@@ -16,11 +16,13 @@ returns-in_err-entry-clause-bad c n told =
     let is : c.in_err-entry.field-0.0 ≡ BadLine n = sym exit.2 ∙ cc in
     let many : c.len.result ≡ length c.loop-line.entries.items = omega arith in
     let line = c.in-Some.line.now in
-    stops_at c.loop-line.invariant line c.in-Some.after.now n c.in-Some.ensures.some (subst (λ (k : ℕ). IsNoNext k line) many (c.in_err-entry.ensures.bad n (ap Err is)))
+    stops_at c.loop-line.invariant line c.in-Some.after.now n c.in-Some.ensures.some
+    (subst (λ (k : ℕ). IsNoNext k line) many (c.in_err-entry.ensures.bad n (ap Err is)))
     (omega (arith, many, c.in_err-entry.ensures.counted n (ap Err is)))
 
 pub loop-line-preserved : goal.loop-line-preserved
 loop-line-preserved c =
     let room = c.in_ok-entry.ensures.room in
     subst (λ (es : List Entry). Read c.args.input.now c.in-Some.after.now es) (sym c.in_ok-keep.ensures)
-    (read_more c.loop-line.invariant c.in-Some.line.now c.in-Some.after.now c.in_ok-entry.entry c.in-Some.ensures.some c.in_ok-entry.ensures.entry (omega (arith, room)))
+    (read_more c.loop-line.invariant c.in-Some.line.now c.in-Some.after.now c.in_ok-entry.entry
+    c.in-Some.ensures.some c.in_ok-entry.ensures.entry (omega (arith, room)))

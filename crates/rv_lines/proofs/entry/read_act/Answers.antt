@@ -13,5 +13,6 @@ returns-in_err-message-clause-bad c told act =
     let fault = c.in_err-message.field-0.0 in
     let exit = err_from_is_err_and c.from_residual.result c.from_residual.ensures.1 in
     let bad : line_fault fault ≡ line.Bad = sym exit.2 ∙ cc in
-    says_none c.args.field.now (message_in act) (λ same. false≢true (sym c.if-is_text.false ∙ c.is_text.ensures.1 same))
+    says_none c.args.field.now (message_in act) (λ same. false≢true (sym c.if-is_text.false
+    ∙ c.is_text.ensures.1 same))
     (no_body c.args.field.now c.decode_message.result fault c.decode_message.ensures c.in_err-message.was bad)

@@ -13,11 +13,14 @@ returns-in_err-moment-clause-bad c bad e reads =
 
 pub returns-in_err-partners-clause-bad : goal.returns-in_err-partners-clause-bad
 returns-in_err-partners-clause-bad c told e reads =
-    let exit = err_from_is_err_and c.from_residual-in_err-partners.result c.from_residual-in_err-partners.ensures.1 in
+    let exit = err_from_is_err_and c.from_residual-in_err-partners.result
+    c.from_residual-in_err-partners.ensures.1 in
     let bad : c.in_err-partners.field-0.0 ≡ line.Bad = sym exit.2 ∙ cc in
     let found = rw c.in_ok-moment.ensures.ok_part at c.cut_fields.ensures.some in
-    let same : reads.fields.partners_field ≡ c.in_ok-moment.places.now = (cuts_one reads.fields.cut found).1 in
-    c.in_err-partners.ensures.bad (ap Err bad) e.partners (subst (λ (f : List ℕ). SaysPartners f e.partners) same reads.fields.says_partners)
+    let same : reads.fields.partners_field ≡ c.in_ok-moment.places.now = (cuts_one reads.fields.cut found).1
+    in
+    c.in_err-partners.ensures.bad (ap Err bad) e.partners (subst (λ (f : List ℕ). SaysPartners f e.partners)
+    same reads.fields.says_partners)
 
 pub returns-in_err-act-clause-bad : goal.returns-in_err-act-clause-bad
 returns-in_err-act-clause-bad c told e reads =

@@ -6,13 +6,16 @@ use Rattle.rv_lines.proofs.entry.read_places.Goals as goal
 pub returns-in_err-place-clause-bad : goal.returns-in_err-place-clause-bad
 returns-in_err-place-clause-bad c told =
     let none : c.read_place.result ≡ None = grind arith in
-    piece_is_none c.loop-piece.invariant c.in-Some.piece.now c.in-Some.after.now c.in-Some.ensures.parts c.in-Some.ensures.first (c.read_place.ensures.none none)
+    piece_is_none c.loop-piece.invariant c.in-Some.piece.now c.in-Some.after.now c.in-Some.ensures.parts
+    c.in-Some.ensures.first (c.read_place.ensures.none none)
 
 pub loop-piece-preserved : goal.loop-piece-preserved
 loop-piece-preserved c =
     let says = rw c.in_ok-place.ensures.ok_part at c.read_place.ensures.some in
-    subst (λ (places : List ℕ). ListsPlaces c.args.field.now c.in-Some.after.now places) (sym c.in_ok-keep.ensures)
-    (listed_more c.loop-piece.invariant c.in-Some.piece.now c.in-Some.after.now c.in_ok-place.place c.in-Some.ensures.parts c.in-Some.ensures.first says)
+    subst (λ (places : List ℕ). ListsPlaces c.args.field.now c.in-Some.after.now places)
+    (sym c.in_ok-keep.ensures)
+    (listed_more c.loop-piece.invariant c.in-Some.piece.now c.in-Some.after.now c.in_ok-place.place
+    c.in-Some.ensures.parts c.in-Some.ensures.first says)
 
 pub returns-in_err-place-2-clause-bad : goal.returns-in_err-place-2-clause-bad
 returns-in_err-place-2-clause-bad c told =

@@ -6,11 +6,13 @@ use Rattle.rv_lines.proofs.line.first_line.Goals as goal
 
 pub returns-in-Some-clause-some : goal.returns-in-Some-clause-some
 returns-in-Some-clause-some c =
-    ap lines c.in-Some.ensures.parts ∙ lines_cut c.in-Some.line.now c.in-Some.after.now c.in-Some.ensures.first
+    ap lines c.in-Some.ensures.parts ∙ lines_cut c.in-Some.line.now c.in-Some.after.now
+    c.in-Some.ensures.first
 
 one_line : (bytes : List ℕ) → eqb (length bytes) 0 ≡ false → Lacks 10 bytes → lines bytes ≡ bytes ∷ []
 one_line [] some lacks = absurd (cc)
 one_line (x ∷ xs) some lacks = lines_last x xs lacks
 
 pub returns-in-None-clause-some : goal.returns-in-None-clause-some
-returns-in-None-clause-some c = one_line c.args.bytes.now (sym c.is_empty.ensures ∙ c.if-is_empty.false) (c.in-None.ensures.none refl)
+returns-in-None-clause-some c = one_line c.args.bytes.now (sym c.is_empty.ensures ∙ c.if-is_empty.false)
+    (c.in-None.ensures.none refl)

@@ -19,6 +19,7 @@ loop-digit-preserved c = record {
 
 pub returns-clause-some : goal.returns-clause-some
 returns-clause-some c =
-    let all = subst (AllDigits 10) (take_all c.loop-digit.digit-index c.args.text.now c.loop-digit-test.false) c.loop-digit.invariant.digits in
+    let all = subst (AllDigits 10) (take_all c.loop-digit.digit-index c.args.text.now c.loop-digit-test.false)
+    c.loop-digit.invariant.digits in
     let within = all_in_range c.args.text.now all in
     (λ _. record { some = search rules; within = omega arith; are_digits = within }, λ _. refl)

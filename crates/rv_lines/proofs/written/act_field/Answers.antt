@@ -8,5 +8,6 @@ use Rattle.rv_lines.proofs.written.act_field.Goals as goal
 
 pub returns-in-Some-clause-short : goal.returns-in-Some-clause-short
 returns-in-Some-clause-short c act_fits =
-    let fits = subst (λ (said : Option Message). IfSome said FitsMessage) (sym c.in_ok-message.ensures ∙ c.in-Some.is) (message_fits c.args.act.now act_fits) in
+    let fits = subst (λ (said : Option Message). IfSome said FitsMessage) (sym c.in_ok-message.ensures
+    ∙ c.in-Some.is) (message_fits c.args.act.now act_fits) in
     IfOk-weaker c.encode_message.result _ _ (λ s body. body.1) (c.encode_message.ensures.short fits)

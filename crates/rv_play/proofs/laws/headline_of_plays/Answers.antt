@@ -5,4 +5,5 @@ use Rattle.rv_play.proofs.Running.{play_runs}
 use Rattle.rv_play.proofs.laws.headline_of_plays.Goals as goal
 
 pub returns : goal.returns
-returns c epoch turns w plays = c.headline_holds.ensures epoch (events_of turns) w (play_runs (first_world epoch) w turns plays)
+returns c epoch turns w plays = c.headline_holds.ensures epoch (events_of turns) w
+    (play_runs (first_world epoch) w turns plays)

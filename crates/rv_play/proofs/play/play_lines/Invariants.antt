@@ -7,7 +7,8 @@ use Rattle.rv_play.proofs.play.play_lines.Given as goal
 
 abbrev pub invariant-loop-line : goal.invariant-loop-line
 invariant-loop-line g l = record {
-  so_far : SoFar (sink_contents g.W.Write.contents l.initial.sink) l.input (sink_contents g.W.Write.contents l.sink) l.world l.rest (gathered_bytes l.output) (sent_before l.output);
+  so_far : SoFar (sink_contents g.W.Write.contents l.initial.sink) l.input (sink_contents g.W.Write.contents
+      l.sink) l.world l.rest (gathered_bytes l.output) (sent_before l.output);
   unfailed : sink_failed l.sink ≡ sink_failed l.initial.sink;
 }
 

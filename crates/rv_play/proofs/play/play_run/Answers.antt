@@ -12,28 +12,36 @@ returns-clause-played g c =
     let new = c.play_lines.new.sink in
     on_ok_weaker c.play_lines.result (λ all. record {
       whole_input = c.in_ok-input.ensures.all;
-      whole_output = read_bytes (source_remaining g.R.Read.remaining c.args.source.now) c.in_ok-input.input.items (λ input. PrintsAll g.W.Write.contents input sink new)
-          c.in_ok-input.ensures.bytes (subst (λ input. PrintsAll g.W.Write.contents input sink new) c.deref.ensures.value all);
+      whole_output = read_bytes (source_remaining g.R.Read.remaining c.args.source.now)
+          c.in_ok-input.input.items (λ input. PrintsAll g.W.Write.contents input sink new)
+          c.in_ok-input.ensures.bytes (subst (λ input. PrintsAll g.W.Write.contents input sink new)
+          c.deref.ensures.value all);
     }) c.play_lines.ensures.all
 
 pub returns-clause-stopped_writing : goal.returns-clause-stopped_writing
 returns-clause-stopped_writing g c fault is =
     let sink = c.args.sink.now in
     let new = c.play_lines.new.sink in
-    let part = subst (λ r. IfErr r (StopsPlaying g.W.Write.contents c.deref.result.now sink new)) is c.play_lines.ensures.part in
+    let part = subst (λ r. IfErr r (StopsPlaying g.W.Write.contents c.deref.result.now sink new)) is
+    c.play_lines.ensures.part in
     record {
       whole_input = c.in_ok-input.ensures.all;
-      front_of_output = read_bytes (source_remaining g.R.Read.remaining c.args.source.now) c.in_ok-input.input.items (λ input. PrintsFront g.W.Write.contents input sink new fault.sent)
-          c.in_ok-input.ensures.bytes (subst (λ input. PrintsFront g.W.Write.contents input sink new fault.sent) c.deref.ensures.value part);
+      front_of_output = read_bytes (source_remaining g.R.Read.remaining c.args.source.now)
+          c.in_ok-input.input.items (λ input. PrintsFront g.W.Write.contents input sink new fault.sent)
+          c.in_ok-input.ensures.bytes (subst (λ input. PrintsFront g.W.Write.contents input sink new
+          fault.sent) c.deref.ensures.value part);
     }
 
 pub returns-clause-lacked_memory : goal.returns-clause-lacked_memory
 returns-clause-lacked_memory g c is =
     let sink = c.args.sink.now in
     let new = c.play_lines.new.sink in
-    let part = subst (λ r. IfErr r (StopsPlaying g.W.Write.contents c.deref.result.now sink new)) is c.play_lines.ensures.part in
+    let part = subst (λ r. IfErr r (StopsPlaying g.W.Write.contents c.deref.result.now sink new)) is
+    c.play_lines.ensures.part in
     inr (record {
       whole_input = c.in_ok-input.ensures.all;
-      some_output = read_bytes (source_remaining g.R.Read.remaining c.args.source.now) c.in_ok-input.input.items (λ input. PrintsSome g.W.Write.contents input sink new)
-          c.in_ok-input.ensures.bytes (subst (λ input. PrintsSome g.W.Write.contents input sink new) c.deref.ensures.value part);
+      some_output = read_bytes (source_remaining g.R.Read.remaining c.args.source.now)
+          c.in_ok-input.input.items (λ input. PrintsSome g.W.Write.contents input sink new)
+          c.in_ok-input.ensures.bytes (subst (λ input. PrintsSome g.W.Write.contents input sink new)
+          c.deref.ensures.value part);
     })

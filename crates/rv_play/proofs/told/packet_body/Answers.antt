@@ -6,6 +6,8 @@ use Rattle.rv_play.proofs.told.packet_body.Goals as goal
 
 pub returns : goal.returns
 returns c =
-    let fits : FitsAnswer c.unwrap-answer.result.now = subst (λ o. IfSome o (λ a. FitsAnswer a.now)) c.unwrap-answer.ensures c.answer_packet.ensures.fits in
-    written_of c.args.world.now c.args.packet c.unwrap-answer.result.now c.encode_answer.result (sym (ap (option_map (λ r. r.now)) c.unwrap-answer.ensures) ∙ c.answer_packet.ensures.told)
+    let fits : FitsAnswer c.unwrap-answer.result.now = subst (λ o. IfSome o (λ a. FitsAnswer a.now))
+    c.unwrap-answer.ensures c.answer_packet.ensures.fits in
+    written_of c.args.world.now c.args.packet c.unwrap-answer.result.now c.encode_answer.result
+    (sym (ap (option_map (λ r. r.now)) c.unwrap-answer.ensures) ∙ c.answer_packet.ensures.told)
     fits c.encode_answer.ensures.text (c.encode_answer.ensures.short fits)

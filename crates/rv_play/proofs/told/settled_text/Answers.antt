@@ -7,6 +7,8 @@ use Rattle.rv_play.proofs.told.settled_text.Goals as goal
 
 pub returns : goal.returns
 returns c key settles =
-    let holds : HoldsAnswer c.args.world.now c.in-ToClient.packet key = subst (λ e. SettlesBy c.args.world.now e key) c.in-ToClient.is settles in
+    let holds : HoldsAnswer c.args.world.now c.in-ToClient.packet key = subst (λ e. SettlesBy c.args.world.now
+    e key) c.in-ToClient.is settles in
     IfOk-weaker c.format.result _ _ (λ s same.
-    settled_result c.args.world.now c.in-ToClient.packet c.in_ok-body-in-ToClient.body c.in_ok-body-in-ToClient.ensures key s holds same) c.format.ensures.ok
+    settled_result c.args.world.now c.in-ToClient.packet c.in_ok-body-in-ToClient.body
+    c.in_ok-body-in-ToClient.ensures key s holds same) c.format.ensures.ok

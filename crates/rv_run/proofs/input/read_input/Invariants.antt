@@ -8,7 +8,8 @@ use Rattle.rv_run.proofs.input.read_input.Given as goal
 abbrev pub invariant-loop-input : goal.invariant-loop-input
 invariant-loop-input g l = record {
   within : vec_len l.input ≤ max_input;
-  given : Consumes (source_remaining g.R.Read.remaining l.initial.source) (source_remaining g.R.Read.remaining l.source) l.input.items;
+  given : Consumes (source_remaining g.R.Read.remaining l.initial.source) (source_remaining g.R.Read.remaining
+      l.source) l.input.items;
 }
 
 abbrev pub decreases-loop-input : goal.decreases-loop-input

@@ -8,14 +8,17 @@ use Rattle.rv_text.proofs.encode.encode_answer.Goals as goal
 pub returns-clause-text : goal.returns-clause-text
 returns-clause-text c =
     let row = answer_row c.args.answer.now in
-    c.object_text.ensures row (row_alone row c.new-members.result c.put_answer.new.members c.new-members.ensures.empty c.in_ok-put_answer.ensures)
+    c.object_text.ensures row (row_alone row c.new-members.result c.put_answer.new.members
+    c.new-members.ensures.empty c.in_ok-put_answer.ensures)
 
 pub returns-clause-short : goal.returns-clause-short
 returns-clause-short c fits =
     let answer = c.args.answer.now in
-    short_text (answer_row answer) (answer_sound answer) (answer_within answer fits) c.object_text.result (returns-clause-text c)
+    short_text (answer_row answer) (answer_sound answer) (answer_within answer fits) c.object_text.result
+    (returns-clause-text c)
 
 pub returns-clause-shorter : goal.returns-clause-shorter
 returns-clause-shorter c fits =
     let answer = c.args.answer.now in
-    shorter_text (answer_row answer) (answer_sound answer) (answer_within answer fits) c.object_text.result (returns-clause-text c)
+    shorter_text (answer_row answer) (answer_sound answer) (answer_within answer fits) c.object_text.result
+    (returns-clause-text c)

@@ -12,7 +12,8 @@ loop-fed-preserved c =
     let size : (fed + count) - fed ≡ count = omega arith in
     let joined : take fed bytes ++ take ((fed + count) - fed) (drop fed bytes) ≡ take (fed + count) bytes =
     ap (λ n. take fed bytes ++ take n (drop fed bytes)) size ∙ sym (take-add fed count bytes) in
-    let cut = c.fed_is_cut.ensures (take fed bytes) (take ((fed + count) - fed) (drop fed bytes)) [] c.loop-fed.frames c.feed.new.self c.loop-fed.invariant.cut c.in_ok-feed.ensures.fed in
+    let cut = c.fed_is_cut.ensures (take fed bytes) (take ((fed + count) - fed) (drop fed bytes)) []
+    c.loop-fed.frames c.feed.new.self c.loop-fed.invariant.cut c.in_ok-feed.ensures.fed in
     record {
       within = search rules;
       cut = subst (λ (l : List ℕ). Cut l c.feed.new.self.frames c.feed.new.self.end) joined cut;

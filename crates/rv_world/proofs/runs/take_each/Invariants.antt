@@ -1,6 +1,6 @@
 -- The events so far lead to the world.
+use Rattle.rv_world.proofs.Words.{Runs}
 use Rattle.std.proofs.Common.{take}
-use Rattle.rv_world.specs.Runs.{Runs}
 use Rattle.rv_world.proofs.runs.take_each.Given as goal
 
 abbrev pub invariant-loop-i : goal.invariant-loop-i

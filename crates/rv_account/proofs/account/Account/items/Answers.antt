@@ -11,7 +11,8 @@ item-requires c =
     let es = c.args.self.now.account.entries in
     let places = c.args.places.now in
     let all = items_of (items_at es places) c.requires in
-    ap is_some (item_among es places all.0 c.loop-place.place-index _ all.1 (slice_get-get_or places c.loop-place.place-index 0 c.loop-place-test.true)).1
+    ap is_some (item_among es places all.0 c.loop-place.place-index _ all.1 (slice_get-get_or places
+    c.loop-place.place-index 0 c.loop-place-test.true)).1
 
 pub loop-place-preserved : goal.loop-place-preserved
 loop-place-preserved c =

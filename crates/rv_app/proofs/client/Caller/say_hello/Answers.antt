@@ -21,13 +21,21 @@ loop-tried-preserved g c =
     record {
       same = again.0 ∙ c.loop-tried.invariant.same;
       client = subst (λ (s : Starting). FitsIdentifier s.client) (sym again.0) c.loop-tried.invariant.client;
-      incarnation = subst (λ (s : Starting). FitsIdentifier s.incarnation) (sym again.0) c.loop-tried.invariant.incarnation;
-      in_vain = one_more_in_vain g.R.Read.remaining g.W.Write.contents c.args.new c.loop-tried._tried (link c.args.from.now c.args.to.now) (link c.loop-tried.from c.loop-tried.to)
+      incarnation = subst (λ (s : Starting). FitsIdentifier s.incarnation) (sym again.0)
+          c.loop-tried.invariant.incarnation;
+      in_vain = one_more_in_vain g.R.Read.remaining g.W.Write.contents c.args.new c.loop-tried._tried
+          (link c.args.from.now c.args.to.now) (link c.loop-tried.from c.loop-tried.to)
           (link c.try_hello.new.from c.try_hello.new.to) c.loop-tried.invariant.in_vain
-          (subst (λ (s : Starting). IsHelloInVain g.R.Read.remaining g.W.Write.contents s (link c.loop-tried.from c.loop-tried.to) (link c.try_hello.new.from c.try_hello.new.to)) c.loop-tried.invariant.same again.1);
+          (subst (λ (s : Starting). IsHelloInVain g.R.Read.remaining g.W.Write.contents s
+          (link c.loop-tried.from c.loop-tried.to) (link c.try_hello.new.from c.try_hello.new.to))
+          c.loop-tried.invariant.same again.1);
     }
 
 pub returns-in-Err : goal.returns-in-Err
-returns-in-Err g c = hello_ended g.R.Read.remaining g.W.Write.contents c.args.new c.loop-tried._tried c.args.self.tries (link c.args.from.now c.args.to.now) (link c.loop-tried.from c.loop-tried.to)
-    (link c.try_hello.new.from c.try_hello.new.to) c.in-Err.ended c.loop-tried.invariant.in_vain c.loop-tried-test.true
-    (subst (λ (s : Starting). HelloEnds g.R.Read.remaining g.W.Write.contents s (link c.loop-tried.from c.loop-tried.to) (link c.try_hello.new.from c.try_hello.new.to) c.in-Err.ended) c.loop-tried.invariant.same c.in-Err.ensures.ended)
+returns-in-Err g c = hello_ended g.R.Read.remaining g.W.Write.contents c.args.new c.loop-tried._tried
+    c.args.self.tries (link c.args.from.now c.args.to.now) (link c.loop-tried.from c.loop-tried.to)
+    (link c.try_hello.new.from c.try_hello.new.to) c.in-Err.ended c.loop-tried.invariant.in_vain
+    c.loop-tried-test.true
+    (subst (λ (s : Starting). HelloEnds g.R.Read.remaining g.W.Write.contents s (link c.loop-tried.from
+    c.loop-tried.to) (link c.try_hello.new.from c.try_hello.new.to) c.in-Err.ended)
+    c.loop-tried.invariant.same c.in-Err.ensures.ended)

@@ -10,5 +10,6 @@ invariant-loop-tried g l = record {
   same : l.new ≡ l.initial.new;
   client : FitsIdentifier l.new.client;
   incarnation : FitsIdentifier l.new.incarnation;
-  in_vain : AllInVain g.R.Read.remaining g.W.Write.contents l.initial.new l._tried (link l.initial.from l.initial.to) (link l.from l.to);
+  in_vain : AllInVain g.R.Read.remaining g.W.Write.contents l.initial.new l._tried
+      (link l.initial.from l.initial.to) (link l.from l.to);
 }

@@ -1,5 +1,4 @@
-use Rattle.std.proofs.Common.{◌≡◌}
-use Rattle.rv_audit.specs.Passed.{IsTakingOut}
+use Rattle.rv_audit.proofs.Words.{◌≡◌, IsTakingOut}
 use Rattle.rv_audit.specs.Marks.{count_of}
 use Rattle.rv_audit.proofs.front.Front.close_due.Given as goal
 

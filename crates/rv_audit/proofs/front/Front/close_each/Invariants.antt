@@ -1,4 +1,4 @@
-use Rattle.rv_audit.specs.Passed.{AmongFirst, TakesEach}
+use Rattle.rv_audit.proofs.Words.{AmongFirst, TakesEach}
 use Rattle.rv_audit.proofs.front.Front.close_each.Given as goal
 
 abbrev pub invariant-loop-place : goal.invariant-loop-place

@@ -1,17 +1,22 @@
-use Rattle.std.proofs.Common.{IfNone, IfSome, refl, sym, subst}
-use Rattle.rv_audit.specs.Marks.{IsNextMark, NoneBehind}
+use Rattle.rv_audit.proofs.Words.{IfNone, IfSome, refl, sym, subst, IsNextMark, NoneBehind}
 use Rattle.rv_audit.proofs.Pairs.{found_next, found_none_next, nothing_behind}
 use Rattle.rv_audit.proofs.marks.Marks.next.Goals as goal
 
 pub returns-in_err-least-clause-none : goal.returns-in_err-least-clause-none
 returns-in_err-least-clause-none c =
-    let none = nothing_behind c.args.self.now.marks c.args.number c.args.last c.range.result (c.range.ensures.in_range tt) c.in_err-least.ensures.steps.0 in
-    subst (λ o. IfNone o (NoneBehind c.args.self.now c.args.number c.args.last)) (sym c.from_residual.ensures) none
+    let none = nothing_behind c.args.self.now.marks c.args.number c.args.last c.range.result
+    (c.range.ensures.in_range tt) c.in_err-least.ensures.steps.0 in
+    subst (λ o. IfNone o (NoneBehind c.args.self.now c.args.number c.args.last)) (sym c.from_residual.ensures)
+    none
 
 pub returns-clause-some : goal.returns-clause-some
-returns-clause-some c = subst (λ o. IfSome o (IsNextMark c.args.self.now c.args.number c.args.last)) (sym c.then_some.ensures)
-    (found_next c.args.self.now.marks c.args.number c.args.last c.range.result c.next.new.self c.in_ok-least.field-0.now _ (c.range.ensures.in_range tt) c.in_ok-least.ensures.steps refl)
+returns-clause-some c = subst (λ o. IfSome o (IsNextMark c.args.self.now c.args.number c.args.last))
+    (sym c.then_some.ensures)
+    (found_next c.args.self.now.marks c.args.number c.args.last c.range.result c.next.new.self
+    c.in_ok-least.field-0.now _ (c.range.ensures.in_range tt) c.in_ok-least.ensures.steps refl)
 
 pub returns-clause-none : goal.returns-clause-none
-returns-clause-none c = subst (λ o. IfNone o (NoneBehind c.args.self.now c.args.number c.args.last)) (sym c.then_some.ensures)
-    (found_none_next c.args.self.now.marks c.args.number c.args.last c.range.result c.next.new.self c.in_ok-least.field-0.now _ (c.range.ensures.in_range tt) c.in_ok-least.ensures.steps refl)
+returns-clause-none c = subst (λ o. IfNone o (NoneBehind c.args.self.now c.args.number c.args.last))
+    (sym c.then_some.ensures)
+    (found_none_next c.args.self.now.marks c.args.number c.args.last c.range.result c.next.new.self
+    c.in_ok-least.field-0.now _ (c.range.ensures.in_range tt) c.in_ok-least.ensures.steps refl)

@@ -1,6 +1,6 @@
 -- At each exchanger that was made nobody waits.
-use Rattle.std.proofs.Common.{◌≡◌, [], ◌∷◌, ◌++◌, length, sym, ap, subst, ◌∙◌, arith, length-append}
-use Rattle.rv_book.specs.Views.{AllFree}
+use Rattle.rv_book.proofs.Words.{◌≡◌, ◌∷◌, ◌++◌, ◌∙◌, [], length, sym, ap, subst, arith, length-append}
+use Rattle.rv_book.proofs.Words.{AllFree}
 use Rattle.rv_book.proofs.Exchanging.{append_free, none_free}
 use Rattle.rv_book.proofs.exchangers.Exchangers.empty.Goals as goal
 
@@ -15,6 +15,7 @@ loop-preserved c =
     let old = c.loop.exchangers.items in
     let pushed : c.push.new.self.items ≡ old ++ c.new.result ∷ [] = c.in_ok-push.ensures.items in
     record {
-      count = let before : length old ≡ c.loop.counter = c.loop.invariant.count in ap length pushed ∙ omega (arith, length-append old (c.new.result ∷ []));
+      count = let before : length old ≡ c.loop.counter = c.loop.invariant.count in ap length pushed
+          ∙ omega (arith, length-append old (c.new.result ∷ []));
       free = subst AllFree (sym pushed) (append_free old c.new.result c.new.ensures c.loop.invariant.free);
     }

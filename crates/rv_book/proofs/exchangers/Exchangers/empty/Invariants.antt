@@ -1,6 +1,5 @@
 -- So many exchangers were made, and nobody waits at any.
-use Rattle.std.proofs.Common.{◌≡◌, length}
-use Rattle.rv_book.specs.Views.{AllFree}
+use Rattle.rv_book.proofs.Words.{◌≡◌, length, AllFree}
 use Rattle.rv_book.proofs.exchangers.Exchangers.empty.Given as goal
 
 abbrev pub invariant-loop : goal.invariant-loop

@@ -1,6 +1,6 @@
 -- Each queue that was made is empty.
-use Rattle.std.proofs.Common.{◌≡◌, [], ◌∷◌, ◌++◌, length, sym, ap, subst, ◌∙◌, arith, length-append}
-use Rattle.rv_book.specs.Views.{AllEmpty}
+use Rattle.rv_book.proofs.Words.{◌≡◌, ◌∷◌, ◌++◌, ◌∙◌, [], length, sym, ap, subst, arith, length-append}
+use Rattle.rv_book.proofs.Words.{AllEmpty}
 use Rattle.rv_book.proofs.Tabled.{append_empty, none_empty}
 use Rattle.rv_book.proofs.queues.Queues.empty.Goals as goal
 
@@ -15,6 +15,8 @@ loop-preserved c =
     let old = c.loop.queues.items in
     let pushed : c.push.new.self.items ≡ old ++ c.new.result ∷ [] = c.in_ok-push.ensures.items in
     record {
-      count = let before : length old ≡ c.loop.counter = c.loop.invariant.count in ap length pushed ∙ omega (arith, length-append old (c.new.result ∷ []));
-      empty = subst AllEmpty (sym pushed) (append_empty old c.new.result c.new.ensures.givers c.new.ensures.takers c.loop.invariant.empty);
+      count = let before : length old ≡ c.loop.counter = c.loop.invariant.count in ap length pushed
+          ∙ omega (arith, length-append old (c.new.result ∷ []));
+      empty = subst AllEmpty (sym pushed) (append_empty old c.new.result c.new.ensures.givers
+          c.new.ensures.takers c.loop.invariant.empty);
     }

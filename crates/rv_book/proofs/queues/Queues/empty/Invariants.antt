@@ -1,6 +1,5 @@
 -- So many queues were made, and nobody waits in any.
-use Rattle.std.proofs.Common.{◌≡◌, length}
-use Rattle.rv_book.specs.Views.{AllEmpty}
+use Rattle.rv_book.proofs.Words.{◌≡◌, length, AllEmpty}
 use Rattle.rv_book.proofs.queues.Queues.empty.Given as goal
 
 abbrev pub invariant-loop : goal.invariant-loop

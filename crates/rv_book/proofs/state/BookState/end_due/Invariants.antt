@@ -1,5 +1,5 @@
 -- While requests are ended one by one the account stays, and fewer wait.
-use Rattle.std.proofs.Common.{◌≡◌, ◌≤◌}
+use Rattle.rv_book.proofs.Words.{◌≡◌, ◌≤◌}
 use Rattle.rv_book.specs.Ending.{IsEnding}
 use Rattle.rv_book.proofs.state.BookState.end_due.Given as goal
 

@@ -1,15 +1,11 @@
 -- Which line of the step decides for a request.
-use Rattle.std.proofs.Common.{sym, subst}
+use Rattle.rv_book.proofs.Words.{sym, subst, Request, Refused, OtherCall, Arrive, need_of, Becomes}
+use Rattle.rv_book.proofs.Words.{account_of}
 use Rattle.std.proofs.lemmas.Result.{IfOk-weaker, IfErr-weaker}
-use Rattle.rv_text.specs.declared.message.Message.TheVariants.{Request}
-use Rattle.rv_text.specs.declared.answer.Answer.TheVariants.{Refused}
-use Rattle.rv_text.specs.declared.answer.Refusal.TheVariants.{OtherCall}
-use Rattle.rv_account.specs.declared.entry.Act.TheVariants.{Arrive}
-use Rattle.rv_account.specs.Calls.{need_of}
 use Rattle.rv_book.specs.Arriving.{said_of}
-use Rattle.rv_book.specs.Operations.{Becomes, IsRefused}
-use Rattle.rv_book.specs.Tables.{account_of}
-use Rattle.rv_book.proofs.Repeating.{next_key, refused_key, repeated, repeated_otherwise, repeated_waiting, waiting_otherwise}
+use Rattle.rv_book.specs.Operations.{IsRefused}
+use Rattle.rv_book.proofs.Repeating.{next_key, refused_key, repeated, repeated_otherwise, repeated_waiting}
+use Rattle.rv_book.proofs.Repeating.{waiting_otherwise}
 use Rattle.rv_book.proofs.Stepping.{becomes_refused, entered, err_both, ok_both, unentered}
 use Rattle.rv_book.proofs.state.BookState.request.Goals as goal
 
@@ -19,7 +15,8 @@ returns-in-Refused-clause-err c =
     let t = c.args.self.now.sessions in
     let are = c.requires.sound.sessions_are in
     becomes_refused a a c.args.moment (Request c.args.key c.args.call) c.in-Refused.refusal
-    (refused_key a t c.args.moment are c.requires.sound.legal c.args.key c.args.call c.in-Refused.refusal c.in-Refused.ensures.means)
+    (refused_key a t c.args.moment are c.requires.sound.legal c.args.key c.args.call c.in-Refused.refusal
+    c.in-Refused.ensures.means)
 
 pub returns-in-Waits-clause-ok : goal.returns-in-Waits-clause-ok
 returns-in-Waits-clause-ok c =
@@ -29,7 +26,8 @@ returns-in-Waits-clause-ok c =
     let m = Request c.args.key c.args.call in
     IfOk-weaker c.repeat.result _ _
     (λ again h. subst (λ x. Becomes a c.args.moment m a (said_of c.args.key x)) (sym h.0)
-    (repeated_waiting a t c.args.moment are c.requires.sound.legal c.args.key c.args.call c.in-Waits.place c.in-Waits.ensures.means c.requires.act_fits.0.3.0 h.1))
+    (repeated_waiting a t c.args.moment are c.requires.sound.legal c.args.key c.args.call c.in-Waits.place
+    c.in-Waits.ensures.means c.requires.act_fits.0.3.0 h.1))
     c.repeat.ensures.ok
 
 pub returns-in-Waits-clause-err : goal.returns-in-Waits-clause-err
@@ -39,8 +37,10 @@ returns-in-Waits-clause-err c =
     let are = c.requires.sound.sessions_are in
     let m = Request c.args.key c.args.call in
     IfErr-weaker c.repeat.result _ _
-    (λ refusal h. subst (IsRefused a c.args.moment m a) (sym h.0) (becomes_refused a a c.args.moment m OtherCall
-    (waiting_otherwise a t c.args.moment are c.requires.sound.legal c.args.key c.args.call c.in-Waits.place c.in-Waits.ensures.means c.requires.act_fits.0.3.0 h.1)))
+    (λ refusal h. subst (IsRefused a c.args.moment m a) (sym h.0) (becomes_refused a a c.args.moment m
+    OtherCall
+    (waiting_otherwise a t c.args.moment are c.requires.sound.legal c.args.key c.args.call c.in-Waits.place
+    c.in-Waits.ensures.means c.requires.act_fits.0.3.0 h.1)))
     c.repeat.ensures.err
 
 pub returns-in-Settled-clause-ok : goal.returns-in-Settled-clause-ok
@@ -51,7 +51,8 @@ returns-in-Settled-clause-ok c =
     let m = Request c.args.key c.args.call in
     IfOk-weaker c.repeat-in-Settled.result _ _
     (λ again h. subst (λ x. Becomes a c.args.moment m a (said_of c.args.key x)) (sym h.0)
-    (repeated a t c.args.moment are c.requires.sound.legal c.args.key c.args.call c.in-Settled.place c.in-Settled.kept c.in-Settled.ensures.means c.requires.act_fits.0.3.0 h.1))
+    (repeated a t c.args.moment are c.requires.sound.legal c.args.key c.args.call c.in-Settled.place
+    c.in-Settled.kept c.in-Settled.ensures.means c.requires.act_fits.0.3.0 h.1))
     c.repeat-in-Settled.ensures.ok
 
 pub returns-in-Settled-clause-err : goal.returns-in-Settled-clause-err
@@ -61,8 +62,10 @@ returns-in-Settled-clause-err c =
     let are = c.requires.sound.sessions_are in
     let m = Request c.args.key c.args.call in
     IfErr-weaker c.repeat-in-Settled.result _ _
-    (λ refusal h. subst (IsRefused a c.args.moment m a) (sym h.0) (becomes_refused a a c.args.moment m OtherCall
-    (repeated_otherwise a t c.args.moment are c.requires.sound.legal c.args.key c.args.call c.in-Settled.place c.in-Settled.kept c.in-Settled.ensures.means c.requires.act_fits.0.3.0 h.1)))
+    (λ refusal h. subst (IsRefused a c.args.moment m a) (sym h.0) (becomes_refused a a c.args.moment m
+    OtherCall
+    (repeated_otherwise a t c.args.moment are c.requires.sound.legal c.args.key c.args.call c.in-Settled.place
+    c.in-Settled.kept c.in-Settled.ensures.means c.requires.act_fits.0.3.0 h.1)))
     c.repeat-in-Settled.ensures.err
 
 pub returns-in-Next-clause-ok : goal.returns-in-Next-clause-ok
@@ -75,8 +78,10 @@ returns-in-Next-clause-ok c =
     (λ kept told room. record {
       answer = told.answer;
       is = told.is;
-      step = next_key a t c.args.moment sound.sessions_are sound.legal b c.args.key c.args.call told.answer c.in-Next.ensures.means
-          (entered a b c.args.moment (need_of c.args.call) (Arrive c.args.key c.args.call) _ _ c.args.self.now.waiting sound.waiting_is room told.adds told.answers);
+      step = next_key a t c.args.moment sound.sessions_are sound.legal b c.args.key c.args.call told.answer
+          c.in-Next.ensures.means
+          (entered a b c.args.moment (need_of c.args.call) (Arrive c.args.key c.args.call) _ _
+          c.args.self.now.waiting sound.waiting_is room told.adds told.answers);
     })
 
 pub returns-in-Next-clause-err : goal.returns-in-Next-clause-err
@@ -87,5 +92,6 @@ returns-in-Next-clause-err c =
     let b = account_of c.arrive.new.self in
     err_both c.arrive.result _ _ _ c.arrive.ensures.err c.arrive.ensures.same
     (λ refusal due same. becomes_refused a b c.args.moment (Request c.args.key c.args.call) refusal
-    (next_key a t c.args.moment sound.sessions_are sound.legal b c.args.key c.args.call (Refused refusal) c.in-Next.ensures.means
+    (next_key a t c.args.moment sound.sessions_are sound.legal b c.args.key c.args.call (Refused refusal)
+    c.in-Next.ensures.means
     (unentered a b c.args.moment (need_of c.args.call) (Arrive c.args.key c.args.call) refusal _ due same)))

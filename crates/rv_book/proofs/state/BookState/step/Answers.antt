@@ -1,8 +1,5 @@
 -- First what is due is timed out, and then the message takes its own step.
-use Rattle.std.proofs.Common.{subst}
-use Rattle.rv_book.specs.Steps.{Ticks}
-use Rattle.rv_book.specs.Operations.{Becomes}
-use Rattle.rv_book.specs.Tables.{account_of}
+use Rattle.rv_book.proofs.Words.{subst, Ticks, Becomes, account_of}
 use Rattle.rv_book.proofs.state.BookState.step.Goals as goal
 
 pub returns-clause-step : goal.returns-clause-step
@@ -14,5 +11,6 @@ returns-clause-step c =
       ticked = mid;
       ticks = subst (λ moment. Ticks a moment mid) exact c.time_out.ensures.ticks;
       fits = c.time_out.ensures.time.sound.fits;
-      becomes = subst (λ moment. Becomes mid moment c.args.message (account_of c.answer.new.self) c.answer.result) exact c.answer.ensures.step;
+      becomes = subst (λ moment. Becomes mid moment c.args.message (account_of c.answer.new.self)
+          c.answer.result) exact c.answer.ensures.step;
     }

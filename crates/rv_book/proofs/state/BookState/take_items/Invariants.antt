@@ -1,5 +1,6 @@
 -- The first so many items of the queue are listed, and the others wait.
-use Rattle.std.proofs.Common.{◌-◌, vec_len}
+use Rattle.rv_book.proofs.Words.{vec_len}
+use Rattle.std.proofs.Common.{◌-◌}
 use Rattle.rv_book.proofs.TakingUpTo.{TookSome}
 use Rattle.rv_book.proofs.state.BookState.take_items.Given as goal
 

@@ -1,8 +1,6 @@
 -- The first item of the queue left it, and all others who wait stay.
-use Rattle.std.proofs.Common.{refl, sym, subst}
-use Rattle.rv_text.specs.declared.call.Side.TheVariants.{Gives}
+use Rattle.rv_book.proofs.Words.{refl, sym, subst, Gives, Waiters}
 use Rattle.rv_book.specs.Meeting.{LeftFront, TakenFor}
-use Rattle.rv_book.specs.Views.{Waiters}
 use Rattle.rv_book.proofs.Tabled.{front_left}
 use Rattle.rv_book.proofs.waiters.Waiters.take_front.Goals as goal
 
@@ -13,4 +11,5 @@ returns-in-Takes c =
     let queue = c.in-Takes.queue in
     subst (λ s. TakenFor c.args.self.now new s c.take_front.result) (sym c.in-Takes.is)
     (subst (λ (s : Waiters). LeftFront s new (Gives queue) c.take_front.result) c.self.view_is
-    (front_left old new queue (record { others = c.take_front.ensures.others; exchangers = refl }) c.take_front.result c.take_front.ensures.front))
+    (front_left old new queue (record { others = c.take_front.ensures.others; exchangers = refl })
+    c.take_front.result c.take_front.ensures.front))

@@ -3,4 +3,5 @@ use Rattle.rv_dual.proofs.Sides.{dual_after_taker}
 use Rattle.rv_dual.proofs.dual.Dual.try_give.Goals as goal
 
 pub invariant_of-self : goal.invariant_of-self
-invariant_of-self c = dual_after_taker c.self.inside.givers.waiting c.self.inside.takers.waiting c.pop.new.self.waiting c.pop.result c.self.invariant c.pop.ensures.oldest
+invariant_of-self c = dual_after_taker c.self.inside.givers.waiting c.self.inside.takers.waiting
+    c.pop.new.self.waiting c.pop.result c.self.invariant c.pop.ensures.oldest

@@ -3,4 +3,5 @@ use Rattle.rv_dual.proofs.Marks.{rises_behind}
 use Rattle.rv_dual.proofs.line.SlotLine.pop.Goals as goal
 
 pub trim-requires : goal.trim-requires
-trim-requires g c = rises_behind g.T.StandsInLine.place_of c.self.inside.slots.items c.pop_front.new.self.items c.pop_front.result c.pop_front.ensures.items c.self.invariant.rises
+trim-requires g c = rises_behind g.T.StandsInLine.place_of c.self.inside.slots.items
+    c.pop_front.new.self.items c.pop_front.result c.pop_front.ensures.items c.self.invariant.rises

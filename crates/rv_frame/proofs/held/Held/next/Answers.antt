@@ -6,5 +6,7 @@ use Rattle.rv_frame.proofs.held.Held.next.Goals as goal
 
 pub returns-in-Bad-clause-oldest : goal.returns-in-Bad-clause-oldest
 returns-in-Bad-clause-oldest c =
-    let bad = subst (λ (l : List ℕ). BeginsBad (take c.args.self.now.whole l) c.in-Bad.field-0) c.as_slice.ensures c.in-Bad.ensures in
-    absurd (front_not_bad c.args.self.now.bytes.items c.args.self.now.whole c.in-Bad.field-0 c.requires.front bad)
+    let bad = subst (λ (l : List ℕ). BeginsBad (take c.args.self.now.whole l) c.in-Bad.field-0)
+    c.as_slice.ensures c.in-Bad.ensures in
+    absurd (front_not_bad c.args.self.now.bytes.items c.args.self.now.whole c.in-Bad.field-0 c.requires.front
+    bad)

@@ -13,7 +13,8 @@ returns-clause-sound c =
     record {
       front = subst (λ (l : List ℕ). FrontIsRow l (held.whole - c.args.size)) (sym left) taken.front;
       dropped = if_some_more held.bad (length held.bytes.items ≡ held.whole) _
-          (λ all. ap (λ l. length l) left ∙ length-drop c.args.size held.bytes.items ∙ ap (λ n. n - c.args.size) all) c.requires.sound.dropped;
+          (λ all. ap (λ l. length l) left ∙ length-drop c.args.size held.bytes.items
+          ∙ ap (λ n. n - c.args.size) all) c.requires.sound.dropped;
     }
 
 pub returns-clause-oldest : goal.returns-clause-oldest
@@ -23,9 +24,11 @@ returns-clause-oldest c =
     let left : c.advance.new.self.items ≡ drop c.args.size held.bytes.items = c.advance.ensures.items in
     let rest : ℕ = held.whole - c.args.size in
     let after : bodies_in rest (take rest c.advance.new.self.items) ≡ taken.front.bodies =
-    ap (λ l. bodies_in rest (take rest l)) left ∙ front_bodies (drop c.args.size held.bytes.items) rest taken.front in
+    ap (λ l. bodies_in rest (take rest l)) left ∙ front_bodies (drop c.args.size held.bytes.items) rest
+    taken.front in
     let body : c.in_ok-body.body.items ≡ c.requires.frame.body =
-    c.in_ok-body.ensures.items_if_clones_equal (λ x y same. same) ∙ ap (λ l. take (c.args.size - 2) (drop 2 l)) c.as_slice.ensures
+    c.in_ok-body.ensures.items_if_clones_equal (λ x y same. same)
+    ∙ ap (λ l. take (c.args.size - 2) (drop 2 l)) c.as_slice.ensures
     ∙ body_in held.bytes.items held.whole c.args.size taken.size_within c.requires.frame in
     let before = front_bodies held.bytes.items held.whole c.requires.sound.front ∙ taken.oldest in
     (cc)
@@ -36,4 +39,5 @@ returns-clause-end c =
     let taken = front_less held.bytes.items held.whole c.args.size c.requires.sound.front c.requires.frame in
     let both : c.args.size + (held.whole - c.args.size) ≡ held.whole = omega (arith, taken.size_within) in
     ap (λ l. end_of held.bad (drop (held.whole - c.args.size) l)) c.advance.ensures.items
-    ∙ ap (end_of held.bad) (drop-drop (held.whole - c.args.size) c.args.size held.bytes.items ∙ ap (λ n. drop n held.bytes.items) both)
+    ∙ ap (end_of held.bad) (drop-drop (held.whole - c.args.size) c.args.size held.bytes.items
+    ∙ ap (λ n. drop n held.bytes.items) both)

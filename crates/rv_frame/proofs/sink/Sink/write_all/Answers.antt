@@ -7,7 +7,8 @@ use Rattle.std.proofs.KnownBytes.{Appends-trans}
 use Rattle.rv_frame.proofs.sink.Sink.write_all.Goals as goal
 
 -- the front, and then the front of the slice past it, is the longer front
-front_more : (all : List ℕ) (sent count : ℕ) → take sent all ++ take count (take (length all - sent) (drop sent all)) ≡ take (sent + count) all
+front_more : (all : List ℕ) (sent count : ℕ)
+    → take sent all ++ take count (take (length all - sent) (drop sent all)) ≡ take (sent + count) all
 front_more all sent count =
     ap (λ rest. take sent all ++ take count rest) (take_rest all sent) ∙ sym (take-add sent count all)
 

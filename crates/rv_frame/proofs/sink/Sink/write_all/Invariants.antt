@@ -8,7 +8,8 @@ abbrev pub invariant-loop-sent : goal.invariant-loop-sent
 invariant-loop-sent g l = record {
   within : l.sent ≤ length l.bytes;
   unfailed : sink_failed l.self ≡ false;
-  took : Appends (sink_contents g.W.Write.contents l.initial.self) (sink_contents g.W.Write.contents l.self) (take l.sent l.bytes);
+  took : Appends (sink_contents g.W.Write.contents l.initial.self) (sink_contents g.W.Write.contents l.self)
+      (take l.sent l.bytes);
 }
 
 abbrev pub decreases-loop-sent : goal.decreases-loop-sent

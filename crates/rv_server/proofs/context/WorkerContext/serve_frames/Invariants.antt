@@ -5,5 +5,6 @@ use Rattle.rv_server.proofs.context.WorkerContext.serve_frames.Given as goal
 
 abbrev pub invariant-loop-number : goal.invariant-loop-number
 invariant-loop-number g l =
-    Progress g.R.Read.remaining g.W.Write.contents (connection l.fn.source l.fn.sink l.fn.seat) (connection l.source l.sink l.seat)
+    Progress g.R.Read.remaining g.W.Write.contents (connection l.fn.source l.fn.sink l.fn.seat)
+    (connection l.source l.sink l.seat)
     (listing_of g.D.Desk.stamped l.served) l.inlet l.number

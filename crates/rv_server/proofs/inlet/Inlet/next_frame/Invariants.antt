@@ -1,4 +1,5 @@
--- So far no frame was taken, nothing was written, and each turn leaves fewer bytes that the next frame can want.
+-- So far no frame was taken, nothing was written, and each turn leaves fewer bytes that the next frame can
+-- want.
 use Rattle.std.proofs.Common.{[]}
 use Rattle.rv_frame.specs.Sink.{SinkTakes}
 use Rattle.rv_server.specs.Reading.{ReadsOn}

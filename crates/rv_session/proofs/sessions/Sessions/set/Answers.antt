@@ -1,4 +1,5 @@
--- A write at the client that the look-up finds sets its session, leaves the others and the room, and the entries a table.
+-- A write at the client that the look-up finds sets its session, leaves the others and the room, and the
+-- entries a table.
 use Rattle.std.proofs.Common.{◌≡◌, Option, None, Some, IsSome, is_some, sym, subst, refl, ap, ◌∙◌}
 use Rattle.std.specs.Option.{option_copied_mut}
 use Rattle.std.proofs.lemmas.Bool.{false≢true}
@@ -22,7 +23,8 @@ invariant_of-self c =
     let known = subst (λ (t : Table). IsSome (session_of t c.args.client)) (sym c.self.view_is) c.requires in
     let there = subst IsSome (get_kept c.self.inside.sessions.entries c.args.client) known in
     let wrote = c.get_mut.follows.holds c.args.session in
-    written_table c.self.inside.sessions.entries (c.get_mut.follows.lender c.args.session).entries c.args.client c.args.session
+    written_table c.self.inside.sessions.entries (c.get_mut.follows.lender c.args.session).entries
+    c.args.client c.args.session
     c.self.invariant (wrote.3 there).0 wrote.2 known
 
 pub returns : goal.returns
@@ -31,5 +33,6 @@ returns c =
     let there = subst IsSome (get_kept c.self.inside.sessions.entries c.args.client) known in
     let wrote = c.get_mut.follows.holds c.args.session in
     rw (← c.self.view_is) (set_by_insert _ _ c.args.client c.args.session refl
-    (map_put c.self.inside.sessions.entries (c.get_mut.follows.lender c.args.session).entries c.args.client c.args.session (wrote.3 there).0)
+    (map_put c.self.inside.sessions.entries (c.get_mut.follows.lender c.args.session).entries c.args.client
+    c.args.session (wrote.3 there).0)
     (λ _. wrote.6))

@@ -1,6 +1,5 @@
 -- A process ends.
-use Rattle.std.proofs.Common.{refl, None}
-use Rattle.rv_world.specs.Parts.{world_of}
+use Rattle.rv_world.proofs.Words.{refl, None, world_of}
 use Rattle.rv_world.proofs.TableWrites.{only_turns, runs_stands}
 use Rattle.rv_world.proofs.state.WorldState.crash.Goals as goal
 
@@ -12,7 +11,8 @@ returns-clause-comes c =
       process = _;
       runs = runs;
       ends = record {
-        changes = only_turns (world_of old) (world_of (record old { clients = c.replace_process.new.self })) old.clients c.replace_process.new.self c.args.client None refl refl
+        changes = only_turns (world_of old) (world_of (record old { clients = c.replace_process.new.self }))
+            old.clients c.replace_process.new.self c.args.client None refl refl
             c.replace_process.ensures.after (runs_stands old.clients c.args.client _ runs);
         rest = refl;
       };

@@ -1,11 +1,10 @@
 -- What was sent keeps its limits.
-use Rattle.std.proofs.Common.{List, subst, sym}
-use Rattle.std.specs.List.{Contains}
-use Rattle.rv_world.specs.declared.packet.Packet.{Packet}
+use Rattle.rv_world.proofs.Words.{List, subst, sym, Contains, Packet}
 use Rattle.rv_world.proofs.world.World.answer_packet.Goals as goal
 
 pub returns-clause-fits : goal.returns-clause-fits
 returns-clause-fits c =
     let found = c.in_ok-get.ensures.lookup in
     let sent = c.in_ok-get.field-0.now in
-    c.self.invariant.fits.answers sent (subst (λ (l : List Packet). Contains l sent) c.deref.ensures.value (c.args.packet, found.3.0, sym found.1))
+    c.self.invariant.fits.answers sent (subst (λ (l : List Packet). Contains l sent) c.deref.ensures.value
+    (c.args.packet, found.3.0, sym found.1))

@@ -1,6 +1,5 @@
 -- A world that begins is sound.
-use Rattle.std.proofs.Common.{sym, subst}
-use Rattle.rv_world.specs.Sound.{AllFits, IsSoundWorld}
+use Rattle.rv_world.proofs.Words.{sym, subst, AllFits, IsSoundWorld}
 use Rattle.rv_world.proofs.Fitting.{first_fits}
 use Rattle.rv_world.proofs.Soundness.{first_sound}
 use Rattle.rv_world.proofs.world.World.open.Goals as goal

@@ -1,8 +1,5 @@
 -- A step keeps the headline.
-use Rattle.std.proofs.Common.{subst}
-use Rattle.rv_world.specs.World.{World}
-use Rattle.rv_world.specs.Headline.{OnlyGrows}
-use Rattle.rv_world.specs.Parts.{world_of}
+use Rattle.rv_world.proofs.Words.{subst, World, OnlyGrows, world_of}
 use Rattle.rv_world.proofs.Keeping.{comes_sound, comes_fits, comes_grows}
 use Rattle.rv_world.proofs.TheHeadline.{sound_headline}
 use Rattle.rv_world.proofs.world.World.step.Goals as goal
@@ -12,13 +9,15 @@ invariant_of-self c =
     let w = world_of c.self.inside.state in
     record {
       sound = comes_sound w c.args.event.now _ c.step.result c.self.invariant.sound c.step.ensures.comes;
-      fits = comes_fits w c.args.event.now _ c.step.result c.self.invariant.sound c.self.invariant.fits c.requires c.step.ensures.comes;
+      fits = comes_fits w c.args.event.now _ c.step.result c.self.invariant.sound c.self.invariant.fits
+          c.requires c.step.ensures.comes;
       newest = c.step.ensures.newest;
     }
 
 pub returns-clause-headline : goal.returns-clause-headline
 returns-clause-headline c =
-    sound_headline (world_of c.step.new.self) (comes_sound (world_of c.self.inside.state) c.args.event.now _ c.step.result c.self.invariant.sound c.step.ensures.comes)
+    sound_headline (world_of c.step.new.self) (comes_sound (world_of c.self.inside.state) c.args.event.now _
+    c.step.result c.self.invariant.sound c.step.ensures.comes)
 
 pub returns-clause-only_growth : goal.returns-clause-only_growth
 returns-clause-only_growth c =
