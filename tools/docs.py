@@ -59,7 +59,7 @@ NO_WRONG_BODY = (r"\w+::swap::Swap\w*::new", r"\w+::shared::Shared\w*::lock", r"
 SHARED = ("Item", "NoMemory", "Place", "Stamp")
 # How many lines and words the first page may have.
 README_LINES, README_WORDS = 80, 700
-# How many columns a line of the sources and of the definitions may have.
+# How many columns a line of the sources, of the definitions and of the proofs may have.
 COLUMNS = 110
 # Texts that make want of memory of nothing, and texts that do not.
 GROWTHS = [
@@ -369,8 +369,8 @@ def sizes():
 
 
 def widths():
-    """No line of the sources and of the definitions is wider than it may be."""
-    for form in ("src/**/*.rt", "specs/**/*.antt"):
+    """No line of the sources, of the definitions and of the proofs is wider than it may be."""
+    for form in ("src/**/*.rt", "specs/**/*.antt", "proofs/**/*.antt"):
         for path in sorted(ROOT.glob(f"crates/*/{form}")):
             wide = [number for number, line in enumerate(path.read_text().split("\n"), 1) if len(line) > COLUMNS]
             check(not wide, f"{path.relative_to(ROOT)} has over {COLUMNS} columns in lines {wide}")
