@@ -69,8 +69,8 @@ def the_java_process():
 
 
 def in_time(case):
-    """A case with a limit of a second or less, behind which the client says less: where a machine was too slow for that, it
-    is tried again."""
+    """A case in which a patience or a time ends, behind which the client says less: where a machine was too slow to ask before,
+    or an answer was on its way just then, it is tried again."""
     @functools.wraps(case)
     def tried(*given):
         for _ in range(TRIES - 1):
@@ -173,6 +173,11 @@ def receipts(java):
         java.expect("last", "result Optional[Cancelled[key=1/1/1/3]]")
         java.expect("put a", "result done")
         java.expect("last", "result Optional[Done[key=1/1/1/4]]")
+
+
+@in_time
+def an_unsettled_receipt(java):
+    """Is told where the transfer is asked again."""
     with opened(java, HANG_UP, patience=SHORT) as server:
         server.otherwise = HANG_UP
         java.expect("transfer a", "threw Unsettled 1/1/1/1")
@@ -284,16 +289,26 @@ def a_drain_is_asked_under_one_key(java):
 
 
 def a_step_that_fails(java):
-    """What finished steps took is in the collection; an unsettled step is asked again for its items."""
-    with opened(java, texts(16), patience=SHORT) as server:
-        server.otherwise = refused(10)
-        java.expect("drain", "threw Full 1/1/1/2")
-        java.expect("drained", f"result [{', '.join(map(str, range(16)))}]")
+    """What finished steps took is in the collection."""
     with opened(java, texts(16), reply("cancelled"), texts(1)):
         java.expect("drain", "threw CancellationException")
         java.expect("last", "result Optional[Cancelled[key=1/1/1/2]]")
         java.expect("drain", "result 1")
         java.expect("drained", f"result [{', '.join(map(str, [*range(16), 0]))}]")
+
+
+@in_time
+def a_step_without_room(java):
+    """It fails where the patience ends; what finished steps took is in the collection."""
+    with opened(java, texts(16), patience=SHORT) as server:
+        server.otherwise = refused(10)
+        java.expect("drain", "threw Full 1/1/1/2")
+        java.expect("drained", f"result [{', '.join(map(str, range(16)))}]")
+
+
+@in_time
+def an_unsettled_step(java):
+    """It is asked again for its items; what finished steps took is in the collection."""
     with opened(java, texts(16), patience=SHORT) as server:
         server.otherwise = HANG_UP
         java.expect("drain", "threw Unsettled 1/1/1/2")
@@ -323,8 +338,9 @@ def repeats_until_it_is_told(java):
         demand(len(server.heard) == 1 + len(deeds), f"{len(server.heard)} frames came")
 
 
+@in_time
 def an_unsettled_request(java):
-    """The call ends by its key; the request is asked again, or given up."""
+    """The call ends by its key; the request is asked again."""
     with opened(java, waiting, patience=SHORT) as server:
         server.otherwise = HANG_UP
         java.expect("transfer a", "threw Unsettled 1/1/1/1 accepted")
@@ -335,6 +351,11 @@ def an_unsettled_request(java):
         java.expect("again", "result Receipt[key=1/1/1/1, by=Optional[1/2/3/4]]")
         java.expect("put a", "result done")
         java.expect("again", "threw IllegalStateException")
+
+
+@in_time
+def an_unsettled_request_that_is_given_up(java):
+    """Its cancel is asked, and settles it."""
     with opened(java, patience=SHORT) as server:
         server.otherwise = HANG_UP
         java.expect("take", "threw Unsettled 1/1/1/1")
@@ -344,9 +365,9 @@ def an_unsettled_request(java):
         java.expect("last", "result Optional[Cancelled[key=1/1/1/1]]")
 
 
+@in_time
 def no_room(java):
-    """A request that is refused for want of room is tried as long as patience lasts, and then certainly is not there;
-    but for one of which a copy is still under way."""
+    """A request that is refused for want of room is tried as long as patience lasts, and then certainly is not there."""
     with opened(java, patience=SHORT) as server:
         server.otherwise = refused(10)
         java.expect("put a", "threw Full 1/1/1/1")
@@ -354,11 +375,21 @@ def no_room(java):
         server.otherwise = reply("done")
         java.expect("put b", "result done")
         demand(server.heard[-1]["number"] == 1, f"{asked(server)}")
+
+
+@in_time
+def a_copy_under_way(java):
+    """It may be there, though each later one is refused for want of room: the request is unsettled."""
     with opened(java, HANG_UP, patience=SHORT) as server:
         server.otherwise = refused(10)
         java.expect("put a", "threw Unsettled 1/1/1/1")
         server.otherwise = reply("done")
         java.expect("again", "result Done[key=1/1/1/1]")
+
+
+@in_time
+def no_room_for_a_client(java):
+    """A hello that is refused for want of room, or of memory, is said as long as patience lasts, on one connection."""
     with opened(java, patience=SHORT, hello=refused(10)) as server:
         server.otherwise = refused(10)
         java.expect("put a", "threw Full null")
@@ -502,7 +533,8 @@ def whatever_is_let_in(_java):
     demand(ran.returncode == 0 and ran.stdout.endswith(" calls of a link\n"), f"{ran.stdout} {ran.stderr[-3000:]}")
 
 
-CASES = [each_call, receipts, what_is_no_receipt, versions, other_versions, drains_by_steps,
-         a_drain_is_asked_under_one_key, a_step_that_fails, what_is_not_taken_in, repeats_until_it_is_told,
-         an_unsettled_request, no_room, a_closed_connection_is_made_anew, nobody_listens, interrupts,
-         a_timeout_is_kept, a_wait_is_no_silence, refusals, refused_hellos, what_is_left_out, whatever_is_let_in]
+CASES = [each_call, receipts, an_unsettled_receipt, what_is_no_receipt, versions, other_versions, drains_by_steps,
+         a_drain_is_asked_under_one_key, a_step_that_fails, a_step_without_room, an_unsettled_step, what_is_not_taken_in,
+         repeats_until_it_is_told, an_unsettled_request, an_unsettled_request_that_is_given_up, no_room, a_copy_under_way,
+         no_room_for_a_client, a_closed_connection_is_made_anew, nobody_listens, interrupts, a_timeout_is_kept,
+         a_wait_is_no_silence, refusals, refused_hellos, what_is_left_out, whatever_is_let_in]

@@ -118,6 +118,7 @@ def open_at(server):
     return sum(one.fileno() >= 0 for one in server.open)
 
 
+@java.in_time
 def a_dead_threads_unsettled_request(_java):
     """Anybody may settle it, and then its number is used again, by whichever threads put at a time."""
     with Meeting("d", 2) as server, playing("dead-unsettled", server.port) as program:
@@ -140,11 +141,20 @@ def an_ended_session(_java):
     prints("ended", ["threw EpochEnded of 1/1/1/1", "gave done", "threw EpochEnded of 1/2/1/2", ended, USED_UP], *deeds)
 
 
+# What a session tells of its last outcome: at its begin, behind a take, and behind a put that ends so.
+LAST = ["last gave Optional.empty", "take gave a", "last gave Optional[Item[key=1/1/1/1, item=a]]", "put threw {} of 1/1/1/2",
+        "last gave Optional.empty"]
+
+
 def the_last_outcome(_java):
     """Is that of the last settled request, and none where another was begun since."""
-    deeds = [welcome, reply("item", item="a"), *[refused(10)] * 90]
-    prints("stale", ["last gave Optional.empty", "take gave a", "last gave Optional[Item[key=1/1/1/1, item=a]]",
-                     "put threw Full of 1/1/1/2", "last gave Optional.empty"], *deeds)
+    prints("stale", [line.format("Refused") for line in LAST], welcome, reply("item", item="a"), refused(1))
+
+
+@java.in_time
+def no_outcome_where_there_is_no_room(_java):
+    """Where a put is refused until the patience ends, none is the last."""
+    prints("stale-and-full", [line.format("Full") for line in LAST], welcome, reply("item", item="a"), otherwise=refused(10))
 
 
 def close_in_a_call(_java):
@@ -227,14 +237,21 @@ def replies_that_a_call_cannot_have(_java):
 
 
 def for_ever(_java):
-    """A time above a day is asked as for ever, and ends at its time."""
+    """A time above a day is asked as for ever."""
     units = ["NANOSECONDS", "MICROSECONDS", "MILLISECONDS", "SECONDS", "MINUTES", "HOURS", "DAYS"]
     wanted = [f"{name} gave a" for name in [*units, "a day", "more"]]
     deeds = [*[reply("item", item="a")] * len(wanted), reply("timedout")]
-    last = ["no time gave null", "brief gave TimedOut[key=1/2/1/1]", "last gave Optional[Cancelled[key=1/2/1/1]]"]
-    server = prints("for-ever", [*wanted, *last], welcome, *deeds, welcome, SILENCE)
+    server = prints("for-ever", [*wanted, "no time gave null"], welcome, *deeds)
     waits = [one["wait"] for one in server.heard if one["kind"] == "request"]
-    demand(waits == ["forever"] * 7 + [86_400_000, "forever", 0, "forever"], f"{waits}")
+    demand(waits == ["forever"] * 7 + [86_400_000, "forever", 0], f"{waits}")
+
+
+@java.in_time
+def a_long_time(_java):
+    """One that is asked as for ever ends at its time, by a cancel."""
+    server = prints("long-time", ["put gave Done[key=1/1/1/1]", "brief gave TimedOut[key=1/1/1/2]",
+                                  "last gave Optional[Cancelled[key=1/1/1/2]]"], welcome, reply("done"), SILENCE)
+    demand([one.get("wait") for one in server.heard if one.get("call") == "take"] == ["forever"], f"{server.heard}")
 
 
 def connections_of_dead_threads(_java):
@@ -253,6 +270,7 @@ def connections_of_dead_threads(_java):
         until("no connection", lambda: open_at(server) == 0)
 
 
+@java.in_time
 def a_pooled_thread(_java):
     """Each task behind one that ended unsettled gets another session, and the unsettled one is there."""
     with scripted(otherwise=lost) as server, playing("pooled", server.port) as program:
@@ -420,8 +438,8 @@ def times(_java):
 
 
 CASES = [
-    a_dead_threads_unsettled_request, an_ended_session, the_last_outcome, close_in_a_call, close_in_a_pause,
-    full_memory, two_threads, cancelled_though_nobody_asked, replies_that_a_call_cannot_have, for_ever,
-    connections_of_dead_threads, a_pooled_thread, an_interrupt_in_the_hello, an_interrupt_while_the_server_is_away,
-    an_interrupt_in_again, a_nested_answer, exceptions_read_back, an_unresolved_host, numbers_of_sessions,
+    a_dead_threads_unsettled_request, an_ended_session, the_last_outcome, no_outcome_where_there_is_no_room, close_in_a_call,
+    close_in_a_pause, full_memory, two_threads, cancelled_though_nobody_asked, replies_that_a_call_cannot_have, for_ever,
+    a_long_time, connections_of_dead_threads, a_pooled_thread, an_interrupt_in_the_hello,
+    an_interrupt_while_the_server_is_away, an_interrupt_in_again, a_nested_answer, exceptions_read_back, an_unresolved_host, numbers_of_sessions,
     no_descriptors, times, a_cancelled_take, a_cancelled_transfer, a_consumer]

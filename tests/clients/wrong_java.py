@@ -18,7 +18,7 @@ IN_JAVA = [
     WrongClient(OTHER_EPOCH, "java, the java process", [
         Edit(MACHINE, 'case 2 -> above(refusal, "current", key.epoch())',
              'case 2 -> Bodies.number(refusal, "current") != key.epoch()')]),
-    WrongClient("is sure that nothing is there where a copy is under way", "java, no room", [
+    WrongClient("is sure that nothing is there where a copy is under way", "java, a copy under way", [
         Edit(MACHINE, 'full && out == 0', 'full')]),
     WrongClient(NOBODY, "java, each call", [
         Edit(QUEUE, 'Optional.of(receipt) : Optional.empty()',

@@ -14,6 +14,9 @@ import java.util.concurrent.TransferQueue;
  * the same. Words: port, how many scripts, seed. Prints the first difference, and how many scripts were the same.
  */
 final class BesideJdk {
+    /** The time in seconds of a call that the other thread meets or interrupts: no script is so slow that it ends. */
+    private static final long LATE = 1_000;
+
     private BesideJdk() {}
 
     /** What exchanges: the JDK's, or the server's. */
@@ -30,7 +33,7 @@ final class BesideJdk {
         int count = Integer.parseInt(words[1]);
         Exchanger<String> own = new Exchanger<>();
         try (RvClients clients = RvClients.builder("127.0.0.1", Integer.parseInt(words[0])).clients(1, 4).unleased()
-                    .incarnation(1).build();
+                    .incarnation(1).patientForEver().grace(Answering.LONG).build();
                 Side jdk = new Side(new LinkedTransferQueue<>(), (item, ms) -> own.exchange(item, ms, TimeUnit.MILLISECONDS));
                 Side ours = new Side(new RvTransferQueue(clients, 3),
                     (item, ms) -> new RvExchanger(clients, 5).exchange(item, ms, TimeUnit.MILLISECONDS))) {
@@ -131,8 +134,8 @@ final class BesideJdk {
                     return producerWaits(chance);
                 case 2:
                     String theirs = next();
-                    other.begin(() -> traded(theirs, 5_000));
-                    return traded(next(), 5_000) + ", " + other.outcome();
+                    other.begin(() -> traded(theirs, 1_000 * LATE));
+                    return traded(next(), 1_000 * LATE) + ", " + other.outcome();
                 default:
                     return queue.isEmpty() ? "nothing" : "take " + queue.take();
             }
@@ -140,7 +143,7 @@ final class BesideJdk {
 
         private String consumerWaits(Random chance) throws Exception {
             boolean timed = chance.nextBoolean();
-            other.begin(() -> timed ? queue.poll(5, TimeUnit.SECONDS) : queue.take());
+            other.begin(() -> timed ? queue.poll(LATE, TimeUnit.SECONDS) : queue.take());
             while (!queue.hasWaitingConsumer()) {
                 Thread.sleep(0, 100_000);
             }
@@ -170,7 +173,7 @@ final class BesideJdk {
             boolean timed = chance.nextBoolean();
             other.begin(() -> {
                 if (timed) {
-                    return "" + queue.tryTransfer(theirs, 5, TimeUnit.SECONDS);
+                    return "" + queue.tryTransfer(theirs, LATE, TimeUnit.SECONDS);
                 }
                 queue.transfer(theirs);
                 return "received";

@@ -70,6 +70,7 @@ final class Driver {
                     .unleased().incarnation(1).patience(Duration.ofMillis(number(given, 2)))
                     .version(given.size() > 3 ? number(given, 3) : RvSession.VERSION).build();
                 queue = new RvTransferQueue(clients, 3);
+                drained.clear();
                 return "open";
             case "interrupt":
                 interruptAt(Path.of(given.get(0)));

@@ -46,12 +46,14 @@ final class Scenes {
 
     private static final Map<String, Scene> SCENES = Map.ofEntries(
         Map.entry("dead-unsettled", Scenes::deadUnsettled), Map.entry("dead-ended", Scenes::deadEnded),
-        Map.entry("stale", Scenes::stale), Map.entry("close-in-a-call", Scenes::closeInACall),
+        Map.entry("stale", port -> stale(clients(port, 1, 1, 60_000))),
+        Map.entry("stale-and-full", port -> stale(brief(port, 1))), Map.entry("close-in-a-call", Scenes::closeInACall),
         Map.entry("close-in-a-pause", Scenes::closeInAPause), Map.entry("full-memory", Scenes::fullMemory),
         Map.entry("two-threads", Scenes::twoThreads), Map.entry("not-ordered", Scenes::notOrdered),
         Map.entry("not-possible", Scenes::notPossible), Map.entry("for-ever", Scenes::forEver),
-        Map.entry("dead-threads", Scenes::deadThreads), Map.entry("pooled", Scenes::pooled),
-        Map.entry("ended", Scenes::endedInOneThread), Map.entry("interrupted-hello", Scenes::interruptedTake),
+        Map.entry("long-time", Scenes::longTime), Map.entry("dead-threads", Scenes::deadThreads),
+        Map.entry("pooled", Scenes::pooled), Map.entry("ended", Scenes::endedInOneThread),
+        Map.entry("interrupted-hello", Scenes::interruptedTake),
         Map.entry("interrupted-again", Scenes::interruptedAgain), Map.entry("nested", Scenes::nested),
         Map.entry("serialized", Scenes::serialized), Map.entry("unresolved", Scenes::unresolved),
         Map.entry("used-up", Scenes::usedUp), Map.entry("no-descriptors", Scenes::noDescriptors),
@@ -71,6 +73,17 @@ final class Scenes {
 
     private static RvClients clients(int port, int first, int most, long millis) {
         return given(HOST, port, first, first + most - 1L).patience(Duration.ofMillis(millis)).build();
+    }
+
+    /**
+     * So many clients, whose patience ends in a scene. A call at another server goes before: so the time in which a program
+     * loads what calls need is not theirs.
+     */
+    private static RvClients brief(int port, int most) throws Exception {
+        try (Answering other = new Answering(Answering::well); RvClients first = other.clients(1, 1).build()) {
+            put(first, "a").call();
+        }
+        return clients(port, 1, most, SHORT);
     }
 
     /** Clients of these numbers, which nobody leases, in incarnation 1. */
@@ -150,7 +163,7 @@ final class Scenes {
 
     /** Two threads die with unsettled requests; a third one wants a session; then all is settled, and two put at a time. */
     private static void deadUnsettled(int port) throws Exception {
-        RvClients clients = clients(port, 1, 2, SHORT);
+        RvClients clients = brief(port, 2);
         threePuts(clients);
         System.out.println(keys(clients));
         LINES.readLine();
@@ -180,8 +193,7 @@ final class Scenes {
     }
 
     /** What a session tells of its last request, behind requests that were not settled. */
-    private static void stale(int port) {
-        RvClients clients = clients(port, 1, 1, SHORT);
+    private static void stale(RvClients clients) {
         System.out.println("last " + told(clients.session()::last));
         System.out.println("take " + told(new RvTransferQueue(clients, 3)::take));
         System.out.println("last " + told(clients.session()::last));
@@ -301,7 +313,13 @@ final class Scenes {
         System.out.println("a day " + told(() -> queue.poll(1, TimeUnit.DAYS)));
         System.out.println("more " + told(() -> queue.poll(86_400_001, TimeUnit.MILLISECONDS)));
         System.out.println("no time " + told(() -> queue.poll(Long.MIN_VALUE, TimeUnit.DAYS)));
-        RvSession session = new RvSession(HOST, port, 2, 1);
+    }
+
+    /** The longest time that is asked as for ever, but that it ends soon, behind a put that says hello. */
+    private static void longTime(int port) {
+        RvSession session = new RvSession(HOST, port, 1, 1);
+        session.grace(TimeUnit.MILLISECONDS.toNanos(SHORT));
+        System.out.println("put " + told(() -> session.ask(putOf("a"))));
         Calls.Job brief = new Calls.Job(Calls.waiting(Calls.at("take", "queue", 3), "forever").call(), 300_000_000L);
         System.out.println("brief " + told(() -> session.ask(brief, true)));
         System.out.println("last " + told(session::last));
@@ -332,7 +350,7 @@ final class Scenes {
 
     /** Tasks of one pooled thread, the first of which ends unsettled. */
     private static void pooled(int port) throws Exception {
-        RvClients clients = clients(port, 1, 2, SHORT);
+        RvClients clients = brief(port, 2);
         ExecutorService pool = Executors.newSingleThreadExecutor();
         for (String item : List.of("a", "b", "c")) {
             System.out.println(pool.submit(() -> told(put(clients, item))).get());
@@ -365,7 +383,7 @@ final class Scenes {
 
     /** A thread is interrupted while it asks an unsettled request again. */
     private static void interruptedAgain(int port) throws Exception {
-        RvClients clients = clients(port, 1, 1, SHORT);
+        RvClients clients = brief(port, 1);
         System.out.println("take " + told(new RvTransferQueue(clients, 3)::take));
         RvSession session = clients.session();
         Thread.currentThread().interrupt();
@@ -502,15 +520,18 @@ final class Scenes {
     private static void noDescriptors(int port) throws Exception {
         // what loads classes that need descriptors
         System.out.println("put " + told(put(clients(1, 1, 1, 100), "a")));
-        RvClients clients = clients(port, 1, 1, SHORT);
-        System.out.println("put " + told(put(clients, "a")));
-        clients.session().rest();
+        RvClients patient = clients(port, 1, 1, 60_000);
+        RvClients brief = clients(port, 2, 1, SHORT);
+        System.out.println("put " + told(put(patient, "a")));
+        patient.session().rest();
         List<String> before = descriptors();
         for (int free = 0; free < 5; free++) {
             List<FileInputStream> fillers = filled();
             for (int each = 0; each < free; each++) {
                 fillers.remove(0).close();
             }
+            // all four are enough
+            RvClients clients = free < 4 ? brief : patient;
             System.out.println("put with " + free + " " + told(put(clients, "b")));
             clients.session().rest();
             for (FileInputStream each : fillers) {
