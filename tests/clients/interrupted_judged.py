@@ -175,9 +175,16 @@ def not_asked(calls, book):
 
 
 def cancelled_by_nobody(calls, book):
-    """A call was told that it was cancelled, and neither a signal nor its own time ordered that."""
+    """A call was told that it was cancelled, and neither a signal nor its own time nor its process ordered that."""
     told = [one for one in calls if any(reply["reply"] == "cancelled" for _, reply in one.replies)]
-    return [f"{one.key} {one.call} was told {one.came}" for one in told if not one.ways and not is_short(one.call)]
+    ordered = lambda one: one.ways or is_short(one.call) or is_given_up(one)
+    return [f"{one.key} {one.call} was told {one.came}" for one in told if not ordered(one)]
+
+
+def is_given_up(one):
+    """Whether the first that was told of a call is that it is unsettled, as where its patience ended: its process gives up what is
+    unsettled."""
+    return "unsettled" in one.tells[0]
 
 
 def is_short(call):
@@ -224,9 +231,12 @@ def entry(moment, client, number, call, *partners):
 
 
 def written():
-    """A record that is true, and its account: client 1 hands an item to client 2, and finds nobody for another one."""
+    """A record that is true, and its account: client 1 hands an item to client 2, and finds nobody for another one; client 3
+    gives a take up of which it heard nothing."""
     account = Account(1, 0, (
-        Entry(0, Hello(1, 1, 2)), Entry(0, Hello(2, 1)), entry(1, 1, 1, GIVE), entry(2, 2, 1, TAKE, 2), entry(3, 1, 2, TRY)))
+        Entry(0, Hello(1, 1, 2)), Entry(0, Hello(2, 1)), entry(1, 1, 1, GIVE), entry(2, 2, 1, TAKE, 2), entry(3, 1, 2, TRY),
+        Entry(4, Hello(3, 1)), entry(4, 3, 1, TAKE), Entry(5, Cancel(Key(1, 3, 1, 1)))))
+    cancelled = {"key": [1, 3, 1, 1], "reply": {"reply": "cancelled"}}
     received = {"reply": "received", "by_client": 2, "by_incarnation": 1, "by_number": 1}
     item, key = {"reply": "item", "item": "a"}, [1, 2, 1, 1]
     return account, {
@@ -240,7 +250,10 @@ def written():
         (2, 1): [
             {"asks": 1, "call": POLL}, {"way": "Interrupted", "tells": {"nothing": "not asked", "key": None}}, {"seconds": 0.1},
             {"asks": 1, "call": TAKE}, {"way": "returned", "tells": {"key": key, "reply": item, "value": ["item", "a"]}},
-            {"asks": 2, "call": POLL}]}
+            {"asks": 2, "call": POLL}],
+        (3, 1): [
+            {"asks": 1, "call": TAKE}, {"way": "Unsettled", "tells": {"unsettled": [1, 3, 1, 1], "accepted": False}},
+            {"way": "returned", "tells": cancelled}, {"seconds": 5.1}, {"ends": "3.1"}]}
 
 
 def lies():
@@ -265,6 +278,7 @@ def lies():
         ("silence", 1, 6, {"tells": None}), ("silence", 2, 4, {"tells": {"unsettled": taker, "accepted": True}}),
         ("not_asked", 2, 3, {"asks": 1, "call": POLL}), ("not_asked", 1, 5, {"asks": 3, "call": TRY}),
         ("cancelled_by_nobody", 2, 4, {"way": "Cancelled", "tells": {"key": taker, "reply": {"reply": "cancelled"}}}),
+        ("cancelled_by_nobody", 3, 1, {"way": "returned", "tells": {"key": [1, 3, 1, 1], "reply": {"reply": "cancelled"}}}),
         ("taken_twice", 1, 3, {"tells": {"key": giver, "reply": {"reply": "item", "item": "a"}}}),
     ]
 
