@@ -13,6 +13,7 @@ from unittest import mock
 
 sys.path.insert(0, str(pathlib.Path(__file__).resolve().parent.parent / "src"))
 import rendezvous as rv  # noqa: E402
+from rendezvous.course import Course  # noqa: E402
 
 # How long a test may take that never hangs, in seconds; the patience of sessions, and how long something is awaited that must
 # come: long, for a slow machine, but where clients are tried that never end.
@@ -23,8 +24,8 @@ TRIES = 5
 
 
 def in_time(test):
-    """A test with a patience of a second or less, behind which the client says less: where the machine was too slow for that,
-    it is tried again."""
+    """A test in which a patience or a time ends, behind which the client says less: where the machine was too slow to ask before,
+    or an answer was on its way just then, it is tried again."""
     @functools.wraps(test)
     def tried(case):
         for _ in range(TRIES - 1):
@@ -32,6 +33,29 @@ def in_time(test):
                 return test(case)
         return test(case)
     return tried
+
+
+@contextlib.contextmanager
+def unhurried():
+    """In the block, a call that was interrupted, or whose own time is over, waits for what its cancel comes to as long as for any
+    other answer."""
+    places = ("session.FAREWELL", "aio.FAREWELL", "course.TELL_BEHIND")
+    with contextlib.ExitStack() as patched:
+        for place in places:
+            patched.enter_context(mock.patch(f"rendezvous.{place}", PATIENCE))
+        yield
+
+
+@contextlib.contextmanager
+def impatient():
+    """In the block, the patience of a call ends once a connection of it failed, and not before."""
+    failed = Course._failed
+
+    def fails(course):
+        failed(course)
+        course._heard_at = float("-inf")
+    with mock.patch.object(Course, "_failed", fails):
+        yield
 
 
 class Case(unittest.TestCase):

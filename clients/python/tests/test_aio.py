@@ -4,6 +4,7 @@ import contextlib
 import gc
 import inspect
 import itertools
+import math
 import threading
 import time
 import unittest
@@ -12,7 +13,8 @@ from unittest import mock
 
 import _thread
 from book import PLACE, Book, named, waits
-from context import GENEROUS, PATIENCE, Case, asked, in_time, key, leasing, raised_by, rv, session, until
+from context import (
+    GENEROUS, PATIENCE, Case, asked, impatient, in_time, key, leasing, raised_by, rv, session, unhurried, until)
 from rendezvous import aio, leases, stream
 from scripted import HANG_UP, SILENCE, Scripted, received_by, refused, reply, twice, waiting, welcome
 
@@ -83,6 +85,12 @@ async def cancelled(one, call, server, count):
     assert isinstance(fault, asyncio.CancelledError), fault
 
 
+async def when_asked(server, deed):
+    """Does a deed once a request came."""
+    await comes("a request", lambda: len(server.heard) == 2)
+    deed()
+
+
 def parts(end):
     """What a call gave or raised, as it can be compared."""
     value, fault = end
@@ -147,14 +155,16 @@ class Alike(Case):
             with self.subTest(deeds=len(deeds)):
                 run(takes())
 
+    @impatient()
     def test_a_server_that_is_away(self):
         """The address and the reason are told, in the words of the other session."""
         async def connects(address):
-            return await raised(aio.Session(address, 1, 1, patience=0.3).connect())
+            return await raised(aio.Session(address, 1, 1, patience=PATIENCE).connect())
         for address in (("127.0.0.1", 1), "no.such.host.invalid:7411", ("." * 70, 7411)):
-            fault, other = run(connects(address)), raised_by(rv.Session(address, 1, 1, patience=0.3).connect)
+            fault, other = run(connects(address)), raised_by(rv.Session(address, 1, 1, patience=PATIENCE).connect)
             self.assertEqual((type(fault), str(fault)), (rv.NotAsked, str(other)))
 
+    @in_time
     def test_own_times(self):
         """A timed call ends within its time and a second beside a silent server, and says what is known."""
         async def polls():
@@ -228,17 +238,12 @@ class Cancels(Case):
             with Scripted(welcome, SILENCE, reply("cancelled"), reply("done")) as server:
                 async with made(server, patience=None, answer=100_000) as one:
                     task = asyncio.current_task()
-                    asyncio.get_running_loop().create_task(self.when_asked(server, task.cancel))
+                    asyncio.get_running_loop().create_task(when_asked(server, task.cancel))
                     with contextlib.suppress(asyncio.CancelledError):
                         await one.take(3)
                     await one.put(3, "a")
                     self.assertEqual(asked(server)[1:], [("request", 1, "take"), ("cancel", 1, None), ("request", 2, "put")])
         run(asks())
-
-    async def when_asked(self, server, deed):
-        """Does a deed once a request came."""
-        await comes("a request", lambda: len(server.heard) == 2)
-        deed()
 
     def met(self, call, told, deed):
         """A call whose task is cancelled though it was met; then a deed with the session and the server."""
@@ -367,7 +372,7 @@ class Cancels(Case):
             got = []
             async with aio.Session(book.address, client, 1) as one:
                 task = asyncio.ensure_future(one.take(PLACE))
-                for _ in range(steps):
+                for _ in itertools.takewhile(lambda step: step < steps and not task.done(), itertools.count()):
                     await asyncio.sleep(0)
                 over = not task.cancel()
                 fault = await raised(task)
@@ -378,7 +383,7 @@ class Cancels(Case):
             self.assertEqual((got, left), (given, []))
             return over
         async def all_steps(book):
-            return [await takes(book, steps) for steps in [*range(60), *range(60, 3_000, 60)]]
+            return [await takes(book, steps) for steps in [*range(60), *range(60, 3_000, 60), math.inf]]
         with Book() as book:
             overs = run(all_steps(book))
         self.assertFalse(overs[0])
@@ -494,14 +499,18 @@ class Tasks(Case):
                 self.assertEqual(type(await raised(put)), rv.NotAsked)
         run(asks())
 
+    @unhurried()
     def test_a_block_that_is_left_by_a_timeout(self):
-        """What the request came to is waited for at the end of the block, and its item stands behind it."""
+        """As `asyncio.timeout` does: it cancels the task. What the request came to is waited for at the end of the block, and its
+        item stands behind it."""
         async def asks():
             with Scripted(welcome) as server:
                 server.otherwise = lambda came: SILENCE if came["kind"] == "request" else reply("item", item="a")(came)
-                with contextlib.suppress(asyncio.TimeoutError):
+                task = asyncio.current_task()
+                with contextlib.suppress(asyncio.CancelledError):
                     async with made(server) as one:
-                        await asyncio.wait_for(one.take(3), 0.05)
+                        asyncio.get_running_loop().create_task(when_asked(server, task.cancel))
+                        await one.take(3)
                 self.assertEqual(one.unclaimed(), [rv.Unclaimed(key(1), "a", queue=3)])
         run(asks())
 

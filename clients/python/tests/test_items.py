@@ -8,7 +8,7 @@ import threading
 import unittest
 
 from book import PLACE, Book, named
-from context import PATIENCE, Case, asked, behind, key, raised_by, rv, session
+from context import PATIENCE, Case, asked, behind, key, raised_by, rv, session, unhurried
 from let_in import handled, on_line
 from rendezvous.driver import Job
 from rendezvous.session import Items
@@ -154,7 +154,8 @@ class Unclaimed(Case):
         self.addCleanup(server.__exit__)
         one = session(server)
         self.addCleanup(one.close)
-        with handled(signal.SIGALRM, ring), on_line(*WAITING, behind(server, 2, lambda: signal.raise_signal(signal.SIGALRM))):
+        rings = behind(server, 2, lambda: signal.raise_signal(signal.SIGALRM))
+        with unhurried(), handled(signal.SIGALRM, ring), on_line(*WAITING, rings):
             self.assertIs(type(raised_by(lambda: call(one))), TimeoutError)
         return server, one
 

@@ -4,7 +4,7 @@ import threading
 import unittest
 from unittest import mock
 
-from context import Case, asked, in_time, key, rv, session, until
+from context import PATIENCE, Case, asked, impatient, in_time, key, rv, session, unhurried, until
 from rendezvous import link
 from scripted import HANG_UP, SILENCE, Listening, Scripted, frame, bytes_of, hang_up, refused, reply, waiting, welcome
 
@@ -29,20 +29,22 @@ class Made(Case):
             with mock.patch.object(link.socket, "getaddrinfo", lambda *_, **__: list(ways)), session(server) as one:
                 self.assertEqual((one.take(3), one.take(3), server.connections), ("a", "a", 2))
 
+    @impatient()
     def test_the_last_way_is_told(self):
         """Where none leads anywhere, the address and the system's reason are told."""
         ways = [(socket.AF_INET, socket.SOCK_STREAM, 6, "", unused())] * 3
         with mock.patch.object(link.socket, "getaddrinfo", lambda *_, **__: list(ways)):
             with self.raises(rv.NotAsked, key=None) as told:
-                rv.Session("nowhere:7411", 1, 1, patience=0.3).connect()
+                rv.Session("nowhere:7411", 1, 1, patience=PATIENCE).connect()
         self.assertIn("nowhere:7411: connection refused", str(told.raised))
 
+    @impatient()
     def test_a_name_that_there_is_not(self):
         """It is told by its name."""
         def unknown(*_, **__):
             raise socket.gaierror(socket.EAI_NONAME, "Name or service not known")
         with mock.patch.object(link.socket, "getaddrinfo", unknown), self.raises(rv.NotAsked) as told:
-            rv.Session("no.such.host:7411", 1, 1, patience=0.3).connect()
+            rv.Session("no.such.host:7411", 1, 1, patience=PATIENCE).connect()
         self.assertIn("no.such.host:7411: name or service not known", str(told.raised))
 
     def test_addresses(self):
@@ -101,6 +103,8 @@ class Kept(Case):
             taker.join()
             self.assertEqual((took, [kind for kind, *_ in asked(server)]), (["a"], ["hello"] + ["request"] * 3))
 
+    @in_time
+    @unhurried()
     def test_connections_are_closed(self):
         """Behind the block the server sees the end, also of one that was given up by a cancel."""
         with Scripted(welcome, SILENCE, reply("cancelled")) as server:

@@ -6,6 +6,8 @@ from scripted import (
     HANG_UP, SILENCE, Scripted, frame, old_server, received_by, refused, reply, twice, waiting, welcome)
 
 HELLO = {"kind": "hello", "client": 1, "incarnation": 1}
+# A frame without its end.
+CUT = frame(b'{"kind":"reply"')[:-4]
 
 
 class Hellos(Case):
@@ -78,9 +80,8 @@ class Repeats(Case):
     """What has a request asked again, and what settles it."""
 
     def test_repeats_until_it_is_told(self):
-        """Waiting, an answer to something else, a cut frame, no frame, no answer: the same request is asked again."""
+        """Waiting, an answer to something else, no frame, no answer: the same request is asked again."""
         other = received_by(9, 9, 9)(key(7)._asdict())
-        cut = frame(b'{"kind":"reply"')[:-4]
         bad = [b"\x00\x00", frame(b"{}"), frame(b"\xff"), frame(b'{"kind":"refused","code":1.0}'),
                frame(b'{"code":12,"kind":"refused"}'), frame(b'{"code":13,"kind":"refused"}'), frame(b"[" * 65_535),
                frame(b"[]"), frame(b'{"kind":"bye"}'), HANG_UP, other, welcome, refused(9)]
@@ -88,7 +89,11 @@ class Repeats(Case):
             with Scripted(welcome, waiting, deed, deed, waiting, received_by(2, 3, 4)) as server, session(server) as one:
                 self.assertEqual(one.transfer(3, "a").by.client, 2)
                 self.assertEqual(server.heard[1:], [server.heard[1]] * 5)
-        for deed in (SILENCE, cut, b"\xff\xff"):
+
+    @in_time
+    def test_repeats_where_no_answer_comes(self):
+        """Nothing, or a part of a frame: it is asked again over another connection."""
+        for deed in (SILENCE, CUT, b"\xff\xff"):
             with Scripted(welcome, deed, received_by(2, 3, 4)) as server, session(server, answer=0.5) as one:
                 self.assertEqual(one.transfer(3, "a").by.client, 2)
                 self.assertEqual(server.heard[1:], [server.heard[1]] * (len(server.heard) - 1))

@@ -2,7 +2,7 @@
 import threading
 import unittest
 
-from context import Case, asked, behind, in_time, key, raised_by, rv, session, until
+from context import Case, asked, behind, in_time, key, raised_by, rv, session, unhurried, until
 from scripted import HANG_UP, SILENCE, Listening, Scripted, refused, reply, running_first, waiting, welcome
 
 # The limit of what hangs, in seconds, far above what a call with a short time of its own takes.
@@ -24,6 +24,8 @@ class Deaf(Listening):
 class OwnTimes(Case):
     """Calls with a time of their own."""
 
+    @in_time
+    @unhurried()
     def test_a_timeout_is_kept(self):
         """Where no answer comes in the call's own time, it is cancelled, and its reply is told, whatever it is."""
         for late in (SILENCE, HANG_UP):
@@ -36,6 +38,8 @@ class OwnTimes(Case):
                     self.assertEqual(asked(server)[1], ("request", 1, "take"))
                     self.assertEqual(set(asked(server)[1:]), {("request", 1, "take"), ("cancel", 1, None)})
 
+    @in_time
+    @unhurried()
     def test_an_exchange_that_is_late(self):
         """Nobody came: that is also a TimeoutError, whether the server said it or the cancel."""
         for told in (reply("timedout"), lambda came: reply("cancelled")(came) if came["kind"] == "cancel" else SILENCE):
@@ -46,6 +50,8 @@ class OwnTimes(Case):
                 with self.raises(TimeoutError):
                     one.exchange(3, "x", 0)
 
+    @in_time
+    @unhurried()
     def test_a_put_that_is_late(self):
         """A put that its own time cancelled is no put: it is told so, and the next one is asked under the next number."""
         with Scripted(welcome) as server, session(server) as one:
@@ -56,11 +62,15 @@ class OwnTimes(Case):
             one.put(3, "b")
             self.assertEqual(one.last, rv.replies.Done(key(2)))
 
-    def test_a_short_poll(self):
-        """At a silent server, a deaf one and none, a poll of a tenth of a second ends soon, though patience is long."""
+    @in_time
+    def test_a_short_poll_that_was_asked(self):
+        """At a server that is silent then, a poll of a tenth of a second ends soon, though patience is long."""
         with Scripted(welcome) as server, session(server, patience=60.0) as one, self.within(SOON):
             with self.raises(rv.Unsettled, key=key(1), accepted=False):
                 one.poll(3, timeout=0.1)
+
+    def test_a_short_poll(self):
+        """So it does at a silent server, a deaf one and none: it was not asked."""
         with Scripted() as server, self.within(SOON):
             with self.raises(rv.NotAsked, key=None):
                 session(server, patience=60.0).poll(3, timeout=0.1)
@@ -156,7 +166,8 @@ class Patience(Case):
 
     def test_for_ever(self):
         """Without patience a call goes on until it is cancelled."""
-        with Scripted(welcome) as server, session(server, patience=None, answer=0.1) as one:
+        with Scripted(welcome) as server, session(server, patience=None) as one:
+            one._driver.answer = 0.1
             server.otherwise = lambda came: reply("cancelled")(came) if came["kind"] == "cancel" else SILENCE
             threading.Thread(target=behind(server, 6, one.cancel)).start()
             with self.raises(rv.Cancelled, key=key(1)):

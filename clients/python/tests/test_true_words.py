@@ -5,10 +5,10 @@ import sys
 import threading
 import unittest
 
-from context import GENEROUS, Case, asked, behind, in_time, key, raised_by, rv, session, until
+from context import GENEROUS, Case, asked, behind, in_time, key, raised_by, rv, session, unhurried, until
 from let_in import handled, interrupt, on_line
 from rendezvous.driver import Driver, Job
-from scripted import HANG_UP, SILENCE, Scripted, received_by, refused, reply, running_first, welcome
+from scripted import HANG_UP, SILENCE, Scripted, hang_up, received_by, refused, reply, running_first, welcome
 
 # Where a call looks whether it has to wait for what its request comes to, and where it was told.
 WAITING, TOLD = (Job.wait, "while self.told is None"), (rv.Session._told, "value, fault = ending")
@@ -25,6 +25,7 @@ def cancelled_or(deed):
 class Interrupts(Case):
     """The keyboard's interrupt tells its own request's outcome, and leaves the session free."""
 
+    @unhurried()
     def test_it_tells_its_own_request(self):
         """Behind a take that was told, an interrupt of the second one tells the second's item, at each moment."""
         for place in (WAITING, TOLD):
@@ -54,6 +55,7 @@ class Interrupts(Case):
             server.otherwise = reply("item", item="a")
             self.assertEqual((one.take(3), one.last.key), ("a", key(1)))
 
+    @unhurried()
     def test_an_interrupt_while_it_waits(self):
         """The request is cancelled; the exception has what it came to, whatever that is."""
         for told, outcome in ((reply("cancelled"), rv.replies.Cancelled(key(1))),
@@ -67,6 +69,7 @@ class Interrupts(Case):
                 self.assertEqual((type(raised.raised), raised.raised.outcome), (rv.Interrupted, outcome))
                 self.assertEqual((raised.raised.key, asked(server)[-1]), (key(1), ("cancel", 1, None)))
 
+    @unhurried()
     def test_an_interrupt_at_the_end(self):
         """The cancel learns that the session is over: the exception says so."""
         for answer, kind, current in [(refused(2, current=5), rv.EpochEnded, 5), (refused(4, current=2), rv.Replaced, 2),
@@ -255,6 +258,7 @@ class Signals(Case):
         with handled(number, handler), on_line(*WAITING, behind(server, 2, lambda: signal.raise_signal(number))):
             return raised_by(lambda: one.take(3))
 
+    @unhurried()
     def test_an_alarm(self):
         """Its TimeoutError comes out soon, and the take was cancelled."""
         def ring(*_):
@@ -266,6 +270,7 @@ class Signals(Case):
                 self.assertEqual((type(fault), str(fault)), (TimeoutError, "the program's own alarm"))
                 self.assertEqual((one.last, asked(server)[1:]), (last, [("request", 1, "take"), ("cancel", 1, None)]))
 
+    @unhurried()
     def test_an_exit(self):
         """A handler's exit leaves the block, and the take was cancelled."""
         with Scripted(welcome, SILENCE, reply("cancelled")) as server, self.within(SOON):
@@ -294,10 +299,14 @@ class Signals(Case):
 
     def test_a_call_in_a_handler(self):
         """A second call is misuse, and does nothing to the first."""
-        with Scripted(welcome, SILENCE) as server, session(server, answer=1.0) as one:
+        with Scripted(welcome, SILENCE) as server, session(server) as one:
             faults = []
             server.otherwise = reply("item", item="a")
-            with handled(signal.SIGTERM, lambda *_: faults.append(type(raised_by(lambda: one.put(3, "b"))))):
+
+            def puts(*_):
+                faults.append(type(raised_by(lambda: one.put(3, "b"))))
+                hang_up(server.open[0])
+            with handled(signal.SIGTERM, puts):
                 with on_line(*WAITING, behind(server, 2, lambda: signal.raise_signal(signal.SIGTERM))):
                     self.assertEqual(one.take(3), "a")
             self.assertEqual((faults, {call for _, _, call in asked(server)[1:]}), ([rv.Misused], {"take"}))
