@@ -83,7 +83,7 @@ IN_PYTHON = [
              "        self._jobs.clear()\n        raise thrown\n        job.give_up(FAREWELL)\n")]),
     WrongClient("goes on behind its close", "test_true_words.Cancels.test_a_closed_session_takes_nothing", [
         Edit(COURSE, "        if self.closing or now >= job.tell_at", "        if now >= job.tell_at")]),
-    WrongClient("lets its patience outlast a call's own time", "test_times.OwnTimes.test_a_short_poll", [
+    WrongClient("lets its patience outlast a call's own time", "test_times.OwnTimes.test_a_short_poll_that_was_asked", [
         Edit(COURSE, "return min(moment, job.tell_at, cancels,", "return min(moment, cancels,"),
         Edit(COURSE, "now >= job.tell_at or", "False or")]),
     WrongClient("tells a put that its own time cancelled as done", "test_times.OwnTimes.test_a_put_that_is_late", [

@@ -36,12 +36,12 @@ def in_time(test):
 
 
 @contextlib.contextmanager
-def unhurried():
-    """In the block, a call that was interrupted, or whose own time is over, waits for what its cancel comes to as long as for any
-    other answer."""
-    places = ("session.FAREWELL", "aio.FAREWELL", "course.TELL_BEHIND")
+def unhurried(cancels=True):
+    """In the block, a call that was interrupted, or whose own time is over, waits for what its cancel comes to as long as
+    for any other answer; or for its own answer, where its own time cancels nothing."""
+    behind_time = ["course.TELL_BEHIND"] + ["course.CANCEL_BEHIND"] * (not cancels)
     with contextlib.ExitStack() as patched:
-        for place in places:
+        for place in ("session.FAREWELL", "aio.FAREWELL", *behind_time):
             patched.enter_context(mock.patch(f"rendezvous.{place}", PATIENCE))
         yield
 

@@ -3,7 +3,7 @@ import itertools
 import json
 import unittest
 
-from context import Case, asked, in_time, key, raised_by, rv, session
+from context import Case, asked, in_time, key, raised_by, rv, session, unhurried
 from scripted import BY, HANG_UP, SILENCE, Scripted, frame, received_by, reply, twice, waiting, welcome
 
 # As many texts as a drain gives, each as long as an item may be, and escaped.
@@ -53,6 +53,7 @@ def written_out(word, **more):
 class Calls(Case):
     """Calls over a server that answers at once, or late."""
 
+    @unhurried(cancels=False)
     def test_each_call(self):
         """Each call's members, its result and its outcome, in sessions of both versions."""
         for version in (1, 2):
@@ -225,6 +226,7 @@ def told_as(word):
 class Replies(Case):
     """Replies that a call can't have."""
 
+    @unhurried(cancels=False)
     def test_replies_of_other_calls(self):
         """Each reply that a call can't have settles nothing: the request is asked again, until its own comes."""
         more = {"item": {"item": "b"}, "swapped": {"item": "b"}, "peeked": {"item": "b"}, "drained": {"texts": []},

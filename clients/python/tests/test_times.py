@@ -65,7 +65,7 @@ class OwnTimes(Case):
     @in_time
     def test_a_short_poll_that_was_asked(self):
         """At a server that is silent then, a poll of a tenth of a second ends soon, though patience is long."""
-        with Scripted(welcome) as server, session(server, patience=60.0) as one, self.within(SOON):
+        with Scripted(welcome) as server, session(server, patience=0.75 * SOON) as one, self.within(0.5 * SOON):
             with self.raises(rv.Unsettled, key=key(1), accepted=False):
                 one.poll(3, timeout=0.1)
 

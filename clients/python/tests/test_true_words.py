@@ -5,7 +5,8 @@ import sys
 import threading
 import unittest
 
-from context import GENEROUS, Case, asked, behind, in_time, key, raised_by, rv, session, unhurried, until
+from context import (
+    GENEROUS, Case, asked, behind, in_time, key, raised_by, rv, session, unhurried, until)
 from let_in import handled, interrupt, on_line
 from rendezvous.driver import Driver, Job
 from scripted import HANG_UP, SILENCE, Scripted, hang_up, received_by, refused, reply, running_first, welcome
@@ -106,6 +107,7 @@ class Interrupts(Case):
             self.assertEqual(one.take(3), "a")
             one.close()
 
+    @in_time
     def test_no_call_has_the_time_of_another(self):
         """A take behind a poll whose time is over waits as ever."""
         with Scripted(welcome, reply("timedout"), reply("item", item="a")) as server, session(server) as one:
