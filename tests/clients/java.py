@@ -10,6 +10,7 @@ import shutil
 import socket
 import subprocess
 import tempfile
+import threading
 import time
 
 from scripted import (
@@ -23,6 +24,10 @@ JUNIT = ("import org.junit.", "import static org.junit.")
 # Where Debian's JDKs are, and others that were installed beside them.
 JDKS = pathlib.Path("/usr/lib/jvm")
 GSON = pathlib.Path("/usr/share/java/gson.jar")
+# What has a short program of Java begin soon, and use no more than one core for itself.
+QUICK = ["-XX:TieredStopAtLevel=1", "-XX:+UseSerialGC", "-Xshare:auto"]
+# The variable that names the folders of classes that are built already, with colons between them.
+CLASSES = "RV_CLASSES"
 PATIENCE = 300
 # A patience that ends in a case, in milliseconds: long enough for a slow machine to ask.
 SHORT = 3_000
@@ -40,23 +45,36 @@ def missing():
     return None if GSON.exists() else "gson.jar is missing"
 
 
+def compiler(path, folder, *sources):
+    """The words that compile these sources, with what stands in a path, into a folder."""
+    return ["-Xlint:all", "-Werror", "--release", "17", "-cp", str(path), "-d", str(folder), *map(str, sources)]
+
+
 @functools.lru_cache(maxsize=None)
 def built():
     """The folder of the built classes but JUnit's tests, which is gone when this program ends."""
     folder = tempfile.TemporaryDirectory(prefix="rv-java-")
     paths = [path for folder in (FOLDER, ROOT / "examples") for path in sorted(folder.rglob("*.java"))]
-    sources = [str(path) for path in paths if not any(word in path.read_text() for word in JUNIT)]
-    words = ["javac", "-Xlint:all", "-Werror", "--release", "17", "-cp", str(GSON), "-d", folder.name,
-             *sources]
+    sources = [path for path in paths if not any(word in path.read_text() for word in JUNIT)]
+    words = ["javac", *(f"-J{word}" for word in QUICK), *compiler(GSON, folder.name, *sources)]
     ran = subprocess.run(words, capture_output=True, text=True, timeout=10 * PATIENCE)
     demand(ran.returncode == 0, f"javac says {ran.stdout} {ran.stderr}")
     return folder
 
 
+def classes():
+    """The folders of classes: those that the environment names, or else the one that is built here."""
+    return os.environ.get(CLASSES) or built().name
+
+
+def class_path():
+    """Where classes are found, with those of the library."""
+    return f"{classes()}:{GSON}"
+
+
 def command(name, *words, jdk="java"):
     """The words that run a class."""
-    path = f"{built().name}:{GSON}"
-    return [jdk, "-XX:TieredStopAtLevel=1", "-Xshare:auto", "-cp", path, name, *map(str, words)]
+    return [jdk, *QUICK, "-cp", class_path(), name, *map(str, words)]
 
 
 def the_java_process():
@@ -81,18 +99,19 @@ def in_time(case):
 
 
 class Driver:
-    """A Java program that does what it is told, line by line."""
+    """A Java program that does what it is told, line by line, by one thread at a time."""
 
-    def __init__(self):
-        self.process = subprocess.Popen(command("rendezvous.Driver"), stdin=subprocess.PIPE,
-                                        stdout=subprocess.PIPE,
-                                        text=True, encoding="utf-8")
+    def __init__(self, name):
+        self.process = subprocess.Popen(command(name), stdin=subprocess.PIPE, stdout=subprocess.PIPE, text=True,
+                                        encoding="utf-8")
+        self.lock = threading.Lock()
 
     def tell(self, line):
         """What it prints for a line."""
-        self.process.stdin.write(line + "\n")
-        self.process.stdin.flush()
-        return self.process.stdout.readline().rstrip("\n")
+        with self.lock:
+            self.process.stdin.write(line + "\n")
+            self.process.stdin.flush()
+            return self.process.stdout.readline().rstrip("\n")
 
     def expect(self, line, wanted):
         """It must print this for a line."""
@@ -101,9 +120,9 @@ class Driver:
 
 
 @contextlib.contextmanager
-def driver():
+def driver(name="rendezvous.Driver"):
     """A driver that ends with the block."""
-    made = Driver()
+    made = Driver(name)
     try:
         yield made
     finally:
@@ -428,7 +447,6 @@ def interrupting(path, deed):
     return meets
 
 
-@in_time
 def interrupts(java):
     """An interrupt is a cancel; a result that came before it is given; calls that do not wait go on."""
     with tempfile.TemporaryDirectory(prefix="rv-interrupt-") as folder:
@@ -458,6 +476,7 @@ def interrupts(java):
 @in_time
 def a_timeout_is_kept(java):
     """Where a request is not answered behind the call's own time, it is cancelled."""
+    java.expect("grace 2000", "result a grace")
     with opened(java, SILENCE, reply("cancelled"), SILENCE, reply("item", item="a")) as server:
         java.expect("poll 50000", "result null")
         java.expect("last", "result Optional[Cancelled[key=1/1/1/1]]")

@@ -103,12 +103,14 @@ def run(program, asked, count):
 
 def run_python(count):
     """Runs the Python client's own tests, and what its package goes through, side by side: most of them wait."""
-    for tool in filter(installed.missing, installed.CASES):
+    wanted = {tool: [case for case in cases if count.wants(name_of(case))] for tool, cases in installed.CASES.items()}
+    lacking = [tool for tool, cases in wanted.items() if cases and installed.missing(tool)]
+    for tool in lacking:
         print(f"{tool} was left out: {installed.missing(tool)}", flush=True)
-    found = [case for tool, cases in installed.CASES.items() if not installed.missing(tool) for case in cases]
+    found = [case for tool, cases in wanted.items() if tool not in lacking for case in cases]
     with concurrent.futures.ThreadPoolExecutor(AT_ONCE) as pool:
         tests = pool.submit(lambda: python_tests.counted() if count.wants("python tests") else None)
-        tried = [(name_of(case), pool.submit(case)) for case in found if count.wants(name_of(case))]
+        tried = [(name_of(case), pool.submit(case)) for case in found]
         for name, one in tried:
             count.judge(name, one.result)
         count.run_all("python tests", tests.result)
@@ -116,11 +118,13 @@ def run_python(count):
 
 def run_java(program, count):
     """Runs the cases of the Java client alone, some at a time: most of them wait."""
-    java.built()
     count.run(java.the_java_process)
     packages, left_out = java_packages.cases()
     print("\n".join(left_out), end="\n" if left_out else "", flush=True)
     cases = [case for case in packages + java.CASES + java_leases.CASES + java_scenes.CASES if count.wants(name_of(case))]
+    if cases:
+        # so that they are not built by more than one thread
+        java.classes()
     with concurrent.futures.ThreadPoolExecutor(AT_ONCE) as pool:
         tried = [(name_of(case), pool.submit(in_java, case, program)) for case in cases]
         for name, one in tried:

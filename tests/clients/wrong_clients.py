@@ -1,9 +1,11 @@
-"""Clients that are wrong: a copy of the clients and their tests, with another body in it, which a test must find.
+"""Clients that are wrong: they have another body in them, which a test must find.
 
-A test in Python is one of the client's own, which its runner finds; a case of the Java client is one that tests/clients/run.py has.
+A test in Python is one of the client's own, which its runner finds in a copy of the clients and their tests. A case of
+the Java client is one that tests/clients/run.py has, and is run with other classes in place of some that were built.
 """
 import concurrent.futures
 import contextlib
+import functools
 import os
 import pathlib
 import shutil
@@ -19,10 +21,23 @@ from tests.sockets.wire import demand
 
 FOLDERS = ["clients", "examples", "tests"]
 PATIENCE = 1200
-# How many copies run at once: those in Python mostly wait.
+# How many are run at once: those in Python mostly wait.
 AT_ONCE = {"Python": 16, "Java": 8}
-# What tells that a copy does not run at all.
-BROKEN = ("SyntaxError", "NameError", "ImportError", "_FailedTest", "IndentationError", "javac says")
+# What tells that a wrong client does not run at all.
+BROKEN = ("SyntaxError", "NameError", "ImportError", "_FailedTest", "IndentationError", "javac says", "NoSuchMethodError",
+          "NoSuchFieldError")
+# Cases of right clients.
+RIGHT = {"Python": ["test_calls", "test_refusals"], "Java": ["java, the java process", "java, refusals"]}
+
+
+def edited(edits):
+    """The texts of the files that these edits change, by path."""
+    texts = {}
+    for file, old, new in edits:
+        text = texts[file] if file in texts else (ROOT / file).read_text()
+        demand(text.count(old) == 1, f"{file} has not once: {old}")
+        texts[file] = text.replace(old, new)
+    return texts
 
 
 @contextlib.contextmanager
@@ -32,27 +47,48 @@ def copied(edits):
         folder = pathlib.Path(name)
         for part in FOLDERS:
             shutil.copytree(ROOT / part, folder / part, ignore=shutil.ignore_patterns("__pycache__"))
-        for file, old, new in edits:
-            text = (folder / file).read_text()
-            demand(text.count(old) == 1, f"{file} has not once: {old}")
-            (folder / file).write_text(text.replace(old, new))
+        for file, text in edited(edits).items():
+            (folder / file).write_text(text)
         yield folder
 
 
-def said(case, edits):
-    """What the tests of a copy say of one case, and whether they pass."""
+def compiled(compiler, folder, edits):
+    """Compiles the files that these edits change, into a folder; gives the folders of all classes. An edit changes bodies
+    alone, so that the classes of other files are as they were."""
+    sources = []
+    for file, text in edited(edits).items():
+        sources.append(pathlib.Path(folder, pathlib.Path(file).name))
+        sources[-1].write_text(text)
+    if sources:
+        told = compiler.tell("\t".join(java.compiler(java.class_path(), folder, *sources)))
+        demand(not told, told)
+    return f"{folder}:{java.classes()}"
+
+
+def ran(words, folder, edits, **more):
+    """What a program of Python says, and whether it ends well. A wrong client does not wait long for what never comes."""
+    short = {"RV_PATIENCE": "20"} if edits else {}
+    done = subprocess.run([sys.executable, *words], cwd=folder, capture_output=True, text=True, timeout=PATIENCE,
+                          env={**os.environ, **short, **more})
+    return done.stdout + done.stderr, done.returncode == 0
+
+
+def said_in_python(test, edits):
+    """What a test of the Python client says where these edits are made, and whether it passes."""
     with copied(edits) as folder:
-        in_java = case.startswith("java")
-        words = [folder / "tests/clients/run.py", "--only", case] if in_java else ["-B", "-m", "unittest", case]
-        short = {**os.environ, "RV_PATIENCE": "20"} if edits else None
-        ran = subprocess.run([sys.executable, *words], cwd=folder / TESTS, capture_output=True, text=True,
-                             timeout=PATIENCE, env=short)
-    told = ran.stdout + ran.stderr
-    ends = told.endswith(" passed, 0 failed\n") if in_java else told.endswith("\nOK\n") and "\nRan 0 " not in told
-    return told, ran.returncode == 0 and ends
+        told, ends = ran(["-B", "-m", "unittest", test], folder / TESTS, edits)
+    return told, ends and told.endswith("\nOK\n") and "\nRan 0 " not in told
 
 
-def is_found(wrong):
+def said_in_java(compiler, case, edits):
+    """The same of a case of the Java client."""
+    with tempfile.TemporaryDirectory(prefix="rv-wrong-") as folder:
+        classes = {java.CLASSES: compiled(compiler, folder, edits)}
+        told, ends = ran([ROOT / "tests/clients/run.py", "--only", case], ROOT, edits, **classes)
+    return told, ends and told.endswith(" passed, 0 failed\n")
+
+
+def is_found(said, wrong):
     """The test of a wrong client must fail, and not for want of a program that runs."""
     told, passes = said(wrong.case, wrong.edits)
     sign = f"FAILED: {wrong.case}: " if wrong.case.startswith("java") else "\nFAILED ("
@@ -61,27 +97,28 @@ def is_found(wrong):
     return told.rstrip("\n").rpartition("\n")[2]
 
 
-def is_right(cases):
-    """A copy without an edit must pass all cases of these."""
+def is_right(said, cases):
+    """A client without an edit must pass all cases of these."""
     told, passes = said(cases, [])
     demand(passes, told[-2000:])
 
 
 def selftest(count):
-    """A copy without an edit runs and passes, by some cases of each language; each wrong one is found."""
-    judge_all(count, "Python", ["test_calls", "test_refusals"], IN_PYTHON)
+    """A client without an edit runs and passes, by some cases of each language; each wrong one is found."""
+    judge_all(count, "Python", IN_PYTHON, said_in_python)
     if java.missing():
         print(f"Java was left out: {java.missing()}", flush=True)
     else:
-        judge_all(count, "Java", ["java, the java process", "java, refusals"], IN_JAVA)
+        with java.driver("rendezvous.Compiles") as compiler:
+            judge_all(count, "Java", IN_JAVA, functools.partial(said_in_java, compiler))
 
 
-def judge_all(count, language, right, wrongs):
-    """The copies in one language: the right ones, and then the wrong ones side by side, since some of them wait long for what
-    never comes."""
-    named = [(f"a right client in {language}, {cases}", is_right, cases) for cases in right]
+def judge_all(count, language, wrongs, said):
+    """The clients in one language, by what is said of them: the right ones, and then the wrong ones side by side, since some
+    of them wait long for what never comes."""
+    named = [(f"a right client in {language}, {cases}", is_right, cases) for cases in RIGHT[language]]
     named += [(f"a client in {language} that {wrong.does}", is_found, wrong) for wrong in wrongs]
     with concurrent.futures.ThreadPoolExecutor(AT_ONCE[language]) as pool:
-        tried = [(name, pool.submit(judge, given)) for name, judge, given in named if count.wants(name)]
+        tried = [(name, pool.submit(judge, said, given)) for name, judge, given in named if count.wants(name)]
         for name, one in tried:
             count.judge(name, one.result)

@@ -22,6 +22,8 @@ final class Driver {
     private RvClients clients;
     private RvTransferQueue queue;
     private final List<String> drained = new ArrayList<>();
+    /** The grace of calls in nanoseconds: as good as no end, where a line does not say otherwise. */
+    private long grace = Answering.LONG;
     /** What the last exception said. */
     private String words;
 
@@ -67,11 +69,14 @@ final class Driver {
         switch (word) {
             case "open":
                 clients = RvClients.builder("127.0.0.1", number(given, 0)).clients(number(given, 1), number(given, 1))
-                    .unleased().incarnation(1).patience(Duration.ofMillis(number(given, 2)))
+                    .unleased().incarnation(1).grace(grace).patience(Duration.ofMillis(number(given, 2)))
                     .version(given.size() > 3 ? number(given, 3) : RvSession.VERSION).build();
                 queue = new RvTransferQueue(clients, 3);
                 drained.clear();
                 return "open";
+            case "grace":
+                grace = TimeUnit.MILLISECONDS.toNanos(number(given, 0));
+                return "a grace";
             case "interrupt":
                 interruptAt(Path.of(given.get(0)));
                 return "soon";
