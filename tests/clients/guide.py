@@ -38,6 +38,14 @@ def blocks():
             for number, (info, text) in enumerate(found) if info.split()[:1] == ["sh"]]
 
 
+def begin_soon(folder):
+    """Puts Java's compiler and its runtime into a folder, which do there what they do elsewhere, but begin sooner."""
+    for name, words in [("javac", java.QUICK_COMPILER), ("java", java.QUICK)]:
+        tool = folder / name
+        tool.write_text(f'#!/bin/sh\nexec {shutil.which(name)} {" ".join(words)} "$@"\n')
+        tool.chmod(0o700)
+
+
 def the_guide(program):
     """Each block that is not marked as typed by hand prints what is shown behind it."""
     lacking, port = java.missing(), str(free_port())
@@ -47,6 +55,8 @@ def the_guide(program):
             (folder / part).symlink_to(ROOT / part)
         (folder / "bin").mkdir()
         (folder / "bin/rv").symlink_to(program)
+        if not lacking:
+            begin_soon(folder / "bin")
         path = f"{folder / 'bin'}:{os.environ['PATH']}"
         environment = {**os.environ, "PATH": path, "PYTHONPATH": f"{folder}/clients/python/src"}
         environment["PYTHONDONTWRITEBYTECODE"] = "1"

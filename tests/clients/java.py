@@ -26,6 +26,7 @@ JDKS = pathlib.Path("/usr/lib/jvm")
 GSON = pathlib.Path("/usr/share/java/gson.jar")
 # What has a short program of Java begin soon, and use no more than one core for itself.
 QUICK = ["-XX:TieredStopAtLevel=1", "-XX:+UseSerialGC", "-Xshare:auto"]
+QUICK_COMPILER = [f"-J{word}" for word in QUICK]
 # The variable that names the folders of classes that are built already, with colons between them.
 CLASSES = "RV_CLASSES"
 PATIENCE = 300
@@ -56,7 +57,7 @@ def built():
     folder = tempfile.TemporaryDirectory(prefix="rv-java-")
     paths = [path for folder in (FOLDER, ROOT / "examples") for path in sorted(folder.rglob("*.java"))]
     sources = [path for path in paths if not any(word in path.read_text() for word in JUNIT)]
-    words = ["javac", *(f"-J{word}" for word in QUICK), *compiler(GSON, folder.name, *sources)]
+    words = ["javac", *QUICK_COMPILER, *compiler(GSON, folder.name, *sources)]
     ran = subprocess.run(words, capture_output=True, text=True, timeout=10 * PATIENCE)
     demand(ran.returncode == 0, f"javac says {ran.stdout} {ran.stderr}")
     return folder

@@ -76,7 +76,7 @@ def runtime(program):
     """The environment of tests: client numbers are leased in a folder of their own, and the program is this one."""
     with tempfile.TemporaryDirectory(prefix="rv-runtime-") as folder:
         kept = {name: value for name, value in os.environ.items() if name != "RV_CLIENTS"}
-        yield {**kept, "XDG_RUNTIME_DIR": folder, "RV_PROGRAM": program, "MAVEN_OPTS": "-XX:TieredStopAtLevel=1 -Xshare:auto"}
+        yield {**kept, "XDG_RUNTIME_DIR": folder, "RV_PROGRAM": program, "MAVEN_OPTS": " ".join(java.QUICK)}
 
 
 def maven_builds_it(program):
@@ -117,7 +117,7 @@ def used(folder, program, environment):
     (folder / "User.java").write_text(USER)
     [jar] = (path for path in folder.glob("target/*.jar") if re.fullmatch(r"rendezvous-[\d.]+\.jar", path.name))
     with Server(program, 8, 4) as server:
-        words = ["java", "-cp", f"{jar}:{java.GSON}", str(folder / "User.java"), str(server.port)]
+        words = ["java", *java.QUICK, "-cp", f"{jar}:{java.GSON}", str(folder / "User.java"), str(server.port)]
         ran = subprocess.run(words, capture_output=True, text=True, timeout=LIMIT, env=environment)
         demand((ran.stdout, ran.stderr) == ("true a\n", ""), f"{ran.stdout} {ran.stderr}")
 
@@ -127,11 +127,11 @@ def tests_of_junit(program):
     with tempfile.TemporaryDirectory(prefix="rv-junit-") as name, runtime(program) as environment:
         path = ":".join(map(str, [java.GSON, *JARS]))
         sources = [str(path) for path in sorted(java.FOLDER.rglob("*.java"))]
-        built = subprocess.run(["javac", "-Xlint:all,-path", "-Werror", "--release", "17", "-cp", path, "-d", name, *sources],
-                               capture_output=True, text=True, timeout=LIMIT)
+        words = ["javac", *java.QUICK_COMPILER, "-Xlint:all,-path", "-Werror", "--release", "17", "-cp", path, "-d", name]
+        built = subprocess.run([*words, *sources], capture_output=True, text=True, timeout=LIMIT)
         demand(built.returncode == 0, f"javac says {built.stdout} {built.stderr}")
-        words = ["java", "-cp", f"{name}:{path}:{':'.join(map(str, STARTS))}", "org.junit.platform.console.ConsoleLauncher",
-                 "--disable-banner", "--details", "tree", "--scan-classpath", name]
+        words = ["java", *java.QUICK, "-cp", f"{name}:{path}:{':'.join(map(str, STARTS))}",
+                 "org.junit.platform.console.ConsoleLauncher", "--disable-banner", "--details", "tree", "--scan-classpath", name]
         ran = subprocess.run(words, cwd=ROOT / "clients/java", capture_output=True, text=True, timeout=LIMIT, env=environment)
         found = re.search(r"\[ +(\d+) tests successful", ran.stdout)
         demand(ran.returncode == 0 and found and int(found[1]) > 0, f"{ran.stdout[-5000:]} {ran.stderr[-2000:]}")
