@@ -182,8 +182,8 @@ def cancelled_by_nobody(calls, book):
 
 
 def is_given_up(one):
-    """Whether the first that was told of a call is that it is unsettled, as where its patience ended: its process gives up what is
-    unsettled."""
+    """Whether the first that was told of a call is that it is unsettled, as where its patience ended: its process gives
+    up what is unsettled."""
     return "unsettled" in one.tells[0]
 
 
@@ -231,11 +231,11 @@ def entry(moment, client, number, call, *partners):
 
 
 def written():
-    """A record that is true, and its account: client 1 hands an item to client 2, and finds nobody for another one; client 3
-    gives a take up of which it heard nothing."""
+    """A record that is true, and its account: client 1 hands an item to client 2, and finds nobody for another one;
+    client 3 gives a take up of which it heard nothing."""
     account = Account(1, 0, (
-        Entry(0, Hello(1, 1, 2)), Entry(0, Hello(2, 1)), entry(1, 1, 1, GIVE), entry(2, 2, 1, TAKE, 2), entry(3, 1, 2, TRY),
-        Entry(4, Hello(3, 1)), entry(4, 3, 1, TAKE), Entry(5, Cancel(Key(1, 3, 1, 1)))))
+        Entry(0, Hello(1, 1, 2)), Entry(0, Hello(2, 1)), entry(1, 1, 1, GIVE), entry(2, 2, 1, TAKE, 2),
+        entry(3, 1, 2, TRY), Entry(4, Hello(3, 1)), entry(4, 3, 1, TAKE), Entry(5, Cancel(Key(1, 3, 1, 1)))))
     cancelled = {"key": [1, 3, 1, 1], "reply": {"reply": "cancelled"}}
     received = {"reply": "received", "by_client": 2, "by_incarnation": 1, "by_number": 1}
     item, key = {"reply": "item", "item": "a"}, [1, 2, 1, 1]
@@ -278,7 +278,8 @@ def lies():
         ("silence", 1, 6, {"tells": None}), ("silence", 2, 4, {"tells": {"unsettled": taker, "accepted": True}}),
         ("not_asked", 2, 3, {"asks": 1, "call": POLL}), ("not_asked", 1, 5, {"asks": 3, "call": TRY}),
         ("cancelled_by_nobody", 2, 4, {"way": "Cancelled", "tells": {"key": taker, "reply": {"reply": "cancelled"}}}),
-        ("cancelled_by_nobody", 3, 1, {"way": "returned", "tells": {"key": [1, 3, 1, 1], "reply": {"reply": "cancelled"}}}),
+        ("cancelled_by_nobody", 3, 1,
+         {"way": "returned", "tells": {"key": [1, 3, 1, 1], "reply": {"reply": "cancelled"}}}),
         ("taken_twice", 1, 3, {"tells": {"key": giver, "reply": {"reply": "item", "item": "a"}}}),
     ]
 

@@ -88,8 +88,8 @@ def the_java_process():
 
 
 def in_time(case):
-    """A case in which a patience or a time ends, behind which the client says less: where a machine was too slow to ask before,
-    or an answer was on its way just then, it is tried again."""
+    """A case in which a patience or a time ends, behind which the client says less: where a machine was too slow to
+    ask before, or an answer was on its way just then, it is tried again."""
     @functools.wraps(case)
     def tried(*given):
         for _ in range(TRIES - 1):
@@ -387,7 +387,7 @@ def an_unsettled_request_that_is_given_up(java):
 
 @in_time
 def no_room(java):
-    """A request that is refused for want of room is tried as long as patience lasts, and then certainly is not there."""
+    """A request that is refused for want of room is tried as long as patience lasts, and then certainly isn't there."""
     with opened(java, patience=SHORT) as server:
         server.otherwise = refused(10)
         java.expect("put a", "threw Full 1/1/1/1")
@@ -554,7 +554,7 @@ def whatever_is_let_in(_java):
 
 
 CASES = [each_call, receipts, an_unsettled_receipt, what_is_no_receipt, versions, other_versions, drains_by_steps,
-         a_drain_is_asked_under_one_key, a_step_that_fails, a_step_without_room, an_unsettled_step, what_is_not_taken_in,
-         repeats_until_it_is_told, an_unsettled_request, an_unsettled_request_that_is_given_up, no_room, a_copy_under_way,
-         no_room_for_a_client, a_closed_connection_is_made_anew, nobody_listens, interrupts, a_timeout_is_kept,
-         a_wait_is_no_silence, refusals, refused_hellos, what_is_left_out, whatever_is_let_in]
+         a_drain_is_asked_under_one_key, a_step_that_fails, a_step_without_room, an_unsettled_step,
+         what_is_not_taken_in, repeats_until_it_is_told, an_unsettled_request, an_unsettled_request_that_is_given_up,
+         no_room, a_copy_under_way, no_room_for_a_client, a_closed_connection_is_made_anew, nobody_listens, interrupts,
+         a_timeout_is_kept, a_wait_is_no_silence, refusals, refused_hellos, what_is_left_out, whatever_is_let_in]

@@ -127,11 +127,12 @@ def tests_of_junit(program):
     with tempfile.TemporaryDirectory(prefix="rv-junit-") as name, runtime(program) as environment:
         path = ":".join(map(str, [java.GSON, *JARS]))
         sources = [str(path) for path in sorted(java.FOLDER.rglob("*.java"))]
-        words = ["javac", *java.QUICK_COMPILER, "-Xlint:all,-path", "-Werror", "--release", "17", "-cp", path, "-d", name]
-        built = subprocess.run([*words, *sources], capture_output=True, text=True, timeout=LIMIT)
+        words = ["javac", *java.QUICK_COMPILER, "-Xlint:all,-path", "-Werror", "--release", "17", "-cp", path]
+        built = subprocess.run([*words, "-d", name, *sources], capture_output=True, text=True, timeout=LIMIT)
         demand(built.returncode == 0, f"javac says {built.stdout} {built.stderr}")
         words = ["java", *java.QUICK, "-cp", f"{name}:{path}:{':'.join(map(str, STARTS))}",
-                 "org.junit.platform.console.ConsoleLauncher", "--disable-banner", "--details", "tree", "--scan-classpath", name]
+                 "org.junit.platform.console.ConsoleLauncher", "--disable-banner", "--details", "tree",
+                 "--scan-classpath", name]
         ran = subprocess.run(words, cwd=ROOT / "clients/java", capture_output=True, text=True, timeout=LIMIT, env=environment)
         found = re.search(r"\[ +(\d+) tests successful", ran.stdout)
         demand(ran.returncode == 0 and found and int(found[1]) > 0, f"{ran.stdout[-5000:]} {ran.stderr[-2000:]}")

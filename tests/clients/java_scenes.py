@@ -142,8 +142,8 @@ def an_ended_session(_java):
 
 
 # What a session tells of its last outcome: at its begin, behind a take, and behind a put that ends so.
-LAST = ["last gave Optional.empty", "take gave a", "last gave Optional[Item[key=1/1/1/1, item=a]]", "put threw {} of 1/1/1/2",
-        "last gave Optional.empty"]
+LAST = ["last gave Optional.empty", "take gave a", "last gave Optional[Item[key=1/1/1/1, item=a]]",
+        "put threw {} of 1/1/1/2", "last gave Optional.empty"]
 
 
 def the_last_outcome(_java):
@@ -154,7 +154,8 @@ def the_last_outcome(_java):
 @java.in_time
 def no_outcome_where_there_is_no_room(_java):
     """Where a put is refused until the patience ends, none is the last."""
-    prints("stale-and-full", [line.format("Full") for line in LAST], welcome, reply("item", item="a"), otherwise=refused(10))
+    deeds = [welcome, reply("item", item="a")]
+    prints("stale-and-full", [line.format("Full") for line in LAST], *deeds, otherwise=refused(10))
 
 
 def close_in_a_call(_java):
@@ -438,8 +439,9 @@ def times(_java):
 
 
 CASES = [
-    a_dead_threads_unsettled_request, an_ended_session, the_last_outcome, no_outcome_where_there_is_no_room, close_in_a_call,
-    close_in_a_pause, full_memory, two_threads, cancelled_though_nobody_asked, replies_that_a_call_cannot_have, for_ever,
-    a_long_time, connections_of_dead_threads, a_pooled_thread, an_interrupt_in_the_hello,
-    an_interrupt_while_the_server_is_away, an_interrupt_in_again, a_nested_answer, exceptions_read_back, an_unresolved_host, numbers_of_sessions,
-    no_descriptors, times, a_cancelled_take, a_cancelled_transfer, a_consumer]
+    a_dead_threads_unsettled_request, an_ended_session, the_last_outcome, no_outcome_where_there_is_no_room,
+    close_in_a_call, close_in_a_pause, full_memory, two_threads, cancelled_though_nobody_asked,
+    replies_that_a_call_cannot_have, for_ever, a_long_time, connections_of_dead_threads, a_pooled_thread,
+    an_interrupt_in_the_hello, an_interrupt_while_the_server_is_away, an_interrupt_in_again, a_nested_answer,
+    exceptions_read_back, an_unresolved_host, numbers_of_sessions, no_descriptors, times, a_cancelled_take,
+    a_cancelled_transfer, a_consumer]

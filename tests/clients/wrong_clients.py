@@ -24,8 +24,8 @@ PATIENCE = 1200
 # How many are run at once: those in Python mostly wait.
 AT_ONCE = {"Python": 16, "Java": 8}
 # What tells that a wrong client does not run at all.
-BROKEN = ("SyntaxError", "NameError", "ImportError", "_FailedTest", "IndentationError", "javac says", "NoSuchMethodError",
-          "NoSuchFieldError")
+BROKEN = ("SyntaxError", "NameError", "ImportError", "_FailedTest", "IndentationError", "javac says",
+          "NoSuchMethodError", "NoSuchFieldError")
 # Cases of right clients.
 RIGHT = {"Python": ["test_calls", "test_refusals"], "Java": ["java, the java process", "java, refusals"]}
 
@@ -53,8 +53,8 @@ def copied(edits):
 
 
 def compiled(compiler, folder, edits):
-    """Compiles the files that these edits change, into a folder; gives the folders of all classes. An edit changes bodies
-    alone, so that the classes of other files are as they were."""
+    """Compiles the files that these edits change, into a folder; gives the folders of all classes. An edit changes
+    bodies alone, so that the classes of other files are as they were."""
     sources = []
     for file, text in edited(edits).items():
         sources.append(pathlib.Path(folder, pathlib.Path(file).name))
@@ -66,7 +66,7 @@ def compiled(compiler, folder, edits):
 
 
 def ran(words, folder, edits, **more):
-    """What a program of Python says, and whether it ends well. A wrong client does not wait long for what never comes."""
+    """What a program of Python says, and whether it ends well. A wrong client waits not long for what never comes."""
     short = {"RV_PATIENCE": "20"} if edits else {}
     done = subprocess.run([sys.executable, *words], cwd=folder, capture_output=True, text=True, timeout=PATIENCE,
                           env={**os.environ, **short, **more})
@@ -114,8 +114,8 @@ def selftest(count):
 
 
 def judge_all(count, language, wrongs, said):
-    """The clients in one language, by what is said of them: the right ones, and then the wrong ones side by side, since some
-    of them wait long for what never comes."""
+    """The clients in one language, by what is said of them: the right ones, and then the wrong ones side by side, since
+    some of them wait long for what never comes."""
     named = [(f"a right client in {language}, {cases}", is_right, cases) for cases in RIGHT[language]]
     named += [(f"a client in {language} that {wrong.does}", is_found, wrong) for wrong in wrongs]
     with concurrent.futures.ThreadPoolExecutor(AT_ONCE[language]) as pool:

@@ -1,5 +1,5 @@
-"""Wrong clients in Java: with other bodies in them, and the case that must find each. What an edit changes is within bodies, for
-the classes of the other files are not built anew."""
+"""Wrong clients in Java: with other bodies in them, and the case that must find each. What an edit changes is within
+bodies, for the classes of the other files are not built anew."""
 from tests.clients.wrong import (
     ANOTHER_NUMBER, NEW_KEY, OTHER_EPOCH, NOBODY, NEWEST_FIRST, TOO_MANY, SHORT_FRAMES, OTHER_WELCOME,
     OLD_HELLO, OWN_NUMBER, PART_OF_A_KEY, OTHER_VERSION, Edit, WrongClient)

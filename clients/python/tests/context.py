@@ -24,8 +24,8 @@ TRIES = 5
 
 
 def in_time(test):
-    """A test in which a patience or a time ends, behind which the client says less: where the machine was too slow to ask before,
-    or an answer was on its way just then, it is tried again."""
+    """A test in which a patience or a time ends, behind which the client says less: where the machine was too slow to
+    ask before, or an answer was on its way just then, it is tried again."""
     @functools.wraps(test)
     def tried(case):
         for _ in range(TRIES - 1):
@@ -37,8 +37,8 @@ def in_time(test):
 
 @contextlib.contextmanager
 def unhurried(cancels=True):
-    """In the block, a call that was interrupted, or whose own time is over, waits for what its cancel comes to as long as
-    for any other answer; or for its own answer, where its own time cancels nothing."""
+    """In the block, a call that was interrupted, or whose own time is over, waits for what its cancel comes to as long
+    as for any other answer; or for its own answer, where its own time cancels nothing."""
     behind_time = ["course.TELL_BEHIND"] + ["course.CANCEL_BEHIND"] * (not cancels)
     with contextlib.ExitStack() as patched:
         for place in ("session.FAREWELL", "aio.FAREWELL", *behind_time):

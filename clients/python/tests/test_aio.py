@@ -501,8 +501,8 @@ class Tasks(Case):
 
     @unhurried()
     def test_a_block_that_is_left_by_a_timeout(self):
-        """As `asyncio.timeout` does: it cancels the task. What the request came to is waited for at the end of the block, and its
-        item stands behind it."""
+        """As `asyncio.timeout` does: it cancels the task. What the request came to is waited for at the end of the
+        block, and its item stands behind it."""
         async def asks():
             with Scripted(welcome) as server:
                 server.otherwise = lambda came: SILENCE if came["kind"] == "request" else reply("item", item="a")(came)

@@ -76,8 +76,8 @@ final class Scenes {
     }
 
     /**
-     * So many clients, whose patience ends in a scene. A call at another server goes before: so the time in which a program
-     * loads what calls need is not theirs.
+     * So many clients, whose patience ends in a scene. A call at another server goes before: so the time in which a
+     * program loads what calls need is not theirs.
      */
     private static RvClients brief(int port, int most) throws Exception {
         try (Answering other = new Answering(Answering::well); RvClients first = other.clients(1, 1).build()) {
