@@ -15,8 +15,8 @@ sys.path.insert(0, str(pathlib.Path(__file__).resolve().parent.parent / "src"))
 import rendezvous as rv  # noqa: E402
 from rendezvous.course import Course  # noqa: E402
 
-# How long a test may take that never hangs, in seconds; the patience of sessions, and how long something is awaited that must
-# come: long, for a slow machine, but where clients are tried that never end.
+# How long a test, or a part of one, may take that never hangs, in seconds; the patience of sessions, and how long
+# something is awaited that must come: long, for a slow machine, but where clients are tried that never end.
 HANG = 300
 PATIENCE = GENEROUS = int(os.environ.get("RV_PATIENCE", "120"))
 # How often what has to be done in time is tried.
@@ -62,6 +62,10 @@ class Case(unittest.TestCase):
     """A test that is ended, with its stacks, where it hangs."""
 
     def setUp(self):
+        self.goes_on()
+
+    def goes_on(self):
+        """It does not hang: from now on it may take as long again."""
         faulthandler.dump_traceback_later(HANG, exit=True)
 
     def tearDown(self):

@@ -76,7 +76,8 @@ class Untouched(Case):
         self.runs = 0
 
     def one_more(self):
-        """Counts a run, and collects garbage now and then."""
+        """Counts a run, which may take as long as a test, and collects garbage now and then."""
+        self.goes_on()
         self.runs += 1
         if self.runs % 50 == 0:
             gc.collect()
