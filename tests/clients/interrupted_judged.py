@@ -12,7 +12,7 @@ from tests.sockets.standing import Replies
 from tests.sockets.wire import demand
 
 # A call that takes longer hangs, in seconds.
-LIMIT = 60
+LIMIT = 300
 # Replies of a call that went to no pair.
 NOES = ("timedout", "cancelled", "nobody", "empty")
 # How a call ends that a signal interrupted, and by what. A call of fewer milliseconds may be cancelled by its own time.
@@ -261,7 +261,7 @@ def lies():
     item = {"key": [1, 2, 1, 1], "reply": {"reply": "item", "item": "a"}}
     giver, taker = [1, 1, 1, 1], [1, 2, 1, 1]
     return [
-        ("wrong", 2, 4, {"tells": {"wrong": "Refused"}}), ("hung", 1, 4, {"seconds": 61.0}),
+        ("wrong", 2, 4, {"tells": {"wrong": "Refused"}}), ("hung", 1, 4, {"seconds": LIMIT + 1.0}),
         ("other_key", 2, 4, {"tells": {**item, "key": giver}}), ("other_key", 1, 2, {"tells": {"unsettled": taker}}),
         ("told_twice", 1, 2, {"tells": {"key": giver, "reply": {"reply": "cancelled"}}}),
         ("false_reply", 2, 4, {"tells": {**item, "reply": {"reply": "item", "item": "b"}}}),

@@ -26,13 +26,13 @@ PACKAGE = os.path.dirname(rv.__file__)
 QUEUES, EXCHANGER = (3, 4), 5
 # A call's time is as good as for ever from here on, in milliseconds, and another one for each call: so an arrival shows
 # which call it is.
-LONG = 60_000
+LONG = 600_000
 # The longest time until a process lets its alarm ring, in seconds, and how often it does.
 RINGS, OFTEN = 0.005, 0.5
 # How often a second signal is let in, and how often the call that tells what is unsettled is under fire too.
 SECOND, RESUMED = 0.3, 0.25
 # Where so long no call was settled the epoch is full; a request that is unsettled so long hangs; both in seconds.
-FULL, LIMIT = 4, 60
+FULL, LIMIT = 4, 300
 
 
 def exits(_):
