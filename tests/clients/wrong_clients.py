@@ -105,20 +105,25 @@ def is_right(said, cases):
 
 def selftest(count):
     """A client without an edit runs and passes, by some cases of each language; each wrong one is found."""
-    judge_all(count, "Python", IN_PYTHON, said_in_python)
+    judge_all(count, "Python", wanted(count, "Python", IN_PYTHON), said_in_python)
+    in_java = wanted(count, "Java", IN_JAVA)
     if java.missing():
         print(f"Java was left out: {java.missing()}", flush=True)
-    else:
+    elif in_java:
         with java.driver("rendezvous.Compiles") as compiler:
-            judge_all(count, "Java", IN_JAVA, functools.partial(said_in_java, compiler))
+            judge_all(count, "Java", in_java, functools.partial(said_in_java, compiler))
 
 
-def judge_all(count, language, wrongs, said):
-    """The clients in one language, by what is said of them: the right ones, and then the wrong ones side by side, since
-    some of them wait long for what never comes."""
+def wanted(count, language, wrongs):
+    """The clients in one language that are to be tried, the right ones first: each with its name and what judges it."""
     named = [(f"a right client in {language}, {cases}", is_right, cases) for cases in RIGHT[language]]
     named += [(f"a client in {language} that {wrong.does}", is_found, wrong) for wrong in wrongs]
+    return [each for each in named if count.wants(each[0])]
+
+
+def judge_all(count, language, named, said):
+    """Tries clients side by side, by what is said of them, since some of them wait long for what never comes."""
     with concurrent.futures.ThreadPoolExecutor(AT_ONCE[language]) as pool:
-        tried = [(name, pool.submit(judge, said, given)) for name, judge, given in named if count.wants(name)]
+        tried = [(name, pool.submit(judge, said, given)) for name, judge, given in named]
         for name, one in tried:
             count.judge(name, one.result)
