@@ -403,6 +403,7 @@ def a_copy_under_way(java):
     with opened(java, HANG_UP, patience=SHORT) as server:
         server.otherwise = refused(10)
         java.expect("put a", "threw Unsettled 1/1/1/1")
+        demand(len(server.heard) > 3, "no refusal was taken in")
         server.otherwise = reply("done")
         java.expect("again", "result Done[key=1/1/1/1]")
 

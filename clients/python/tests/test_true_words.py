@@ -203,6 +203,7 @@ class Refusals(Case):
             server.otherwise = refused(10)
             with self.raises(rv.Unsettled, key=key(1), accepted=False):
                 one.transfer(3, "a")
+            self.assertGreater(len(server.heard), 3, "no refusal was taken in")
             with self.raises(rv.Misused):
                 one.transfer(3, "b")
             server.otherwise, one.patience = received_by(2, 1, 1), 60.0
@@ -227,6 +228,7 @@ class Refusals(Case):
             server.otherwise = refused(11)
             with self.raises(rv.Unsettled, key=key(1)):
                 one.transfer(3, "a")
+            self.assertGreater(len(server.heard), 2, "no refusal was taken in")
             server.otherwise = refused(10)
             with self.raises(rv.Full, key=key(1)):
                 one.again()
