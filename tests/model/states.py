@@ -13,6 +13,7 @@ import sys
 ROOT = pathlib.Path(__file__).resolve().parents[2]
 sys.dont_write_bytecode, sys.path[0] = True, str(ROOT)
 from tests.model.state_comparison import Comparison, missed  # noqa: E402
+from tests.model.state_pairs import pair_faults  # noqa: E402
 from tests.model.state_rows import state_row_faults  # noqa: E402
 from tests.model.wrong_states import wrong_state_faults  # noqa: E402
 
@@ -23,9 +24,10 @@ WALKS = 2_000
 
 
 def selftest():
-    """Looks at states that are written by hand, and at wrong definitions, each of which must be refused."""
+    """Looks at states that are written by hand, at pairs that differ in one part, and at wrong definitions, each of which must
+    be refused."""
     passed = failed = 0
-    for name, fault in [*state_row_faults(), *wrong_state_faults()]:
+    for name, fault in [*state_row_faults(), *pair_faults(), *wrong_state_faults()]:
         passed, failed = passed + (not fault), failed + bool(fault)
         if fault:
             print(f"FAILED: {name}: {fault}")

@@ -1,0 +1,26 @@
+-- An entry may follow a legal account exactly where it may follow its state.
+use Rattle.rv_account.specs.declared.entry.Entry.{Entry}
+use Rattle.rv_account.specs.Account.{Account}
+use Rattle.rv_rules.specs.Legal.{Legal, MayFollow}
+use Rattle.rv_state.specs.State.{State}
+use Rattle.rv_state.specs.Follows.{FollowsState}
+use Rattle.rv_state.specs.Agreement.{IsStateOf}
+use Rattle.rv_state.proofs.MomentsBoth.{fitting_moments, moments_fit}
+use Rattle.rv_state.proofs.NumbersBoth.{fitting_numbers, numbers_fit}
+use Rattle.rv_state.proofs.PairsBoth.{fitting_pairs, pairs_fit}
+
+pub account_to_state : (a : Account) (s : State) (e : Entry) → Legal a → IsStateOf a s → MayFollow a e
+    → FollowsState s e
+account_to_state a s e legal state follows = record {
+  moment = moments_fit a s e.moment e.act state follows.moments;
+  number = numbers_fit a s e.act legal state follows.numbers;
+  partners = pairs_fit a s e state follows;
+}
+
+pub state_to_account : (a : Account) (s : State) (e : Entry) → Legal a → IsStateOf a s → FollowsState s e
+    → MayFollow a e
+state_to_account a s e legal state follows = record {
+  moments = fitting_moments a s e.moment e.act legal state follows.moment;
+  numbers = fitting_numbers a s e.act legal state follows.number;
+  pairs = fitting_pairs a s e state follows.partners;
+}

@@ -1,0 +1,17 @@
+-- A client that a state finds is the account's, and it finds each that said a hello.
+use Rattle.std.proofs.Common.{◌≡◌, ℕ, Option, Some, None, refl, subst}
+use Rattle.rv_account.specs.Account.{Account}
+use Rattle.rv_rules.specs.Sessions.{SaidHello}
+use Rattle.rv_state.specs.State.{ClientState}
+use Rattle.rv_state.specs.Agreement.{IsClient, IsClientOrNew}
+
+-- what is found is the client's
+pub found_client : (a : Account) (client : ℕ) (found : Option ClientState) (session : ClientState)
+    → IsClientOrNew a client found → found ≡ Some session → IsClient a client session
+found_client a client found session is there = subst (IsClientOrNew a client) there is
+
+-- who said a hello is there
+pub has_client : (a : Account) (client : ℕ) (found : Option ClientState) → IsClientOrNew a client found
+    → SaidHello a.entries client → (session : ClientState) × (found ≡ Some session)
+has_client a client None is said = absurd (is said)
+has_client a client (Some session) is said = (session, refl)

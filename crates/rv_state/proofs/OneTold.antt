@@ -1,0 +1,264 @@
+-- In a legal account a key is told one thing at most: a reply, or that its request waits.
+use Rattle.std.proofs.Common.{◌≡◌, ◌⊎◌, inl, inr, ℕ, zero, suc, List, take, Some, option_and_then, refl, sym}
+use Rattle.std.proofs.Common.{ap, subst, ◌∙◌, arith}
+use Rattle.std.proofs.lemmas.Bool.{cases_order}
+use Rattle.std.proofs.lemmas.Option.{same_Some}
+use Rattle.rv_text.specs.declared.answer.Answer.{Answer}
+use Rattle.rv_text.specs.declared.answer.Answer.TheVariants.{Replied}
+use Rattle.rv_text.specs.declared.answer.Reply as reply
+use Rattle.rv_text.specs.declared.answer.Reply.{Reply}
+use Rattle.rv_text.specs.declared.call.Call as call
+use Rattle.rv_text.specs.declared.call.Call.{Call}
+use Rattle.rv_text.specs.declared.call.Side.TheVariants.{Gives, Takes}
+use Rattle.rv_text.specs.declared.call.Wait.{Wait}
+use Rattle.rv_text.specs.declared.call.Wait.TheVariants.{Forever, Millis, Now}
+use Rattle.rv_text.specs.declared.message.Key.{Key}
+use Rattle.rv_text.specs.Calls.{item_of, wait_of}
+use Rattle.rv_account.specs.declared.entry.Act.TheVariants.{Arrive}
+use Rattle.rv_account.specs.declared.entry.Entry.{Entry}
+use Rattle.rv_account.specs.Account.{Account, act_at, call_at, call_in, key_at}
+use Rattle.rv_account.specs.Calls.{IsPut, Lasts, Stays, may_name}
+use Rattle.rv_rules.specs.Legal.{Legal, WaitsUnder}
+use Rattle.rv_rules.specs.Replies.{GetsItem, HasReply, IsFrontItem, Meet, MeetsKey, RepliesAt, RepliesMet}
+use Rattle.rv_rules.specs.Replies.{RepliesUnmet, ToldStopped}
+use Rattle.rv_rules.specs.Steps.{Answers}
+use Rattle.rv_rules.specs.Waiting.{IsOldest, Met, OpenAt, Waiting}
+use Rattle.rv_rules.proofs.Counting.{one_number}
+use Rattle.rv_rules.proofs.FirstStops.{one_told_stopped}
+use Rattle.rv_rules.proofs.Getting.{gets_met, one_item}
+use Rattle.rv_rules.proofs.Looking.{looks_waits_not}
+use Rattle.rv_rules.proofs.OnePartner.{arrives_once, meets_one}
+
+-- ---- what is told of a wait
+
+-- what is told at once where a wait doesn't last
+abbrev told_at_once : Wait → Reply → Reply
+told_at_once Now at_once = at_once
+told_at_once (Millis n) at_once = reply.TheVariants.TimedOut
+told_at_once Forever at_once = at_once
+
+-- a wait that lasts is told what stopped it first, and one that doesn't what is told at once
+abbrev ByLasting : List Entry → ℕ → Wait → Reply → Reply → Type 0
+ByLasting es r wait at_once told =
+    (Lasts (Some wait) × ToldStopped es r
+    told) ⊎ ((Lasts (Some wait) → ⊥) × (told ≡ told_at_once wait at_once))
+
+by_lasting : (wait : Wait) (es : List Entry) (r : ℕ) (at_once told : Reply)
+    → RepliesUnmet es r wait at_once told → ByLasting es r wait at_once told
+by_lasting Now es r at_once told replies = inr ((λ lasts. lasts), replies)
+by_lasting (Millis zero) es r at_once told replies = inr ((λ lasts. omega arith), replies)
+by_lasting (Millis (suc n)) es r at_once told replies = inl (omega arith, replies)
+by_lasting Forever es r at_once told replies = inl (tt, replies)
+
+one_unmet : (wait : Wait) (es : List Entry) (r : ℕ) (at_once x y : Reply) → RepliesUnmet es r wait at_once x
+    → RepliesUnmet es r wait at_once y → y ≡ x
+one_unmet wait es r at_once x y first second =
+    one_by_lasting (by_lasting wait es r at_once x first) (by_lasting wait es r at_once y second)
+  where
+    one_by_lasting : ByLasting es r wait at_once x → ByLasting es r wait at_once y → y ≡ x
+    one_by_lasting (inl one) (inl two) = one_told_stopped es r x y one.1 two.1
+    one_by_lasting (inl one) (inr two) = absurd (two.0 one.0)
+    one_by_lasting (inr one) (inl two) = absurd (one.0 two.0)
+    one_by_lasting (inr one) (inr two) = two.1 ∙ sym one.1
+
+unmet_waits_not : (wait : Wait) (es : List Entry) (r : ℕ) (call : Call) (at_once told : Reply)
+    → call_at es r ≡ Some call → wait_of call ≡ Some wait → Waiting es r → RepliesUnmet es r wait at_once told
+    → ⊥
+unmet_waits_not wait es r call at_once told arrived is w replies =
+    let same : w.is_open.call ≡ call = same_Some _ _ (sym w.is_open.arrived ∙ arrived) in
+    elim (by_lasting wait es r at_once told replies) [
+      | inl lasts ↦ w.is_open.unstopped (lasts.1.place, lasts.1.stop.stops)
+      | inr passes ↦ passes.0 (subst Lasts (ap wait_of same ∙ is) w.is_open.stays.1)
+    ]
+
+-- ---- a call that is told when it is met, or by its wait
+
+module _ (es : List Entry) (r : ℕ) (own : Call) (wait : Wait) (at_once : Reply) (Tells : Reply → Type 0)
+    (was_met : (told : Reply) → Tells told → Met es r) where
+  abbrev ByMeeting : Reply → Type 0
+  ByMeeting told = Tells told ⊎ ((Met es r → ⊥) × RepliesUnmet es r wait at_once told)
+
+  one_by : ((x y : Reply) → Tells x → Tells y → y ≡ x) → (x y : Reply) → ByMeeting x → ByMeeting y → y ≡ x
+  one_by one x y (inl first) (inl second) = one x y first second
+  one_by one x y (inl first) (inr second) = absurd (second.0 (was_met x first))
+  one_by one x y (inr first) (inl second) = absurd (first.0 (was_met y second))
+  one_by one x y (inr first) (inr second) = one_unmet wait es r at_once x y first.1 second.1
+
+  waits_not_by : call_at es r ≡ Some own → wait_of own ≡ Some wait → (told : Reply) → Waiting es r
+      → ByMeeting told → ⊥
+  waits_not_by arrived is told w (inl met) = w.is_open.unmet (was_met told met)
+  waits_not_by arrived is told w (inr unmet) = unmet_waits_not wait es r own at_once told arrived is w unmet.1
+
+-- ---- receipts and items
+
+meet_back : (es : List Entry) (r s : ℕ) → Meet es r s → Meet es s r
+meet_back es r s (inl names) = inr names
+meet_back es r s (inr names) = inl names
+
+one_taker : (a : Account) (r : ℕ) (own : Call) (x y : Key) → Legal a → call_at a.entries r ≡ Some own
+    → may_name own ≡ 1 → MeetsKey a.entries r x → MeetsKey a.entries r y → x ≡ y
+one_taker a r own x y legal arrived single first second =
+    let place : first.place ≡ second.place =
+    meets_one a r first.place second.place own legal arrived single
+    (meet_back a.entries r first.place first.meet) (meet_back a.entries r second.place second.meet) in
+    same_Some _ _ (sym first.named ∙ ap (key_at a.entries) place ∙ second.named)
+
+one_receipt : (a : Account) (r : ℕ) (own : Call) (x y : Reply) → Legal a → call_at a.entries r ≡ Some own
+    → may_name own ≡ 1 → RepliesMet a.entries r x → RepliesMet a.entries r y → y ≡ x
+one_receipt a r own x y legal arrived single (inl first) (inl second) =
+    second.3 ∙ ap reply.TheVariants.ReceivedBy
+    (one_taker a r own second.1 first.1 legal arrived single second.2 first.2) ∙ sym first.3
+one_receipt a r own x y legal arrived single (inl first) (inr second) = absurd (second.0 first.0)
+one_receipt a r own x y legal arrived single (inr first) (inl second) = absurd (first.0 second.0)
+one_receipt a r own x y legal arrived single (inr first) (inr second) = second.1 ∙ sym first.1
+
+abbrev TellsItem : List Entry → ℕ → (List ℕ → Reply) → Reply → Type 0
+TellsItem es r told_with told = (item : List ℕ) × GetsItem es r item × (told ≡ told_with item)
+
+one_told_item : (b : Account) (r : ℕ) (own : Call) (told_with : List ℕ → Reply) → Legal b
+    → call_at b.entries r ≡ Some own → may_name own ≡ 1 → (x y : Reply) → TellsItem b.entries r told_with x
+    → TellsItem b.entries r told_with y → y ≡ x
+one_told_item b r own told_with legal arrived single x y first second =
+    second.2 ∙ ap told_with (one_item b r own second.0 first.0 legal arrived single second.1 first.1)
+    ∙ sym first.2
+
+-- ---- counts and peeks
+
+same_counts : (a b c d : ℕ) → a ≡ b → c ≡ d → reply.TheVariants.Counted a c ≡ reply.TheVariants.Counted b d
+same_counts a b c d p q = cc
+
+one_count : (queue : ℕ) (es : List Entry) (r : ℕ) (x y : Reply)
+    → RepliesAt es r (call.TheVariants.Count queue) x → RepliesAt es r (call.TheVariants.Count queue) y
+    → y ≡ x
+one_count queue es r x y (i, c, first, is) (j, d, second, also) =
+    let items : j ≡ i = one_number (OpenAt (take r es) (Gives queue)) j i second.items_are first.items_are in
+    let consumers : d ≡ c =
+    one_number (OpenAt (take r es) (Takes queue)) d c second.consumers_are first.consumers_are in
+    also ∙ same_counts j i d c items consumers ∙ sym is
+
+one_oldest : (es : List Entry) (queue p q : ℕ) → IsOldest es (Gives queue) p → IsOldest es (Gives queue) q
+    → p ≡ q
+one_oldest es queue p q first second = elim (cases_order p q) [
+  | inl same ↦ same
+  | inr differ ↦ elim differ [
+    | inl less ↦ absurd (second.oldest p less first.there)
+    | inr more ↦
+        absurd (first.oldest q more second.there)
+  ]
+]
+
+one_front : (es : List Entry) (queue : ℕ) (x y : List ℕ) → IsFrontItem es queue x → IsFrontItem es queue y
+    → y ≡ x
+one_front es queue x y first second =
+    let place : second.place ≡ first.place =
+    one_oldest es queue second.place first.place second.oldest first.oldest in
+    let one = first.oldest.there.of_side in
+    let two = second.oldest.there.of_side in
+    let same : two.call ≡ one.call = same_Some _ _ (sym two.arrived ∙ ap (call_at es) place ∙ one.arrived) in
+    same_Some _ _ (sym second.hands_over ∙ ap item_of same ∙ first.hands_over)
+
+one_peek : (queue : ℕ) (es : List Entry) (r : ℕ) (x y : Reply)
+    → RepliesAt es r (call.TheVariants.Peek queue) x → RepliesAt es r (call.TheVariants.Peek queue) y → y ≡ x
+one_peek queue es r x y (inl first) (inl second) =
+    second.2 ∙ ap reply.TheVariants.Peeked (one_front (take r es) queue first.0 second.0 first.1 second.1)
+    ∙ sym first.2
+one_peek queue es r x y (inl first) (inr second) = absurd (second.0 first.1.place first.1.oldest.there)
+one_peek queue es r x y (inr first) (inl second) = absurd (first.0 second.1.place second.1.oldest.there)
+one_peek queue es r x y (inr first) (inr second) = second.1 ∙ sym first.1
+
+-- ---- each call
+
+pub one_replied : (own : Call) (b : Account) (r : ℕ) (x y : Reply) → Legal b → call_at b.entries r ≡ Some own
+    → RepliesAt b.entries r own x → RepliesAt b.entries r own y → y ≡ x
+one_replied (call.TheVariants.Put queue item) b r x y legal arrived first second = second ∙ sym first
+one_replied (call.TheVariants.Transfer queue item wait) b r x y legal arrived first second =
+    one_by b.entries r (call.TheVariants.Transfer queue item wait) wait reply.TheVariants.Nobody
+    (λ told. Met b.entries r × RepliesMet b.entries r told) (λ told tells. tells.0)
+    (λ p q one two. one_receipt b r (call.TheVariants.Transfer queue item wait) p q legal arrived refl one.1
+    two.1) x y first second
+one_replied (call.TheVariants.Take queue wait) b r x y legal arrived first second =
+    one_by b.entries r (call.TheVariants.Take queue wait) wait reply.TheVariants.Empty
+    (TellsItem b.entries r reply.TheVariants.Item) (λ told tells. gets_met b.entries r tells.0 tells.1)
+    (one_told_item b r (call.TheVariants.Take queue wait) reply.TheVariants.Item legal arrived refl) x y first
+    second
+one_replied (call.TheVariants.Swap exchanger item wait) b r x y legal arrived first second =
+    one_by b.entries r (call.TheVariants.Swap exchanger item wait) wait reply.TheVariants.TimedOut
+    (TellsItem b.entries r reply.TheVariants.Swapped) (λ told tells. gets_met b.entries r tells.0 tells.1)
+    (one_told_item b r (call.TheVariants.Swap exchanger item wait) reply.TheVariants.Swapped legal arrived
+    refl) x y first second
+one_replied (call.TheVariants.Count queue) b r x y legal arrived first second =
+    one_count queue b.entries r x y first second
+one_replied (call.TheVariants.Peek queue) b r x y legal arrived first second =
+    one_peek queue b.entries r x y first second
+one_replied (call.TheVariants.Drain queue max) b r x y legal arrived first second =
+    second.2 ∙ ap reply.TheVariants.Drained (same_Some _ _ (sym second.1 ∙ first.1)) ∙ sym first.2
+
+pub replied_waits_not : (own : Call) (b : Account) (r : ℕ) (told : Reply) → call_at b.entries r ≡ Some own
+    → Waiting b.entries r → RepliesAt b.entries r own told → ⊥
+replied_waits_not (call.TheVariants.Put queue item) b r told arrived w replies =
+    let same : call.TheVariants.Put queue item ≡ w.is_open.call =
+    same_Some _ _ (sym arrived ∙ w.is_open.arrived) in
+    w.no_put (subst IsPut same (refl, refl))
+replied_waits_not (call.TheVariants.Transfer queue item wait) b r told arrived w replies =
+    waits_not_by b.entries r (call.TheVariants.Transfer queue item wait) wait reply.TheVariants.Nobody
+    (λ x. Met b.entries r × RepliesMet b.entries r x) (λ x tells. tells.0) arrived refl told w replies
+replied_waits_not (call.TheVariants.Take queue wait) b r told arrived w replies =
+    waits_not_by b.entries r (call.TheVariants.Take queue wait) wait reply.TheVariants.Empty
+    (TellsItem b.entries r reply.TheVariants.Item) (λ x tells. gets_met b.entries r tells.0 tells.1)
+    arrived refl told w replies
+replied_waits_not (call.TheVariants.Swap exchanger item wait) b r told arrived w replies =
+    waits_not_by b.entries r (call.TheVariants.Swap exchanger item wait) wait reply.TheVariants.TimedOut
+    (TellsItem b.entries r reply.TheVariants.Swapped) (λ x tells. gets_met b.entries r tells.0 tells.1)
+    arrived refl told w replies
+replied_waits_not (call.TheVariants.Count queue) b r told arrived w replies =
+    looks_waits_not b.entries r queue (call.TheVariants.Count queue) arrived refl w
+replied_waits_not (call.TheVariants.Peek queue) b r told arrived w replies =
+    looks_waits_not b.entries r queue (call.TheVariants.Peek queue) arrived refl w
+replied_waits_not (call.TheVariants.Drain queue max) b r told arrived w replies =
+    let stays : Stays (call.TheVariants.Drain queue max) =
+    subst Stays (same_Some _ _ (sym w.is_open.arrived ∙ arrived)) w.is_open.stays in
+    stays.1
+
+-- ---- a key
+
+pub one_call : (key : Key) (c d : Call) → Some (Arrive key c) ≡ Some (Arrive key d) → c ≡ d
+one_call key c d e = cc
+
+pub one_reply : (b : Account) (key : Key) (x y : Reply) → Legal b → HasReply b.entries key x
+    → HasReply b.entries key y → y ≡ x
+one_reply b key x y legal (inl first) (inl second) =
+    let place : second.place ≡ first.place =
+    arrives_once b second.place first.place key second.call first.call legal second.arrived
+    first.arrived in
+    let same : second.call ≡ first.call =
+    one_call key second.call first.call
+    (sym second.arrived ∙ ap (act_at b.entries) place ∙ first.arrived) in
+    let moved = subst (λ r. RepliesAt b.entries r first.call y) place
+    (subst (λ c. RepliesAt b.entries second.place c y) same second.replies) in
+    one_replied first.call b first.place x y legal (ap (option_and_then call_in) first.arrived) first.replies
+    moved
+one_reply b key x y legal (inl first) (inr second) =
+    absurd (second.0.not_arrived first.place first.call first.arrived)
+one_reply b key x y legal (inr first) (inl second) =
+    absurd (first.0.not_arrived second.place second.call second.arrived)
+one_reply b key x y legal (inr first) (inr second) = second.1 ∙ sym first.1
+
+-- who waits has no reply
+pub reply_or_waits : (b : Account) (key : Key) (told : Reply) → Legal b → HasReply b.entries key told
+    → WaitsUnder b.entries key → ⊥
+reply_or_waits b key told legal (inl has) waits =
+    let place : waits.place ≡ has.place =
+    arrives_once b waits.place has.place key waits.call has.call legal waits.arrived has.arrived in
+    let there : Waiting b.entries has.place = subst (Waiting b.entries) place waits.waits in
+    replied_waits_not has.call b has.place told (ap (option_and_then call_in) has.arrived) there has.replies
+reply_or_waits b key told legal (inr first) waits = first.0.not_arrived waits.place waits.call waits.arrived
+
+pub one_told : (b : Account) (key : Key) (x y : Answer) → Legal b → Answers b key x → Answers b key y → y ≡ x
+one_told b key x y legal (inl first) (inl second) =
+    second.is ∙ ap (Replied key) (one_reply b key first.reply second.reply legal first.has second.has)
+    ∙ sym first.is
+one_told b key x y legal (inl first) (inr second) =
+    absurd (reply_or_waits b key first.reply legal first.has second.0)
+one_told b key x y legal (inr first) (inl second) =
+    absurd (reply_or_waits b key second.reply legal second.has first.0)
+one_told b key x y legal (inr first) (inr second) = second.1 ∙ sym first.1

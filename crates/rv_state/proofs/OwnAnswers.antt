@@ -1,0 +1,87 @@
+-- What the own entry of a request or a cancel is answered, by the account and by the state.
+use Rattle.std.proofs.Common.{◌≡◌, inl, inr, ℕ, [], ◌∷◌, ◌++◌, length, Option, Some, None, option_and_then}
+use Rattle.std.proofs.Common.{refl, sym, ap, ◌∙◌}
+use Rattle.rv_text.specs.declared.answer.Answer.TheVariants.{Replied}
+use Rattle.rv_text.specs.declared.answer.Reply.{Reply}
+use Rattle.rv_text.specs.declared.answer.Reply.TheVariants.{Cancelled}
+use Rattle.rv_text.specs.declared.call.Call.{Call}
+use Rattle.rv_text.specs.declared.message.Key.{Key}
+use Rattle.rv_account.specs.declared.entry.Act.TheVariants.{Arrive, Cancel}
+use Rattle.rv_account.specs.declared.entry.Entry.{Entry}
+use Rattle.rv_account.specs.Account.{Account, key_in, with_entry}
+use Rattle.rv_rules.specs.Legal.{IsNextNumber, Legal}
+use Rattle.rv_rules.specs.Replies.{CancelledFirst}
+use Rattle.rv_rules.specs.Sessions.{HasIncarnation}
+use Rattle.rv_rules.specs.Steps.{Answers, Replies}
+use Rattle.rv_rules.proofs.Growing.{act_read, reads_back}
+use Rattle.rv_rules.proofs.OnePartner.{named_not_next}
+use Rattle.rv_rules.proofs.Places.{get-append_end}
+use Rattle.rv_state.specs.State.{OpenPlace, State, client_waits}
+use Rattle.rv_state.specs.After.{cancelled, following}
+use Rattle.rv_state.specs.Moves.{answer_after, answer_told}
+use Rattle.rv_state.proofs.Coming.{Comes}
+use Rattle.rv_state.proofs.Telling.{own_replies, own_waits}
+
+-- ---- requests
+
+own_told : (a : Account) (s : State) (e : Entry) (key : Key) (call : Call) (o : Option Reply) → Comes a s e
+    → e.act ≡ Arrive key call → (following s e.moment e.act).reply ≡ o
+    → Answers (with_entry a e) key (answer_told key o)
+own_told a s e key call None comes is none = inr (
+  record {
+    place = length a.entries;
+    call = call;
+    arrived = ap act_read (get-append_end a.entries e) ∙ ap Some is;
+    waits = own_waits a s e key call comes is none;
+  },
+  refl,
+)
+own_told a s e key call (Some told) comes is some = inl (record {
+  reply = told;
+  has = inl (record {
+    place = length a.entries;
+    call = call;
+    arrived = ap act_read (get-append_end a.entries e) ∙ ap Some is;
+    replies = own_replies a s e key call told comes is some;
+  });
+  is = refl;
+})
+
+-- a request whose entry comes is answered what the state says
+pub own_answers : (a : Account) (s : State) (e : Entry) (key : Key) (call : Call) → Comes a s e
+    → e.act ≡ Arrive key call
+    → Answers (with_entry a e) key (answer_told key (following s e.moment e.act).reply)
+own_answers a s e key call comes is = own_told a s e key call (following s e.moment e.act).reply comes is refl
+
+-- ---- cancels
+
+-- a request that is cancelled before it came
+pub cancelled_first : (a : Account) (e : Entry) (key : Key) → Legal a
+    → HasIncarnation a.entries key.client key.incarnation → IsNextNumber a.entries key → e.act ≡ Cancel key
+    → CancelledFirst (a.entries ++ e ∷ []) key
+cancelled_first a e key legal has next says = record {
+  place = length a.entries;
+  cancelled = ap act_read (get-append_end a.entries e) ∙ ap Some says;
+  not_arrived = λ r call arrived. elim (reads_back act_read refl a.entries e r (Arrive key call) arrived) [
+    | inl before ↦ named_not_next a r key legal (ap (option_and_then key_in) before.1) has next
+    | inr last ↦ not_both key call (sym (ap Some says) ∙ last.1)
+  ];
+}
+  where
+    not_both : (key : Key) (call : Call) → Some (Cancel key) ≡ Some (Arrive key call) → ⊥
+    not_both key call e = cc
+
+pub first_replies : (a : Account) (e : Entry) (key : Key) → Legal a
+    → HasIncarnation a.entries key.client key.incarnation → IsNextNumber a.entries key → e.act ≡ Cancel key
+    → Replies (with_entry a e) key (Replied key Cancelled)
+first_replies a e key legal has next says =
+    record { reply = Cancelled; has = inr (cancelled_first a e key legal has next says, refl); is = refl }
+
+cancel_by : (s : State) (key : Key) (o : Option OpenPlace) → (cancelled s key o).reply ≡ Some Cancelled
+cancel_by s key None = refl
+cancel_by s key (Some there) = refl
+
+-- a cancel is answered that, by the state
+pub cancel_answer : (s : State) (moment : ℕ) (key : Key)
+    → answer_after s moment key (Cancel key) ≡ Replied key Cancelled
+cancel_answer s moment key = ap (answer_told key) (cancel_by s key (client_waits s key.client))

@@ -1,0 +1,58 @@
+-- What stops a waiting request first tells it its reply.
+use Rattle.std.proofs.Common.{◌≡◌, inl, inr, ℕ, zero, suc, ◌<◌, List, [], ◌∷◌, ◌++◌, length, Some}
+use Rattle.std.proofs.Common.{option_and_then, refl, sym, ap, subst, ◌∙◌, arith}
+use Rattle.std.proofs.lemmas.Option.{same_Some}
+use Rattle.rv_text.specs.declared.message.Key.{Key}
+use Rattle.rv_text.specs.declared.call.Call.{Call}
+use Rattle.rv_text.specs.declared.call.Call.TheVariants as call
+use Rattle.rv_text.specs.declared.call.Wait.{Wait}
+use Rattle.rv_text.specs.declared.call.Wait.TheVariants.{Now, Millis, Forever}
+use Rattle.rv_text.specs.declared.answer.Reply.{Reply}
+use Rattle.rv_text.specs.declared.answer.Reply.TheVariants as reply
+use Rattle.rv_account.specs.declared.entry.Entry.{Entry}
+use Rattle.rv_account.specs.Account.{Names, call_in}
+use Rattle.rv_account.specs.Calls.{IsPut, Lasts, Stays}
+use Rattle.rv_rules.specs.Replies.{RepliesAt, RepliesUnmet, ToldStopped, told_by}
+use Rattle.rv_rules.specs.Waiting.{Met, StoppedAt}
+use Rattle.rv_rules.proofs.FirstStops.{told_by_last}
+use Rattle.rv_rules.proofs.Growing.{Met-back, act_read, reads_within}
+use Rattle.rv_rules.proofs.Opposites.{looks_alone}
+use Rattle.rv_state.specs.Agreement.{WaitsThere}
+
+lasting_told : (wait : Wait) (es : List Entry) (r : ℕ) (at_once told : Reply) → Lasts (Some wait)
+    → ToldStopped es r told → RepliesUnmet es r wait at_once told
+lasting_told Now es r at_once told lasts stopped = absurd lasts
+lasting_told (Millis zero) es r at_once told lasts stopped = absurd (omega arith)
+lasting_told (Millis (suc n)) es r at_once told lasts stopped = stopped
+lasting_told Forever es r at_once told lasts stopped = stopped
+
+-- one that stays, unmet, is told by what stopped it first
+stopped_told : (its : Call) (es : List Entry) (r : ℕ) (told : Reply) → Stays its → (IsPut its → ⊥)
+    → (Met es r → ⊥) → ToldStopped es r told → RepliesAt es r its told
+stopped_told (call.Put queue item) es r told stays no_put unmet stopped = absurd (no_put (refl, refl))
+stopped_told (call.Transfer queue item wait) es r told stays no_put unmet stopped =
+    inr (unmet, lasting_told wait es r reply.Nobody told stays.1 stopped)
+stopped_told (call.Take queue wait) es r told stays no_put unmet stopped =
+    inr (unmet, lasting_told wait es r reply.Empty told stays.1 stopped)
+stopped_told (call.Swap exchanger item wait) es r told stays no_put unmet stopped =
+    inr (unmet, lasting_told wait es r reply.TimedOut told stays.1 stopped)
+stopped_told (call.Count queue) es r told stays no_put unmet stopped = absurd (looks_alone queue stays.0)
+stopped_told (call.Peek queue) es r told stays no_put unmet stopped = absurd (looks_alone queue stays.0)
+stopped_told (call.Drain queue max) es r told stays no_put unmet stopped = absurd stays.1
+
+-- a waiting request that the last entry stops is told by it
+pub stop_replies : (es : List Entry) (e : Entry) (key : Key) (r : ℕ) (its : Call) → WaitsThere es key r its
+    → (Names e r → ⊥) → StoppedAt (es ++ e ∷ []) r (length es)
+    → RepliesAt (es ++ e ∷ []) r its (told_by e.act)
+stop_replies es e key r its w unnamed stopped =
+    let opened = w.waits.is_open in
+    let same : opened.call ≡ its =
+    same_Some _ _ (sym opened.arrived ∙ ap (option_and_then call_in) w.arrived) in
+    let inside : r < length es = reads_within act_read refl es r _ w.arrived in
+    stopped_told its (es ++ e ∷ []) r (told_by e.act) (subst Stays same opened.stays)
+    (λ put. w.waits.no_put (subst IsPut (sym same) put))
+    (λ met. elim (Met-back es e r met) [
+      | inl before ↦ opened.unmet before
+      | inr new ↦ elim new [ inl last ↦ omega arith | inr named ↦ unnamed named ]
+    ])
+    (told_by_last es e r opened.unstopped stopped)

@@ -1,0 +1,74 @@
+-- The laws of states: what a state says is what its account says, and what follows one follows the other.
+use Rattle.std.specs.Prelude.{◌≡◌, ◌↔◌, ◌++◌, ℕ, Some}
+use Rattle.rv_text.specs.declared.message.Key.{Key}
+use Rattle.rv_text.specs.declared.message.Message.{Message}
+use Rattle.rv_text.specs.declared.answer.Answer.{Answer}
+use Rattle.rv_account.specs.declared.entry.Entry.{Entry}
+use Rattle.rv_account.specs.Account.{Account, key_in, with_entry}
+use Rattle.rv_rules.specs.Legal.{Legal, MayFollow}
+use Rattle.rv_rules.specs.Steps.{Next}
+use Rattle.rv_state.specs.After.{Following, following, state_of}
+use Rattle.rv_state.specs.Follows.{FollowsState}
+use Rattle.rv_state.specs.Kept.{RulesAgree}
+use Rattle.rv_state.specs.Moves.{Move, StateNext}
+use Rattle.rv_state.specs.Agreement.{IsStateOf}
+use Rattle.rv_state.specs.Settling.{SettlesEach, SettlesAt, ToldOwn}
+
+-- each part of the state of a legal account says what the formulas over its places say
+abbrev pub StatesAgree : Type 0
+StatesAgree = (a : Account) → Legal a → IsStateOf a (state_of a)
+
+-- an entry may follow a legal account exactly where it may follow its state
+abbrev pub StatesFollow : Type 0
+StatesFollow = (a : Account) (e : Entry) → Legal a → MayFollow a e ↔ FollowsState (state_of a) e
+
+-- and each rule of a legal account is asked of its state alone, but for what no place that is open says
+abbrev pub StatesKeepRules : Type 0
+StatesKeepRules = (a : Account) (e : Entry) → Legal a → RulesAgree a (state_of a) e
+
+-- what the state says of an entry that follows is what the account with it says: its state, whom it settles,
+-- and what its own request is told
+pub record SaysOfEntry (a : Account) (e : Entry) (made : Following) : Type 0 where
+  pub state : state_of (with_entry a e) ≡ made.after
+  pub settles : SettlesAt a.entries e made.settles
+  pub own : (key : Key) → key_in e.act ≡ Some key → ToldOwn (with_entry a e).entries key made.reply
+
+abbrev pub StatesSettle : Type 0
+StatesSettle = (a : Account) (e : Entry) → Legal a → MayFollow a e
+    → SaysOfEntry a e (following (state_of a) e.moment e.act)
+
+-- the second account is the first with the entries of a move, and legal; its state and whom they settle are
+-- those of the move
+pub record IsMoveTo (a b : Account) (move : Move) : Type 0 where
+  pub epoch : b.epoch ≡ a.epoch
+  pub opened : b.opened ≡ a.opened
+  pub entries : b.entries ≡ a.entries ++ move.entries
+  pub legal : Legal b
+  pub state : state_of b ≡ move.after
+  pub settles : SettlesEach a.entries move.entries move.settles
+
+-- each step of a legal account is a move of its state
+pub record MovesTo (a b : Account) (now : ℕ) (m : Message) (answer : Answer) : Type 0 where
+  pub move : Move
+  pub moves : StateNext (state_of a) now m move
+  pub answers : answer ≡ move.answer
+  pub is : IsMoveTo a b move
+
+abbrev pub StepsMove : Type 0
+StepsMove = (a b : Account) (now : ℕ) (m : Message) (answer : Answer) → Legal a → Next a now m b answer
+    → MovesTo a b now m answer
+
+-- and each move of its state is a step of the account, which so has one
+pub record StepsTo (a : Account) (now : ℕ) (m : Message) (move : Move) : Type 0 where
+  pub after : Account
+  pub next : Next a now m after move.answer
+  pub is : IsMoveTo a after move
+
+abbrev pub MovesStep : Type 0
+MovesStep = (a : Account) (now : ℕ) (m : Message) (move : Move) → Legal a → StateNext (state_of a) now m move
+    → StepsTo a now m move
+
+-- two legal accounts with one state go on alike
+abbrev pub OneFuture : Type 0
+OneFuture = (a b : Account) (e : Entry) → Legal a → Legal b → state_of a ≡ state_of b
+    → MayFollow a e ↔ MayFollow b e

@@ -1,0 +1,9 @@
+-- What a reader must agree with: the state of an account, what an entry makes of it, and a step of it.
+pub mod State
+pub mod After
+pub mod Follows
+pub mod Moves
+pub mod Agreement
+pub mod Kept
+pub mod Settling
+pub mod Laws

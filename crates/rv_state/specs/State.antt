@@ -1,0 +1,119 @@
+-- The state of an account: all that its future hangs on, without its entries.
+use Rattle.std.specs.Prelude.{ℕ, Bool, false, List, [], map, find, filter, nat_eq, Option}
+use Rattle.std.specs.Prelude.{Some, None}
+use Rattle.std.specs.Prelude.{option_and_then}
+use Rattle.std.specs.FinMap.{FinMap, empty, get}
+use Rattle.std.specs.Ordering.{nat_cmp}
+use Rattle.rv_text.specs.declared.version.Version.{Version}
+use Rattle.rv_text.specs.declared.message.Key.{Key}
+use Rattle.rv_text.specs.declared.call.Call.{Call}
+use Rattle.rv_text.specs.declared.call.Side.{Side}
+use Rattle.rv_text.specs.declared.call.Side.TheVariants.{Gives, Takes, Looks, Exchanges}
+use Rattle.rv_text.specs.declared.answer.Reply.{Reply}
+use Rattle.rv_text.specs.Calls.{side_of}
+use Rattle.rv_account.specs.Calls.{opposite}
+
+-- ---- what is open
+
+-- who waits at a place, and the moment of its arrival, which no step asks for
+pub record Waiter : Type 0 where
+  pub key : Key
+  pub since : ℕ
+
+-- an open arrival: its place, its side of a queue or exchanger, its item and its limit if it has them, and
+-- who waits there; nobody where it is an item that lies there
+pub record OpenPlace : Type 0 where
+  pub place : ℕ
+  pub side : Side
+  pub item : Option (List ℕ)
+  pub limit : Option ℕ
+  pub waiter : Option Waiter
+
+-- ---- clients
+
+-- the last request of a session: none yet; waiting at a place; replied to; or cancelled before it came. The
+-- whole call stays, since a request of that number with another call is refused
+pub data LastRequest : Type 0 where
+  Fresh : LastRequest
+  Waits : (place : ℕ) → (call : Call) → LastRequest
+  RepliedTo : (call : Call) → (reply : Reply) → LastRequest
+  CancelledUnseen : LastRequest
+
+-- a client's session, its last number, and what became of the request with that
+pub record ClientState : Type 0 where
+  pub incarnation : ℕ
+  pub version : Version
+  pub last : ℕ
+  pub request : LastRequest
+
+-- ---- the state
+
+-- the epoch; the last moment, which before the first entry is the opening; how many entries there are; the
+-- open places in their order; and the clients that said hello
+pub record State : Type 0 where
+  pub epoch : ℕ
+  pub moment : ℕ
+  pub length : ℕ
+  pub open_places : List OpenPlace
+  pub clients : FinMap nat_cmp ClientState
+
+-- the state of an empty account
+abbrev pub opening : ℕ → ℕ → State
+opening epoch opened =
+    record {
+      epoch = epoch;
+      moment = opened;
+      length = 0;
+      open_places = [];
+      clients = empty;
+    }
+
+-- ---- what is read off a state
+
+abbrev pub same_side : Side → Side → Bool
+same_side (Gives queue) (Gives other) = nat_eq queue other
+same_side (Takes queue) (Takes other) = nat_eq queue other
+same_side (Looks queue) (Looks other) = nat_eq queue other
+same_side (Exchanges exchanger) (Exchanges other) = nat_eq exchanger other
+same_side _ _ = false
+
+-- the places of some that are open
+abbrev pub place_list : List OpenPlace → List ℕ
+place_list there = map (λ o. o.place) there
+
+-- the open places of a side, the oldest first
+abbrev pub line : State → Side → List OpenPlace
+line s side = filter (λ o. same_side o.side side) s.open_places
+
+abbrev pub line_of : State → Option Side → List OpenPlace
+line_of s None = []
+line_of s (Some side) = line s side
+
+-- the open places that an arrival with this call might meet, the oldest first
+abbrev pub opposites : State → Call → List OpenPlace
+opposites s call = line_of s (opposite (side_of call))
+
+abbrev pub open_at : State → ℕ → Option OpenPlace
+open_at s place = find (λ o. nat_eq o.place place) s.open_places
+
+abbrev pub client_at : State → ℕ → Option ClientState
+client_at s client = get s.clients client
+
+-- where a request waits, and with which call
+abbrev pub place_waiting : LastRequest → Option ℕ
+place_waiting Fresh = None
+place_waiting (Waits place call) = Some place
+place_waiting (RepliedTo call reply) = None
+place_waiting CancelledUnseen = None
+
+abbrev pub call_waiting : LastRequest → Option Call
+call_waiting Fresh = None
+call_waiting (Waits place call) = Some call
+call_waiting (RepliedTo call reply) = None
+call_waiting CancelledUnseen = None
+
+-- the open place at which the client waits, if it does
+abbrev pub client_waits : State → ℕ → Option OpenPlace
+client_waits s client =
+    option_and_then (open_at s)
+    (option_and_then (λ c. place_waiting c.request) (client_at s client))
