@@ -177,8 +177,8 @@ def not_asked(calls, book):
 def cancelled_by_nobody(calls, book):
     """A call was told that it was cancelled, and neither a signal nor its own time nor its process ordered that."""
     told = [one for one in calls if any(reply["reply"] == "cancelled" for _, reply in one.replies)]
-    ordered = lambda one: one.ways or is_short(one.call) or is_given_up(one)
-    return [f"{one.key} {one.call} was told {one.came}" for one in told if not ordered(one)]
+    return [f"{one.key} {one.call} was told {one.came}" for one in told
+            if not (one.ways or is_short(one.call) or is_given_up(one))]
 
 
 def is_given_up(one):
