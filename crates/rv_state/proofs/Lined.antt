@@ -1,22 +1,13 @@
 -- Of a line of open places those that pass a test are a line too, and so the open places of a side are that
 -- side's.
-use Rattle.std.proofs.Common.{◌≡◌, ℕ, ◌+◌, ◌<◌, List, Bool, true, length, Some, option_and_then, refl, sym}
+use Rattle.std.proofs.Common.{◌≡◌, ℕ, ◌+◌, ◌<◌, List, Bool, true, length, Some, refl, sym}
 use Rattle.std.proofs.Common.{ap, subst, ◌∙◌, arith}
 use Rattle.std.specs.List.{filter, slice_get, slice_index}
-use Rattle.std.proofs.lemmas.Bool.{false≢true}
-use Rattle.std.proofs.lemmas.Bool.Decides.{Decides-eqb}
 use Rattle.std.proofs.lemmas.Option.{get_or_from_slice_get, slice_get-get_or}
-use Rattle.rv_text.specs.declared.call.Side.{Side}
-use Rattle.rv_text.specs.declared.call.Side.TheVariants.{Exchanges, Gives, Looks, Takes}
-use Rattle.rv_account.specs.declared.entry.Entry.{Entry}
-use Rattle.rv_account.specs.Account.{Account, call_in}
 use Rattle.rv_rules.specs.Counting.{NumberOf}
-use Rattle.rv_rules.specs.Lines.{IsLine, IsLineOf}
-use Rattle.rv_rules.specs.Waiting.{Open, OpenAt, SideAt}
+use Rattle.rv_rules.specs.Lines.{IsLineOf}
 use Rattle.rv_rules.proofs.Places.{within}
-use Rattle.rv_rules.proofs.Sides.{one_side}
-use Rattle.rv_state.specs.State.{OpenPlace, State, line, place_list, same_side}
-use Rattle.rv_state.specs.Agreement.{IsArrival, IsStateOf}
+use Rattle.rv_state.specs.State.{OpenPlace, place_list}
 use Rattle.rv_state.proofs.Filtered.{filter_get, get_filter, get_map, map_get, rises_left}
 
 -- ---- the places of a line
@@ -72,49 +63,6 @@ module _ (P Q : ℕ → Type 0) (p : OpenPlace → Bool) (all : List OpenPlace) 
   -- of a line those that pass are the line of a property, where the test tells that
   pub line_left : IsLineOf Q (place_list (filter p all))
   line_left = record { are = left_are; each = left_each; rising = left_rise }
-
--- ---- a side
-
--- the test tells that two sides are one
-pub same_side_is : (s t : Side) → same_side s t ≡ true → s ≡ t
-same_side_is (Gives queue) (Gives other) is = ap Gives ((Decides-eqb queue other).0 is)
-same_side_is (Takes queue) (Takes other) is = ap Takes ((Decides-eqb queue other).0 is)
-same_side_is (Looks queue) (Looks other) is = ap Looks ((Decides-eqb queue other).0 is)
-same_side_is (Exchanges exchanger) (Exchanges other) is = ap Exchanges ((Decides-eqb exchanger other).0 is)
-same_side_is _ _ is = absurd (false≢true is)
-
-pub is_same_side : (s : Side) → same_side s s ≡ true
-is_same_side (Gives queue) = (Decides-eqb queue queue).1 refl
-is_same_side (Takes queue) = (Decides-eqb queue queue).1 refl
-is_same_side (Looks queue) = (Decides-eqb queue queue).1 refl
-is_same_side (Exchanges exchanger) = (Decides-eqb exchanger exchanger).1 refl
-
--- an open place of a side stands at an arrival of that side
-pub arrives_on : (es : List Entry) (there : OpenPlace) → IsArrival es there → SideAt es there.side there.place
-arrives_on es there arrival =
-    record {
-      call = arrival.call;
-      arrived = ap (option_and_then call_in) arrival.arrived;
-      is = sym arrival.side;
-    }
-
--- the open places of a side are the side's line
-pub lined : (a : Account) (s : State) (side : Side) → IsStateOf a s
-    → IsLine a.entries side (place_list (line s side))
-lined a s side state =
-    line_left (Open a.entries) (OpenAt a.entries side) (λ o. same_side o.side side) s.open_places
-    state.in_order
-    (λ i there at passes. record {
-      of_side = subst (λ t. SideAt a.entries t there.place) (same_side_is there.side side passes)
-          (arrives_on a.entries there (state.arrivals i there at));
-      is_open = line_has (Open a.entries) s.open_places state.in_order i there at;
-    })
-    (λ i there at opened.
-    let same : there.side ≡ side =
-    one_side a.entries there.side side there.place
-    (arrives_on a.entries there (state.arrivals i there at)) opened.of_side in
-    subst (λ t. same_side t side ≡ true) (sym same) (is_same_side side))
-    (λ r opened. opened.is_open)
 
 -- ---- how many
 

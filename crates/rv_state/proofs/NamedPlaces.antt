@@ -16,7 +16,7 @@ use Rattle.rv_rules.proofs.Sides.{one_side}
 use Rattle.rv_state.specs.State.{State, line_of, place_list}
 use Rattle.rv_state.specs.Agreement.{IsStateOf}
 use Rattle.rv_state.specs.Kept.{IsOpposite, NamesAll, NamesOldest, NamesOpen, NamesOpposites, NamesWell}
-use Rattle.rv_state.proofs.Lined.{lined}
+use Rattle.rv_state.proofs.SideLines.{line_is}
 
 module _ (a : Account) (s : State) (state : IsStateOf a s) where
   -- ---- whom a call might meet
@@ -24,13 +24,13 @@ module _ (a : Account) (s : State) (state : IsStateOf a s) where
   pub opposite_to : (call : Call) (p : ℕ) → IsOpenOpposite a.entries call p → IsOpposite s call p
   opposite_to call p partner =
       subst (λ o. Among (place_list (line_of s o)) p) (sym partner.opposes)
-      ((lined a s partner.side state).each p partner.there)
+      ((line_is a s state partner.side).each p partner.there)
 
   opposite_by : (call : Call) (p : ℕ) (o : Option Side) → opposite (side_of call) ≡ o
       → Among (place_list (line_of s o)) p → IsOpenOpposite a.entries call p
   opposite_by call p None alone at = absurd (among_none (place_list (line_of s None)) p refl at)
   opposite_by call p (Some side) opposes at =
-      record { side = side; opposes = opposes; there = (lined a s side state).are at.0 p at.1 }
+      record { side = side; opposes = opposes; there = (line_is a s state side).are at.0 p at.1 }
 
   pub opposite_from : (call : Call) (p : ℕ) → IsOpposite s call p → IsOpenOpposite a.entries call p
   opposite_from call p at = opposite_by call p (opposite (side_of call)) refl at

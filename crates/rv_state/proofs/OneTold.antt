@@ -1,6 +1,6 @@
 -- In a legal account a key is told one thing at most: a reply, or that its request waits.
-use Rattle.std.proofs.Common.{◌≡◌, ◌⊎◌, inl, inr, ℕ, zero, suc, List, take, Some, option_and_then, refl, sym}
-use Rattle.std.proofs.Common.{ap, subst, ◌∙◌, arith}
+use Rattle.std.proofs.Common.{◌≡◌, ◌⊎◌, inl, inr, ℕ, List, take, Some, option_and_then, refl, sym}
+use Rattle.std.proofs.Common.{ap, subst, ◌∙◌}
 use Rattle.std.proofs.lemmas.Bool.{cases_order}
 use Rattle.std.proofs.lemmas.Option.{same_Some}
 use Rattle.rv_text.specs.declared.answer.Answer.{Answer}
@@ -11,44 +11,25 @@ use Rattle.rv_text.specs.declared.call.Call as call
 use Rattle.rv_text.specs.declared.call.Call.{Call}
 use Rattle.rv_text.specs.declared.call.Side.TheVariants.{Gives, Takes}
 use Rattle.rv_text.specs.declared.call.Wait.{Wait}
-use Rattle.rv_text.specs.declared.call.Wait.TheVariants.{Forever, Millis, Now}
 use Rattle.rv_text.specs.declared.message.Key.{Key}
-use Rattle.rv_text.specs.Calls.{item_of, wait_of}
+use Rattle.rv_text.specs.Calls.{item_of}
 use Rattle.rv_account.specs.declared.entry.Act.TheVariants.{Arrive}
 use Rattle.rv_account.specs.declared.entry.Entry.{Entry}
 use Rattle.rv_account.specs.Account.{Account, act_at, call_at, call_in, key_at}
-use Rattle.rv_account.specs.Calls.{IsPut, Lasts, Stays, may_name}
+use Rattle.rv_account.specs.Calls.{may_name}
 use Rattle.rv_rules.specs.Legal.{Legal, WaitsUnder}
 use Rattle.rv_rules.specs.Replies.{GetsItem, HasReply, IsFrontItem, Meet, MeetsKey, RepliesAt, RepliesMet}
-use Rattle.rv_rules.specs.Replies.{RepliesUnmet, ToldStopped}
+use Rattle.rv_rules.specs.Replies.{RepliesUnmet}
 use Rattle.rv_rules.specs.Steps.{Answers}
 use Rattle.rv_rules.specs.Waiting.{IsOldest, Met, OpenAt, Waiting}
 use Rattle.rv_rules.proofs.Counting.{one_number}
 use Rattle.rv_rules.proofs.FirstStops.{one_told_stopped}
 use Rattle.rv_rules.proofs.Getting.{gets_met, one_item}
-use Rattle.rv_rules.proofs.Looking.{looks_waits_not}
 use Rattle.rv_rules.proofs.OnePartner.{arrives_once, meets_one}
+use Rattle.rv_state.proofs.UnmetReplies.{ByLasting, by_lasting}
+use Rattle.rv_state.proofs.StayingReplies.{waits_untold}
 
 -- ---- what is told of a wait
-
--- what is told at once where a wait doesn't last
-abbrev told_at_once : Wait → Reply → Reply
-told_at_once Now at_once = at_once
-told_at_once (Millis n) at_once = reply.TheVariants.TimedOut
-told_at_once Forever at_once = at_once
-
--- a wait that lasts is told what stopped it first, and one that doesn't what is told at once
-abbrev ByLasting : List Entry → ℕ → Wait → Reply → Reply → Type 0
-ByLasting es r wait at_once told =
-    (Lasts (Some wait) × ToldStopped es r
-    told) ⊎ ((Lasts (Some wait) → ⊥) × (told ≡ told_at_once wait at_once))
-
-by_lasting : (wait : Wait) (es : List Entry) (r : ℕ) (at_once told : Reply)
-    → RepliesUnmet es r wait at_once told → ByLasting es r wait at_once told
-by_lasting Now es r at_once told replies = inr ((λ lasts. lasts), replies)
-by_lasting (Millis zero) es r at_once told replies = inr ((λ lasts. omega arith), replies)
-by_lasting (Millis (suc n)) es r at_once told replies = inl (omega arith, replies)
-by_lasting Forever es r at_once told replies = inl (tt, replies)
 
 one_unmet : (wait : Wait) (es : List Entry) (r : ℕ) (at_once x y : Reply) → RepliesUnmet es r wait at_once x
     → RepliesUnmet es r wait at_once y → y ≡ x
@@ -60,16 +41,6 @@ one_unmet wait es r at_once x y first second =
     one_by_lasting (inl one) (inr two) = absurd (two.0 one.0)
     one_by_lasting (inr one) (inl two) = absurd (one.0 two.0)
     one_by_lasting (inr one) (inr two) = two.1 ∙ sym one.1
-
-unmet_waits_not : (wait : Wait) (es : List Entry) (r : ℕ) (call : Call) (at_once told : Reply)
-    → call_at es r ≡ Some call → wait_of call ≡ Some wait → Waiting es r → RepliesUnmet es r wait at_once told
-    → ⊥
-unmet_waits_not wait es r call at_once told arrived is w replies =
-    let same : w.is_open.call ≡ call = same_Some _ _ (sym w.is_open.arrived ∙ arrived) in
-    elim (by_lasting wait es r at_once told replies) [
-      | inl lasts ↦ w.is_open.unstopped (lasts.1.place, lasts.1.stop.stops)
-      | inr passes ↦ passes.0 (subst Lasts (ap wait_of same ∙ is) w.is_open.stays.1)
-    ]
 
 -- ---- a call that is told when it is met, or by its wait
 
@@ -83,11 +54,6 @@ module _ (es : List Entry) (r : ℕ) (own : Call) (wait : Wait) (at_once : Reply
   one_by one x y (inl first) (inr second) = absurd (second.0 (was_met x first))
   one_by one x y (inr first) (inl second) = absurd (first.0 (was_met y second))
   one_by one x y (inr first) (inr second) = one_unmet wait es r at_once x y first.1 second.1
-
-  waits_not_by : call_at es r ≡ Some own → wait_of own ≡ Some wait → (told : Reply) → Waiting es r
-      → ByMeeting told → ⊥
-  waits_not_by arrived is told w (inl met) = w.is_open.unmet (was_met told met)
-  waits_not_by arrived is told w (inr unmet) = unmet_waits_not wait es r own at_once told arrived is w unmet.1
 
 -- ---- receipts and items
 
@@ -193,32 +159,6 @@ one_replied (call.TheVariants.Peek queue) b r x y legal arrived first second =
 one_replied (call.TheVariants.Drain queue max) b r x y legal arrived first second =
     second.2 ∙ ap reply.TheVariants.Drained (same_Some _ _ (sym second.1 ∙ first.1)) ∙ sym first.2
 
-pub replied_waits_not : (own : Call) (b : Account) (r : ℕ) (told : Reply) → call_at b.entries r ≡ Some own
-    → Waiting b.entries r → RepliesAt b.entries r own told → ⊥
-replied_waits_not (call.TheVariants.Put queue item) b r told arrived w replies =
-    let same : call.TheVariants.Put queue item ≡ w.is_open.call =
-    same_Some _ _ (sym arrived ∙ w.is_open.arrived) in
-    w.no_put (subst IsPut same (refl, refl))
-replied_waits_not (call.TheVariants.Transfer queue item wait) b r told arrived w replies =
-    waits_not_by b.entries r (call.TheVariants.Transfer queue item wait) wait reply.TheVariants.Nobody
-    (λ x. Met b.entries r × RepliesMet b.entries r x) (λ x tells. tells.0) arrived refl told w replies
-replied_waits_not (call.TheVariants.Take queue wait) b r told arrived w replies =
-    waits_not_by b.entries r (call.TheVariants.Take queue wait) wait reply.TheVariants.Empty
-    (TellsItem b.entries r reply.TheVariants.Item) (λ x tells. gets_met b.entries r tells.0 tells.1)
-    arrived refl told w replies
-replied_waits_not (call.TheVariants.Swap exchanger item wait) b r told arrived w replies =
-    waits_not_by b.entries r (call.TheVariants.Swap exchanger item wait) wait reply.TheVariants.TimedOut
-    (TellsItem b.entries r reply.TheVariants.Swapped) (λ x tells. gets_met b.entries r tells.0 tells.1)
-    arrived refl told w replies
-replied_waits_not (call.TheVariants.Count queue) b r told arrived w replies =
-    looks_waits_not b.entries r queue (call.TheVariants.Count queue) arrived refl w
-replied_waits_not (call.TheVariants.Peek queue) b r told arrived w replies =
-    looks_waits_not b.entries r queue (call.TheVariants.Peek queue) arrived refl w
-replied_waits_not (call.TheVariants.Drain queue max) b r told arrived w replies =
-    let stays : Stays (call.TheVariants.Drain queue max) =
-    subst Stays (same_Some _ _ (sym w.is_open.arrived ∙ arrived)) w.is_open.stays in
-    stays.1
-
 -- ---- a key
 
 pub one_call : (key : Key) (c d : Call) → Some (Arrive key c) ≡ Some (Arrive key d) → c ≡ d
@@ -250,7 +190,8 @@ reply_or_waits b key told legal (inl has) waits =
     let place : waits.place ≡ has.place =
     arrives_once b waits.place has.place key waits.call has.call legal waits.arrived has.arrived in
     let there : Waiting b.entries has.place = subst (Waiting b.entries) place waits.waits in
-    replied_waits_not has.call b has.place told (ap (option_and_then call_in) has.arrived) there has.replies
+    waits_untold has.call b.entries has.place told (ap (option_and_then call_in) has.arrived) there
+    has.replies
 reply_or_waits b key told legal (inr first) waits = first.0.not_arrived waits.place waits.call waits.arrived
 
 pub one_told : (b : Account) (key : Key) (x y : Answer) → Legal b → Answers b key x → Answers b key y → y ≡ x

@@ -20,7 +20,8 @@ use Rattle.rv_rules.proofs.SamePartners.{same_partners}
 use Rattle.rv_state.specs.State.{OpenPlace, State, line, line_of, place_list}
 use Rattle.rv_state.specs.Follows.{partners_of}
 use Rattle.rv_state.specs.Agreement.{IsStateOf}
-use Rattle.rv_state.proofs.Lined.{line_count, lined}
+use Rattle.rv_state.proofs.Lined.{line_count}
+use Rattle.rv_state.proofs.SideLines.{line_is}
 
 -- ---- who names nobody
 
@@ -72,7 +73,7 @@ arrival_pairs a s moment key call (Some side) state opposes =
     subst (λ (places : List ℕ). KeepsPairs a.entries (entry moment (Arrive key call) places))
     (take-map (λ (o : OpenPlace). o.place) (may_name call) (line s side))
     (front_pairs a.entries moment key call side (length (place_list (line s side))) opposes
-    (line_count (OpenAt a.entries side) (place_list (line s side)) (lined a s side state)))
+    (line_count (OpenAt a.entries side) (place_list (line s side)) (line_is a s state side)))
 
 pub partners_keep_pairs : (a : Account) (s : State) (moment : ℕ) (does : Act) → IsStateOf a s
     → KeepsPairs a.entries (entry moment does (partners_of s does))
