@@ -1,22 +1,15 @@
 -- The state of a legal account is its state: by its entries, one after the other.
-use Rattle.std.proofs.Common.{◌≡◌, ◌≤◌, ◌<◌, ℕ, zero, suc, List, [], ◌∷◌, ◌++◌, take, length, Option, Some}
-use Rattle.std.proofs.Common.{None, refl}
-use Rattle.std.proofs.Common.{sym, ap, subst, ◌∙◌, arith}
-use Rattle.std.specs.List.{fold, slice_get}
+use Rattle.rv_state.proofs.Words.{◌≡◌, ◌≤◌, ◌<◌, ◌∷◌, ◌++◌, ◌∙◌, ℕ, zero, suc, List, [], take, length, Option}
+use Rattle.rv_state.proofs.Words.{Some, None, refl, sym, ap, subst, arith, fold, slice_get, nat_cmp}
+use Rattle.rv_state.proofs.Words.{none-some, Entry, Account, with_entry, Legal, IsLineOf, Open, ClientState}
+use Rattle.rv_state.proofs.Words.{State, client_at, state_after, state_of, IsClientOrNew, IsStateOf}
 use Rattle.std.specs.FinMap.{get-empty}
-use Rattle.std.specs.Ordering.{nat_cmp}
 use Rattle.std.proofs.Math.Seq.{take-length, take-suc}
 use Rattle.std.proofs.lemmas.List.Sums.{fold_push}
-use Rattle.std.proofs.lemmas.Option.{get_or_from_slice_get, none-some}
-use Rattle.rv_account.specs.declared.entry.Entry.{Entry}
-use Rattle.rv_account.specs.Account.{Account, with_entry}
-use Rattle.rv_rules.specs.Legal.{Legal, before}
-use Rattle.rv_rules.specs.Lines.{IsLineOf}
-use Rattle.rv_rules.specs.Waiting.{Open}
+use Rattle.std.proofs.lemmas.Option.{get_or_from_slice_get}
+use Rattle.rv_rules.specs.Legal.{before}
 use Rattle.rv_rules.proofs.Fronts.{Legal-before}
-use Rattle.rv_state.specs.State.{ClientState, State, client_at, opening}
-use Rattle.rv_state.specs.After.{state_after, state_of}
-use Rattle.rv_state.specs.Agreement.{IsClientOrNew, IsStateOf}
+use Rattle.rv_state.specs.State.{opening}
 use Rattle.rv_state.proofs.Coming.{Comes}
 use Rattle.rv_state.proofs.FollowsBoth.{account_to_state}
 use Rattle.rv_state.proofs.Stated.{stated}

@@ -1,31 +1,21 @@
 -- What an arrival that meets nobody is told: by its wait, or what it reads of the account before it.
-use Rattle.std.proofs.Common.{◌≡◌, inl, inr, ℕ, zero, suc, ◌<◌, List, [], ◌∷◌, length, take, Some, None}
-use Rattle.std.proofs.Common.{option_and_then, option_map, refl, sym, ap, subst, ◌∙◌, arith}
-use Rattle.std.specs.List.{slice_get}
+use Rattle.rv_state.proofs.Words.{◌≡◌, ◌<◌, ◌∷◌, ◌∙◌, inl, inr, ℕ, zero, suc, List, [], length, take, Some}
+use Rattle.rv_state.proofs.Words.{None, option_and_then, option_map, refl, sym, ap, subst, arith, slice_get}
+use Rattle.rv_state.proofs.Words.{none-some, same_Some, Call, Wait, Now, Millis, Forever, Reply, Gives, Takes}
+use Rattle.rv_state.proofs.Words.{item_of, wait_of, Entry, Account, call_at, call_in, Lasts, Drains}
+use Rattle.rv_state.proofs.Words.{IsFrontItem, RepliesAt, RepliesUnmet, Met, OpenAt, gives_item, OpenPlace}
+use Rattle.rv_state.proofs.Words.{State, line, IsStateOf}
 use Rattle.std.proofs.Math.Seq.{take-append_seam}
-use Rattle.std.proofs.lemmas.Option.{none-some, same_Some}
-use Rattle.rv_text.specs.declared.call.Call.{Call}
-use Rattle.rv_text.specs.declared.call.Call.TheVariants as call
-use Rattle.rv_text.specs.declared.call.Wait.{Wait}
-use Rattle.rv_text.specs.declared.call.Wait.TheVariants.{Now, Millis, Forever}
-use Rattle.rv_text.specs.declared.answer.Reply.{Reply}
-use Rattle.rv_text.specs.declared.answer.Reply.TheVariants as reply
-use Rattle.rv_text.specs.declared.call.Side.TheVariants.{Gives, Takes}
-use Rattle.rv_text.specs.Calls.{item_of, wait_of}
-use Rattle.rv_account.specs.declared.entry.Entry.{Entry}
-use Rattle.rv_account.specs.Account.{Account, call_at, call_in}
-use Rattle.rv_account.specs.Calls.{Lasts, MayMeet}
-use Rattle.rv_rules.specs.Replies.{Counts, Drains, HasNoItem, IsFrontItem, RepliesAt, RepliesUnmet}
-use Rattle.rv_rules.specs.Waiting.{Met, OpenAt}
-use Rattle.rv_rules.proofs.CallKinds.{gives_item}
+use Rattle.rv_account.specs.Calls.{MayMeet}
+use Rattle.rv_rules.specs.Replies.{Counts, HasNoItem}
 use Rattle.rv_rules.proofs.Sides.{ComesToWait}
-use Rattle.rv_state.specs.State.{OpenPlace, State, line}
 use Rattle.rv_state.specs.After.{told_alone, told_front, told_unmet}
-use Rattle.rv_state.specs.Agreement.{IsStateOf}
 use Rattle.rv_state.proofs.Coming.{more}
 use Rattle.rv_state.proofs.Filtered.{get_map, mapped_there}
 use Rattle.rv_state.proofs.MetPlaces.{line_of_there}
 use Rattle.rv_state.proofs.SideLines.{line_counts, line_is, line_open, open_in_line}
+use Rattle.rv_text.specs.declared.call.Call.TheVariants as call
+use Rattle.rv_text.specs.declared.answer.Reply.TheVariants as reply
 
 -- ---- by its wait
 

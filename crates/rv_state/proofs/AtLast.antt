@@ -1,21 +1,11 @@
 -- What a request or a cancel of the session's last number is told again, by the account and by the state.
-use Rattle.std.proofs.Common.{◌≡◌, inl, inr, ℕ, List, Some, refl, sym, ap, subst, ◌∙◌}
-use Rattle.std.proofs.lemmas.Option.{none-some, same_Some}
-use Rattle.rv_text.specs.declared.answer.Answer.{Answer}
-use Rattle.rv_text.specs.declared.answer.Refusal.{Refusal}
-use Rattle.rv_text.specs.declared.answer.Reply.TheVariants.{Cancelled}
-use Rattle.rv_text.specs.declared.call.Call.{Call}
-use Rattle.rv_text.specs.declared.message.Key.{Key}
-use Rattle.rv_account.specs.declared.entry.Act.TheVariants.{Arrive}
-use Rattle.rv_account.specs.declared.entry.Entry.{Entry}
-use Rattle.rv_account.specs.Account.{Account, act_at}
-use Rattle.rv_rules.specs.Legal.{Legal}
-use Rattle.rv_rules.specs.Steps.{Answers, OtherCallDue, Repeats}
-use Rattle.rv_rules.proofs.OnePartner.{arrives_once}
-use Rattle.rv_state.specs.State.{ClientState, LastRequest, State, client_at}
-use Rattle.rv_state.specs.State.LastRequest.{CancelledUnseen, Fresh, RepliedTo, Waits}
-use Rattle.rv_state.specs.Moves.{CallDiffers, Move, RepeatsMove, answer_told, call_asked, staying, told_again}
-use Rattle.rv_state.specs.Agreement.{BecameOf, IsStateOf}
+use Rattle.rv_state.proofs.Words.{◌≡◌, ◌∙◌, inl, inr, ℕ, List, Some, refl, sym, ap, subst, none-some}
+use Rattle.rv_state.proofs.Words.{same_Some, Answer, Refusal, Cancelled, Call, Key, Arrive, Entry, Account}
+use Rattle.rv_state.proofs.Words.{act_at, Legal, Answers, arrives_once, ClientState, LastRequest, State}
+use Rattle.rv_state.proofs.Words.{client_at, CancelledUnseen, Fresh, RepliedTo, Waits, Move, staying}
+use Rattle.rv_state.proofs.Words.{BecameOf, IsStateOf}
+use Rattle.rv_rules.specs.Steps.{OtherCallDue, Repeats}
+use Rattle.rv_state.specs.Moves.{CallDiffers, RepeatsMove, answer_told, call_asked, told_again}
 use Rattle.rv_state.proofs.CarriedLines.{Done}
 use Rattle.rv_state.proofs.Leading.{IsMoveTo, staying_leads}
 use Rattle.rv_state.proofs.OneTold.{one_call, one_told}

@@ -1,27 +1,16 @@
 -- What became of a request, with one more entry: a reply stays, and who is settled has the reply it is told.
-use Rattle.std.proofs.Common.{◌≡◌, inl, inr, ℕ, ◌<◌, List, [], ◌∷◌, length, Some, option_and_then}
-use Rattle.std.proofs.Common.{refl, sym, ap, subst, ◌∙◌, arith}
-use Rattle.std.specs.List.{slice_get}
-use Rattle.std.proofs.lemmas.Bool.{cases_lt}
-use Rattle.rv_text.specs.declared.message.Key.{Key}
-use Rattle.rv_text.specs.declared.call.Call.{Call}
-use Rattle.rv_text.specs.declared.answer.Reply.{Reply}
-use Rattle.rv_account.specs.declared.entry.Act.TheVariants.{Arrive, Cancel}
-use Rattle.rv_account.specs.declared.entry.Entry.{Entry}
-use Rattle.rv_account.specs.Account.{Account, act_at, call_in, key_in, with_entry}
-use Rattle.rv_rules.specs.Legal.{Legal}
-use Rattle.rv_rules.specs.Replies.{CancelledFirst, RepliesAt}
+use Rattle.rv_state.proofs.Words.{◌≡◌, ◌<◌, ◌∷◌, ◌∙◌, inl, inr, ℕ, List, [], length, Some, option_and_then}
+use Rattle.rv_state.proofs.Words.{refl, sym, ap, subst, arith, slice_get, cases_lt, Key, Call, Reply, Arrive}
+use Rattle.rv_state.proofs.Words.{Cancel, Entry, Account, act_at, call_in, key_in, with_entry, Legal}
+use Rattle.rv_state.proofs.Words.{CancelledFirst, RepliesAt, act_read, reads_on, reads_within}
+use Rattle.rv_state.proofs.Words.{Legal-with_entry, LastRequest, State, CancelledUnseen, Fresh, RepliedTo}
+use Rattle.rv_state.proofs.Words.{Waits, Settled, following, BecameOf, WaitsThere}
 use Rattle.rv_rules.specs.Sessions.{NamesKey}
 use Rattle.rv_rules.proofs.Deciding.{waits_or_not}
-use Rattle.rv_rules.proofs.Growing.{act_read, reads_on, reads_within}
-use Rattle.rv_rules.proofs.Legality.{Legal-with_entry}
 use Rattle.rv_rules.proofs.OnePartner.{arrives_first}
 use Rattle.rv_rules.proofs.Places.{get-append_within}
 use Rattle.rv_rules.proofs.Waits.{one_waits}
-use Rattle.rv_state.specs.State.{LastRequest, State}
-use Rattle.rv_state.specs.State.LastRequest.{CancelledUnseen, Fresh, RepliedTo, Waits}
-use Rattle.rv_state.specs.After.{Settled, following}
-use Rattle.rv_state.specs.Agreement.{BecameOf, HasReplied, WaitsThere}
+use Rattle.rv_state.specs.Agreement.{HasReplied}
 use Rattle.rv_state.proofs.Coming.{Comes, more}
 use Rattle.rv_state.proofs.StayingReplies.{reply_stays}
 use Rattle.rv_state.proofs.Telling.{IsSettledBy, all_settled, settled_replies}

@@ -1,6 +1,5 @@
 -- The lines of a step are carried from one meaning of their conditions to another that says the same.
-use Rattle.std.proofs.Common.{inl, inr}
-use Rattle.rv_text.specs.declared.answer.Refusal.{Refusal}
+use Rattle.rv_state.proofs.Words.{inl, inr, Refusal}
 use Rattle.rv_rules.specs.Steps.{RefuseOr, WhereElse}
 
 -- what is done in the end, of which this much is wanted

@@ -1,14 +1,12 @@
 -- What a state says of a client: a session that is the account's, or that it said no hello.
-use Rattle.std.proofs.Common.{◌≡◌, ℕ, ◌<◌, ◌≤◌, Option, Some, None, refl, sym, subst, ◌∙◌, arith}
-use Rattle.rv_text.specs.declared.message.Key.{Key}
-use Rattle.rv_account.specs.Account.{Account}
-use Rattle.rv_rules.specs.Legal.{Legal}
-use Rattle.rv_rules.specs.Sessions.{HasIncarnation, HasOnlyLower, LastNumber, SaidHello}
-use Rattle.rv_rules.proofs.Histories.{hellos_at_most, one_incarnation, one_last_number}
+use Rattle.rv_state.proofs.Words.{◌≡◌, ◌<◌, ◌≤◌, ◌∙◌, ℕ, Option, Some, None, refl, sym, subst, arith, Key}
+use Rattle.rv_state.proofs.Words.{Account, Legal, HasIncarnation, LastNumber, SaidHello, one_incarnation}
+use Rattle.rv_state.proofs.Words.{one_last_number, ClientState, State, client_at, InSession, IsClient}
+use Rattle.rv_state.proofs.Words.{IsClientOrNew, IsStateOf}
+use Rattle.rv_rules.specs.Sessions.{HasOnlyLower}
+use Rattle.rv_rules.proofs.Histories.{hellos_at_most}
 use Rattle.rv_rules.proofs.Versions.{opened_hello}
-use Rattle.rv_state.specs.State.{ClientState, State, client_at}
-use Rattle.rv_state.specs.Follows.{InSession, IsNewIncarnation}
-use Rattle.rv_state.specs.Agreement.{IsClient, IsClientOrNew, IsStateOf}
+use Rattle.rv_state.specs.Follows.{IsNewIncarnation}
 
 pub client_known : (a : Account) (s : State) (client : ℕ) (session : ClientState) → IsStateOf a s
     → client_at s client ≡ Some session → IsClient a client session

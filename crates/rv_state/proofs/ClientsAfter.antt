@@ -1,40 +1,25 @@
 -- The clients after an entry are those of the account with that entry.
+use Rattle.rv_state.proofs.Words.{◌+◌, ◌∙◌, get, inl, inr, List, [], length, Option, Some, None}
+use Rattle.rv_state.proofs.Words.{option_and_then, option_map, refl, sym, ap, subst, arith, same_Some}
+use Rattle.rv_state.proofs.Words.{Version, Key, Call, Reply, Act, Arrive, Cancel, Hello, Tick, Entry, Account}
+use Rattle.rv_state.proofs.Words.{key_in, with_entry, HasWaiting, IsNextNumber, WaitsUnder, CancelledFirst}
+use Rattle.rv_state.proofs.Words.{SaidHello, same_key, act_read, reads_back, one_incarnation, one_last_number}
+use Rattle.rv_state.proofs.Words.{get-append_end, ClientState, LastRequest, OpenPlace, State, client_at}
+use Rattle.rv_state.proofs.Words.{client_waits, CancelledUnseen, Fresh, Settled, acted, cancelled, following}
+use Rattle.rv_state.proofs.Words.{state_after, met_by, with_last, BecameOf, IsClient, IsClientOrNew}
+use Rattle.rv_state.proofs.Words.{last_key_of}
 use Rattle.std.specs.Prelude.{◌≡◌, ℕ}
-use Rattle.std.specs.FinMap.{get}
-use Rattle.std.proofs.Common.{◌+◌, inl, inr, List, [], length, Option, Some, None, option_and_then}
-use Rattle.std.proofs.Common.{option_map, refl, sym, ap, subst, ◌∙◌, arith}
-use Rattle.std.proofs.lemmas.Option.{same_Some}
-use Rattle.rv_text.specs.declared.version.Version.{Version}
-use Rattle.rv_text.specs.declared.message.Key.{Key}
-use Rattle.rv_text.specs.declared.call.Call.{Call}
-use Rattle.rv_text.specs.declared.answer.Reply.{Reply}
-use Rattle.rv_account.specs.declared.entry.Act.{Act}
-use Rattle.rv_account.specs.declared.entry.Act.TheVariants.{Arrive, Cancel, Hello, Tick}
-use Rattle.rv_account.specs.declared.entry.Entry.{Entry}
-use Rattle.rv_account.specs.Account.{Account, key_in, with_entry}
-use Rattle.rv_rules.specs.Legal.{HasWaiting, IsNextNumber, WaitsUnder}
-use Rattle.rv_rules.specs.Replies.{CancelledFirst}
-use Rattle.rv_rules.specs.Sessions.{SaidHello}
-use Rattle.rv_rules.proofs.Deciding.{arrives_no_cancel, same_key}
-use Rattle.rv_rules.proofs.Growing.{act_read, reads_back}
-use Rattle.rv_rules.proofs.Histories.{one_incarnation, one_last_number}
+use Rattle.rv_rules.proofs.Deciding.{arrives_no_cancel}
 use Rattle.rv_rules.proofs.Keys.{client_of}
 use Rattle.rv_rules.proofs.Numbers.{same_or_not}
 use Rattle.rv_rules.proofs.OnePartner.{named_not_next}
-use Rattle.rv_rules.proofs.Places.{get-append_end}
 use Rattle.rv_rules.proofs.Waits.{waiting_is_last}
-use Rattle.rv_state.specs.State.{ClientState, LastRequest, OpenPlace, State, client_at, client_waits}
-use Rattle.rv_state.specs.State.LastRequest.{CancelledUnseen, Fresh}
-use Rattle.rv_state.specs.After.{Settled, acted, asked, cancelled, following, request_after, state_after}
-use Rattle.rv_state.specs.After.{tell_all}
-use Rattle.rv_state.specs.After.{Following, closed, met_by, parked, with_last, with_open}
-use Rattle.rv_state.specs.Agreement.{BecameOf, IsClient, IsClientOrNew, last_key_of}
+use Rattle.rv_state.specs.After.{asked, request_after, tell_all, Following, closed, parked, with_open}
 use Rattle.rv_state.proofs.Becoming.{became_on}
 use Rattle.rv_state.proofs.Coming.{Comes, more}
 use Rattle.rv_state.proofs.Sessions.{client_waits_there, known, none_waits_there}
 use Rattle.rv_state.proofs.SessionsOn.{IsApart, IsAt, IsAt-on, greeted_at, named_at, names_no_hello}
-use Rattle.rv_state.proofs.SessionsOn.{no_hello_on}
-use Rattle.rv_state.proofs.SessionsOn.{other_apart, tick_apart}
+use Rattle.rv_state.proofs.SessionsOn.{no_hello_on, other_apart, tick_apart}
 use Rattle.rv_state.proofs.Telling.{own_replies, own_waits}
 use Rattle.rv_state.proofs.ToldClients.{get_other, get_own, get_tell_all, told_client}
 

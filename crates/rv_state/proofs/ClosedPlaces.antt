@@ -1,26 +1,20 @@
 -- Which places an act closes: of those that were open, these are open no more with its entry.
-use Rattle.std.proofs.Common.{◌≡◌, ◌⊎◌, inl, inr, ℕ, ◌<◌, List, [], ◌∷◌, length, not, nat_eq}
-use Rattle.std.proofs.Common.{Bool, true, false, cond, Option, Some, None, refl, sym, ap, subst, ◌∙◌, arith}
-use Rattle.std.specs.List.{list_any, slice_get}
-use Rattle.std.proofs.lemmas.Bool.{eq-eqb, eqb-true, false≢true}
-use Rattle.std.proofs.lemmas.Option.{none-some, same_Some}
-use Rattle.rv_account.specs.declared.entry.Entry.{Entry}
-use Rattle.rv_account.specs.declared.entry.Act.{Act}
-use Rattle.rv_account.specs.declared.entry.Act.TheVariants.{Hello, Arrive, Cancel, Tick}
-use Rattle.rv_account.specs.Account.{Account}
-use Rattle.rv_rules.specs.Waiting.{Open}
-use Rattle.rv_rules.proofs.Growing.{call_read, reads_within}
+use Rattle.rv_state.proofs.Words.{◌≡◌, ◌⊎◌, ◌<◌, ◌∷◌, ◌∙◌, inl, inr, ℕ, List, [], length, not, Bool, true}
+use Rattle.rv_state.proofs.Words.{false, cond, Option, Some, None, refl, sym, ap, subst, arith, list_any}
+use Rattle.rv_state.proofs.Words.{slice_get, eq-eqb, eqb-true, false≢true, none-some, same_Some, Entry, Act}
+use Rattle.rv_state.proofs.Words.{Hello, Arrive, Cancel, Tick, Account, Open, call_read, reads_within}
+use Rattle.rv_state.proofs.Words.{OpenPlace, State, client_waits, open_at, but, just_open, met_by}
+use Rattle.rv_state.proofs.Words.{state_after}
+use Rattle.std.proofs.Common.{nat_eq}
 use Rattle.rv_rules.proofs.Places.{get-append}
-use Rattle.rv_state.specs.State.{OpenPlace, State, client_waits, open_at}
-use Rattle.rv_state.specs.After.{but, just_open, met_by, stays_open}
-use Rattle.rv_state.specs.After.{opened_by, state_after}
+use Rattle.rv_state.specs.After.{stays_open, opened_by}
 use Rattle.rv_state.proofs.Coming.{Comes, more}
 use Rattle.rv_state.proofs.Filtered.{chained_there, filter_get, filter_map_get, get_filter, get_map, map_get}
+use Rattle.rv_state.proofs.Filtered.{any_get, append_get, find_get, get_any}
 use Rattle.rv_state.proofs.MetPlaces.{met_there}
 use Rattle.rv_state.proofs.GoneBy.{gone_by}
 use Rattle.rv_state.proofs.OpensBy.{opens_by}
 use Rattle.rv_state.proofs.PlacesAfter.{places_acted, places_after}
-use Rattle.rv_state.proofs.Filtered.{any_get, append_get, find_get, get_any}
 use Rattle.rv_state.proofs.SideLines.{open_stands}
 
 -- ---- they were open

@@ -1,11 +1,6 @@
 -- What is known where an entry comes: a legal account, its state, and that the entry may follow.
+use Rattle.rv_state.proofs.Words.{Account, Entry, Legal, MayFollow, State, partners_of, IsStateOf}
 use Rattle.std.specs.Prelude.{◌≡◌, ◌∷◌, [], ◌++◌, List}
-use Rattle.rv_account.specs.Account.{Account}
-use Rattle.rv_account.specs.declared.entry.Entry.{Entry}
-use Rattle.rv_rules.specs.Legal.{Legal, MayFollow}
-use Rattle.rv_state.specs.State.{State}
-use Rattle.rv_state.specs.Follows.{partners_of}
-use Rattle.rv_state.specs.Agreement.{IsStateOf}
 
 -- a legal account with its state, and an entry that may follow, which names whom the state says
 pub record Comes (a : Account) (s : State) (e : Entry) : Type 0 where

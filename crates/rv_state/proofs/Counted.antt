@@ -1,31 +1,21 @@
 -- A state's clients are as many as said a hello, and its waiters as many as wait.
-use Rattle.std.proofs.Common.{◌≡◌, ℕ, zero, suc, ◌<◌, add-one, Bool, true, false, ◌&&◌, T, List, [], ◌∷◌, map}
-use Rattle.std.proofs.Common.{Option, Some, None, is_some, option_and_then, refl, sym, ap, subst, ◌∙◌, arith}
+use Rattle.rv_state.proofs.Words.{◌≡◌, ◌<◌, ◌∷◌, ◌∙◌, ℕ, zero, suc, Bool, true, false, List, [], map, Option}
+use Rattle.rv_state.proofs.Words.{Some, None, option_and_then, refl, sym, ap, subst, arith, filter, slice_get}
+use Rattle.rv_state.proofs.Words.{nat_cmp, get, keys, false≢true, same_Some, Wait, Key, wait_of, Account}
+use Rattle.rv_state.proofs.Words.{call_in, NumberOf, SaidHello, Open, Waiting, ClientState, OpenPlace, State}
+use Rattle.rv_state.proofs.Words.{client_at, place_list, waiter_of, IsStateOf}
+use Rattle.std.proofs.Common.{add-one, ◌&&◌, T, is_some}
 use Rattle.std.specs.Prelude.{Contains}
-use Rattle.std.specs.List.{filter, slice_get}
 use Rattle.std.specs.List.Sorted.{IsStrictlyIncreasing}
 use Rattle.std.specs.declared.cmp.Ordering.{Ordering}
 use Rattle.std.specs.declared.cmp.Ordering.TheVariants.{Less, Equal, Greater}
-use Rattle.std.specs.Ordering.{eq_by_cmp, is_lt, nat_cmp}
+use Rattle.std.specs.Ordering.{eq_by_cmp, is_lt}
 use Rattle.std.specs.Cmp.{Equal-is, nat_cmp_total, ranked}
-use Rattle.std.specs.FinMap.{FinMap, contains_key-keys, entries, entries_sorted, get, is_sorted, keys, len}
-use Rattle.std.specs.FinMap.{len-entries}
-use Rattle.std.proofs.lemmas.Bool.{false≢true}
+use Rattle.std.specs.FinMap.{FinMap, contains_key-keys, entries, entries_sorted, is_sorted, len, len-entries}
 use Rattle.std.proofs.lemmas.Cmp.{eq_by_cmp_equiv}
 use Rattle.std.proofs.lemmas.List.{length-map}
 use Rattle.std.proofs.lemmas.Map.Views.{Contains-from_any, list_any-from_Contains}
-use Rattle.std.proofs.lemmas.Option.{same_Some}
-use Rattle.rv_text.specs.declared.call.Wait.{Wait}
-use Rattle.rv_text.specs.declared.message.Key.{Key}
-use Rattle.rv_text.specs.Calls.{wait_of}
-use Rattle.rv_account.specs.Account.{Account, call_in}
-use Rattle.rv_rules.specs.Counting.{NumberOf}
-use Rattle.rv_rules.specs.Sessions.{SaidHello}
-use Rattle.rv_rules.specs.Waiting.{Open, Waiting}
-use Rattle.rv_state.specs.State.{ClientState, OpenPlace, State, client_at, place_list}
-use Rattle.rv_state.specs.After.{waiter_of}
 use Rattle.rv_state.specs.Moves.{waiting_count}
-use Rattle.rv_state.specs.Agreement.{IsStateOf}
 use Rattle.rv_state.proofs.ClientParts.{client_known, said_known}
 use Rattle.rv_state.proofs.Lined.{line_count, line_has, line_left}
 

@@ -1,21 +1,11 @@
 -- What a state finds due is what is due in its account.
-use Rattle.std.proofs.Common.{◌≡◌, inl, inr, ◌⊎◌, ℕ, List, [], ◌∷◌, Option, Some, None, option_and_then, refl}
-use Rattle.std.proofs.Common.{sym, ap, subst, ◌∙◌}
-use Rattle.std.specs.List.{slice_get}
-use Rattle.std.proofs.lemmas.Option.{none-some, same_Some}
-use Rattle.rv_text.specs.declared.call.Call.{Call}
-use Rattle.rv_text.specs.declared.message.Key.{Key}
-use Rattle.rv_text.specs.Calls.{wait_of}
-use Rattle.rv_account.specs.declared.entry.Act.TheVariants.{Arrive}
-use Rattle.rv_account.specs.declared.entry.Entry.{Entry}
-use Rattle.rv_account.specs.Account.{Account, call_in, limit_at, limit_in}
-use Rattle.rv_account.specs.Calls.{limit_after, limit_of}
-use Rattle.rv_rules.specs.Legal.{IsDueAt, NothingDue, SomethingDue}
-use Rattle.rv_rules.proofs.Growing.{act_read}
+use Rattle.rv_state.proofs.Words.{◌≡◌, ◌⊎◌, ◌∷◌, ◌∙◌, inl, inr, ℕ, List, [], Option, Some, None}
+use Rattle.rv_state.proofs.Words.{option_and_then, refl, sym, ap, subst, slice_get, none-some, same_Some}
+use Rattle.rv_state.proofs.Words.{Call, Key, wait_of, Arrive, Entry, Account, call_in, limit_at, limit_in}
+use Rattle.rv_state.proofs.Words.{limit_of, NothingDue, act_read, OpenPlace, State, due_at, IsStateOf}
+use Rattle.rv_account.specs.Calls.{limit_after}
+use Rattle.rv_rules.specs.Legal.{IsDueAt, SomethingDue}
 use Rattle.rv_rules.proofs.Sides.{until_due}
-use Rattle.rv_state.specs.State.{OpenPlace, State}
-use Rattle.rv_state.specs.After.{due_at}
-use Rattle.rv_state.specs.Agreement.{IsStateOf}
 use Rattle.rv_state.proofs.DueAt.{IsDuePlace, due_place, place_due}
 use Rattle.rv_state.proofs.PlacesLeft.{among_place, place_among}
 use Rattle.rv_state.proofs.Sessions.{open_found}

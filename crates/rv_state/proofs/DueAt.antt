@@ -1,23 +1,21 @@
 -- The open places that are due at a moment are those whose limit is there and at or below it.
-use Rattle.std.proofs.Common.{◌≡◌, ◌≤◌, ℕ, Bool, true, false, not, List, [], ◌∷◌, map, is_some, Option, Some}
-use Rattle.std.proofs.Common.{None}
-use Rattle.std.proofs.Common.{refl, sym, ap, subst, ◌∙◌}
-use Rattle.std.specs.Prelude.{filter, filter_map, nat_eq, nat_lt, option_map}
-use Rattle.std.specs.List.{list_any, slice_get}
+use Rattle.rv_state.proofs.Words.{◌≡◌, ◌≤◌, ◌∷◌, ◌∙◌, ℕ, Bool, true, false, not, List, [], map, Option, Some}
+use Rattle.rv_state.proofs.Words.{None, refl, sym, ap, subst, nat_eq, list_any, slice_get, keys, eq-eqb}
+use Rattle.rv_state.proofs.Words.{eqb-true, true≢false, none-some, same_Some, Among, OpenPlace, State}
+use Rattle.rv_state.proofs.Words.{open_at, place_list, due_at}
+use Rattle.std.proofs.Common.{is_some}
+use Rattle.std.specs.Prelude.{filter, filter_map, nat_lt, option_map}
 use Rattle.std.specs.Cmp.{Equal-is}
-use Rattle.std.specs.FinMap.{contains_key-keys, from_entries, get-from_entries, keys}
+use Rattle.std.specs.FinMap.{contains_key-keys, from_entries, get-from_entries}
 use Rattle.std.specs.FinMap.Entries.{is_some-find}
 use Rattle.std.specs.Ordering.{eq_by_cmp}
-use Rattle.std.proofs.lemmas.Bool.{eq-eqb, eqb-true, le-ltb, ltb-false, true≢false}
+use Rattle.std.proofs.lemmas.Bool.{le-ltb, ltb-false}
 use Rattle.std.proofs.lemmas.Cmp.{eq_by_cmp_equiv}
-use Rattle.std.proofs.lemmas.Option.{none-some, same_Some}
 use Rattle.rv_due.specs.Deadlines.{Deadline, by_moment}
 use Rattle.rv_due.proofs.Order.{by_moment-IsAntisymmetric, by_moment_total}
-use Rattle.rv_account.specs.Account.{Among}
-use Rattle.rv_state.specs.State.{OpenPlace, State, open_at, place_list}
-use Rattle.rv_state.specs.After.{deadline_of_place, due_at, limits_of}
-use Rattle.rv_state.proofs.Filtered.{any_get, filter_get, filter_map_get, find_get}
-use Rattle.rv_state.proofs.Filtered.{get_any, get_filter, get_filter_map, get_find}
+use Rattle.rv_state.specs.After.{deadline_of_place, limits_of}
+use Rattle.rv_state.proofs.Filtered.{any_get, filter_get, filter_map_get, find_get, get_any, get_filter}
+use Rattle.rv_state.proofs.Filtered.{get_filter_map, get_find}
 use Rattle.rv_state.proofs.PlacesLeft.{among_place, place_among}
 
 -- ---- the map of a list has what stands there

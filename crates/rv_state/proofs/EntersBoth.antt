@@ -1,14 +1,10 @@
 -- The own entry of an account is that of its state.
-use Rattle.std.proofs.Common.{◌≡◌, ℕ, List, refl, ap, subst, ◌∙◌}
-use Rattle.rv_account.specs.declared.entry.Act.{Act}
-use Rattle.rv_account.specs.declared.entry.Entry.{Entry}
-use Rattle.rv_account.specs.Account.{Account, entry, with_entry}
-use Rattle.rv_rules.specs.Legal.{Legal, MayFollow}
+use Rattle.rv_state.proofs.Words.{◌≡◌, ◌∙◌, ℕ, List, refl, ap, subst, Act, Entry, Account, with_entry, Legal}
+use Rattle.rv_state.proofs.Words.{MayFollow, Legal-with_entry, State, partners_of, IsStateOf}
+use Rattle.rv_account.specs.Account.{entry}
 use Rattle.rv_rules.specs.Steps.{Adds}
-use Rattle.rv_rules.proofs.Legality.{Legal-with_entry, follows_itself}
-use Rattle.rv_state.specs.State.{State}
-use Rattle.rv_state.specs.Follows.{MomentFits, NumberFits, partners_of}
-use Rattle.rv_state.specs.Agreement.{IsStateOf}
+use Rattle.rv_rules.proofs.Legality.{follows_itself}
+use Rattle.rv_state.specs.Follows.{MomentFits, NumberFits}
 use Rattle.rv_state.proofs.Coming.{Comes}
 use Rattle.rv_state.proofs.FollowsBoth.{account_to_state, state_to_account}
 

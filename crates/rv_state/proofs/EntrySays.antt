@@ -1,27 +1,12 @@
 -- What a state says of an entry that follows is what its account says with the entry.
-use Rattle.std.proofs.Common.{◌≡◌, ◌⊎◌, inl, inr, ◌∷◌, [], ℕ, length, Option, Some, None, refl}
-use Rattle.std.proofs.Common.{sym, ap}
-use Rattle.std.proofs.Common.{subst, ◌∙◌}
-use Rattle.std.specs.List.{slice_get}
-use Rattle.std.proofs.lemmas.Option.{none-some, same_Some}
-use Rattle.rv_text.specs.declared.message.Key.{Key}
-use Rattle.rv_text.specs.declared.call.Call.{Call}
-use Rattle.rv_text.specs.declared.answer.Reply.{Reply}
-use Rattle.rv_text.specs.declared.answer.Reply.TheVariants as reply
-use Rattle.rv_account.specs.declared.entry.Act.{Act}
-use Rattle.rv_account.specs.declared.entry.Act.TheVariants.{Hello, Arrive, Cancel, Tick}
-use Rattle.rv_account.specs.declared.entry.Entry.{Entry}
-use Rattle.rv_account.specs.Account.{Account, act_at, key_in}
-use Rattle.rv_rules.specs.Legal.{IsNextNumber, Legal, MayFollow, WaitsUnder}
-use Rattle.rv_rules.specs.Replies.{HasReply, RepliesAt}
-use Rattle.rv_rules.specs.Waiting.{Waiting}
-use Rattle.rv_rules.proofs.Growing.{act_read, reads_on}
-use Rattle.rv_rules.proofs.Places.{get-append_end}
+use Rattle.rv_state.proofs.Words.{◌≡◌, ◌⊎◌, ◌∷◌, ◌∙◌, inl, inr, [], ℕ, length, Option, Some, None, refl, sym}
+use Rattle.rv_state.proofs.Words.{ap, subst, slice_get, none-some, same_Some, Key, Call, Reply, Act, Hello}
+use Rattle.rv_state.proofs.Words.{Arrive, Cancel, Tick, Entry, Account, act_at, key_in, IsNextNumber, Legal}
+use Rattle.rv_state.proofs.Words.{MayFollow, WaitsUnder, RepliesAt, Waiting, act_read, reads_on}
+use Rattle.rv_state.proofs.Words.{get-append_end, OpenPlace, State, client_waits, Settled, acted, cancelled}
+use Rattle.rv_state.proofs.Words.{following, state_of, IsArrival}
+use Rattle.rv_rules.specs.Replies.{HasReply}
 use Rattle.rv_rules.proofs.Sides.{IsRequestUnder, cancel_stops}
-use Rattle.rv_state.specs.State.{OpenPlace, State, client_waits}
-use Rattle.rv_state.specs.After.{Settled, acted, cancelled, following}
-use Rattle.rv_state.specs.After.{state_of}
-use Rattle.rv_state.specs.Agreement.{IsArrival}
 use Rattle.rv_state.specs.Laws.{SaysOfEntry}
 use Rattle.rv_state.specs.Settling.{SettlesAt, ToldOwn}
 use Rattle.rv_state.proofs.Agreed.{agreed, state_pushed}
@@ -34,6 +19,7 @@ use Rattle.rv_state.proofs.SettledOrder.{settled_order}
 use Rattle.rv_state.proofs.Settling.{settled_get, settles_are, tells}
 use Rattle.rv_state.proofs.Telling.{IsSettledBy, all_settled, own_replies, own_waits, settled_replies}
 use Rattle.rv_state.proofs.Telling.{settled_waits_not}
+use Rattle.rv_text.specs.declared.answer.Reply.TheVariants as reply
 
 pub comes_to_state : (a : Account) (e : Entry) → Legal a → MayFollow a e → Comes a (state_of a) e
 comes_to_state a e legal follows =

@@ -1,12 +1,12 @@
 -- What stands in a list of which some are left, in the values that a function gives of one, and in a part of
 -- one.
-use Rattle.std.proofs.Common.{◌≡◌, ◌⊎◌, inl, inr, ℕ, zero, suc, ◌<◌, ◌||◌, ◌++◌, List, [], ◌∷◌, cond, Bool}
-use Rattle.std.proofs.Common.{true, false, map, length, take, Option, Some, None, option_and_then, option_map}
-use Rattle.std.proofs.Common.{refl, sym, ap, subst, ◌∙◌, arith, length-take}
-use Rattle.std.specs.List.{cons_option, filter, filter_map, find, list_any, slice_get}
-use Rattle.std.proofs.lemmas.Bool.{false≢true}
-use Rattle.std.proofs.lemmas.Option.{none-some, same_Some, slice_get-map}
-use Rattle.rv_rules.proofs.Places.{get-take, within}
+use Rattle.rv_state.proofs.Words.{◌≡◌, ◌⊎◌, ◌<◌, ◌++◌, ◌∷◌, ◌∙◌, inl, inr, ℕ, zero, suc, List, [], cond, Bool}
+use Rattle.rv_state.proofs.Words.{true, false, map, length, take, Option, Some, None, option_and_then}
+use Rattle.rv_state.proofs.Words.{option_map, refl, sym, ap, subst, arith, cons_option, filter, list_any}
+use Rattle.rv_state.proofs.Words.{slice_get, false≢true, none-some, same_Some, slice_get-map, within}
+use Rattle.std.proofs.Common.{◌||◌, length-take}
+use Rattle.std.specs.List.{filter_map, find}
+use Rattle.rv_rules.proofs.Places.{get-take}
 
 -- the one stands before the other
 abbrev pub InOrder : {X : Type 0} → List X → X → X → Type 0

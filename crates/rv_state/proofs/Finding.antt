@@ -1,9 +1,8 @@
 -- What is found in a list by a test, that nothing is, and what stands in a list of values.
+use Rattle.rv_state.proofs.Words.{◌≡◌, ◌∷◌, ◌∙◌, ℕ, zero, suc, List, [], map, Option, Some, None, true, false}
+use Rattle.rv_state.proofs.Words.{option_and_then, option_map, refl, subst, sym, slice_get, none-some}
+use Rattle.rv_state.proofs.Words.{same_Some, slice_get-map}
 use Rattle.std.specs.Prelude.{find, cond, Bool}
-use Rattle.std.proofs.Common.{◌≡◌, ℕ, zero, suc, List, [], ◌∷◌, map, Option, Some, None, true, false}
-use Rattle.std.proofs.Common.{option_and_then, option_map, refl, subst, sym, ◌∙◌}
-use Rattle.std.specs.List.{slice_get}
-use Rattle.std.proofs.lemmas.Option.{none-some, same_Some, slice_get-map}
 
 -- what is found stands in the list and passes
 pub found_stands : {X : Type 0} (test : X → Bool) (xs : List X) (x : X) → find test xs ≡ Some x

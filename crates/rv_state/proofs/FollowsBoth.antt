@@ -1,10 +1,6 @@
 -- An entry may follow a legal account exactly where it may follow its state.
-use Rattle.rv_account.specs.declared.entry.Entry.{Entry}
-use Rattle.rv_account.specs.Account.{Account}
-use Rattle.rv_rules.specs.Legal.{Legal, MayFollow}
-use Rattle.rv_state.specs.State.{State}
+use Rattle.rv_state.proofs.Words.{Entry, Account, Legal, MayFollow, State, IsStateOf}
 use Rattle.rv_state.specs.Follows.{FollowsState}
-use Rattle.rv_state.specs.Agreement.{IsStateOf}
 use Rattle.rv_state.proofs.MomentsBoth.{fitting_moments, moments_fit}
 use Rattle.rv_state.proofs.NumbersBoth.{fitting_numbers, numbers_fit}
 use Rattle.rv_state.proofs.PairsBoth.{fitting_pairs, pairs_fit}

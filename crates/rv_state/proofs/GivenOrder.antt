@@ -1,8 +1,7 @@
 -- What a function gives of a list, and what a front of it has, stands in the list's order.
-use Rattle.std.proofs.Common.{◌≡◌, ◌<◌, ℕ, zero, suc, List, [], ◌∷◌, take, Option, Some, None, refl}
-use Rattle.std.proofs.Common.{◌∙◌, arith}
-use Rattle.std.specs.List.{cons_option, filter_map, slice_get}
-use Rattle.std.proofs.lemmas.Option.{none-some}
+use Rattle.rv_state.proofs.Words.{◌≡◌, ◌<◌, ◌∷◌, ◌∙◌, ℕ, zero, suc, List, [], take, Option, Some, None, refl}
+use Rattle.rv_state.proofs.Words.{arith, cons_option, slice_get, none-some}
+use Rattle.std.specs.List.{filter_map}
 use Rattle.rv_state.proofs.Filtered.{InOrder, filter_map_get, take_get}
 
 -- two elements of a list, the one before the other, of which a function gives these

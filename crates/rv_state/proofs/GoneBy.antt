@@ -1,29 +1,19 @@
 -- Which open places an entry closes: of those, what it names and what it stops.
-use Rattle.std.proofs.Common.{◌≡◌, ◌⊎◌, inl, inr, ℕ, List, [], ◌∷◌, ◌++◌, Option, Some, None, length}
-use Rattle.std.proofs.Common.{option_and_then, refl, sym, ap, subst, ◌∙◌}
-use Rattle.std.specs.Prelude.{◌↔◌}
-use Rattle.std.specs.List.{slice_get}
-use Rattle.std.proofs.lemmas.Option.{none-some, same_Some}
-use Rattle.rv_text.specs.declared.message.Key.{Key}
-use Rattle.rv_text.specs.declared.call.Call.{Call}
-use Rattle.rv_account.specs.declared.entry.Entry.{Entry}
-use Rattle.rv_account.specs.declared.entry.Act.{Act}
-use Rattle.rv_account.specs.declared.entry.Act.TheVariants.{Hello, Arrive, Cancel, Tick}
-use Rattle.rv_account.specs.Account.{Account, Among, Names, act_at, call_in, key_in, limit_at, limit_in}
-use Rattle.rv_account.specs.Calls.{IsPut, limit_after, limit_of}
-use Rattle.rv_rules.specs.Legal.{HasWaiting, Legal, WaitsUnder}
+use Rattle.rv_state.proofs.Words.{◌≡◌, ◌⊎◌, ◌∷◌, ◌++◌, ◌∙◌, ◌↔◌, inl, inr, ℕ, List, [], Option, Some, None}
+use Rattle.rv_state.proofs.Words.{length, option_and_then, refl, sym, ap, subst, slice_get, none-some}
+use Rattle.rv_state.proofs.Words.{same_Some, Key, Call, Entry, Act, Hello, Arrive, Cancel, Tick, Account}
+use Rattle.rv_state.proofs.Words.{Among, Names, act_at, call_in, key_in, limit_at, limit_in, IsPut, limit_of}
+use Rattle.rv_state.proofs.Words.{HasWaiting, Legal, WaitsUnder, Open, StoppedAt, Waiting, act_read}
+use Rattle.rv_state.proofs.Words.{OpenPlace, State, client_waits, place_list, due_at, just_open, met_by}
+use Rattle.rv_state.proofs.Words.{IsArrival, IsStateOf, partners_of}
+use Rattle.rv_account.specs.Calls.{limit_after}
 use Rattle.rv_rules.specs.Sessions.{NamesKey}
-use Rattle.rv_rules.specs.Waiting.{Open, StoppedAt, Waiting}
-use Rattle.rv_rules.proofs.Growing.{act_read, read_there}
+use Rattle.rv_rules.proofs.Growing.{read_there}
 use Rattle.rv_rules.proofs.Naming.{among_none, named_just}
 use Rattle.rv_rules.proofs.Sides.{IsRequestOf, IsRequestUnder, IsRequestUntil, arrival_stops_nobody}
 use Rattle.rv_rules.proofs.Sides.{cancel_stops, hello_stops, stopped_by_cancel, stopped_by_hello}
 use Rattle.rv_rules.proofs.Sides.{stopped_by_tick, tick_stops}
 use Rattle.rv_rules.proofs.Waits.{one_waits}
-use Rattle.rv_state.specs.State.{OpenPlace, State, client_waits, place_list}
-use Rattle.rv_state.specs.After.{due_at, just_open, met_by}
-use Rattle.rv_state.specs.Agreement.{IsArrival, IsStateOf}
-use Rattle.rv_state.specs.Follows.{partners_of}
 use Rattle.rv_state.proofs.Coming.{Comes, more}
 use Rattle.rv_state.proofs.DueAt.{IsDuePlace, due_place, place_due}
 use Rattle.rv_state.proofs.PlacesLeft.{place_among}

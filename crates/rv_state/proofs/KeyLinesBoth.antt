@@ -1,22 +1,13 @@
 -- The lines for a key decide alike by an account and by its state.
-use Rattle.std.proofs.Common.{◌≡◌, inl, inr, ℕ, ◌+◌, ◌<◌, Option, Some, None, refl, sym, ap, subst, ◌∙◌}
-use Rattle.std.proofs.Common.{arith}
-use Rattle.std.proofs.lemmas.Bool.{cases_lt, cases_order}
-use Rattle.std.proofs.lemmas.Option.{none-some, same_Some}
-use Rattle.rv_text.specs.declared.answer.Refusal.{Refusal}
-use Rattle.rv_text.specs.declared.answer.Refusal.TheVariants.{Busy, Gap, NoSession, OldIncarnation, OldNumber}
-use Rattle.rv_text.specs.declared.answer.Refusal.TheVariants.{OtherEpoch}
-use Rattle.rv_text.specs.declared.message.Key.{Key}
-use Rattle.rv_account.specs.Account.{Account}
-use Rattle.rv_rules.specs.Legal.{Legal}
+use Rattle.rv_state.proofs.Words.{◌≡◌, ◌+◌, ◌<◌, ◌∙◌, inl, inr, ℕ, Option, Some, None, refl, sym, ap, subst}
+use Rattle.rv_state.proofs.Words.{arith, cases_lt, cases_order, none-some, same_Some, Refusal, OldIncarnation}
+use Rattle.rv_state.proofs.Words.{Key, Account, Legal, same_key, ClientState, State, client_at, place_waiting}
+use Rattle.rv_state.proofs.Words.{InSession, NumberIsNext, IncarnationOld, BecameOf, IsStateOf, last_key_of}
+use Rattle.rv_text.specs.declared.answer.Refusal.TheVariants.{Busy, Gap, NoSession, OldNumber, OtherEpoch}
 use Rattle.rv_rules.specs.Steps.{KeyLines}
-use Rattle.rv_rules.proofs.Deciding.{same_key}
 use Rattle.rv_rules.proofs.Numbers.{same_or_not}
-use Rattle.rv_state.specs.State.{ClientState, State, client_at, place_waiting}
-use Rattle.rv_state.specs.Follows.{InSession, NumberIsNext}
-use Rattle.rv_state.specs.Moves.{EpochDiffers, IncarnationOld, NumberAbove, NumberIsLast, NumberOld}
-use Rattle.rv_state.specs.Moves.{SessionBusy, SessionLacks, StateKeyLines}
-use Rattle.rv_state.specs.Agreement.{BecameOf, IsStateOf, last_key_of}
+use Rattle.rv_state.specs.Moves.{EpochDiffers, NumberAbove, NumberIsLast, NumberOld, SessionBusy}
+use Rattle.rv_state.specs.Moves.{SessionLacks, StateKeyLines}
 use Rattle.rv_state.proofs.AtLast.{AtLast}
 use Rattle.rv_state.proofs.CarriedLines.{Done, carried_condition, carried_refusal}
 use Rattle.rv_state.proofs.ClientParts.{client_known}

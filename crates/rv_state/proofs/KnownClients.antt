@@ -1,9 +1,6 @@
 -- A client that a state finds is the account's, and it finds each that said a hello.
-use Rattle.std.proofs.Common.{◌≡◌, ℕ, Option, Some, None, refl, subst}
-use Rattle.rv_account.specs.Account.{Account}
-use Rattle.rv_rules.specs.Sessions.{SaidHello}
-use Rattle.rv_state.specs.State.{ClientState}
-use Rattle.rv_state.specs.Agreement.{IsClient, IsClientOrNew}
+use Rattle.rv_state.proofs.Words.{◌≡◌, ℕ, Option, Some, None, refl, subst, Account, SaidHello, ClientState}
+use Rattle.rv_state.proofs.Words.{IsClient, IsClientOrNew}
 
 -- what is found is the client's
 pub found_client : (a : Account) (client : ℕ) (found : Option ClientState) (session : ClientState)

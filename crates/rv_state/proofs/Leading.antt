@@ -1,14 +1,6 @@
 -- Where a move leads: an account, its state, and an answer.
-use Rattle.std.proofs.Common.{◌≡◌, ℕ, ◌++◌, append-nil, sym, ap, subst, ◌∙◌}
-use Rattle.rv_text.specs.declared.answer.Answer.{Answer}
-use Rattle.rv_account.specs.declared.entry.Act.{Act}
-use Rattle.rv_account.specs.Account.{Account}
-use Rattle.rv_rules.specs.Legal.{Legal}
-use Rattle.rv_rules.proofs.Legality.{Legal-with_entry}
-use Rattle.rv_state.specs.State.{State}
-use Rattle.rv_state.specs.After.{following}
-use Rattle.rv_state.specs.Moves.{Move, entering, staying}
-use Rattle.rv_state.specs.Agreement.{IsStateOf}
+use Rattle.rv_state.proofs.Words.{◌≡◌, ◌++◌, ◌∙◌, ℕ, append-nil, sym, ap, subst, Answer, Act, Account, Legal}
+use Rattle.rv_state.proofs.Words.{Legal-with_entry, State, following, Move, entering, staying, IsStateOf}
 use Rattle.rv_state.proofs.EntersBoth.{Entered, own_entry}
 use Rattle.rv_state.proofs.Stated.{stated}
 

@@ -1,3 +1,4 @@
+pub mod Words
 pub mod Filtered
 pub mod PlacesLeft
 pub mod DueAt

@@ -1,13 +1,9 @@
 -- Of a line of open places those that pass a test are a line too, and so the open places of a side are that
 -- side's.
-use Rattle.std.proofs.Common.{◌≡◌, ℕ, ◌+◌, ◌<◌, List, Bool, true, length, Some, refl, sym}
-use Rattle.std.proofs.Common.{ap, subst, ◌∙◌, arith}
-use Rattle.std.specs.List.{filter, slice_get, slice_index}
+use Rattle.rv_state.proofs.Words.{◌≡◌, ◌+◌, ◌<◌, ◌∙◌, ℕ, List, Bool, true, length, Some, refl, sym, ap, subst}
+use Rattle.rv_state.proofs.Words.{arith, filter, slice_get, NumberOf, IsLineOf, within, OpenPlace, place_list}
+use Rattle.std.specs.List.{slice_index}
 use Rattle.std.proofs.lemmas.Option.{get_or_from_slice_get, slice_get-get_or}
-use Rattle.rv_rules.specs.Counting.{NumberOf}
-use Rattle.rv_rules.specs.Lines.{IsLineOf}
-use Rattle.rv_rules.proofs.Places.{within}
-use Rattle.rv_state.specs.State.{OpenPlace, place_list}
 use Rattle.rv_state.proofs.Filtered.{filter_get, get_filter, get_map, map_get, rises_left}
 
 -- ---- the places of a line

@@ -1,22 +1,12 @@
 -- Whom an arrival meets by the state it names, and they are open arrivals of the other side.
-use Rattle.std.proofs.Common.{◌≡◌, ℕ, List, length, Option, Some, None, option_and_then, sym, ap, ◌∙◌}
-use Rattle.std.specs.List.{slice_get}
-use Rattle.std.proofs.lemmas.Option.{none-some, same_Some}
-use Rattle.rv_text.specs.declared.message.Key.{Key}
-use Rattle.rv_text.specs.declared.call.Call.{Call}
-use Rattle.rv_text.specs.declared.call.Side.{Side}
-use Rattle.rv_text.specs.Calls.{side_of}
-use Rattle.rv_account.specs.declared.entry.Act.TheVariants.{Arrive}
-use Rattle.rv_account.specs.declared.entry.Entry.{Entry}
-use Rattle.rv_account.specs.Account.{Account, Names, call_in}
-use Rattle.rv_account.specs.Calls.{may_name, opposite}
-use Rattle.rv_rules.specs.Waiting.{NamesPartner, Open}
-use Rattle.rv_rules.proofs.Growing.{NamesAt-last, call_read}
-use Rattle.rv_rules.proofs.Places.{get-append_end}
-use Rattle.rv_state.specs.State.{OpenPlace, State, line_of, opposites, place_list, same_side}
-use Rattle.rv_state.specs.After.{met_by}
-use Rattle.rv_state.specs.Follows.{partners_of}
-use Rattle.rv_state.specs.Agreement.{IsArrival}
+use Rattle.rv_state.proofs.Words.{◌≡◌, ◌∙◌, ℕ, List, length, Option, Some, None, option_and_then, sym, ap}
+use Rattle.rv_state.proofs.Words.{slice_get, none-some, same_Some, Key, Call, Side, side_of, Arrive, Entry}
+use Rattle.rv_state.proofs.Words.{Account, Names, call_in, may_name, opposite, Open, call_read}
+use Rattle.rv_state.proofs.Words.{get-append_end, OpenPlace, State, line_of, place_list, same_side, met_by}
+use Rattle.rv_state.proofs.Words.{partners_of, IsArrival}
+use Rattle.rv_rules.specs.Waiting.{NamesPartner}
+use Rattle.rv_rules.proofs.Growing.{NamesAt-last}
+use Rattle.rv_state.specs.State.{opposites}
 use Rattle.rv_state.proofs.Coming.{Comes, more}
 use Rattle.rv_state.proofs.Filtered.{filter_get, get_map, take_get}
 use Rattle.rv_state.proofs.SideLines.{stands_open}

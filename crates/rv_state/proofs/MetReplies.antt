@@ -1,27 +1,16 @@
 -- What a request that meets another is told: its receipt or the other's item; and that it is told something.
-use Rattle.std.proofs.Common.{◌≡◌, inl, inr, ℕ, List, Option, Some, None, option_and_then, option_map, refl}
-use Rattle.std.proofs.Common.{sym, ap, ◌∙◌}
-use Rattle.std.proofs.lemmas.Option.{none-some, same_Some}
-use Rattle.rv_text.specs.declared.version.Version.{Version}
+use Rattle.rv_state.proofs.Words.{◌≡◌, ◌∙◌, inl, inr, ℕ, List, Option, Some, None, option_and_then}
+use Rattle.rv_state.proofs.Words.{option_map, refl, sym, ap, none-some, same_Some, Version, Key, Call, Wait}
+use Rattle.rv_state.proofs.Words.{Reply, Gives, drains_of, item_of, side_of, wait_of, Entry, opposite}
+use Rattle.rv_state.proofs.Words.{GetsItem, MeetsKey, RepliesAt, RepliesMet, AskedIn, Met, gives_item}
+use Rattle.rv_state.proofs.Words.{ClientState, State, client_at, told_met, session_version}
 use Rattle.rv_text.specs.declared.version.Version.TheVariants.{One, Two}
-use Rattle.rv_text.specs.declared.message.Key.{Key}
-use Rattle.rv_text.specs.declared.call.Call.{Call}
-use Rattle.rv_text.specs.declared.call.Call.TheVariants as call
-use Rattle.rv_text.specs.declared.call.Wait.{Wait}
-use Rattle.rv_text.specs.declared.answer.Reply.{Reply}
-use Rattle.rv_text.specs.declared.answer.Reply.TheVariants as reply
-use Rattle.rv_text.specs.declared.call.Side.TheVariants.{Gives}
-use Rattle.rv_text.specs.Calls.{drains_of, item_of, side_of, wait_of}
-use Rattle.rv_account.specs.declared.entry.Entry.{Entry}
-use Rattle.rv_account.specs.Calls.{opposite}
-use Rattle.rv_rules.specs.Replies.{GetsItem, MeetsKey, RepliesAt, RepliesMet}
-use Rattle.rv_rules.specs.Sessions.{AskedIn}
-use Rattle.rv_rules.specs.Waiting.{Met}
-use Rattle.rv_rules.proofs.CallKinds.{exchanges_item, gives_item}
+use Rattle.rv_rules.proofs.CallKinds.{exchanges_item}
 use Rattle.rv_rules.proofs.Versions.{one_version}
-use Rattle.rv_state.specs.State.{ClientState, State, client_at}
-use Rattle.rv_state.specs.After.{receipt_of, told_met, session_version}
+use Rattle.rv_state.specs.After.{receipt_of}
 use Rattle.rv_state.proofs.Filtered.{chained_there, mapped_there}
+use Rattle.rv_text.specs.declared.call.Call.TheVariants as call
+use Rattle.rv_text.specs.declared.answer.Reply.TheVariants as reply
 
 -- ---- it is the reply
 

@@ -1,13 +1,8 @@
 -- A moment keeps an account's moments exactly where it fits its state.
-use Rattle.std.proofs.Common.{◌≡◌, inl, inr, ℕ, ◌≤◌, [], arith}
-use Rattle.rv_account.specs.declared.entry.Act.{Act}
-use Rattle.rv_account.specs.declared.entry.Act.TheVariants.{Arrive, Cancel, Hello, Tick}
-use Rattle.rv_account.specs.Account.{Account, own_moment}
-use Rattle.rv_rules.specs.Legal.{KeepsLimits, KeepsMoments, Legal, NothingDue, SomethingDue}
-use Rattle.rv_state.specs.State.{State}
-use Rattle.rv_state.specs.After.{due_at}
+use Rattle.rv_state.proofs.Words.{◌≡◌, ◌≤◌, inl, inr, ℕ, [], arith, Act, Arrive, Cancel, Hello, Tick, Account}
+use Rattle.rv_state.proofs.Words.{own_moment, Legal, NothingDue, State, due_at, IsStateOf}
+use Rattle.rv_rules.specs.Legal.{KeepsLimits, KeepsMoments, SomethingDue}
 use Rattle.rv_state.specs.Follows.{DueOnlyAtTick, MomentFits}
-use Rattle.rv_state.specs.Agreement.{IsStateOf}
 use Rattle.rv_state.proofs.Due.{due_or_none, nothing_due}
 use Rattle.rv_state.proofs.OwnMoment.{later_keeps_time, time_is_later}
 

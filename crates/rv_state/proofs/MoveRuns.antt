@@ -1,23 +1,14 @@
 -- What a move makes of a state is what its entries make of it, one after the other.
-use Rattle.std.proofs.Common.{◌≡◌, inl, inr, ◌++◌, ℕ, List, [], ◌∷◌, append-nil, append_assoc, refl, sym}
-use Rattle.std.proofs.Common.{ap}
-use Rattle.std.proofs.Common.{subst, ◌∙◌}
-use Rattle.std.specs.List.{fold}
+use Rattle.rv_state.proofs.Words.{◌≡◌, ◌++◌, ◌∷◌, ◌∙◌, inl, inr, ℕ, List, [], append-nil, append_assoc, refl}
+use Rattle.rv_state.proofs.Words.{sym, ap, subst, fold, Key, Message, Answer, Refusal, Act, Entry, OpenPlace}
+use Rattle.rv_state.proofs.Words.{State, Settled, due_at, following, state_after, Move, Ticked, entering}
+use Rattle.rv_state.proofs.Words.{staying, ticked_at}
 use Rattle.std.proofs.lemmas.List.Sums.{fold-append}
-use Rattle.rv_text.specs.declared.message.Key.{Key}
-use Rattle.rv_text.specs.declared.message.Message.{Message}
 use Rattle.rv_text.specs.declared.message.Message.TheVariants.{Hello, Request, Cancel}
-use Rattle.rv_text.specs.declared.answer.Answer.{Answer}
-use Rattle.rv_text.specs.declared.answer.Refusal.{Refusal}
 use Rattle.rv_text.specs.declared.answer.Refusal.TheVariants.{NoMemory}
-use Rattle.rv_account.specs.declared.entry.Act.{Act}
-use Rattle.rv_account.specs.declared.entry.Entry.{Entry}
 use Rattle.rv_rules.specs.Steps.{RefuseOr, WhereElse}
-use Rattle.rv_state.specs.State.{OpenPlace, State}
-use Rattle.rv_state.specs.After.{Settled, due_at, following, state_after}
-use Rattle.rv_state.specs.Moves.{EntersMove, Move, RefusesMove, RepeatsMove, StateKeyLines, StateNext}
-use Rattle.rv_state.specs.Moves.{StateNextAt}
-use Rattle.rv_state.specs.Moves.{Ticked, entering, staying, state_moment, ticked_at, ticked_if}
+use Rattle.rv_state.specs.Moves.{EntersMove, RefusesMove, RepeatsMove, StateKeyLines, StateNext, StateNextAt}
+use Rattle.rv_state.specs.Moves.{state_moment, ticked_if}
 
 -- whom some entries settle, by the state before them
 abbrev pub settles_by : State → List Entry → List Settled

@@ -1,15 +1,10 @@
 -- A step of a legal account is a step of its state, and one of its state is one of the account.
-use Rattle.std.proofs.Common.{◌≡◌, ◌++◌, ℕ, ◌≤◌, List, append_assoc, refl, sym, ap, subst, ◌∙◌, arith}
+use Rattle.rv_state.proofs.Words.{◌≡◌, ◌++◌, ◌≤◌, ◌∙◌, ℕ, List, append_assoc, refl, sym, ap, subst, arith}
+use Rattle.rv_state.proofs.Words.{Message, Answer, Entry, Account, Legal, State, Move, Ticked, ticked_at}
+use Rattle.rv_state.proofs.Words.{IsStateOf}
 use Rattle.std.specs.Prelude.{max}
-use Rattle.rv_text.specs.declared.message.Message.{Message}
-use Rattle.rv_text.specs.declared.answer.Answer.{Answer}
-use Rattle.rv_account.specs.declared.entry.Entry.{Entry}
-use Rattle.rv_account.specs.Account.{Account}
-use Rattle.rv_rules.specs.Legal.{Legal}
 use Rattle.rv_rules.specs.Steps.{Next, NextAt, Ticks, capped_moment, step_moment}
-use Rattle.rv_state.specs.State.{State}
-use Rattle.rv_state.specs.Moves.{Move, StateNext, Ticked, state_moment, ticked_at}
-use Rattle.rv_state.specs.Agreement.{IsStateOf}
+use Rattle.rv_state.specs.Moves.{StateNext, state_moment}
 pub use Rattle.rv_state.proofs.Leading.{IsMoveTo}
 use Rattle.rv_state.proofs.StepsBoth.{next_at_from, next_at_to}
 use Rattle.rv_state.proofs.TicksBoth.{TicksTo, ticks_from, ticks_to}

@@ -1,20 +1,14 @@
 -- The rules on an entry's partners, each kept by the account exactly where it is kept by the state.
-use Rattle.std.proofs.Common.{◌≡◌, ◌<◌, ℕ, Option, Some, None, refl, sym, subst, ◌∙◌, arith}
-use Rattle.std.proofs.lemmas.Option.{same_Some}
+use Rattle.rv_state.proofs.Words.{◌≡◌, ◌<◌, ◌∙◌, ℕ, Option, Some, None, refl, sym, subst, arith, same_Some}
+use Rattle.rv_state.proofs.Words.{Call, Side, side_of, Entry, Account, Among, opposite, OpenAt, State}
+use Rattle.rv_state.proofs.Words.{line_of, place_list, IsStateOf}
 use Rattle.std.specs.Prelude.{length}
-use Rattle.rv_text.specs.declared.call.Call.{Call}
-use Rattle.rv_text.specs.declared.call.Side.{Side}
-use Rattle.rv_text.specs.Calls.{side_of}
-use Rattle.rv_account.specs.declared.entry.Entry.{Entry}
-use Rattle.rv_account.specs.Account.{Account, Among}
-use Rattle.rv_account.specs.Calls.{MayMeet, opposite}
+use Rattle.rv_account.specs.Calls.{MayMeet}
 use Rattle.rv_rules.specs.Legal.{IsOpenOpposite, NamesFreePartners, PairsOldest, PairsOpposites}
 use Rattle.rv_rules.specs.Legal.{PairsWherePossible}
-use Rattle.rv_rules.specs.Waiting.{OpenAt, SideAt}
+use Rattle.rv_rules.specs.Waiting.{SideAt}
 use Rattle.rv_rules.proofs.Naming.{among_none}
 use Rattle.rv_rules.proofs.Sides.{one_side}
-use Rattle.rv_state.specs.State.{State, line_of, place_list}
-use Rattle.rv_state.specs.Agreement.{IsStateOf}
 use Rattle.rv_state.specs.Kept.{IsOpposite, NamesAll, NamesOldest, NamesOpen, NamesOpposites, NamesWell}
 use Rattle.rv_state.proofs.SideLines.{line_is}
 

@@ -1,19 +1,12 @@
 -- An act keeps an account's numbers exactly where its number fits the state.
-use Rattle.std.proofs.Common.{◌≡◌, inl, inr, ◌⊎◌, ℕ, ◌+◌, Option, Some, None, option_and_then, refl, sym, ap}
-use Rattle.std.proofs.Common.{subst, ◌∙◌}
-use Rattle.std.proofs.lemmas.Option.{none-some, same_Some}
-use Rattle.rv_text.specs.declared.call.Call.{Call}
-use Rattle.rv_text.specs.declared.message.Key.{Key}
-use Rattle.rv_text.specs.declared.version.Version.{Version}
-use Rattle.rv_account.specs.declared.entry.Act.{Act}
-use Rattle.rv_account.specs.declared.entry.Act.TheVariants.{Arrive, Cancel, Hello, Tick}
-use Rattle.rv_account.specs.Account.{Account, key_in}
-use Rattle.rv_rules.specs.Legal.{HasWaiting, IsNextNumber, KeepsNumbers, Legal, WaitsUnder}
-use Rattle.rv_rules.specs.Sessions.{HasIncarnation, HasOnlyLower}
-use Rattle.rv_rules.proofs.Deciding.{same_key}
-use Rattle.rv_state.specs.State.{ClientState, State, client_at, open_at, place_waiting}
-use Rattle.rv_state.specs.Follows.{InSession, NumberFits, NumberIsNext, NumberWaits}
-use Rattle.rv_state.specs.Agreement.{IsStateOf, last_key_of}
+use Rattle.rv_state.proofs.Words.{◌≡◌, ◌⊎◌, ◌+◌, ◌∙◌, inl, inr, ℕ, Option, Some, None, option_and_then, refl}
+use Rattle.rv_state.proofs.Words.{sym, ap, subst, none-some, same_Some, Call, Key, Version, Act, Arrive}
+use Rattle.rv_state.proofs.Words.{Cancel, Hello, Tick, Account, key_in, HasWaiting, IsNextNumber, Legal}
+use Rattle.rv_state.proofs.Words.{WaitsUnder, HasIncarnation, same_key, ClientState, State, client_at}
+use Rattle.rv_state.proofs.Words.{open_at, place_waiting, InSession, NumberIsNext, IsStateOf, last_key_of}
+use Rattle.rv_rules.specs.Legal.{KeepsNumbers}
+use Rattle.rv_rules.specs.Sessions.{HasOnlyLower}
+use Rattle.rv_state.specs.Follows.{NumberFits, NumberWaits}
 use Rattle.rv_state.proofs.ClientParts.{above_to_lower, account_to_session, client_known, lower_to_above}
 use Rattle.rv_state.proofs.ClientParts.{same_last, session_to_account}
 use Rattle.rv_state.proofs.Sessions.{none_waits_there, waits_in_account, waits_in_state}

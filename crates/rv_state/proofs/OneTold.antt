@@ -1,33 +1,20 @@
 -- In a legal account a key is told one thing at most: a reply, or that its request waits.
-use Rattle.std.proofs.Common.{◌≡◌, ◌⊎◌, inl, inr, ℕ, List, take, Some, option_and_then, refl, sym}
-use Rattle.std.proofs.Common.{ap, subst, ◌∙◌}
-use Rattle.std.proofs.lemmas.Bool.{cases_order}
-use Rattle.std.proofs.lemmas.Option.{same_Some}
-use Rattle.rv_text.specs.declared.answer.Answer.{Answer}
-use Rattle.rv_text.specs.declared.answer.Answer.TheVariants.{Replied}
-use Rattle.rv_text.specs.declared.answer.Reply as reply
-use Rattle.rv_text.specs.declared.answer.Reply.{Reply}
-use Rattle.rv_text.specs.declared.call.Call as call
-use Rattle.rv_text.specs.declared.call.Call.{Call}
-use Rattle.rv_text.specs.declared.call.Side.TheVariants.{Gives, Takes}
-use Rattle.rv_text.specs.declared.call.Wait.{Wait}
-use Rattle.rv_text.specs.declared.message.Key.{Key}
-use Rattle.rv_text.specs.Calls.{item_of}
-use Rattle.rv_account.specs.declared.entry.Act.TheVariants.{Arrive}
-use Rattle.rv_account.specs.declared.entry.Entry.{Entry}
-use Rattle.rv_account.specs.Account.{Account, act_at, call_at, call_in, key_at}
-use Rattle.rv_account.specs.Calls.{may_name}
-use Rattle.rv_rules.specs.Legal.{Legal, WaitsUnder}
-use Rattle.rv_rules.specs.Replies.{GetsItem, HasReply, IsFrontItem, Meet, MeetsKey, RepliesAt, RepliesMet}
-use Rattle.rv_rules.specs.Replies.{RepliesUnmet}
-use Rattle.rv_rules.specs.Steps.{Answers}
-use Rattle.rv_rules.specs.Waiting.{IsOldest, Met, OpenAt, Waiting}
+use Rattle.rv_state.proofs.Words.{◌≡◌, ◌⊎◌, ◌∙◌, inl, inr, ℕ, List, take, Some, option_and_then, refl, sym}
+use Rattle.rv_state.proofs.Words.{ap, subst, cases_order, same_Some, Answer, Replied, Reply, Call, Gives}
+use Rattle.rv_state.proofs.Words.{Takes, Wait, Key, item_of, Arrive, Entry, Account, act_at, call_at, call_in}
+use Rattle.rv_state.proofs.Words.{may_name, Legal, WaitsUnder, GetsItem, IsFrontItem, MeetsKey, RepliesAt}
+use Rattle.rv_state.proofs.Words.{RepliesMet, RepliesUnmet, Answers, Met, OpenAt, Waiting, arrives_once}
+use Rattle.rv_account.specs.Account.{key_at}
+use Rattle.rv_rules.specs.Replies.{HasReply, Meet}
+use Rattle.rv_rules.specs.Waiting.{IsOldest}
 use Rattle.rv_rules.proofs.Counting.{one_number}
 use Rattle.rv_rules.proofs.FirstStops.{one_told_stopped}
 use Rattle.rv_rules.proofs.Getting.{gets_met, one_item}
-use Rattle.rv_rules.proofs.OnePartner.{arrives_once, meets_one}
+use Rattle.rv_rules.proofs.OnePartner.{meets_one}
 use Rattle.rv_state.proofs.UnmetReplies.{ByLasting, by_lasting}
 use Rattle.rv_state.proofs.StayingReplies.{waits_untold}
+use Rattle.rv_text.specs.declared.answer.Reply as reply
+use Rattle.rv_text.specs.declared.call.Call as call
 
 -- ---- what is told of a wait
 

@@ -1,28 +1,17 @@
 -- The open place that an entry adds: its own, where it is an arrival that meets nobody and stays.
-use Rattle.std.proofs.Common.{◌≡◌, ◌⊎◌, inl, inr, ℕ, Bool, true, false, cond, List, [], ◌∷◌, ◌++◌, Option}
-use Rattle.std.proofs.Common.{Some, None, length, option_and_then, refl, sym, ap, subst, ◌∙◌}
+use Rattle.rv_state.proofs.Words.{◌≡◌, ◌⊎◌, ◌∷◌, ◌++◌, ◌∙◌, inl, inr, ℕ, Bool, true, false, cond, List, []}
+use Rattle.rv_state.proofs.Words.{Option, Some, None, length, option_and_then, refl, sym, ap, subst}
+use Rattle.rv_state.proofs.Words.{true≢false, none-some, same_Some, Key, Call, Wait, Now, Millis, Forever}
+use Rattle.rv_state.proofs.Words.{side_of, wait_of, Entry, Act, Hello, Arrive, Cancel, Tick, Account, Among}
+use Rattle.rv_state.proofs.Words.{act_at, call_at, call_in, limit_at, limit_in, Lasts, Stays, limit_of, Open}
+use Rattle.rv_state.proofs.Words.{act_read, call_read, reads_on, get-append_end, OpenPlace, State, place_list}
+use Rattle.rv_state.proofs.Words.{met_by, IsArrival, partners_of}
 use Rattle.std.specs.Prelude.{Decides}
-use Rattle.std.proofs.lemmas.Bool.{true≢false}
 use Rattle.std.proofs.lemmas.Bool.Decides.{Decides-and, Decides-ltb}
-use Rattle.std.proofs.lemmas.Option.{none-some, same_Some}
-use Rattle.rv_text.specs.declared.message.Key.{Key}
-use Rattle.rv_text.specs.declared.call.Call.{Call}
-use Rattle.rv_text.specs.declared.call.Wait.{Wait}
-use Rattle.rv_text.specs.declared.call.Wait.TheVariants.{Now, Millis, Forever}
-use Rattle.rv_text.specs.Calls.{side_of, wait_of}
-use Rattle.rv_account.specs.declared.entry.Entry.{Entry}
-use Rattle.rv_account.specs.declared.entry.Act.{Act}
-use Rattle.rv_account.specs.declared.entry.Act.TheVariants.{Hello, Arrive, Cancel, Tick}
-use Rattle.rv_account.specs.Account.{Account, Among, act_at, call_at, call_in, limit_at, limit_in, moment_at}
-use Rattle.rv_account.specs.Calls.{Lasts, Stays, limit_of}
-use Rattle.rv_rules.specs.Waiting.{Open}
-use Rattle.rv_rules.proofs.Growing.{NamesAt-last, act_read, call_read, limit_on, moment_read, reads_on}
-use Rattle.rv_rules.proofs.Places.{get-append_end}
+use Rattle.rv_account.specs.Account.{moment_at}
+use Rattle.rv_rules.proofs.Growing.{NamesAt-last, limit_on, moment_read}
 use Rattle.rv_rules.proofs.Sides.{OpenAt-last}
-use Rattle.rv_state.specs.State.{OpenPlace, State, place_list}
-use Rattle.rv_state.specs.After.{lasts_by, met_by, opened_by, parked, stays_open}
-use Rattle.rv_state.specs.Agreement.{IsArrival}
-use Rattle.rv_state.specs.Follows.{partners_of}
+use Rattle.rv_state.specs.After.{lasts_by, opened_by, parked, stays_open}
 use Rattle.rv_state.proofs.Coming.{Comes, more}
 
 -- the open places that an act of a moment adds

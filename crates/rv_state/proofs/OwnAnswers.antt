@@ -1,23 +1,11 @@
 -- What the own entry of a request or a cancel is answered, by the account and by the state.
-use Rattle.std.proofs.Common.{◌≡◌, inl, inr, ℕ, [], ◌∷◌, ◌++◌, length, Option, Some, None, option_and_then}
-use Rattle.std.proofs.Common.{refl, sym, ap, ◌∙◌}
-use Rattle.rv_text.specs.declared.answer.Answer.TheVariants.{Replied}
-use Rattle.rv_text.specs.declared.answer.Reply.{Reply}
-use Rattle.rv_text.specs.declared.answer.Reply.TheVariants.{Cancelled}
-use Rattle.rv_text.specs.declared.call.Call.{Call}
-use Rattle.rv_text.specs.declared.message.Key.{Key}
-use Rattle.rv_account.specs.declared.entry.Act.TheVariants.{Arrive, Cancel}
-use Rattle.rv_account.specs.declared.entry.Entry.{Entry}
-use Rattle.rv_account.specs.Account.{Account, key_in, with_entry}
-use Rattle.rv_rules.specs.Legal.{IsNextNumber, Legal}
-use Rattle.rv_rules.specs.Replies.{CancelledFirst}
-use Rattle.rv_rules.specs.Sessions.{HasIncarnation}
-use Rattle.rv_rules.specs.Steps.{Answers, Replies}
-use Rattle.rv_rules.proofs.Growing.{act_read, reads_back}
+use Rattle.rv_state.proofs.Words.{◌≡◌, ◌∷◌, ◌++◌, ◌∙◌, inl, inr, ℕ, [], length, Option, Some, None}
+use Rattle.rv_state.proofs.Words.{option_and_then, refl, sym, ap, Replied, Reply, Cancelled, Call, Key}
+use Rattle.rv_state.proofs.Words.{Arrive, Cancel, Entry, Account, key_in, with_entry, IsNextNumber, Legal}
+use Rattle.rv_state.proofs.Words.{CancelledFirst, HasIncarnation, Answers, act_read, reads_back}
+use Rattle.rv_state.proofs.Words.{get-append_end, OpenPlace, State, client_waits, cancelled, following}
+use Rattle.rv_rules.specs.Steps.{Replies}
 use Rattle.rv_rules.proofs.OnePartner.{named_not_next}
-use Rattle.rv_rules.proofs.Places.{get-append_end}
-use Rattle.rv_state.specs.State.{OpenPlace, State, client_waits}
-use Rattle.rv_state.specs.After.{cancelled, following}
 use Rattle.rv_state.specs.Moves.{answer_after, answer_told}
 use Rattle.rv_state.proofs.Coming.{Comes}
 use Rattle.rv_state.proofs.Telling.{own_replies, own_waits}

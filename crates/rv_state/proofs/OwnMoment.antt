@@ -1,16 +1,14 @@
 -- The own moment of a legal account is the greatest of its moments, so a moment keeps the time exactly where
 -- it isn't less.
-use Rattle.std.proofs.Common.{◌≡◌, inl, inr, ℕ, ◌-◌, ◌<◌, ◌≤◌, length, Option, Some, None, option_map, refl}
-use Rattle.std.proofs.Common.{sym, ap, ◌∙◌, arith}
-use Rattle.std.specs.List.{slice_get}
+use Rattle.rv_state.proofs.Words.{◌≡◌, ◌<◌, ◌≤◌, ◌∙◌, inl, inr, ℕ, length, Option, Some, None, option_map}
+use Rattle.rv_state.proofs.Words.{refl, sym, ap, arith, slice_get, cases_lt, none-some, same_Some, Entry}
+use Rattle.rv_state.proofs.Words.{Account, own_moment, Legal, reads_within}
+use Rattle.std.proofs.Common.{◌-◌}
 use Rattle.std.specs.Prelude.{unwrap_or}
-use Rattle.std.proofs.lemmas.Bool.{cases_lt}
-use Rattle.std.proofs.lemmas.Option.{none-some, same_Some, slice_get_cases}
-use Rattle.rv_account.specs.declared.entry.Entry.{Entry}
-use Rattle.rv_account.specs.Account.{Account, own_moment}
-use Rattle.rv_rules.specs.Legal.{KeepsTime, Legal}
+use Rattle.std.proofs.lemmas.Option.{slice_get_cases}
+use Rattle.rv_rules.specs.Legal.{KeepsTime}
 use Rattle.rv_rules.proofs.Fronts.{read_front}
-use Rattle.rv_rules.proofs.Growing.{moment_read, reads_within}
+use Rattle.rv_rules.proofs.Growing.{moment_read}
 
 -- the last entry's moment is the greatest
 own_by : (a : Account) → Legal a → (o : Option Entry) → slice_get a.entries (length a.entries - 1) ≡ o

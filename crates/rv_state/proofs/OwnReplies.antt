@@ -1,34 +1,19 @@
 -- The reply of an arrival's own request, where it has one when it comes, and that it waits where it has none.
-use Rattle.std.proofs.Common.{◌≡◌, inl, inr, ℕ, suc, List, [], ◌∷◌, length, filter_map, Option, Some, None}
-use Rattle.std.proofs.Common.{option_and_then, option_map, refl, sym, ap, subst, ◌∙◌}
-use Rattle.std.specs.List.{cons_option, slice_get}
-use Rattle.std.proofs.lemmas.Option.{none-some, same_Some}
-use Rattle.rv_text.specs.declared.message.Key.{Key}
-use Rattle.rv_text.specs.declared.version.Version.{Version}
-use Rattle.rv_text.specs.declared.call.Call.{Call}
-use Rattle.rv_text.specs.declared.call.Wait.{Wait}
-use Rattle.rv_text.specs.declared.call.Side.TheVariants.{Gives, Takes}
-use Rattle.rv_text.specs.declared.call.Call.TheVariants as call
-use Rattle.rv_text.specs.declared.answer.Reply.{Reply}
-use Rattle.rv_text.specs.declared.answer.Reply.TheVariants as reply
-use Rattle.rv_text.specs.Calls.{drains_of, item_of, side_of, wait_of}
-use Rattle.rv_account.specs.declared.entry.Entry.{Entry}
-use Rattle.rv_account.specs.declared.entry.Act.TheVariants.{Arrive}
-use Rattle.rv_account.specs.Account.{Account, call_in, items_at, item_at, just, key_in, partners_items}
-use Rattle.rv_account.specs.Calls.{opposite}
+use Rattle.rv_state.proofs.Words.{◌≡◌, ◌∷◌, ◌∙◌, inl, inr, ℕ, suc, List, [], length, Option, Some, None}
+use Rattle.rv_state.proofs.Words.{option_and_then, option_map, refl, sym, ap, subst, cons_option, slice_get}
+use Rattle.rv_state.proofs.Words.{none-some, same_Some, Key, Version, Call, Wait, Gives, Takes, Reply}
+use Rattle.rv_state.proofs.Words.{drains_of, item_of, side_of, wait_of, Entry, Arrive, Account, call_in}
+use Rattle.rv_state.proofs.Words.{key_in, opposite, Drains, GetsItem, MeetsKey, RepliesAt, AskedIn, Met}
+use Rattle.rv_state.proofs.Words.{Waiting, gives_item, call_read, reads_on, key_read, get-append_end}
+use Rattle.rv_state.proofs.Words.{ClientState, OpenPlace, State, Waiter, client_at, place_list, met_by}
+use Rattle.rv_state.proofs.Words.{told_met, session_version, waiter_of}
+use Rattle.std.proofs.Common.{filter_map}
+use Rattle.rv_account.specs.Account.{items_at, item_at, just, partners_items}
 use Rattle.rv_account.proofs.Items.{joined}
-use Rattle.rv_rules.specs.Replies.{Drains, GetsItem, MeetsKey, RepliesAt}
-use Rattle.rv_rules.specs.Sessions.{AskedIn}
-use Rattle.rv_rules.specs.Waiting.{Met, Waiting}
-use Rattle.rv_rules.proofs.CallKinds.{IsKind, gives_item, kind_at}
-use Rattle.rv_rules.proofs.Growing.{call_read, reads_on}
-use Rattle.rv_rules.proofs.Keys.{key_read}
-use Rattle.rv_rules.proofs.Places.{get-append_end}
+use Rattle.rv_rules.proofs.CallKinds.{IsKind, kind_at}
 use Rattle.rv_rules.proofs.Sides.{Waiting-last, last_unmet}
 use Rattle.rv_rules.proofs.Versions.{asked_last}
-use Rattle.rv_state.specs.State.{ClientState, OpenPlace, State, Waiter, client_at, place_list}
-use Rattle.rv_state.specs.After.{key_of_waiter, met_by, told_met, told_own, told_with, session_version}
-use Rattle.rv_state.specs.After.{waiter_of}
+use Rattle.rv_state.specs.After.{key_of_waiter, told_own, told_with}
 use Rattle.rv_state.proofs.AloneReplies.{alone_replies, alone_waits}
 use Rattle.rv_state.proofs.Coming.{Comes, more}
 use Rattle.rv_state.proofs.KnownClients.{found_client, has_client}
@@ -36,6 +21,8 @@ use Rattle.rv_state.proofs.Filtered.{mapped_there}
 use Rattle.rv_state.proofs.MetPlaces.{IsMet, is_met, partners_are}
 use Rattle.rv_state.proofs.MetReplies.{met_replies, met_told}
 use Rattle.rv_state.proofs.WaitersThere.{waiter_waits}
+use Rattle.rv_text.specs.declared.call.Call.TheVariants as call
+use Rattle.rv_text.specs.declared.answer.Reply.TheVariants as reply
 
 -- ---- the items that a drain takes
 

@@ -1,25 +1,15 @@
 -- An entry keeps an account's pairs exactly where its partners are those that the state says.
-use Rattle.std.proofs.Common.{◌≡◌, ℕ, zero, suc, List, [], take, length, Option, Some, None, refl, sym, ap}
-use Rattle.std.proofs.Common.{subst, ◌∙◌, arith}
+use Rattle.rv_state.proofs.Words.{◌≡◌, ◌∙◌, ℕ, zero, suc, List, [], take, length, Option, Some, None, refl}
+use Rattle.rv_state.proofs.Words.{sym, ap, subst, arith, none-some, same_Some, Call, Side, Key, side_of, Act}
+use Rattle.rv_state.proofs.Words.{Arrive, Cancel, Hello, Tick, Entry, Account, call_in, may_name, opposite}
+use Rattle.rv_state.proofs.Words.{MayFollow, OpenAt, OpenPlace, State, line, line_of, place_list, partners_of}
+use Rattle.rv_state.proofs.Words.{IsStateOf}
 use Rattle.std.proofs.lemmas.List.{take-map}
-use Rattle.std.proofs.lemmas.Option.{none-some, same_Some}
-use Rattle.rv_text.specs.declared.call.Call.{Call}
-use Rattle.rv_text.specs.declared.call.Side.{Side}
-use Rattle.rv_text.specs.declared.message.Key.{Key}
-use Rattle.rv_text.specs.Calls.{side_of}
-use Rattle.rv_account.specs.declared.entry.Act.{Act}
-use Rattle.rv_account.specs.declared.entry.Act.TheVariants.{Arrive, Cancel, Hello, Tick}
-use Rattle.rv_account.specs.declared.entry.Entry.{Entry}
-use Rattle.rv_account.specs.Account.{Account, call_in, entry}
-use Rattle.rv_account.specs.Calls.{may_name, opposite}
-use Rattle.rv_rules.specs.Legal.{KeepsPairs, MayFollow}
-use Rattle.rv_rules.specs.Waiting.{OpenAt}
+use Rattle.rv_account.specs.Account.{entry}
+use Rattle.rv_rules.specs.Legal.{KeepsPairs}
 use Rattle.rv_rules.proofs.FrontPairs.{front_pairs}
 use Rattle.rv_rules.proofs.Naming.{just_none, just_rises}
 use Rattle.rv_rules.proofs.SamePartners.{same_partners}
-use Rattle.rv_state.specs.State.{OpenPlace, State, line, line_of, place_list}
-use Rattle.rv_state.specs.Follows.{partners_of}
-use Rattle.rv_state.specs.Agreement.{IsStateOf}
 use Rattle.rv_state.proofs.Lined.{line_count}
 use Rattle.rv_state.proofs.SideLines.{line_is}
 

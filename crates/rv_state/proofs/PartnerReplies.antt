@@ -1,28 +1,14 @@
 -- What an arrival tells those whom it meets and who waited: their replies; and each is told something.
-use Rattle.std.proofs.Common.{◌≡◌, inl, inr, ℕ, List, [], ◌∷◌, length, Option, Some, None, option_and_then}
-use Rattle.std.proofs.Common.{refl, sym, ap, subst, ◌∙◌}
-use Rattle.std.proofs.lemmas.Option.{same_Some}
-use Rattle.rv_text.specs.declared.message.Key.{Key}
-use Rattle.rv_text.specs.declared.version.Version.{Version}
-use Rattle.rv_text.specs.declared.call.Call.{Call}
-use Rattle.rv_text.specs.declared.call.Call.TheVariants as call
-use Rattle.rv_text.specs.declared.answer.Reply.{Reply}
-use Rattle.rv_text.specs.Calls.{drains_of, item_of, side_of}
-use Rattle.rv_account.specs.declared.entry.Entry.{Entry}
-use Rattle.rv_account.specs.declared.entry.Act.TheVariants.{Arrive}
-use Rattle.rv_account.specs.Account.{Account, call_in, key_in}
-use Rattle.rv_account.specs.Calls.{Stays, opposite}
-use Rattle.rv_rules.specs.Replies.{GetsItem, MeetsKey, RepliesAt}
-use Rattle.rv_rules.specs.Sessions.{AskedIn}
-use Rattle.rv_rules.specs.Waiting.{Met}
-use Rattle.rv_rules.proofs.Growing.{call_read}
-use Rattle.rv_rules.proofs.Keys.{key_read}
+use Rattle.rv_state.proofs.Words.{◌≡◌, ◌∷◌, ◌∙◌, inl, inr, ℕ, List, [], length, Option, Some, None}
+use Rattle.rv_state.proofs.Words.{option_and_then, refl, sym, ap, subst, same_Some, Key, Version, Call, Reply}
+use Rattle.rv_state.proofs.Words.{drains_of, item_of, side_of, Entry, Arrive, Account, call_in, key_in, Stays}
+use Rattle.rv_state.proofs.Words.{opposite, GetsItem, MeetsKey, RepliesAt, AskedIn, Met, call_read, key_read}
+use Rattle.rv_state.proofs.Words.{get-append_end, ClientState, OpenPlace, State, client_at, told_met}
+use Rattle.rv_state.proofs.Words.{session_version, WaitsThere}
 use Rattle.rv_rules.proofs.Opposites.{opposite_back}
-use Rattle.rv_rules.proofs.Places.{get-append_end}
 use Rattle.rv_rules.proofs.Versions.{asked_on, waiting_asked}
-use Rattle.rv_state.specs.State.{ClientState, OpenPlace, State, client_at, call_waiting}
-use Rattle.rv_state.specs.After.{told_met, told_partner, session_version}
-use Rattle.rv_state.specs.Agreement.{WaitsThere}
+use Rattle.rv_state.specs.State.{call_waiting}
+use Rattle.rv_state.specs.After.{told_partner}
 use Rattle.rv_state.proofs.Coming.{Comes, more}
 use Rattle.rv_state.proofs.KnownClients.{found_client}
 use Rattle.rv_state.proofs.Filtered.{mapped_there}
@@ -30,6 +16,7 @@ use Rattle.rv_state.proofs.MetPlaces.{IsMet}
 use Rattle.rv_state.proofs.MetReplies.{met_replies, met_told}
 use Rattle.rv_state.proofs.Sessions.{WaitsInState, waits_in_state}
 use Rattle.rv_state.proofs.WaitersThere.{same_call_at, waits_by}
+use Rattle.rv_text.specs.declared.call.Call.TheVariants as call
 
 -- what stays is no drain
 staying_drains_not : (its : Call) → Stays its → drains_of its ≡ None

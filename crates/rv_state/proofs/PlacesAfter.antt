@@ -1,23 +1,16 @@
 -- The open places after an entry are those that are open then, in their order.
-use Rattle.std.proofs.Common.{◌⊎◌, inl, inr, ◌<◌, List, [], ◌∷◌, ◌++◌, Option, None, length}
-use Rattle.std.proofs.Common.{refl, sym, ap, subst, ◌∙◌}
-use Rattle.std.specs.Prelude.{◌≡◌, ◌↔◌, ℕ, Some, slice_get}
+use Rattle.rv_state.proofs.Words.{◌⊎◌, ◌<◌, ◌∷◌, ◌++◌, ◌∙◌, ◌↔◌, inl, inr, List, [], Option, None, length}
+use Rattle.rv_state.proofs.Words.{refl, sym, ap, subst, Key, Entry, Act, Hello, Arrive, Cancel, Tick, Account}
+use Rattle.rv_state.proofs.Words.{Among, IsLineOf, Open, call_read, reads_back, reads_within, ClientState}
+use Rattle.rv_state.proofs.Words.{LastRequest, OpenPlace, State, client_at, client_waits, place_list}
+use Rattle.rv_state.proofs.Words.{CancelledUnseen, acted, but, cancelled, just_open, state_after, with_last}
+use Rattle.rv_state.proofs.Words.{IsArrival}
+use Rattle.std.specs.Prelude.{◌≡◌, ℕ, Some, slice_get}
 use Rattle.std.proofs.lemmas.List.{append-nil}
-use Rattle.rv_text.specs.declared.message.Key.{Key}
-use Rattle.rv_account.specs.declared.entry.Entry.{Entry}
-use Rattle.rv_account.specs.declared.entry.Act.{Act}
-use Rattle.rv_account.specs.declared.entry.Act.TheVariants.{Hello, Arrive, Cancel, Tick}
-use Rattle.rv_account.specs.Account.{Account, Among}
-use Rattle.rv_rules.specs.Lines.{IsLineOf}
-use Rattle.rv_rules.specs.Waiting.{Open}
-use Rattle.rv_rules.proofs.Growing.{Open-back, Open-on, call_read, reads_back, reads_within}
+use Rattle.rv_rules.proofs.Growing.{Open-back, Open-on}
 use Rattle.rv_rules.proofs.Places.{get-append_cases}
 use Rattle.rv_rules.proofs.Sides.{names_last}
-use Rattle.rv_state.specs.State.{ClientState, LastRequest, OpenPlace, State, client_at, client_waits}
-use Rattle.rv_state.specs.State.{place_list}
-use Rattle.rv_state.specs.State.LastRequest.{CancelledUnseen}
-use Rattle.rv_state.specs.After.{acted, asked, but, cancelled, just_open, state_after, with_last}
-use Rattle.rv_state.specs.Agreement.{IsArrival}
+use Rattle.rv_state.specs.After.{asked}
 use Rattle.rv_state.proofs.Coming.{Comes, more}
 use Rattle.rv_state.proofs.GoneBy.{closes, gone_by}
 use Rattle.rv_state.proofs.OpensBy.{EndsWith, OpensLast, arrival_on, ends_with, opens_by}

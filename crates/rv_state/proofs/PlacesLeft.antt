@@ -1,15 +1,10 @@
 -- Lines of places: what is left where some are gone, and one more at the end.
-use Rattle.std.proofs.Common.{◌≡◌, ◌⊎◌, inl, inr, ◌<◌, ℕ, Bool, true, false, not, List, [], ◌∷◌, ◌++◌, Some}
-use Rattle.std.proofs.Common.{length, refl, sym, ap, subst, ◌∙◌, arith}
-use Rattle.std.specs.Prelude.{◌↔◌, nat_eq}
-use Rattle.std.specs.List.{list_any, slice_get}
-use Rattle.std.proofs.lemmas.Bool.{eq-eqb, eqb-true, true≢false}
+use Rattle.rv_state.proofs.Words.{◌≡◌, ◌⊎◌, ◌<◌, ◌∷◌, ◌++◌, ◌∙◌, ◌↔◌, inl, inr, ℕ, Bool, true, false, not}
+use Rattle.rv_state.proofs.Words.{List, [], Some, length, refl, sym, ap, subst, arith, nat_eq, list_any}
+use Rattle.rv_state.proofs.Words.{slice_get, eq-eqb, eqb-true, true≢false, Among, IsLineOf, get-append_end}
+use Rattle.rv_state.proofs.Words.{OpenPlace, place_list, but}
 use Rattle.std.proofs.lemmas.List.{map-append}
-use Rattle.rv_account.specs.Account.{Among}
-use Rattle.rv_rules.specs.Lines.{IsLineOf}
-use Rattle.rv_rules.proofs.Places.{get-append, get-append_cases, get-append_end}
-use Rattle.rv_state.specs.State.{OpenPlace, place_list}
-use Rattle.rv_state.specs.After.{but}
+use Rattle.rv_rules.proofs.Places.{get-append, get-append_cases}
 use Rattle.rv_state.proofs.Filtered.{any_get, filter_all, filter_get, filter_order, get_any, get_filter}
 use Rattle.rv_state.proofs.Filtered.{get_map, map_get}
 

@@ -1,26 +1,19 @@
 -- Each refusal is due by a legal account exactly where it is due by its state.
-use Rattle.std.proofs.Common.{◌≡◌, ◌⊎◌, ℕ, ◌+◌, ◌<◌, ◌≤◌, length, Option, Some, None, refl, sym, ap, subst}
-use Rattle.std.proofs.Common.{◌∙◌, arith}
+use Rattle.rv_state.proofs.Words.{◌≡◌, ◌⊎◌, ◌+◌, ◌<◌, ◌≤◌, ◌∙◌, ℕ, length, Option, Some, None, refl, sym, ap}
+use Rattle.rv_state.proofs.Words.{subst, arith, Refusal, OldIncarnation, Key, Version, Account, Legal}
+use Rattle.rv_state.proofs.Words.{HasIncarnation, LastNumber, SaidHello, Waiting, ClientState, State}
+use Rattle.rv_state.proofs.Words.{client_at, place_waiting, IncarnationOld, IsStateOf}
 use Rattle.std.specs.FinMap.{len}
-use Rattle.rv_text.specs.declared.answer.Refusal.{Refusal}
-use Rattle.rv_text.specs.declared.answer.Refusal.TheVariants.{Busy, Gap, OldIncarnation, OldNumber}
-use Rattle.rv_text.specs.declared.answer.Refusal.TheVariants.{OtherEpoch, OtherVersion}
-use Rattle.rv_text.specs.declared.message.Key.{Key}
-use Rattle.rv_text.specs.declared.version.Version.{Version}
-use Rattle.rv_account.specs.Account.{Account}
-use Rattle.rv_rules.specs.Legal.{Legal}
-use Rattle.rv_rules.specs.Sessions.{HasIncarnation, HasOpened, LastNumber, SaidHello}
+use Rattle.rv_text.specs.declared.answer.Refusal.TheVariants.{Busy, Gap, OldNumber, OtherEpoch, OtherVersion}
+use Rattle.rv_rules.specs.Sessions.{HasOpened}
 use Rattle.rv_rules.specs.Steps.{BusyDue, ClientsFullDue, EpochFullDue, GapDue, NoSessionDue}
 use Rattle.rv_rules.specs.Steps.{OldIncarnationDue, OldNumberDue, OtherEpochDue, OtherVersionDue}
-use Rattle.rv_rules.specs.Waiting.{Waiting}
 use Rattle.rv_rules.proofs.Counting.{one_number}
 use Rattle.rv_rules.proofs.Keys.{act_arrives}
 use Rattle.rv_rules.proofs.Versions.{one_opened}
-use Rattle.rv_state.specs.State.{ClientState, State, client_at, place_waiting}
-use Rattle.rv_state.specs.Moves.{EpochDiffers, HasSessionOf, IncarnationOld, NoClientMore, NoEntryMore}
-use Rattle.rv_state.specs.Moves.{NumberAbove, NumberIsLast, NumberOld, SessionBusy, SessionLacks}
-use Rattle.rv_state.specs.Moves.{VersionDiffers, waiting_count}
-use Rattle.rv_state.specs.Agreement.{IsStateOf}
+use Rattle.rv_state.specs.Moves.{EpochDiffers, HasSessionOf, NoClientMore, NoEntryMore, NumberAbove}
+use Rattle.rv_state.specs.Moves.{NumberIsLast, NumberOld, SessionBusy, SessionLacks, VersionDiffers}
+use Rattle.rv_state.specs.Moves.{waiting_count}
 use Rattle.rv_state.proofs.Counted.{clients_number, waiters_number}
 use Rattle.rv_state.proofs.ClientParts.{above_to_lower, client_known, client_new, has_said, lower_to_above}
 use Rattle.rv_state.proofs.ClientParts.{said_known, same_incarnation, same_last, session_incarnation}

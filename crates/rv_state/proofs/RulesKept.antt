@@ -1,12 +1,7 @@
 -- Each rule of a legal account is kept by an entry exactly where it is kept by the state.
-use Rattle.std.proofs.Common.{◌≡◌, ◌≤◌, ℕ, refl, arith}
-use Rattle.rv_account.specs.declared.entry.Act.{Act}
-use Rattle.rv_account.specs.declared.entry.Act.TheVariants.{Arrive, Cancel, Hello, Tick}
-use Rattle.rv_account.specs.declared.entry.Entry.{Entry}
-use Rattle.rv_account.specs.Account.{Account, own_moment}
-use Rattle.rv_rules.specs.Legal.{CancelsInTurn, CountsUp, IsOfSession, KeepsTime, Legal, RaisesIncarnation}
-use Rattle.rv_state.specs.State.{State}
-use Rattle.rv_state.specs.Agreement.{IsStateOf}
+use Rattle.rv_state.proofs.Words.{◌≡◌, ◌≤◌, ℕ, refl, arith, Act, Arrive, Cancel, Hello, Tick, Entry, Account}
+use Rattle.rv_state.proofs.Words.{own_moment, Legal, State, IsStateOf}
+use Rattle.rv_rules.specs.Legal.{CancelsInTurn, CountsUp, IsOfSession, KeepsTime, RaisesIncarnation}
 use Rattle.rv_state.specs.Kept.{HelloRises, KeyInSession, NumberInTurn, RulesAgree}
 use Rattle.rv_state.proofs.ClientParts.{account_to_session, lower_to_above, session_to_account}
 use Rattle.rv_state.proofs.MomentsBoth.{due_to_limits, limits_to_due}

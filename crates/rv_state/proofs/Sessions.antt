@@ -1,24 +1,15 @@
 -- Where a client waits, by the state and by the account.
-use Rattle.std.specs.Prelude.{◌≡◌, ℕ, Some, None, slice_get}
-use Rattle.std.specs.Prelude.{Option, nat_eq, option_and_then, option_map, take, false}
-use Rattle.std.proofs.Common.{◌+◌, refl, sym, ap, subst, ◌∙◌, arith}
-use Rattle.std.proofs.lemmas.Bool.{eq-eqb, eqb-true, false≢true}
-use Rattle.std.proofs.lemmas.Option.{none-some, same_Some, slice_get-map}
-use Rattle.rv_text.specs.declared.message.Key.{Key}
-use Rattle.rv_text.specs.declared.call.Call.{Call}
-use Rattle.rv_account.specs.declared.entry.Act.TheVariants.{Arrive}
-use Rattle.rv_account.specs.Account.{Account, act_at, call_in}
-use Rattle.rv_rules.specs.Legal.{HasWaiting, IsNextNumber, Legal}
+use Rattle.rv_state.proofs.Words.{◌+◌, ◌∙◌, nat_eq, refl, sym, ap, subst, arith, eq-eqb, eqb-true, false≢true}
+use Rattle.rv_state.proofs.Words.{none-some, same_Some, slice_get-map, Key, Call, Arrive, Account, act_at}
+use Rattle.rv_state.proofs.Words.{call_in, HasWaiting, IsNextNumber, Legal, Open, Waiting, one_incarnation}
+use Rattle.rv_state.proofs.Words.{one_last_number, arrives_once, ClientState, LastRequest, OpenPlace, State}
+use Rattle.rv_state.proofs.Words.{client_at, client_waits, open_at, place_list, place_waiting}
+use Rattle.rv_state.proofs.Words.{CancelledUnseen, Fresh, RepliedTo, Waits, BecameOf, IsArrival, IsClient}
+use Rattle.rv_state.proofs.Words.{IsClientOrNew, IsStateOf, last_key_of}
+use Rattle.std.specs.Prelude.{◌≡◌, ℕ, Some, None, slice_get, Option, option_and_then, option_map, take, false}
 use Rattle.rv_rules.specs.Replies.{RepliesToArrival}
-use Rattle.rv_rules.specs.Waiting.{Open, Waiting}
-use Rattle.rv_rules.proofs.Histories.{one_incarnation, one_last_number}
 use Rattle.rv_rules.proofs.Keys.{act_arrives}
-use Rattle.rv_rules.proofs.OnePartner.{arrives_once}
 use Rattle.rv_rules.proofs.Waits.{IsLast, arrival, waiting_is_last}
-use Rattle.rv_state.specs.State.{ClientState, LastRequest, OpenPlace, State, client_at, client_waits, open_at}
-use Rattle.rv_state.specs.State.{place_list, place_waiting}
-use Rattle.rv_state.specs.State.LastRequest.{CancelledUnseen, Fresh, RepliedTo, Waits}
-use Rattle.rv_state.specs.Agreement.{BecameOf, IsArrival, IsClient, IsClientOrNew, IsStateOf, last_key_of}
 use Rattle.rv_state.proofs.Finding.{found_stands, mapped_stands, none_found, read_of}
 use Rattle.rv_state.proofs.StayingReplies.{waits_untold}
 

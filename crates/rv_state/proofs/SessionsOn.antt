@@ -1,20 +1,13 @@
 -- What one more entry leaves of a client's session: all of it where the entry is of another, the key's number
 -- where it names a key of the client, and a new session after a hello.
-use Rattle.std.proofs.Common.{◌≡◌, inl, inr, ℕ, ◌<◌, ◌≤◌, List, [], ◌∷◌, ◌++◌, length, Some}
-use Rattle.std.proofs.Common.{refl, sym, ap, ◌∙◌, arith}
-use Rattle.std.proofs.lemmas.Option.{none-some, same_Some}
-use Rattle.rv_text.specs.declared.version.Version.{Version}
-use Rattle.rv_text.specs.declared.message.Key.{Key}
-use Rattle.rv_account.specs.declared.entry.Act.{Act}
-use Rattle.rv_account.specs.declared.entry.Act.TheVariants.{Hello, Tick}
-use Rattle.rv_account.specs.declared.entry.Entry.{Entry}
-use Rattle.rv_account.specs.Account.{act_at, key_at, key_in}
-use Rattle.rv_rules.specs.Sessions.{HasOpened, LastHello, LastNumber, SaidHello}
-use Rattle.rv_rules.proofs.Growing.{act_read, reads_back, reads_within}
+use Rattle.rv_state.proofs.Words.{◌≡◌, ◌<◌, ◌≤◌, ◌∷◌, ◌++◌, ◌∙◌, inl, inr, ℕ, List, [], length, Some, refl}
+use Rattle.rv_state.proofs.Words.{sym, ap, arith, none-some, same_Some, Version, Key, Act, Hello, Tick, Entry}
+use Rattle.rv_state.proofs.Words.{act_at, key_in, LastNumber, SaidHello, act_read, reads_back, reads_within}
+use Rattle.rv_state.proofs.Words.{key_read, get-append_end}
+use Rattle.rv_account.specs.Account.{key_at}
+use Rattle.rv_rules.specs.Sessions.{HasOpened, LastHello}
 use Rattle.rv_rules.proofs.Keys.{LastHello-on, NamesKey-back, NamesKey-on, client_of, hello_is_own}
-use Rattle.rv_rules.proofs.Keys.{key_is_own}
-use Rattle.rv_rules.proofs.Keys.{key_read, tick_no_hello}
-use Rattle.rv_rules.proofs.Places.{get-append_end}
+use Rattle.rv_rules.proofs.Keys.{key_is_own, tick_no_hello}
 use Rattle.rv_rules.proofs.Versions.{HasOpened-on}
 
 -- the session of the client has this incarnation, this version and this last number

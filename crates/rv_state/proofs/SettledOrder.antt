@@ -1,37 +1,22 @@
 -- Whom an entry settles stands in order: at a tick by limit and then place, at any other act by place.
-use Rattle.std.proofs.Common.{◌≡◌, ◌<◌, inl, inr, ℕ, zero, suc, List, [], ◌∷◌, Option, Some}
-use Rattle.std.proofs.Common.{None}
-use Rattle.std.proofs.Common.{refl, sym, ap, subst, ◌∙◌, arith, option_and_then, option_map}
-use Rattle.std.specs.Prelude.{Bool, true, false, ◌&&◌, filter, map, nat_eq, nat_lt, not}
-use Rattle.std.specs.List.{slice_get}
-use Rattle.std.specs.FinMap.{entries, entries_sorted, keys}
+use Rattle.rv_state.proofs.Words.{◌≡◌, ◌<◌, ◌∷◌, ◌∙◌, inl, inr, ℕ, zero, suc, List, [], Option, Some, None}
+use Rattle.rv_state.proofs.Words.{refl, sym, ap, subst, arith, option_and_then, option_map, nat_eq, slice_get}
+use Rattle.rv_state.proofs.Words.{keys, eqb-true, none-some, same_Some, Key, Call, Side, Wait, Reply, side_of}
+use Rattle.rv_state.proofs.Words.{wait_of, Act, Hello, Arrive, Cancel, Tick, Entry, Account, act_at, limit_at}
+use Rattle.rv_state.proofs.Words.{may_name, opposite, Legal, arrives_once, OpenPlace, State, Waiter}
+use Rattle.rv_state.proofs.Words.{client_waits, line_of, open_at, same_side, Settled, due_at, following}
+use Rattle.rv_state.proofs.Words.{just_open, waiter_of, IsArrival, IsStateOf, WaitsThere}
+use Rattle.std.specs.Prelude.{Bool, true, false, ◌&&◌, filter, map, nat_lt, not}
+use Rattle.std.specs.FinMap.{entries, entries_sorted}
 use Rattle.std.specs.FinMap.Entries.{below_all, is_sorted}
 use Rattle.std.specs.Ordering.{is_lt}
 use Rattle.std.specs.declared.cmp.Ordering.{Ordering}
 use Rattle.std.specs.declared.cmp.Ordering.TheVariants.{Less, Equal, Greater}
 use Rattle.std.proofs.Math.Dec.{T}
 use Rattle.rv_due.proofs.Order.{precedes}
-use Rattle.std.proofs.lemmas.Bool.{eqb-true}
-use Rattle.std.proofs.lemmas.Option.{none-some, same_Some}
 use Rattle.rv_due.specs.Deadlines.{Deadline, Precedes, by_moment}
-use Rattle.rv_text.specs.declared.message.Key.{Key}
-use Rattle.rv_text.specs.declared.call.Call.{Call}
-use Rattle.rv_text.specs.declared.call.Side.{Side}
-use Rattle.rv_text.specs.declared.call.Wait.{Wait}
-use Rattle.rv_text.specs.declared.answer.Reply.{Reply}
-use Rattle.rv_text.specs.Calls.{side_of, wait_of}
-use Rattle.rv_account.specs.declared.entry.Act.{Act}
-use Rattle.rv_account.specs.declared.entry.Act.TheVariants.{Hello, Arrive, Cancel, Tick}
-use Rattle.rv_account.specs.declared.entry.Entry.{Entry}
-use Rattle.rv_account.specs.Account.{Account, act_at, limit_at}
-use Rattle.rv_account.specs.Calls.{may_name, opposite}
-use Rattle.rv_rules.specs.Legal.{Legal}
-use Rattle.rv_rules.proofs.OnePartner.{arrives_once}
-use Rattle.rv_state.specs.State.{OpenPlace, State, Waiter, client_waits, line_of, open_at, opposites}
-use Rattle.rv_state.specs.State.{same_side}
-use Rattle.rv_state.specs.After.{Settled, due_at, following, just_open, limits_of}
-use Rattle.rv_state.specs.After.{settled_at, waiter_of}
-use Rattle.rv_state.specs.Agreement.{IsArrival, IsStateOf, WaitsThere}
+use Rattle.rv_state.specs.State.{opposites}
+use Rattle.rv_state.specs.After.{limits_of, settled_at}
 use Rattle.rv_state.specs.Settling.{HasSoonerLimit, SettlesBefore}
 use Rattle.rv_state.proofs.Coming.{Comes}
 use Rattle.rv_state.proofs.DueAt.{listed_deadline}

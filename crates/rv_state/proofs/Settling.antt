@@ -1,27 +1,15 @@
 -- Whom an entry settles: who waited at the places that it closes, and each has the reply that it tells there.
-use Rattle.std.proofs.Common.{◌≡◌, inl, inr, ℕ, List, [], length, Option, Some, None, option_and_then}
-use Rattle.std.proofs.Common.{option_map}
-use Rattle.std.proofs.Common.{refl, sym, ap, subst, ◌∙◌}
-use Rattle.std.specs.List.{slice_get}
-use Rattle.std.proofs.lemmas.Option.{same_Some}
-use Rattle.rv_text.specs.declared.message.Key.{Key}
-use Rattle.rv_text.specs.declared.call.Call.{Call}
-use Rattle.rv_text.specs.declared.answer.Reply.{Reply}
-use Rattle.rv_text.specs.declared.answer.Reply.TheVariants as reply
-use Rattle.rv_account.specs.declared.entry.Entry.{Entry}
-use Rattle.rv_account.specs.declared.entry.Act.{Act}
-use Rattle.rv_account.specs.declared.entry.Act.TheVariants.{Hello, Arrive, Cancel, Tick}
-use Rattle.rv_account.specs.Account.{Account, Names, just}
-use Rattle.rv_rules.specs.Replies.{RepliesAt, told_by}
-use Rattle.rv_rules.specs.Waiting.{StoppedAt}
+use Rattle.rv_state.proofs.Words.{◌≡◌, ◌∙◌, inl, inr, ℕ, List, [], length, Option, Some, None}
+use Rattle.rv_state.proofs.Words.{option_and_then, option_map, refl, sym, ap, subst, slice_get, same_Some}
+use Rattle.rv_state.proofs.Words.{Key, Call, Reply, Entry, Act, Hello, Arrive, Cancel, Tick, Account, Names}
+use Rattle.rv_state.proofs.Words.{RepliesAt, StoppedAt, OpenPlace, State, Waiter, Settled, acted, cancelled}
+use Rattle.rv_state.proofs.Words.{just_open, partners_of, WaitsThere, client_waits}
+use Rattle.rv_account.specs.Account.{just}
+use Rattle.rv_rules.specs.Replies.{told_by}
 use Rattle.rv_rules.proofs.Deciding.{stops_or_not}
 use Rattle.rv_rules.proofs.Growing.{Open-on}
 use Rattle.rv_rules.proofs.Naming.{just_none}
-use Rattle.rv_state.specs.State.{OpenPlace, State, Waiter}
-use Rattle.rv_state.specs.After.{Settled, acted, cancelled, just_open, settled_all, settled_at, told_partner}
-use Rattle.rv_state.specs.Follows.{partners_of}
-use Rattle.rv_state.specs.Agreement.{WaitsThere}
-use Rattle.rv_state.specs.State.{client_waits}
+use Rattle.rv_state.specs.After.{settled_all, settled_at, told_partner}
 use Rattle.rv_state.proofs.ClosedPlaces.{closed_not_open, closes_open}
 use Rattle.rv_state.proofs.Coming.{Comes, more}
 use Rattle.rv_state.proofs.Filtered.{chained_there, filter_map_get, get_filter_map, mapped_there}
@@ -31,6 +19,7 @@ use Rattle.rv_state.proofs.PartnerReplies.{partner_has, partner_replies}
 use Rattle.rv_state.proofs.SideLines.{stands_open}
 use Rattle.rv_state.proofs.StopReplies.{stop_replies}
 use Rattle.rv_state.proofs.WaitersThere.{waiter_waits}
+use Rattle.rv_text.specs.declared.answer.Reply.TheVariants as reply
 
 -- what an act tells who waits at a place that it closes
 abbrev pub tells : State → Act → OpenPlace → Key → Option Reply

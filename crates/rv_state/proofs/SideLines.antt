@@ -1,18 +1,14 @@
 -- The line of a side in a state is its line in the account, and each place of it is that of an arrival there.
-use Rattle.std.proofs.Common.{◌≡◌, ℕ, length, Bool, true, Some, option_and_then, refl, sym, ap, subst, ◌∙◌}
-use Rattle.std.proofs.lemmas.Bool.{eq-eqb, eqb-true, false≢true}
+use Rattle.rv_state.proofs.Words.{◌≡◌, ◌∙◌, ℕ, length, Bool, true, Some, option_and_then, refl, sym, ap}
+use Rattle.rv_state.proofs.Words.{subst, eq-eqb, eqb-true, false≢true, slice_get, Side, Gives, Takes, Account}
+use Rattle.rv_state.proofs.Words.{call_in, NumberOf, Open, OpenAt, OpenPlace, State, line, place_list}
+use Rattle.rv_state.proofs.Words.{same_side, IsArrival, IsStateOf}
 use Rattle.std.proofs.lemmas.List.{length-map}
-use Rattle.std.specs.List.{slice_get}
-use Rattle.rv_text.specs.declared.call.Side.{Side}
-use Rattle.rv_text.specs.declared.call.Side.TheVariants.{Gives, Takes, Looks, Exchanges}
-use Rattle.rv_account.specs.Account.{Account, call_in}
-use Rattle.rv_rules.specs.Counting.{NumberOf}
+use Rattle.rv_text.specs.declared.call.Side.TheVariants.{Looks, Exchanges}
 use Rattle.rv_rules.specs.Lines.{IsLine}
-use Rattle.rv_rules.specs.Waiting.{Open, OpenAt, SideAt}
+use Rattle.rv_rules.specs.Waiting.{SideAt}
 use Rattle.rv_rules.proofs.Counting.{line_number}
 use Rattle.rv_rules.proofs.Sides.{one_side}
-use Rattle.rv_state.specs.State.{OpenPlace, State, line, place_list, same_side}
-use Rattle.rv_state.specs.Agreement.{IsArrival, IsStateOf}
 use Rattle.rv_state.proofs.Filtered.{filter_get, get_filter, filter_order, get_map, map_get}
 
 -- ---- the test of sides

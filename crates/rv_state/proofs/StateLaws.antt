@@ -1,22 +1,16 @@
 -- The laws of states, from what an entry and a step say.
-use Rattle.std.proofs.Common.{◌≡◌, ◌++◌, ℕ, List, [], ◌∷◌, append_assoc, length, refl, sym, ap, subst}
-use Rattle.std.proofs.Common.{◌∙◌}
-use Rattle.std.specs.List.{fold}
+use Rattle.rv_state.proofs.Words.{◌≡◌, ◌++◌, ◌∷◌, ◌∙◌, ℕ, List, [], append_assoc, length, refl, sym, ap}
+use Rattle.rv_state.proofs.Words.{subst, fold, Message, Entry, Account, with_entry, Legal, state_after}
+use Rattle.rv_state.proofs.Words.{state_of, Move}
 use Rattle.std.proofs.Math.Seq.{take-append_seam}
 use Rattle.std.proofs.lemmas.List.Sums.{fold-append}
-use Rattle.rv_text.specs.declared.message.Message.{Message}
-use Rattle.rv_account.specs.declared.entry.Entry.{Entry}
-use Rattle.rv_account.specs.Account.{Account, with_entry}
-use Rattle.rv_rules.specs.Legal.{Legal}
 use Rattle.rv_rules.specs.Steps.{Next}
 use Rattle.rv_rules.proofs.Fronts.{Legal-before}
 use Rattle.rv_rules.proofs.Legality.{follows_itself}
 use Rattle.rv_state.specs.State.{opening}
-use Rattle.rv_state.specs.After.{state_after, state_of}
-use Rattle.rv_state.specs.Laws.{IsMoveTo, MovesStep, OneFuture, StatesAgree, StatesFollow}
-use Rattle.rv_state.specs.Laws.{StatesKeepRules, StatesSettle, StepsMove}
+use Rattle.rv_state.specs.Laws.{IsMoveTo, MovesStep, OneFuture, StatesAgree, StatesFollow, StatesKeepRules}
+use Rattle.rv_state.specs.Laws.{StatesSettle, StepsMove}
 use Rattle.rv_state.specs.Follows.{FollowsState}
-use Rattle.rv_state.specs.Moves.{Move}
 use Rattle.rv_state.specs.Settling.{SettlesEach}
 use Rattle.rv_state.proofs.Agreed.{agreed, state_pushed}
 use Rattle.rv_state.proofs.EntrySays.{says_of_entry}

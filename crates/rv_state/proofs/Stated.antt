@@ -1,18 +1,11 @@
 -- The state after an entry is that of the account with the entry.
-use Rattle.std.proofs.Common.{◌≡◌, ◌+◌, ◌-◌, ℕ, List, [], ◌∷◌, ◌++◌, length, length-append, Option, Some}
-use Rattle.std.proofs.Common.{None, refl}
-use Rattle.std.proofs.Common.{sym, ap, ◌∙◌, arith, option_map}
+use Rattle.rv_state.proofs.Words.{◌≡◌, ◌+◌, ◌∷◌, ◌++◌, ◌∙◌, ℕ, List, [], length, Option, Some, None, refl}
+use Rattle.rv_state.proofs.Words.{sym, ap, arith, option_map, slice_get, Key, Act, Hello, Arrive, Cancel}
+use Rattle.rv_state.proofs.Words.{Tick, Entry, Account, own_moment, with_entry, get-append_end, ClientState}
+use Rattle.rv_state.proofs.Words.{LastRequest, OpenPlace, State, client_at, client_waits, acted, cancelled}
+use Rattle.rv_state.proofs.Words.{state_after, with_last, IsStateOf}
+use Rattle.std.proofs.Common.{◌-◌, length-append}
 use Rattle.std.specs.Prelude.{unwrap_or}
-use Rattle.std.specs.List.{slice_get}
-use Rattle.rv_text.specs.declared.message.Key.{Key}
-use Rattle.rv_account.specs.declared.entry.Act.{Act}
-use Rattle.rv_account.specs.declared.entry.Act.TheVariants.{Hello, Arrive, Cancel, Tick}
-use Rattle.rv_account.specs.declared.entry.Entry.{Entry}
-use Rattle.rv_account.specs.Account.{Account, own_moment, with_entry}
-use Rattle.rv_rules.proofs.Places.{get-append_end}
-use Rattle.rv_state.specs.State.{ClientState, LastRequest, OpenPlace, State, client_at, client_waits}
-use Rattle.rv_state.specs.After.{acted, cancelled, state_after, with_last}
-use Rattle.rv_state.specs.Agreement.{IsStateOf}
 use Rattle.rv_state.proofs.ClientsAfter.{clients_after}
 use Rattle.rv_state.proofs.Coming.{Comes}
 use Rattle.rv_state.proofs.PlacesAfter.{arrivals_after, places_after}

@@ -1,27 +1,20 @@
 -- A reply stays where the account goes on, and who waits has none.
-use Rattle.std.proofs.Common.{◌≡◌, inl, inr, ℕ, ◌<◌, List, [], ◌∷◌, ◌++◌, length, Option, Some, None}
-use Rattle.std.proofs.Common.{option_and_then, option_map, refl, sym, ap, subst, ◌∙◌}
-use Rattle.std.proofs.lemmas.Option.{none-some, same_Some}
-use Rattle.rv_text.specs.declared.answer.Reply as reply
-use Rattle.rv_text.specs.declared.answer.Reply.{Reply}
-use Rattle.rv_text.specs.declared.call.Call.{Call}
+use Rattle.rv_state.proofs.Words.{◌≡◌, ◌<◌, ◌∷◌, ◌++◌, ◌∙◌, inl, inr, ℕ, List, [], length, Option, Some, None}
+use Rattle.rv_state.proofs.Words.{option_and_then, option_map, refl, sym, ap, subst, none-some, same_Some}
+use Rattle.rv_state.proofs.Words.{Reply, Call, Key, item_of, Entry, call_at, IsPut, Stays, Legal, Drains}
+use Rattle.rv_state.proofs.Words.{IsFrontItem, MeetsKey, RepliesAt, RepliesMet, Waiting, call_read, reads_on}
+use Rattle.rv_state.proofs.Words.{reads_within, key_read}
 use Rattle.rv_text.specs.declared.call.Call.TheVariants.{Put, Transfer, Take, Swap, Count, Peek, Drain}
-use Rattle.rv_text.specs.declared.message.Key.{Key}
 use Rattle.rv_text.specs.declared.version.Version.TheVariants.{Two}
-use Rattle.rv_text.specs.Calls.{item_of}
 use Rattle.rv_account.proofs.Items.{joined, parts}
-use Rattle.rv_account.specs.declared.entry.Entry.{Entry}
-use Rattle.rv_account.specs.Account.{call_at, items_at, partners_at}
-use Rattle.rv_account.specs.Calls.{IsPut, Stays}
-use Rattle.rv_rules.specs.Legal.{Legal}
-use Rattle.rv_rules.specs.Replies.{Counts, Drains, HasNoItem, IsFrontItem, MeetsKey, RepliesAt, RepliesMet}
-use Rattle.rv_rules.specs.Waiting.{Waiting}
+use Rattle.rv_account.specs.Account.{items_at, partners_at}
+use Rattle.rv_rules.specs.Replies.{Counts, HasNoItem}
 use Rattle.rv_rules.proofs.Getting.{Meet-on, gets_met, gets_on}
-use Rattle.rv_rules.proofs.Growing.{Met-on, call_read, reads_on, reads_within}
-use Rattle.rv_rules.proofs.Keys.{key_read}
+use Rattle.rv_rules.proofs.Growing.{Met-on}
 use Rattle.rv_rules.proofs.Looking.{looks_waits_not, same_before}
 use Rattle.rv_rules.proofs.Versions.{asked_back, asked_on}
 use Rattle.rv_state.proofs.UnmetReplies.{still_unmet, unmet_stays, unmet_waits_not}
+use Rattle.rv_text.specs.declared.answer.Reply as reply
 
 -- ---- what a drain takes stays
 

@@ -1,28 +1,15 @@
 -- The step of a message by an account, at a moment, is one by its state, and the other way round.
-use Rattle.std.proofs.Common.{◌≡◌, inl, inr, ℕ, ◌≤◌, [], refl, sym, ap, subst, ◌∙◌}
-use Rattle.std.proofs.lemmas.Bool.{cases_order}
-use Rattle.rv_text.specs.declared.answer.Answer.{Answer}
-use Rattle.rv_text.specs.declared.answer.Answer.TheVariants.{Refused, Replied, Welcome}
-use Rattle.rv_text.specs.declared.answer.Refusal.{Refusal}
-use Rattle.rv_text.specs.declared.answer.Refusal.TheVariants.{NoMemory, OldIncarnation}
-use Rattle.rv_text.specs.declared.answer.Reply.TheVariants.{Cancelled}
-use Rattle.rv_text.specs.declared.call.Call.{Call}
-use Rattle.rv_text.specs.declared.message.Key.{Key}
-use Rattle.rv_text.specs.declared.message.Message.{Message}
+use Rattle.rv_state.proofs.Words.{◌≡◌, ◌≤◌, ◌∙◌, inl, inr, ℕ, [], refl, sym, ap, subst, cases_order, Answer}
+use Rattle.rv_state.proofs.Words.{Replied, Refusal, OldIncarnation, Cancelled, Call, Key, Message, Version}
+use Rattle.rv_state.proofs.Words.{Act, Account, with_entry, Legal, Answers, State, due_at, NumberIsNext}
+use Rattle.rv_state.proofs.Words.{IncarnationOld, Move, entering, staying, IsStateOf}
+use Rattle.rv_text.specs.declared.answer.Answer.TheVariants.{Refused, Welcome}
+use Rattle.rv_text.specs.declared.answer.Refusal.TheVariants.{NoMemory}
 use Rattle.rv_text.specs.declared.message.Message.TheVariants.{Cancel, Hello, Request}
-use Rattle.rv_text.specs.declared.version.Version.{Version}
-use Rattle.rv_account.specs.declared.entry.Act.{Act}
-use Rattle.rv_account.specs.declared.entry.Act.TheVariants as act
-use Rattle.rv_account.specs.Account.{Account, with_entry}
 use Rattle.rv_account.specs.Calls.{need_of}
-use Rattle.rv_rules.specs.Legal.{Legal}
-use Rattle.rv_rules.specs.Steps.{Adds, Answers, EntersOrNoMemory, NextAt, Refuses, Replies}
-use Rattle.rv_state.specs.State.{State}
-use Rattle.rv_state.specs.After.{due_at}
-use Rattle.rv_state.specs.Follows.{IsNewIncarnation, NumberIsNext}
-use Rattle.rv_state.specs.Moves.{EntersMove, HasSessionOf, IncarnationOld, Move, RefusesMove, StateNextAt}
-use Rattle.rv_state.specs.Moves.{answer_after, entering, staying}
-use Rattle.rv_state.specs.Agreement.{IsStateOf}
+use Rattle.rv_rules.specs.Steps.{Adds, EntersOrNoMemory, NextAt, Refuses, Replies}
+use Rattle.rv_state.specs.Follows.{IsNewIncarnation}
+use Rattle.rv_state.specs.Moves.{EntersMove, HasSessionOf, RefusesMove, StateNextAt, answer_after}
 use Rattle.rv_state.proofs.AtLast.{call_from, call_to, repeats_from, repeats_to}
 use Rattle.rv_state.proofs.CarriedLines.{Done, carried_condition, carried_refusal}
 use Rattle.rv_state.proofs.Coming.{Comes}
@@ -35,6 +22,7 @@ use Rattle.rv_state.proofs.OneTold.{one_told}
 use Rattle.rv_state.proofs.OwnAnswers.{cancel_answer, first_replies, own_answers}
 use Rattle.rv_state.proofs.RefusalsBoth.{clients_from, clients_to, full_from, full_to, has_from, has_to}
 use Rattle.rv_state.proofs.RefusalsBoth.{incarnation_from, incarnation_to, version_from, version_to}
+use Rattle.rv_account.specs.declared.entry.Act.TheVariants as act
 
 module _ (a : Account) (s : State) (moment : ℕ) (legal : Legal a) (state : IsStateOf a s) where
   -- ---- from the account to its state

@@ -1,23 +1,14 @@
 -- What stops a waiting request first tells it its reply.
-use Rattle.std.proofs.Common.{◌≡◌, inl, inr, ℕ, zero, suc, ◌<◌, List, [], ◌∷◌, ◌++◌, length, Some}
-use Rattle.std.proofs.Common.{option_and_then, refl, sym, ap, subst, ◌∙◌, arith}
-use Rattle.std.proofs.lemmas.Option.{same_Some}
-use Rattle.rv_text.specs.declared.message.Key.{Key}
-use Rattle.rv_text.specs.declared.call.Call.{Call}
-use Rattle.rv_text.specs.declared.call.Call.TheVariants as call
-use Rattle.rv_text.specs.declared.call.Wait.{Wait}
-use Rattle.rv_text.specs.declared.call.Wait.TheVariants.{Now, Millis, Forever}
-use Rattle.rv_text.specs.declared.answer.Reply.{Reply}
-use Rattle.rv_text.specs.declared.answer.Reply.TheVariants as reply
-use Rattle.rv_account.specs.declared.entry.Entry.{Entry}
-use Rattle.rv_account.specs.Account.{Names, call_in}
-use Rattle.rv_account.specs.Calls.{IsPut, Lasts, Stays}
-use Rattle.rv_rules.specs.Replies.{RepliesAt, RepliesUnmet, ToldStopped, told_by}
-use Rattle.rv_rules.specs.Waiting.{Met, StoppedAt}
+use Rattle.rv_state.proofs.Words.{◌≡◌, ◌<◌, ◌∷◌, ◌++◌, ◌∙◌, inl, inr, ℕ, zero, suc, List, [], length, Some}
+use Rattle.rv_state.proofs.Words.{option_and_then, refl, sym, ap, subst, arith, same_Some, Key, Call, Wait}
+use Rattle.rv_state.proofs.Words.{Now, Millis, Forever, Reply, Entry, Names, call_in, IsPut, Lasts, Stays}
+use Rattle.rv_state.proofs.Words.{RepliesAt, RepliesUnmet, Met, StoppedAt, act_read, reads_within, WaitsThere}
+use Rattle.rv_rules.specs.Replies.{ToldStopped, told_by}
 use Rattle.rv_rules.proofs.FirstStops.{told_by_last}
-use Rattle.rv_rules.proofs.Growing.{Met-back, act_read, reads_within}
+use Rattle.rv_rules.proofs.Growing.{Met-back}
 use Rattle.rv_rules.proofs.Opposites.{looks_alone}
-use Rattle.rv_state.specs.Agreement.{WaitsThere}
+use Rattle.rv_text.specs.declared.call.Call.TheVariants as call
+use Rattle.rv_text.specs.declared.answer.Reply.TheVariants as reply
 
 lasting_told : (wait : Wait) (es : List Entry) (r : ℕ) (at_once told : Reply) → Lasts (Some wait)
     → ToldStopped es r told → RepliesUnmet es r wait at_once told

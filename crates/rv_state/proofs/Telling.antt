@@ -1,19 +1,8 @@
 -- What an entry settles has the replies that the state says, and so has its own request.
-use Rattle.std.proofs.Common.{◌≡◌, ◌∷◌, [], ℕ, Some, None, length, refl, sym, ap, subst, ◌∙◌}
-use Rattle.std.specs.List.{slice_get}
-use Rattle.rv_text.specs.declared.message.Key.{Key}
-use Rattle.rv_text.specs.declared.call.Call.{Call}
-use Rattle.rv_text.specs.declared.answer.Reply.{Reply}
-use Rattle.rv_account.specs.declared.entry.Entry.{Entry}
-use Rattle.rv_account.specs.declared.entry.Act.TheVariants.{Arrive}
-use Rattle.rv_account.specs.Account.{Account, act_at}
-use Rattle.rv_rules.specs.Replies.{RepliesAt}
-use Rattle.rv_rules.specs.Waiting.{Open, Waiting}
-use Rattle.rv_rules.proofs.Growing.{act_read, reads_on}
-use Rattle.rv_rules.proofs.OnePartner.{arrives_once}
-use Rattle.rv_state.specs.State.{OpenPlace, State}
-use Rattle.rv_state.specs.After.{Settled, following}
-use Rattle.rv_state.specs.Agreement.{WaitsThere}
+use Rattle.rv_state.proofs.Words.{◌≡◌, ◌∷◌, ◌∙◌, [], ℕ, Some, None, length, refl, sym, ap, subst, slice_get}
+use Rattle.rv_state.proofs.Words.{Key, Call, Reply, Entry, Arrive, Account, act_at, RepliesAt, Open, Waiting}
+use Rattle.rv_state.proofs.Words.{act_read, reads_on, arrives_once, OpenPlace, State, Settled, following}
+use Rattle.rv_state.proofs.Words.{WaitsThere}
 use Rattle.rv_state.proofs.ClosedPlaces.{closed_not_open, closed_now, closes_open}
 use Rattle.rv_state.proofs.Coming.{Comes, more}
 use Rattle.rv_state.proofs.OwnReplies.{own_told, own_waiting}

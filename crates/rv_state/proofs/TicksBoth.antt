@@ -1,20 +1,15 @@
 -- The time-outs of a step of an account are those of its state, and leave nothing due.
-use Rattle.std.proofs.Common.{◌≡◌, inl, inr, ℕ, ◌≤◌, List, [], ◌∷◌, ◌++◌, append-nil, Some, refl, sym, ap}
-use Rattle.std.proofs.Common.{subst, ◌∙◌, arith}
-use Rattle.std.proofs.lemmas.Option.{none-some}
-use Rattle.rv_account.specs.declared.entry.Act.TheVariants.{Arrive, Tick}
-use Rattle.rv_account.specs.declared.entry.Entry.{Entry}
-use Rattle.rv_account.specs.Account.{Account, act_at, call_in, with_entry}
-use Rattle.rv_rules.specs.Legal.{Legal, NamesFreePartners, NothingDue}
+use Rattle.rv_state.proofs.Words.{◌≡◌, ◌≤◌, ◌∷◌, ◌++◌, ◌∙◌, inl, inr, ℕ, List, [], append-nil, Some, refl}
+use Rattle.rv_state.proofs.Words.{sym, ap, subst, arith, none-some, Arrive, Tick, Entry, Account, act_at}
+use Rattle.rv_state.proofs.Words.{call_in, with_entry, Legal, NothingDue, OpenPlace, State, due_at, following}
+use Rattle.rv_state.proofs.Words.{Ticked, ticked_at, IsStateOf}
+use Rattle.rv_rules.specs.Legal.{NamesFreePartners}
 use Rattle.rv_rules.specs.Steps.{Ticks}
 use Rattle.rv_rules.specs.Waiting.{limit_at}
 use Rattle.rv_rules.proofs.Growing.{limit_on}
 use Rattle.rv_rules.proofs.Keys.{act_called}
 use Rattle.rv_rules.proofs.Sides.{Waiting-back, due_until, tick_stops}
-use Rattle.rv_state.specs.State.{OpenPlace, State}
-use Rattle.rv_state.specs.After.{due_at, following}
-use Rattle.rv_state.specs.Moves.{Ticked, ticked_at, ticked_if, ticking, unticked}
-use Rattle.rv_state.specs.Agreement.{IsStateOf}
+use Rattle.rv_state.specs.Moves.{ticked_if, ticking, unticked}
 use Rattle.rv_state.proofs.Due.{due_or_none}
 use Rattle.rv_state.proofs.EntersBoth.{Entered, adds_own, comes_adds, own_comes, own_entry}
 use Rattle.rv_state.proofs.Leading.{entered_legal, entered_state}

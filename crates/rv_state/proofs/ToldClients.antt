@@ -1,19 +1,13 @@
 -- What telling those that an entry settles makes of the clients, one by one.
-use Rattle.std.specs.Prelude.{cond, nat_eq}
-use Rattle.std.specs.FinMap.{FinMap, get, get-insert, insert}
-use Rattle.std.specs.Ordering.{nat_cmp}
+use Rattle.rv_state.proofs.Words.{◌≡◌, ◌⊎◌, ◌∷◌, ◌∙◌, nat_eq, get, nat_cmp, inl, inr, ℕ, zero, suc, Bool}
+use Rattle.rv_state.proofs.Words.{true, false, List, [], Option, Some, None, option_map, refl, sym, ap}
+use Rattle.rv_state.proofs.Words.{slice_get, eq-eqb, eqb-true, none-some, same_Some, Call, Reply, ClientState}
+use Rattle.rv_state.proofs.Words.{LastRequest, RepliedTo, Waits, Settled}
+use Rattle.std.specs.Prelude.{cond}
+use Rattle.std.specs.FinMap.{FinMap, get-insert, insert}
 use Rattle.std.specs.Cmp.{nat_cmp_total, unsigned_tied}
-use Rattle.std.proofs.Common.{◌≡◌, ◌⊎◌, inl, inr, ℕ, zero, suc, Bool, true, false, List, [], ◌∷◌, Option}
-use Rattle.std.proofs.Common.{Some, None}
-use Rattle.std.proofs.Common.{option_map, refl, sym, ap, ◌∙◌}
-use Rattle.std.specs.List.{slice_get}
-use Rattle.std.proofs.lemmas.Bool.{eq-eqb, eqb-false, eqb-true}
-use Rattle.std.proofs.lemmas.Option.{none-some, same_Some}
-use Rattle.rv_text.specs.declared.call.Call.{Call}
-use Rattle.rv_text.specs.declared.answer.Reply.{Reply}
-use Rattle.rv_state.specs.State.{ClientState, LastRequest}
-use Rattle.rv_state.specs.State.LastRequest.{RepliedTo, Waits}
-use Rattle.rv_state.specs.After.{Settled, answered, insert_told, tell, tell_all, with_request}
+use Rattle.std.proofs.lemmas.Bool.{eqb-false}
+use Rattle.rv_state.specs.After.{answered, insert_told, tell, tell_all, with_request}
 
 -- ---- a map with one key more
 

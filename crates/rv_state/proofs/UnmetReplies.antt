@@ -1,27 +1,17 @@
 -- What an unmet request is told by its wait: that it stays, and that who waits is told nothing.
-use Rattle.std.proofs.Common.{◌≡◌, ◌⊎◌, inl, inr, ℕ, zero, suc, ◌<◌, ◌≤◌, List, ◌++◌, length, take, Some}
-use Rattle.std.proofs.Common.{option_and_then, refl, sym, ap, subst, ◌∙◌, arith}
-use Rattle.std.specs.List.{slice_get}
-use Rattle.std.proofs.lemmas.Bool.{cases_lt}
-use Rattle.std.proofs.lemmas.Option.{same_Some}
-use Rattle.rv_text.specs.declared.answer.Reply as reply
-use Rattle.rv_text.specs.declared.answer.Reply.{Reply}
-use Rattle.rv_text.specs.declared.call.Call.{Call}
-use Rattle.rv_text.specs.declared.call.Wait.{Wait}
-use Rattle.rv_text.specs.declared.call.Wait.TheVariants.{Now, Millis, Forever}
-use Rattle.rv_text.specs.Calls.{wait_of}
-use Rattle.rv_account.specs.declared.entry.Act.TheVariants.{Arrive}
-use Rattle.rv_account.specs.declared.entry.Entry.{Entry}
-use Rattle.rv_account.specs.Account.{Account, call_at}
-use Rattle.rv_account.specs.Calls.{Lasts}
-use Rattle.rv_rules.specs.Legal.{Legal}
-use Rattle.rv_rules.specs.Replies.{RepliesUnmet, ToldStopped}
-use Rattle.rv_rules.specs.Waiting.{EndsWait, Met, NamesPartner, StoppedAt, Waiting, limit_at, limit_in}
-use Rattle.rv_rules.proofs.Growing.{StoppedAt-on, act_read, call_read, reads_on, reads_within}
+use Rattle.rv_state.proofs.Words.{◌≡◌, ◌⊎◌, ◌<◌, ◌≤◌, ◌++◌, ◌∙◌, inl, inr, ℕ, zero, suc, List, length, take}
+use Rattle.rv_state.proofs.Words.{Some, option_and_then, refl, sym, ap, subst, arith, slice_get, cases_lt}
+use Rattle.rv_state.proofs.Words.{same_Some, Reply, Call, Wait, Now, Millis, Forever, wait_of, Arrive, Entry}
+use Rattle.rv_state.proofs.Words.{Account, call_at, Lasts, Legal, RepliesUnmet, Met, StoppedAt, Waiting}
+use Rattle.rv_state.proofs.Words.{act_read, call_read, reads_on, reads_within, within}
+use Rattle.rv_rules.specs.Replies.{ToldStopped}
+use Rattle.rv_rules.specs.Waiting.{EndsWait, NamesPartner, limit_at, limit_in}
+use Rattle.rv_rules.proofs.Growing.{StoppedAt-on}
 use Rattle.rv_rules.proofs.FirstStops.{told_on}
 use Rattle.rv_rules.proofs.Fronts.{read_front}
 use Rattle.rv_rules.proofs.OnePartner.{goes_unnamed, partner_open}
-use Rattle.rv_rules.proofs.Places.{get-append_within, get-take, within}
+use Rattle.rv_rules.proofs.Places.{get-append_within, get-take}
+use Rattle.rv_text.specs.declared.answer.Reply as reply
 
 -- ---- by whether the wait lasts
 

@@ -1,17 +1,8 @@
 -- Who waits at an open place of a state is who waits there in the account.
-use Rattle.std.proofs.Common.{◌≡◌, ℕ, List, Option, Some, None, option_and_then, refl, sym, ap, subst, ◌∙◌}
-use Rattle.std.proofs.lemmas.Option.{none-some, same_Some}
-use Rattle.rv_text.specs.declared.message.Key.{Key}
-use Rattle.rv_text.specs.declared.call.Call.{Call}
-use Rattle.rv_text.specs.declared.call.Wait.{Wait}
-use Rattle.rv_text.specs.Calls.{wait_of}
-use Rattle.rv_account.specs.declared.entry.Act.TheVariants.{Arrive}
-use Rattle.rv_account.specs.declared.entry.Entry.{Entry}
-use Rattle.rv_account.specs.Account.{act_at, call_in, key_in}
-use Rattle.rv_rules.specs.Waiting.{Open}
-use Rattle.rv_state.specs.State.{OpenPlace, Waiter}
-use Rattle.rv_state.specs.After.{waiter_of}
-use Rattle.rv_state.specs.Agreement.{IsArrival, WaitsThere}
+use Rattle.rv_state.proofs.Words.{◌≡◌, ◌∙◌, ℕ, List, Option, Some, None, option_and_then, refl, sym, ap}
+use Rattle.rv_state.proofs.Words.{subst, none-some, same_Some, Key, Call, Wait, wait_of, Arrive, Entry}
+use Rattle.rv_state.proofs.Words.{act_at, call_in, key_in, Open, OpenPlace, Waiter, waiter_of, IsArrival}
+use Rattle.rv_state.proofs.Words.{WaitsThere}
 
 -- ---- one arrival at a place
 

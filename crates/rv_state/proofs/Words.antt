@@ -1,0 +1,58 @@
+-- What many proofs of this crate cite of the library, of the crates below and of its own definitions.
+pub use Rattle.std.proofs.Common.{◌++◌, ◌+◌, ◌<◌, ◌∙◌, ◌∷◌, ◌≡◌, ◌≤◌, ◌⊎◌, Bool, List, None, Option, Some, []}
+pub use Rattle.std.proofs.Common.{ap, append-nil, append_assoc, arith, cond, false, inl, inr, length, map}
+pub use Rattle.std.proofs.Common.{not, option_and_then, option_map, refl, subst, suc, sym, take, true, zero}
+pub use Rattle.std.proofs.Common.{ℕ}
+pub use Rattle.std.proofs.lemmas.Bool.{cases_lt, cases_order, eq-eqb, eqb-true, false≢true, true≢false}
+pub use Rattle.std.proofs.lemmas.Option.{none-some, same_Some, slice_get-map}
+pub use Rattle.std.specs.FinMap.{get, keys}
+pub use Rattle.std.specs.List.{cons_option, filter, fold, list_any, slice_get}
+pub use Rattle.std.specs.Ordering.{nat_cmp}
+pub use Rattle.std.specs.Prelude.{◌↔◌, nat_eq}
+pub use Rattle.rv_account.specs.Account.{Account, Among, Names, act_at, call_at, call_in, key_in, limit_at}
+pub use Rattle.rv_account.specs.Account.{limit_in, own_moment, with_entry}
+pub use Rattle.rv_account.specs.Calls.{IsPut, Lasts, Stays, limit_of, may_name, opposite}
+pub use Rattle.rv_account.specs.declared.entry.Act.{Act}
+pub use Rattle.rv_account.specs.declared.entry.Act.TheVariants.{Arrive, Cancel, Hello, Tick}
+pub use Rattle.rv_account.specs.declared.entry.Entry.{Entry}
+pub use Rattle.rv_rules.proofs.CallKinds.{gives_item}
+pub use Rattle.rv_rules.proofs.Deciding.{same_key}
+pub use Rattle.rv_rules.proofs.Growing.{act_read, call_read, reads_back, reads_on, reads_within}
+pub use Rattle.rv_rules.proofs.Histories.{one_incarnation, one_last_number}
+pub use Rattle.rv_rules.proofs.Keys.{key_read}
+pub use Rattle.rv_rules.proofs.Legality.{Legal-with_entry}
+pub use Rattle.rv_rules.proofs.OnePartner.{arrives_once}
+pub use Rattle.rv_rules.proofs.Places.{get-append_end, within}
+pub use Rattle.rv_rules.specs.Counting.{NumberOf}
+pub use Rattle.rv_rules.specs.Legal.{HasWaiting, IsNextNumber, Legal, MayFollow, NothingDue, WaitsUnder}
+pub use Rattle.rv_rules.specs.Lines.{IsLineOf}
+pub use Rattle.rv_rules.specs.Replies.{CancelledFirst, Drains, GetsItem, IsFrontItem, MeetsKey, RepliesAt}
+pub use Rattle.rv_rules.specs.Replies.{RepliesMet, RepliesUnmet}
+pub use Rattle.rv_rules.specs.Sessions.{AskedIn, HasIncarnation, LastNumber, SaidHello}
+pub use Rattle.rv_rules.specs.Steps.{Answers}
+pub use Rattle.rv_rules.specs.Waiting.{Met, Open, OpenAt, StoppedAt, Waiting}
+pub use Rattle.rv_state.specs.After.{Settled, acted, but, cancelled, due_at, following, just_open, met_by}
+pub use Rattle.rv_state.specs.After.{session_version, state_after, state_of, told_met, waiter_of, with_last}
+pub use Rattle.rv_state.specs.Agreement.{BecameOf, IsArrival, IsClient, IsClientOrNew, IsStateOf, WaitsThere}
+pub use Rattle.rv_state.specs.Agreement.{last_key_of}
+pub use Rattle.rv_state.specs.Follows.{InSession, NumberIsNext, partners_of}
+pub use Rattle.rv_state.specs.Moves.{IncarnationOld, Move, Ticked, entering, staying, ticked_at}
+pub use Rattle.rv_state.specs.State.{ClientState, LastRequest, OpenPlace, State, Waiter, client_at}
+pub use Rattle.rv_state.specs.State.{client_waits, line, line_of, open_at, place_list, place_waiting}
+pub use Rattle.rv_state.specs.State.{same_side}
+pub use Rattle.rv_state.specs.State.LastRequest.{CancelledUnseen, Fresh, RepliedTo, Waits}
+pub use Rattle.rv_text.specs.Calls.{drains_of, item_of, side_of, wait_of}
+pub use Rattle.rv_text.specs.declared.answer.Answer.{Answer}
+pub use Rattle.rv_text.specs.declared.answer.Answer.TheVariants.{Replied}
+pub use Rattle.rv_text.specs.declared.answer.Refusal.{Refusal}
+pub use Rattle.rv_text.specs.declared.answer.Refusal.TheVariants.{OldIncarnation}
+pub use Rattle.rv_text.specs.declared.answer.Reply.{Reply}
+pub use Rattle.rv_text.specs.declared.answer.Reply.TheVariants.{Cancelled}
+pub use Rattle.rv_text.specs.declared.call.Call.{Call}
+pub use Rattle.rv_text.specs.declared.call.Side.{Side}
+pub use Rattle.rv_text.specs.declared.call.Side.TheVariants.{Gives, Takes}
+pub use Rattle.rv_text.specs.declared.call.Wait.{Wait}
+pub use Rattle.rv_text.specs.declared.call.Wait.TheVariants.{Forever, Millis, Now}
+pub use Rattle.rv_text.specs.declared.message.Key.{Key}
+pub use Rattle.rv_text.specs.declared.message.Message.{Message}
+pub use Rattle.rv_text.specs.declared.version.Version.{Version}
