@@ -15,7 +15,7 @@ use Rattle.std.specs.FinMap.{FinMap, contains_key-keys, entries, entries_sorted,
 use Rattle.std.proofs.lemmas.Cmp.{eq_by_cmp_equiv}
 use Rattle.std.proofs.lemmas.List.{length-map}
 use Rattle.std.proofs.lemmas.Map.Views.{Contains-from_any, list_any-from_Contains}
-use Rattle.rv_state.specs.Moves.{waiting_count}
+use Rattle.rv_state.specs.State.{waiting_count}
 use Rattle.rv_state.proofs.ClientParts.{client_known, said_known}
 use Rattle.rv_state.proofs.Lined.{line_count, line_has, line_left}
 

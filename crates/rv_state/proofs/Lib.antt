@@ -54,4 +54,5 @@ pub mod MovesBoth
 pub mod MoveRuns
 pub mod NamedPlaces
 pub mod RulesKept
+pub mod WhoWaits
 pub mod StateLaws

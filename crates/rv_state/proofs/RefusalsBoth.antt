@@ -13,7 +13,7 @@ use Rattle.rv_rules.proofs.Keys.{act_arrives}
 use Rattle.rv_rules.proofs.Versions.{one_opened}
 use Rattle.rv_state.specs.Moves.{EpochDiffers, HasSessionOf, NoClientMore, NoEntryMore, NumberAbove}
 use Rattle.rv_state.specs.Moves.{NumberIsLast, NumberOld, SessionBusy, SessionLacks, VersionDiffers}
-use Rattle.rv_state.specs.Moves.{waiting_count}
+use Rattle.rv_state.specs.State.{waiting_count}
 use Rattle.rv_state.proofs.Counted.{clients_number, waiters_number}
 use Rattle.rv_state.proofs.ClientParts.{above_to_lower, client_known, client_new, has_said, lower_to_above}
 use Rattle.rv_state.proofs.ClientParts.{said_known, same_incarnation, same_last, session_incarnation}

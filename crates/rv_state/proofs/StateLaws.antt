@@ -9,7 +9,7 @@ use Rattle.rv_rules.proofs.Fronts.{Legal-before}
 use Rattle.rv_rules.proofs.Legality.{follows_itself}
 use Rattle.rv_state.specs.State.{opening}
 use Rattle.rv_state.specs.Laws.{IsMoveTo, MovesStep, OneFuture, StatesAgree, StatesFollow, StatesKeepRules}
-use Rattle.rv_state.specs.Laws.{StatesSettle, StepsMove}
+use Rattle.rv_state.specs.Laws.{StatesSettle, StatesTellWaiting, StepsMove}
 use Rattle.rv_state.specs.Follows.{FollowsState}
 use Rattle.rv_state.specs.Settling.{SettlesEach}
 use Rattle.rv_state.proofs.Agreed.{agreed, state_pushed}
@@ -17,10 +17,14 @@ use Rattle.rv_state.proofs.EntrySays.{says_of_entry}
 use Rattle.rv_state.proofs.FollowsBoth.{account_to_state, state_to_account}
 use Rattle.rv_state.proofs.MoveRuns.{Runs, move_runs, settles_by}
 use Rattle.rv_state.proofs.MovesBoth.{move_to_next, next_to_move}
+use Rattle.rv_state.proofs.WhoWaits.{tells_waiting}
 use Rattle.rv_state.proofs.RulesKept.{rules_agree}
 
 pub states_agree : StatesAgree
 states_agree = agreed
+
+pub states_tell_waiting : StatesTellWaiting
+states_tell_waiting a legal = tells_waiting a (state_of a) legal (agreed a legal)
 
 pub states_follow : StatesFollow
 states_follow a e legal = (

@@ -1,20 +1,25 @@
 -- What a state says of an account, part by part, in the formulas over its places.
-use Rattle.std.specs.Prelude.{◌≡◌, ℕ, List, Option, Some, None, slice_get}
+use Rattle.std.specs.Prelude.{◌≡◌, ◌↔◌, ℕ, List, Option, Some, None, IsSome, slice_get}
+use Rattle.std.specs.FinMap.{len}
 use Rattle.rv_text.specs.declared.message.Key.{Key}
 use Rattle.rv_text.specs.declared.call.Call.{Call}
+use Rattle.rv_text.specs.declared.call.Side.{Side}
 use Rattle.rv_text.specs.declared.answer.Reply.{Reply}
 use Rattle.rv_text.specs.Calls.{item_of, side_of, wait_of}
 use Rattle.rv_account.specs.declared.entry.Entry.{Entry}
 use Rattle.rv_account.specs.declared.entry.Act.TheVariants.{Arrive}
-use Rattle.rv_account.specs.Account.{Account, act_at, limit_at, moment_at, own_moment}
+use Rattle.rv_account.specs.Account.{Account, Among, act_at, limit_at, moment_at, own_moment}
 use Rattle.std.specs.Prelude as prelude
 use Rattle.rv_rules.specs.Waiting.{Open, Waiting}
 use Rattle.rv_rules.specs.Sessions.{HasOpened, LastNumber, SaidHello}
 use Rattle.rv_rules.specs.Replies.{CancelledFirst, RepliesToArrival}
-use Rattle.rv_rules.specs.Lines.{IsLineOf}
-use Rattle.rv_state.specs.State.{OpenPlace, LastRequest, ClientState, State, client_at, place_list}
+use Rattle.rv_rules.specs.Lines.{IsLine, IsLineOf}
+use Rattle.rv_rules.specs.Counting.{NumberOf}
+use Rattle.rv_rules.specs.Legal.{HasWaiting, IsDueAt}
+use Rattle.rv_state.specs.State.{OpenPlace, LastRequest, ClientState, State, client_at, client_waits, line}
+use Rattle.rv_state.specs.State.{place_list, waiting_count}
 use Rattle.rv_state.specs.State.LastRequest.{Fresh, Waits, RepliedTo, CancelledUnseen}
-use Rattle.rv_state.specs.After.{waiter_of}
+use Rattle.rv_state.specs.After.{due_at, waiter_of}
 
 -- the open place is that of an arrival that stands there, with its side, item and limit, and who waits
 pub record IsArrival (entries : List Entry) (there : OpenPlace) : Type 0 where
@@ -74,3 +79,13 @@ pub record IsStateOf (a : Account) (s : State) : Type 0 where
   pub arrivals : (i : ℕ) (there : OpenPlace) → slice_get s.open_places i ≡ Some there
       → IsArrival a.entries there
   pub clients : (client : ℕ) → IsClientOrNew a client (client_at s client)
+
+-- and so it tells the line of each side, who waits and for whom, what is due, and how many wait or said hello
+pub record TellsWaiting (a : Account) (s : State) : Type 0 where
+  pub lines : (side : Side) → IsLine a.entries side (place_list (line s side))
+  pub waiting : (i : ℕ) (there : OpenPlace) → slice_get s.open_places i ≡ Some there
+      → Waiting a.entries there.place ↔ IsSome there.waiter
+  pub for_client : (client : ℕ) → HasWaiting a.entries client ↔ IsSome (client_waits s client)
+  pub due : (moment r : ℕ) → IsDueAt a.entries moment r ↔ Among (place_list (due_at s moment)) r
+  pub number : NumberOf (Waiting a.entries) (waiting_count s)
+  pub clients : NumberOf (SaidHello a.entries) (len s.clients)

@@ -11,12 +11,16 @@ use Rattle.rv_state.specs.After.{Following, following, state_of}
 use Rattle.rv_state.specs.Follows.{FollowsState}
 use Rattle.rv_state.specs.Kept.{RulesAgree}
 use Rattle.rv_state.specs.Moves.{Move, StateNext}
-use Rattle.rv_state.specs.Agreement.{IsStateOf}
+use Rattle.rv_state.specs.Agreement.{IsStateOf, TellsWaiting}
 use Rattle.rv_state.specs.Settling.{SettlesEach, SettlesAt, ToldOwn}
 
 -- each part of the state of a legal account says what the formulas over its places say
 abbrev pub StatesAgree : Type 0
 StatesAgree = (a : Account) → Legal a → IsStateOf a (state_of a)
+
+-- and so it tells who waits, what is due, and how many there are
+abbrev pub StatesTellWaiting : Type 0
+StatesTellWaiting = (a : Account) → Legal a → TellsWaiting a (state_of a)
 
 -- an entry may follow a legal account exactly where it may follow its state
 abbrev pub StatesFollow : Type 0

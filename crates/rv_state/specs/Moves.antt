@@ -24,7 +24,7 @@ use Rattle.rv_account.specs.Account.{entry}
 use Rattle.rv_account.specs.Calls.{need_of}
 use Rattle.rv_rules.specs.Steps.{RefuseOr, WhereElse, capped_moment, max_clients, max_entries}
 use Rattle.rv_state.specs.State.{OpenPlace, LastRequest, ClientState, State, client_at}
-use Rattle.rv_state.specs.State.{place_waiting}
+use Rattle.rv_state.specs.State.{place_waiting, waiting_count}
 use Rattle.rv_state.specs.State.LastRequest.{Fresh, Waits, RepliedTo, CancelledUnseen}
 use Rattle.rv_state.specs.After.{Following, Settled, due_at, following}
 use Rattle.rv_state.specs.Follows.{IsNewIncarnation, NumberWaits, partners_of}
@@ -96,10 +96,6 @@ pub record NoClientMore (s : State) (client : ℕ) (refusal : Refusal) : Type 0 
   pub is_new : client_at s client ≡ None
   pub full : max_clients ≤ len s.clients
   pub is : refusal ≡ ClientsFull
-
--- how many requests wait
-abbrev pub waiting_count : State → ℕ
-waiting_count s = length (filter (λ o. is_some o.waiter) s.open_places)
 
 -- the entries, those that the waiting requests may come to need and those that are needed now are too many
 pub record NoEntryMore (s : State) (need : ℕ) (refusal : Refusal) : Type 0 where

@@ -1,7 +1,6 @@
 -- The state of an account: all that its future hangs on, without its entries.
-use Rattle.std.specs.Prelude.{ℕ, Bool, false, List, [], map, find, filter, nat_eq, Option}
-use Rattle.std.specs.Prelude.{Some, None}
-use Rattle.std.specs.Prelude.{option_and_then}
+use Rattle.std.specs.Prelude.{ℕ, Bool, false, List, [], map, find, filter, length, nat_eq, Option, Some, None}
+use Rattle.std.specs.Prelude.{is_some, option_and_then}
 use Rattle.std.specs.FinMap.{FinMap, empty, get}
 use Rattle.std.specs.Ordering.{nat_cmp}
 use Rattle.rv_text.specs.declared.version.Version.{Version}
@@ -117,3 +116,7 @@ abbrev pub client_waits : State → ℕ → Option OpenPlace
 client_waits s client =
     option_and_then (open_at s)
     (option_and_then (λ c. place_waiting c.request) (client_at s client))
+
+-- how many requests wait
+abbrev pub waiting_count : State → ℕ
+waiting_count s = length (filter (λ o. is_some o.waiter) s.open_places)

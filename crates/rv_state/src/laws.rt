@@ -1,10 +1,16 @@
 //! Laws of states: each function is its contract, over the definitions alone.
 ghost use Rattle.rv_state.specs.Laws.{MovesStep, OneFuture, StatesAgree, StatesFollow, StatesKeepRules};
-ghost use Rattle.rv_state.specs.Laws.{StatesSettle, StepsMove};
+ghost use Rattle.rv_state.specs.Laws.{StatesSettle, StatesTellWaiting, StepsMove};
 
 /// Each part of the state of a legal account says what the formulas over its places say.
 pub fn states_agree()
     ensures { StatesAgree }
+{}
+
+/// The state of a legal account tells the line of each side, who waits and for whom, what is due, and how
+/// many wait and said hello.
+pub fn states_tell_waiting()
+    ensures { StatesTellWaiting }
 {}
 
 /// An entry may follow a legal account exactly where it may follow its state.
