@@ -9,8 +9,9 @@ use Rattle.rv_rules.proofs.Fronts.{Legal-before}
 use Rattle.rv_rules.proofs.Legality.{follows_itself}
 use Rattle.rv_state.specs.State.{opening}
 use Rattle.rv_state.specs.Laws.{IsMoveTo, MovesStep, OneFuture, StatesAgree, StatesFollow, StatesKeepRules}
-use Rattle.rv_state.specs.Laws.{StatesSettle, StatesTellWaiting, StepsMove}
+use Rattle.rv_state.specs.Laws.{StatesSettle, StatesTellWaiting, StepsAlike, StepsMove}
 use Rattle.rv_state.specs.Follows.{FollowsState}
+use Rattle.rv_state.specs.Moves.{StateNext}
 use Rattle.rv_state.specs.Settling.{SettlesEach}
 use Rattle.rv_state.proofs.Agreed.{agreed, state_pushed}
 use Rattle.rv_state.proofs.EntrySays.{says_of_entry}
@@ -130,3 +131,17 @@ one_future a b e legal other same =
       λ follows. second.1 (subst (λ s. FollowsState s e) same (first.0 follows)),
       λ follows. first.1 (subst (λ s. FollowsState s e) (sym same) (second.0 follows)),
     )
+
+pub steps_alike : StepsAlike
+steps_alike a b after now m answer legal other same next =
+    let moves = steps_move a after now m answer legal next in
+    let there = subst (λ s. StateNext s now m moves.move) same moves.moves in
+    let steps = moves_step b now m moves.move other there in
+    record {
+      other = steps.after;
+      next = subst (Next b now m steps.after) (sym moves.answers) steps.next;
+      more = moves.move.entries;
+      adds = moves.is.entries;
+      adds_there = steps.is.entries;
+      same = steps.is.state ∙ sym moves.is.state;
+    }

@@ -1,5 +1,5 @@
 -- The laws of states: what a state says is what its account says, and what follows one follows the other.
-use Rattle.std.specs.Prelude.{◌≡◌, ◌↔◌, ◌++◌, ℕ, Some}
+use Rattle.std.specs.Prelude.{◌≡◌, ◌↔◌, ◌++◌, ℕ, List, Some}
 use Rattle.rv_text.specs.declared.message.Key.{Key}
 use Rattle.rv_text.specs.declared.message.Message.{Message}
 use Rattle.rv_text.specs.declared.answer.Answer.{Answer}
@@ -72,7 +72,21 @@ abbrev pub MovesStep : Type 0
 MovesStep = (a : Account) (now : ℕ) (m : Message) (move : Move) → Legal a → StateNext (state_of a) now m move
     → StepsTo a now m move
 
--- two legal accounts with one state go on alike
+-- of two legal accounts with one state, an entry may follow the one exactly where it may follow the other
 abbrev pub OneFuture : Type 0
 OneFuture = (a b : Account) (e : Entry) → Legal a → Legal b → state_of a ≡ state_of b
     → MayFollow a e ↔ MayFollow b e
+
+-- the other account goes on as the first does: by a step with the same answer, entries and state after
+pub record GoesOnAlike (a b after : Account) (now : ℕ) (m : Message) (answer : Answer) : Type 0 where
+  pub other : Account
+  pub next : Next b now m other answer
+  pub more : List Entry
+  pub adds : after.entries ≡ a.entries ++ more
+  pub adds_there : other.entries ≡ b.entries ++ more
+  pub same : state_of other ≡ state_of after
+
+-- and each step of the one is a step of the other
+abbrev pub StepsAlike : Type 0
+StepsAlike = (a b after : Account) (now : ℕ) (m : Message) (answer : Answer) → Legal a → Legal b
+    → state_of a ≡ state_of b → Next a now m after answer → GoesOnAlike a b after now m answer

@@ -1,6 +1,6 @@
 //! Laws of states: each function is its contract, over the definitions alone.
 ghost use Rattle.rv_state.specs.Laws.{MovesStep, OneFuture, StatesAgree, StatesFollow, StatesKeepRules};
-ghost use Rattle.rv_state.specs.Laws.{StatesSettle, StatesTellWaiting, StepsMove};
+ghost use Rattle.rv_state.specs.Laws.{StatesSettle, StatesTellWaiting, StepsAlike, StepsMove};
 
 /// Each part of the state of a legal account says what the formulas over its places say.
 pub fn states_agree()
@@ -44,4 +44,10 @@ pub fn moves_step()
 /// What may follow one of two legal accounts with one state may follow the other.
 pub fn one_future()
     ensures { OneFuture }
+{}
+
+/// Each step of one of two legal accounts with one state is a step of the other, with the same answer, entries
+/// and state after.
+pub fn steps_alike()
+    ensures { StepsAlike }
 {}
