@@ -46,8 +46,8 @@ pub fn one_future()
     ensures { OneFuture }
 {}
 
-/// Each step of one of two legal accounts with one state is a step of the other, with the same answer, entries
-/// and state after.
+/// Each step of one of two legal accounts with one state is a step of the other, with the same answer,
+/// entries and state after.
 pub fn steps_alike()
     ensures { StepsAlike }
 {}
