@@ -49,17 +49,19 @@ PAIRS = [
      [(7, asks(1, 1, OFFER, 2)), (7, asks(2, 1, POLL))]),
     ("the place of what is open", account(SECOND, FIRST, asks(1, 1, put("i")), asks(1, 2, put("z", 6))),
      account(FIRST, asks(1, 1, put("i")), SECOND, asks(1, 2, put("z", 6))), [(7, asks(2, 1, POLL))]),
+    ("its side", *(account(FIRST, SECOND, asks(1, 1, put("i", queue)), asks(1, 2, put("z", 7))) for queue in (5, 6)),
+     [(7, asks(2, 1, POLL))]),
     ("its item", *(account(FIRST, SECOND, asks(1, 1, put(item)), asks(1, 2, put("z", 6))) for item in "ij"),
      [(7, asks(2, 1, POLL))]),
-    ("its limit", account(FIRST, (8, asks(1, 1, take(5))), (9, SECOND)), account(FIRST, (9, asks(1, 1, take(5))), (9, SECOND)),
-     [(13, asks(2, 1, COUNT))]),
+    ("its limit", account(FIRST, (8, asks(1, 1, take(5))), (9, SECOND)),
+     account(FIRST, (9, asks(1, 1, take(5))), (9, SECOND)), [(13, asks(2, 1, COUNT))]),
     ("what is open", account(FIRST, SECOND, asks(1, 1, put("i")), asks(1, 2, put("z", 6))),
      account(FIRST, SECOND, Cancel(Key(3, 1, 1, 1)), asks(1, 2, put("z", 6))), [(7, asks(2, 1, POLL))]),
     ("who said hello", account(FIRST, SECOND), account(FIRST, THIRD), [(7, asks(2, 1, COUNT))]),
     ("the incarnation", account(FIRST), account(Hello(1, 2)), [(7, asks(1, 1, COUNT))]),
     ("the version", account(FIRST), account(Hello(1, 1, 2)), [(7, FIRST)]),
-    ("the last number", account(FIRST, Hello(1, 2), CANCELLED), account(Hello(1, 2), CANCELLED, Cancel(Key(3, 1, 2, 2))),
-     [(7, asks(1, 2, COUNT, 2))]),
+    ("the last number", account(FIRST, Hello(1, 2), CANCELLED),
+     account(Hello(1, 2), CANCELLED, Cancel(Key(3, 1, 2, 2))), [(7, asks(1, 2, COUNT, 2))]),
     ("what became of the last request", account(Hello(1, 2), CANCELLED), account(Hello(1, 2), asks(1, 1, COUNT, 2)),
      [(7, asks(1, 1, COUNT, 2))]),
     ("whether it came", account(FIRST, Hello(1, 2), CANCELLED), account(Hello(1, 2), asks(1, 1, OFFER, 2), CANCELLED),
@@ -96,7 +98,8 @@ def told(account, asked):
 
 
 def differing(one, other):
-    """The parts in which two states differ: of a client or an open place that both have, the parts of that."""
+    """The parts in which two states differ, but since when a request waits: of a client or an open place that both have,
+    the parts of that."""
     parts = {name for name in ("epoch", "moment", "length") if getattr(one, name) != getattr(other, name)}
     return parts | parts_of(one.clients, other.clients) | parts_of(by_order(one), by_order(other))
 
