@@ -1,144 +1,124 @@
--- After an arrival the deadlines are those of all that wait: with its own, if it waits for some time, and
--- without that of the
--- request that it met.
-use Rattle.rv_book.proofs.Words.{◌≡◌, ◌⊎◌, ◌∷◌, ◌++◌, ◌∙◌, inl, inr, ℕ, zero, suc, List, [], length, Option}
-use Rattle.rv_book.proofs.Words.{Some, None, IsSome, is_some, option_and_then, refl, sym, ap, subst}
-use Rattle.rv_book.proofs.Words.{none-some, same_Some, Deadlines, Call, Wait, Forever, Millis, Now, Key}
-use Rattle.rv_book.proofs.Words.{side_of, wait_of, OwedDuty, Account, Names, call_in, just, GoesOnWaiting}
-use Rattle.rv_book.proofs.Words.{IsPut, Lasts, Stays, AreDeadlines, deadline_after, deadline_of}
-use Rattle.rv_book.proofs.Words.{with_deadline, without_duty, Legal, NamesFreePartners, OwnDuty, PartnersDuty}
-use Rattle.rv_book.proofs.Words.{Waiting, limit_at, Arrive, Entry, just_none, names_it, names_only}
-use Rattle.rv_book.proofs.Words.{get-append_end, Waiting-back, Waiting-last, Waiting-on, arrival_stops_nobody}
-use Rattle.rv_book.proofs.Words.{waiting_is_open}
-use Rattle.rv_account.specs.Calls.{limit_after, limit_of}
-use Rattle.rv_book.specs.Waiting.{limit_in}
-use Rattle.rv_book.proofs.DeadlineTable.{ButDuty, due_on, due_same, due_with, due_without_duty, limit_waits}
-use Rattle.rv_book.proofs.Lasting.{lasting_deadline}
-use Rattle.rv_book.proofs.Owing.{goes_on, unowed_waits_not}
-use Rattle.rv_rules.proofs.Sides.{ComesToWait}
-use Rattle.rv_book.proofs.WaitersBySide.{met_last}
-use Rattle.rv_book.proofs.Withdrawn.{owed_place}
+-- After an arrival the deadlines are those of the account with it: with its own, if it waits for some time,
+-- and without
+-- that of the request that it met.
+use Rattle.rv_book.proofs.Words.{◌≡◌, ◌∷◌, ◌++◌, ◌∙◌, ℕ, List, [], Bool, true, false, cond, length, Option}
+use Rattle.rv_book.proofs.Words.{Some, None, refl, sym, ap, none-some, same_Some, Deadlines, Call, Key, entry}
+use Rattle.rv_book.proofs.Words.{wait_of, OwedDuty, Account, just, Stays, deadline_of, deadlines_of}
+use Rattle.rv_book.proofs.Words.{limits_in}
+use Rattle.rv_book.proofs.Words.{with_deadline, without_duty, with_entry, Legal, MayFollow}
+use Rattle.rv_book.proofs.Words.{PartnersDuty, Arrive, Entry, act_at, act_called, owed_at, slice_get}
+use Rattle.std.proofs.lemmas.Bool.{true≢false}
+use Rattle.std.proofs.lemmas.List.{append-nil}
+use Rattle.rv_rules.proofs.CallKinds.{waiting_meets}
+use Rattle.rv_rules.proofs.Growing.{limit_on}
+use Rattle.rv_state.specs.State.{OpenPlace, State, place_list}
+use Rattle.rv_state.specs.After.{but, met_by, opened_by, parked, state_of, stays_open}
+use Rattle.rv_state.specs.Agreement.{IsStateOf}
+use Rattle.rv_state.proofs.Agreed.{agreed, state_pushed}
+use Rattle.rv_state.proofs.FollowsBoth.{account_to_state}
+use Rattle.rv_state.proofs.MetPlaces.{met_there}
+use Rattle.rv_state.proofs.OpensBy.{stays_decides}
+use Rattle.rv_state.proofs.PlacesAfter.{places_acted}
+use Rattle.rv_state.proofs.PlacesLeft.{but_none}
+use Rattle.rv_state.proofs.SideLines.{stands_open}
+use Rattle.rv_book.proofs.DeadlineTable.{due_at_first, due_turn, limits_more, owed_deadline}
+use Rattle.rv_book.proofs.Lasting.{deadline_lasts, lasting_deadline}
 
--- a deadline is the wait's limit
-deadline_is_limit : (moment : ℕ) (wait : Option Wait) (limit : ℕ) → deadline_after moment wait ≡ Some limit
-    → option_and_then (limit_after moment) wait ≡ Some limit
-deadline_is_limit moment None limit is = absurd (none-some limit is)
-deadline_is_limit moment (Some Now) limit is = absurd (none-some limit is)
-deadline_is_limit moment (Some (Millis zero)) limit is = absurd (none-some limit is)
-deadline_is_limit moment (Some (Millis (suc n))) limit is = is
-deadline_is_limit moment (Some Forever) limit is = absurd (none-some limit is)
-
-but_has : (P : ℕ → Type 0) (duty : Option OwedDuty) (r : ℕ) → ButDuty P duty r → P r
-but_has P None r but = but
-but_has P (Some d) r but = but.0
-
--- a deadline that is there
-some_limit : (deadline : Option ℕ) → IsSome deadline → (limit : ℕ) × (deadline ≡ Some limit)
-some_limit None is = absurd (let no : ⊥ = cc in no)
-some_limit (Some limit) is = (limit, refl)
-
-module _ (a : Account) (e : Entry) (key : Key) (call : Call) (legal : Legal a) (free : NamesFreePartners
-    a.entries e) (arrives : e.act ≡ Arrive key call)
-    (deadline : Option ℕ) (own_deadline : (limit : ℕ) → deadline ≡ Some limit → deadline_of e.moment call ≡
-    Some limit) where
-  abbrev after : List Entry
-  after = a.entries ++ e ∷ []
+module _ (a : Account) (moment : ℕ) (key : Key) (call : Call) (legal : Legal a) where
+  abbrev s : State
+  s = state_of a
 
   abbrev place : ℕ
   place = length a.entries
 
-  -- a request that waited; or the arrival itself, if it has a deadline
-  abbrev Either : ℕ → Type 0
-  Either r = Waiting a.entries r ⊎ ((r ≡ place) × IsSome deadline)
+  abbrev own : OpenPlace
+  own = opened_by s moment key call
 
-  own_limit : limit_at after place ≡ limit_of e.moment call
-  own_limit = ap (option_and_then limit_in) (get-append_end a.entries e)
-      ∙ ap (λ does. option_and_then (limit_of e.moment) (call_in does)) arrives
+  state : IsStateOf a s
+  state = agreed a legal
 
-  has_limit : (limit : ℕ) → deadline ≡ Some limit → limit_at after place ≡ Some limit
-  has_limit limit is = own_limit ∙ deadline_is_limit e.moment (wait_of call) limit (own_deadline limit is)
+  -- ---- it meets nobody
 
-  -- ---- the request that it met
+  goes_none : (deadline : Option ℕ) → deadline_of moment call ≡ deadline → (Stays call → ⊥)
+      → deadline_of moment call ≡ None
+  goes_none None is goes = is
+  goes_none (Some limit) is goes =
+      let lasts = deadline_lasts moment (wait_of call) limit is in
+      absurd (goes (waiting_meets call lasts.0 lasts.1, lasts.2))
 
-  unnamed : (partner : Option ℕ) (other : Option OwedDuty) (r : ℕ) → e.partners ≡ just partner
-      → PartnersDuty a.entries partner other → ButDuty Either other r → Waiting a.entries r → Names e r → ⊥
-  unnamed None other r names is but waits named = just_none e r names named
-  unnamed (Some p) None r names is but waits named =
-      let same : p ≡ r = same_Some _ _ (names_only e (Some p) r names named) in
-      unowed_waits_not a.entries p (sym is) (subst (Waiting a.entries) (sym same) waits)
-  unnamed (Some p) (Some d) r names is but waits named =
-      let same : p ≡ r = same_Some _ _ (names_only e (Some p) r names named) in
-      but.1 (sym same ∙ sym (owed_place a.entries p d (sym is)))
+  parked_due : (stays : Bool) → stays_open call [] ≡ stays
+      → with_deadline (deadline_of moment call) place (limits_in s.open_places)
+      ≡ limits_in (s.open_places ++ cond stays (own ∷ []) [])
+  parked_due true stays =
+      ap (λ limit. with_deadline limit place (limits_in s.open_places))
+      (lasting_deadline moment (wait_of call) ((stays_decides call).0 stays).1)
+      ∙ ap (λ p. with_deadline own.limit p (limits_in s.open_places)) (sym state.length)
+      ∙ sym (limits_more s.open_places own)
+  parked_due false goes =
+      ap (λ limit. with_deadline limit place (limits_in s.open_places))
+      (goes_none (deadline_of moment call) refl (λ stays. true≢false (sym ((stays_decides call).1 stays)
+      ∙ goes)))
+      ∙ ap (λ all. limits_in all) (sym (append-nil s.open_places))
 
-  but_other : (partner : Option ℕ) (other : Option OwedDuty) (r : ℕ) → e.partners ≡ just partner
-      → PartnersDuty a.entries partner other → Either r → (Names e r → ⊥) → ButDuty Either other r
-  but_other partner None r names is either apart = either
-  but_other None (Some d) r names is either apart = absurd (none-some d (sym is))
-  but_other (Some p) (Some d) r names is either apart = (
-    either,
-    λ here. apart (names_it e r (names ∙ ap (λ q. just (Some q))
-        (sym (here ∙ owed_place a.entries p d (sym is))))),
-  )
+  -- ---- after its entry
 
-  -- a request that waits at its place met nobody
-  goes : (partner : Option ℕ) (new : ComesToWait e) → e.partners ≡ just partner → Waiting after place
-      → GoesOnWaiting call partner
-  goes None new names waits =
-      let same : new.call ≡ call = same_Some _ _ (sym new.arrives ∙ ap call_in arrives) in
-      record {
-        unmet = refl;
-        stays = subst Stays same new.stays;
-        no_put = subst (λ c. IsPut c → ⊥) same
-            new.no_put;
-      }
-  goes (Some p) new names waits = absurd (met_last a.entries e _ p free (names_it e p names)
-      (waiting_is_open after place waits))
+  module _ (partner : Option ℕ) (follows : MayFollow a (entry moment (Arrive key call) (just partner)))
+      (other : Option OwedDuty) (other_is : PartnersDuty a.entries partner other) (deadline : Option ℕ)
+      (unmet : partner ≡ None → deadline ≡ deadline_of moment call)
+      (waits : (limit : ℕ) → deadline ≡ Some limit → partner ≡ None) where
+    abbrev e : Entry
+    e = entry moment (Arrive key call) (just partner)
 
-  module _ (partner : Option ℕ) (duty : OwedDuty) (own other : Option OwedDuty) (names : e.partners ≡ just
-      partner) (own_is : OwnDuty (side_of call) (wait_of call) partner duty own)
-      (other_is : PartnersDuty a.entries partner other) (unmet_has : partner ≡ None → deadline ≡ deadline_of
-      e.moment call)
-      (waits_has : (limit : ℕ) → deadline ≡ Some limit → own ≡ None) where
-    -- ---- who is left waits
+    abbrev after : List Entry
+    after = a.entries ++ e ∷ []
 
-    new_waits : IsSome deadline → Waiting after place
-    new_waits has =
-        let limit = some_limit deadline has in
-        let is = goes_on call partner duty own own_is (waits_has limit.0 limit.1) in
-        Waiting-last a e legal (names ∙ ap just is.unmet) (record {
-          call = call;
-          arrives = ap call_in arrives;
-          stays = is.stays;
-          no_put = is.no_put;
-        })
+    names_met : just partner ≡ place_list (met_by s call)
+    names_met = (account_to_state a s e legal state follows).partners
 
-    left_waits : (r : ℕ) → ButDuty Either other r → Waiting after r
-    left_waits r left = elim (but_has Either other r left) [
-      | inl waits ↦ Waiting-on a.entries e r waits (unnamed partner other r names other_is left waits)
-          (arrival_stops_nobody a.entries e key call r arrives)
-      | inr last ↦ subst (Waiting after) (sym last.0) (new_waits last.1)
-    ]
+    limits_then : (met : List OpenPlace) → met_by s call ≡ met → deadlines_of (with_entry a e)
+        ≡ limits_in (but s.open_places met ++ parked s moment key call met)
+    limits_then met is =
+        ap (λ (x : State). limits_in x.open_places) (state_pushed a e)
+        ∙ ap (λ all. limits_in all) (places_acted s moment (Arrive key call)
+        ∙ ap (λ all. but s.open_places all ++ parked s moment key call all) is)
 
-    -- ---- and who waits is left
+    no_deadline : (p : ℕ) → partner ≡ Some p → (o : Option ℕ) → deadline ≡ o → deadline ≡ None
+    no_deadline p at None is = is
+    no_deadline p at (Some limit) is = absurd (none-some p (sym (waits limit is) ∙ at))
 
-    waits_left : (limit r : ℕ) → Waiting after r → limit_at after r ≡ Some limit → ButDuty Either other r
-    waits_left limit r waits has = elim (Waiting-back a.entries e r free waits) [
-      | inl was ↦ but_other partner other r names other_is (inl was.there) was.unnamed
-      | inr new ↦
-          let on = goes partner new.1 names (subst (Waiting after) new.0 waits) in
-          let lasts : Lasts (wait_of call) = on.stays.1 in
-          let is : deadline ≡ Some limit = unmet_has on.unmet ∙ lasting_deadline e.moment (wait_of call) lasts
-          ∙ sym own_limit ∙ ap (limit_at after) (sym new.0) ∙ has in
-          let nobody = just_none e place (names ∙ ap just on.unmet) in
-          subst (ButDuty Either other) (sym new.0) (but_other partner other place names other_is
-          (inr (refl, ap is_some is)) nobody)
-    ]
+    by_met : (met : List OpenPlace) → met_by s call ≡ met → (p : Option ℕ) → partner ≡ p
+        → just p ≡ place_list met → PartnersDuty a.entries p other
+        → without_duty after other (with_deadline deadline place (deadlines_of a)) ≡ deadlines_of
+        (with_entry a e)
+    by_met [] is None alone names none =
+        ap (λ o. without_duty after o (with_deadline deadline place (deadlines_of a))) none
+        ∙ ap (λ limit. with_deadline limit place (deadlines_of a)) (unmet alone)
+        ∙ parked_due (stays_open call []) refl
+        ∙ sym (limits_then [] is
+        ∙ ap (λ all. limits_in (all ++ parked s moment key call [])) (but_none s.open_places))
+    by_met (first ∷ []) is (Some p) at names owed =
+        let same : p ≡ first.place = same_Some _ _ (ap (λ (l : List ℕ). slice_get l 0) names) in
+        let stands = met_there s call 0 first (ap (λ (l : List OpenPlace). slice_get l 0) is) in
+        let opened = stands_open a s state stands.0 first stands.1 in
+        let there = act_called (act_at a.entries first.place) opened.call opened.arrived in
+        ap (λ limit. without_duty after other (with_deadline limit place (deadlines_of a)))
+        (no_deadline p at deadline refl)
+        ∙ owed_deadline a legal after first.place other (deadlines_of a) opened
+        (limit_on a.entries (e ∷ []) first.place (Arrive there.0 opened.call) there.1)
+        (owed ∙ ap (owed_at a.entries) same)
+        ∙ due_turn a legal [] first.place (deadlines_of a) (due_at_first a)
+        ∙ sym (limits_then (first ∷ []) is
+        ∙ ap (λ all. limits_in all) (append-nil (but s.open_places (first ∷ []))))
+    by_met [] is (Some p) at names owed =
+        absurd (none-some p (sym (ap (λ (l : List ℕ). slice_get l 0) names)))
+    by_met (first ∷ others) is None alone names none =
+        absurd (none-some first.place (ap (λ (l : List ℕ). slice_get l 0) names))
+    by_met (first ∷ second ∷ others) is (Some p) at names owed =
+        absurd (none-some second.place (ap (λ (l : List ℕ). slice_get l 1) names))
 
     -- the deadlines after the arrival, from those before it
-    pub due_arrived : (due : Deadlines) → AreDeadlines a.entries due
-        → AreDeadlines after (without_duty after other (with_deadline deadline place due))
-    due_arrived due are =
-        let same = due_on a.entries (e ∷ []) (Waiting a.entries) due are (limit_waits a.entries (e ∷ [])) in
-        let more = due_with after (Waiting a.entries) due place same deadline has_limit in
-        let less = due_without_duty after Either (with_deadline deadline place due) other more in
-        due_same after (ButDuty Either other) (Waiting after) _ less left_waits waits_left
+    pub due_arrived : (due : Deadlines) → due ≡ deadlines_of a
+        → without_duty after other (with_deadline deadline place due) ≡ deadlines_of (with_entry a e)
+    due_arrived due is =
+        ap (λ d. without_duty after other (with_deadline deadline place d)) is
+        ∙ by_met (met_by s call) refl partner refl names_met other_is

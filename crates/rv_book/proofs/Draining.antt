@@ -7,7 +7,7 @@ use Rattle.rv_book.proofs.Words.{OnlyAdvances, Table, session_for, settled_sessi
 use Rattle.rv_book.proofs.Words.{Session, Settled, Waits, Arrive, Entry, Account, Names, Stored, call_at}
 use Rattle.rv_book.proofs.Words.{with_entry, IsPut, Lasts, MayMeet, Stays, may_name, need_of, opposite}
 use Rattle.rv_book.proofs.Words.{BookState, IsKept, IsRecorded, WillTell, IsNext, NumberOf, items_in}
-use Rattle.rv_book.proofs.Words.{AreDeadlines, deadline_after, deadline_beside, with_deadline, KeepsTime}
+use Rattle.rv_book.proofs.Words.{deadline_after, deadline_beside, with_deadline, KeepsTime}
 use Rattle.rv_book.proofs.Words.{Legal, MayFollow, NothingDue, AreWaiters, IsLine, Comes, SettlesAs}
 use Rattle.rv_book.proofs.Words.{partners_reply, told_to, with_due, IsSession, IsSound, account_of, HasOpened}
 use Rattle.rv_book.proofs.Words.{IsLeft, Left, NamesPartner, Waiting, few_still, NamesAt-last, act_read}
@@ -28,7 +28,8 @@ use Rattle.rv_book.proofs.Replying.{recorded_kept, reply_laws}
 use Rattle.rv_book.proofs.SessionTable.{Changes, IsAt, named_at}
 use Rattle.rv_book.proofs.Standing.{is_next}
 use Rattle.rv_book.proofs.TakenSessions.{Tells, opened_while_left, sessions_changed_at_last}
-use Rattle.rv_book.proofs.TakenTables.{due_at_last, number_at_last, waiters_at_last}
+use Rattle.rv_book.proofs.DeadlineTable.{due_at_last}
+use Rattle.rv_book.proofs.TakenTables.{number_at_last, waiters_at_last}
 use Rattle.rv_book.proofs.TakingOut.{same_state}
 use Rattle.rv_rules.proofs.Versions.{asked_last}
 use Rattle.rv_book.proofs.WaitingTable.{version_told}
@@ -215,7 +216,7 @@ module _ {old mid : BookState} {begun : Table} {moment : ℕ} {key : Key} {call 
     due = mid.due;
   }
 
-  left : IsLeft left_state (Names new_entry) (kept.ReceivedBy at)
+  left : IsLeft left_state new_entry.partners (kept.ReceivedBy at)
   left = subst (λ s. IsDraining s new_entry.partners) (same_state mid old.account is.same) is.draining
 
   -- ---- its own session
@@ -307,8 +308,8 @@ module _ {old mid : BookState} {begun : Table} {moment : ℕ} {key : Key} {call 
               new_entry (Names new_entry) own_closes mid.waiters left.waiters_are);
           waiting_is = subst (NumberOf (Waiting is_now.entries)) (sym drains.waiting)
               (number_at_last was.entries new_entry (Names new_entry) own_closes mid.waiting left.waiting_is);
-          due_are = subst (AreDeadlines is_now.entries) (sym drains.due) (due_at_last was.entries new_entry
-              (Names new_entry) own_closes mid.due left.due_are);
+          due_are = drains.due ∙ left.due_are ∙ due_at_last was new_entry own_sound.legal own_legal
+              new_entry.partners own_closes;
           clients = few_still was.entries new_entry (λ c i w own. absurd (no_hello key call c i w own))
               own_sound.fits.clients;
           space = omega arith;

@@ -1,16 +1,15 @@
 -- The account and its tables stay sound, whatever a step does.
 use Rattle.rv_book.proofs.Words.{◌≡◌, ◌+◌, ◌≤◌, ◌∷◌, ◌++◌, ◌∙◌, inl, inr, ℕ, List, [], length, Some, refl}
-use Rattle.rv_book.proofs.Words.{sym, ap, subst, arith, length-append, false≢true, slice_get, none-some}
+use Rattle.rv_book.proofs.Words.{sym, ap, subst, arith, length-append, slice_get, none-some}
 use Rattle.rv_book.proofs.Words.{Table, Account, with_entry, NumberOf, Entry, BookState, Legal, FitEntries}
-use Rattle.rv_book.proofs.Words.{FitsAccount, contains, AreDeadlines, AreWaiters, AreSessions, IsSessionOf}
+use Rattle.rv_book.proofs.Words.{FitsAccount, deadlines_of, AreWaiters, AreSessions, IsSessionOf}
 use Rattle.rv_book.proofs.Words.{IsSound, account_of, Waiting, one_number, get-append_cases}
 use Rattle.std.proofs.Common.{◌^◌, nat_cmp}
 use Rattle.std.specs.FinMap.{get, get-empty}
 use Rattle.rv_text.specs.Limits.{FitsIdentifier}
 use Rattle.rv_session.specs.Table.{IsOpened, SameSessions}
 use Rattle.rv_book.specs.Limits.{FitsEntry}
-use Rattle.rv_due.specs.Deadlines.{by_moment}
-use Rattle.std.specs.FinSet.{contains-empty, empty as no_deadline}
+use Rattle.std.specs.FinSet.{empty as no_deadline}
 use Rattle.rv_book.specs.Operations.{IsSame}
 use Rattle.rv_book.specs.Views.{NobodyWaits}
 use Rattle.rv_rules.proofs.FewClients.{FewClients, few_none}
@@ -33,8 +32,7 @@ sound_same old new sound same =
       waiters_are = subst (λ (a : Account). AreWaiters a.entries new.waiters) (sym same.account) waiters;
       waiting_is = subst (λ (a : Account). NumberOf (Waiting a.entries) new.waiting) (sym same.account)
           counted;
-      due_are = subst (λ (a : Account). AreDeadlines a.entries new.due) (sym same.account)
-          (subst (AreDeadlines (account_of old).entries) (sym same.due) sound.due_are);
+      due_are = same.due ∙ sound.due_are ∙ ap (λ a. deadlines_of a) (sym same.account);
       spare = let room : old.account.room ≤ new.account.room = same.room in let spare : old.waiting ≤
           old.account.room = sound.spare in let waiting : new.waiting ≡ old.waiting = same.waiting in
           omega arith;
@@ -58,7 +56,7 @@ pub record AnswersArrival (a : Account) (e : Entry) (new : BookState) : Type 0 w
   pub sessions_are : AreSessions (with_entry a e) new.sessions
   pub waiters_are : AreWaiters (a.entries ++ e ∷ []) new.waiters
   pub waiting_is : NumberOf (Waiting (a.entries ++ e ∷ [])) new.waiting
-  pub due_are : AreDeadlines (a.entries ++ e ∷ []) new.due
+  pub due_are : new.due ≡ deadlines_of (with_entry a e)
   pub clients : FewClients (a.entries ++ e ∷ [])
   pub space : length a.entries + 1 + new.waiting ≤ 100000
   pub spare : new.waiting ≤ new.account.room
@@ -90,7 +88,7 @@ sound_with a e new fits is =
       waiters_are = subst (λ (b : Account). AreWaiters b.entries new.waiters) (sym is.account) is.waiters_are;
       waiting_is = subst (λ (b : Account). NumberOf (Waiting b.entries) new.waiting) (sym is.account)
           is.waiting_is;
-      due_are = subst (λ (b : Account). AreDeadlines b.entries new.due) (sym is.account) is.due_are;
+      due_are = is.due_are ∙ ap (λ b. deadlines_of b) (sym is.account);
       spare = is.spare;
     }
 
@@ -131,11 +129,7 @@ sound_empty state epoch opened none sessions no_places zero_wait no_due =
           sessions.nobody ∙ get-empty nat_cmp client);
       waiters_are = no_waiters a.entries state.waiters none no_places;
       waiting_is = subst (NumberOf (Waiting a.entries)) (sym zero_wait) counted;
-      due_are = record {
-        are = λ limit r there. absurd (false≢true (sym (contains-empty by_moment (limit, r))
-            ∙ ap (λ s. contains s (limit, r)) (sym no_due) ∙ there));
-        each = λ limit r waits at. let inside = waiting_inside a.entries r waits in let short :
-            length a.entries ≡ 0 = ap length none in absurd (omega (arith, inside));
-      };
+      due_are = no_due
+          ∙ ap (λ es. deadlines_of (record { epoch = a.epoch; opened = a.opened; entries = es })) (sym none);
       spare = omega arith;
     }

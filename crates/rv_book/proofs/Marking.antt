@@ -1,18 +1,27 @@
 -- What an entry leaves that is no arrival and stops a request of one session at most: a sound state.
 use Rattle.rv_book.proofs.Words.{◌≡◌, ◌+◌, ◌≤◌, ◌∷◌, ◌++◌, ◌∙◌, ℕ, [], length, Some, refl, sym, subst, arith}
-use Rattle.rv_book.proofs.Words.{side_of, Kept, Account, with_entry, entry, NumberOf, AreDeadlines}
-use Rattle.rv_book.proofs.Words.{without_deadline, Act, Entry, BookState, Legal, MayFollow, AreWaiters}
+use Rattle.rv_book.proofs.Words.{side_of, Kept, Account, with_entry, entry, NumberOf, deadlines_of}
+use Rattle.rv_book.proofs.Words.{Act, Entry, BookState, Legal, MayFollow, AreWaiters}
 use Rattle.rv_book.proofs.Words.{EndsAt, HasSpace, AreSessions, IsSound, account_of, Open, SideAt, Waiting}
-use Rattle.rv_book.proofs.Words.{limit_at, Legal-with_entry}
+use Rattle.rv_book.proofs.Words.{Legal-with_entry}
 use Rattle.rv_book.specs.Limits.{FitsAct}
 use Rattle.rv_book.specs.Steps.{max_moment}
 use Rattle.rv_book.proofs.Closing.{ClosesThose, closes_same, stops_closes}
 use Rattle.rv_rules.proofs.FewClients.{FewClients}
 use Rattle.rv_book.proofs.Keeping.{sound_with}
-use Rattle.rv_book.proofs.TakenTables.{OneMore, due_at_first, due_at_last, due_turn, number_at_first}
-use Rattle.rv_book.proofs.TakenTables.{number_at_last, number_turn, waiters_at_first, waiters_at_last}
-use Rattle.rv_book.proofs.TakenTables.{waiters_turn}
+use Rattle.rv_book.proofs.DeadlineTable.{due_at_first, due_at_last, due_turn}
+use Rattle.rv_book.proofs.TakenTables.{OneMore, number_at_first, number_at_last, number_turn, one_listed}
+use Rattle.rv_book.proofs.TakenTables.{waiters_at_first, waiters_at_last, waiters_turn}
+use Rattle.rv_rules.proofs.Naming.{named_just}
+use Rattle.rv_book.proofs.Words.{Among, ap, none-some, same_Some}
 use Rattle.rv_book.proofs.WaitersBySide.{Stops}
+
+-- nothing is gone
+abbrev none_gone : ℕ → Type 0
+none_gone = Among []
+
+none : (r : ℕ) → none_gone r → ⊥
+none r among = none-some r among.1
 
 -- the act may be recorded, and it stops these arrivals, of which one waits at most
 pub record Marks (old : BookState) (moment : ℕ) (does : Act) (P : ℕ → Type 0) : Type 0 where
@@ -48,7 +57,7 @@ module _ (old : BookState) (moment : ℕ) (does : Act) (P : ℕ → Type 0) (is 
       AreSessions (with_entry before own_entry) new.sessions) where
     sound_by : AreWaiters (before.entries ++ own_entry ∷ []) new.waiters
         → NumberOf (Waiting (before.entries ++ own_entry ∷ [])) new.waiting
-        → AreDeadlines (before.entries ++ own_entry ∷ []) new.due
+        → new.due ≡ deadlines_of (with_entry before own_entry)
         → length before.entries + 1 + new.waiting ≤ 100000 → new.waiting ≤ new.account.room → IsSound new
     sound_by waiters_are count due_are space room = sound_with before own_entry new is.sound.fits (record {
       legal = legal_after;
@@ -70,18 +79,18 @@ module _ (old : BookState) (moment : ℕ) (does : Act) (P : ℕ → Type 0) (is 
     marked_idle idle waiters waiting due space room =
         let enough : length before.entries + old.waiting + 1 ≤ 100000 = space in
         let same : new.waiting ≡ old.waiting = waiting in
-        let none = λ (r : ℕ) (no : ⊥). no in
-        let closes = closes_those (λ r. ⊥) (λ r waits own. idle r waits own) (λ r no. absurd no) in
+        let closes = closes_those none_gone (λ r waits own. absurd (idle r waits own))
+        (λ r was. absurd (none r was)) in
         sound_by
         (subst (AreWaiters (before.entries ++ own_entry ∷ [])) (sym waiters)
-        (waiters_at_last before.entries own_entry (λ r. ⊥) closes old.waiters (waiters_at_first before.entries
-        (λ r. ⊥) none old.waiters is.sound.waiters_are)))
+        (waiters_at_last before.entries own_entry none_gone closes old.waiters
+        (waiters_at_first before.entries
+        none_gone none old.waiters is.sound.waiters_are)))
         (subst (NumberOf (Waiting (before.entries ++ own_entry ∷ []))) (sym waiting)
-        (number_at_last before.entries own_entry (λ r. ⊥) closes old.waiting (number_at_first before.entries
-        (λ r. ⊥) none old.waiting is.sound.waiting_is)))
-        (subst (AreDeadlines (before.entries ++ own_entry ∷ [])) (sym due) (due_at_last before.entries
-        own_entry (λ r. ⊥) closes old.due (due_at_first before.entries (λ r. ⊥) none old.due
-        is.sound.due_are)))
+        (number_at_last before.entries own_entry none_gone closes old.waiting (number_at_first before.entries
+        none_gone none old.waiting is.sound.waiting_is)))
+        (due ∙ is.sound.due_are ∙ due_at_first before
+        ∙ due_at_last before own_entry is.sound.legal legal_after [] closes)
         (omega arith) (omega arith)
 
     -- it stops one request that waited, which was ended
@@ -89,17 +98,12 @@ module _ (old : BookState) (moment : ℕ) (does : Act) (P : ℕ → Type 0) (is 
         → EndsAt old mid place kept → new.waiters ≡ mid.waiters → new.waiting ≡ mid.waiting
         → new.due ≡ mid.due → old.waiting ≤ new.account.room + 1 → IsSound new
     marked_ended mid place kept waits own ends waiters waiting due room =
-        let only = λ (r : ℕ) (too : Waiting before.entries r) (also : P r). is.one r place too also waits own
-        in
-        let none = λ (r : ℕ) (no : ⊥). no in
-        let taken = λ (r : ℕ). r ≡ place in
-        let one : OneMore (λ r. ⊥) taken place = record {
-          here = refl;
-          on = λ r no. absurd no;
-          back =
-              λ r apart there. apart there;
-        } in
-        let closes = closes_those taken only (λ r there. subst P (sym there) own) in
+        let taken = Among (place ∷ []) in
+        let one : OneMore none_gone taken place = one_listed [] place in
+        let only = λ (r : ℕ) (too : Waiting before.entries r) (also : P r).
+        let there : taken r = (0, ap Some (sym (is.one r place too also waits own))) in there in
+        let closes = closes_those taken only
+        (λ r there. subst P (same_Some _ _ (named_just (Some place) r there)) own) in
         let of_side : SideAt before.entries (side_of ends.call) place = record {
           call = ends.call;
           arrived =
@@ -110,21 +114,19 @@ module _ (old : BookState) (moment : ℕ) (does : Act) (P : ℕ → Type 0) (is 
         let same : new.waiting ≡ mid.waiting = waiting in
         let filled : length before.entries + old.waiting ≤ 100000 = is.sound.fits.room old.waiting
         is.sound.waiting_is in
-        let waiters_left = waiters_turn before.entries (λ r. ⊥) taken place one old.waiters mid.waiters
+        let waiters_left = waiters_turn before.entries none_gone taken place one old.waiters mid.waiters
         (side_of ends.call) ends.duty (Some ends.duty)
-        (waiters_at_first before.entries (λ r. ⊥) none old.waiters is.sound.waiters_are) ends.leaves
+        (waiters_at_first before.entries none_gone none old.waiters is.sound.waiters_are) ends.leaves
         ends.is_at of_side in
-        let number_left = number_turn before.entries (λ r. ⊥) taken place one old.waiting mid.waiting
-        (number_at_first before.entries (λ r. ⊥) none old.waiting is.sound.waiting_is) (waits, λ no. no)
+        let number_left = number_turn before.entries none_gone taken place one old.waiting mid.waiting
+        (number_at_first before.entries none_gone none old.waiting is.sound.waiting_is) (waits, none place)
         counted in
-        let due_left = due_turn before.entries (λ r. ⊥) taken place one old.due (limit_at before.entries
-        place) refl (due_at_first before.entries (λ r. ⊥) none old.due is.sound.due_are) in
         sound_by
         (subst (AreWaiters (before.entries ++ own_entry ∷ [])) (sym waiters) (waiters_at_last before.entries
         own_entry taken closes mid.waiters waiters_left))
         (subst (NumberOf (Waiting (before.entries ++ own_entry ∷ []))) (sym waiting)
         (number_at_last before.entries own_entry taken closes mid.waiting number_left))
-        (subst (AreDeadlines (before.entries ++ own_entry ∷ [])) (sym (due ∙ ends.due))
-        (due_at_last before.entries own_entry taken closes
-        (without_deadline (limit_at before.entries place) place old.due) due_left))
+        (due ∙ ends.due ∙ due_turn before is.sound.legal [] place old.due (is.sound.due_are ∙ due_at_first
+        before)
+        ∙ due_at_last before own_entry is.sound.legal legal_after (place ∷ []) closes)
         (omega arith) (omega arith)

@@ -4,7 +4,7 @@ use Rattle.rv_book.proofs.Words.{Option, Some, None, IfSome, is_some, option_map
 use Rattle.rv_book.proofs.Words.{none-some, Call, Key, Version, side_of, wait_of, OwedDuty, told_in}
 use Rattle.rv_book.proofs.Words.{OnlyAdvances, Table, session_for, version_in, Waits, Session, Kept, Account}
 use Rattle.rv_book.proofs.Words.{just, with_entry, GoesOnWaiting, IsKept, IsRecorded, WillReply, entry}
-use Rattle.rv_book.proofs.Words.{IsNext, MeetsOldest, MayMeet, may_name, need_of, opposite, AreDeadlines}
+use Rattle.rv_book.proofs.Words.{IsNext, MeetsOldest, MayMeet, may_name, need_of, opposite, deadlines_of}
 use Rattle.rv_book.proofs.Words.{deadline_among, deadline_beside, deadline_of, without_duty, NumberOf, Arrive}
 use Rattle.rv_book.proofs.Words.{Entry, Arrived, BookState, Legal, MayFollow, FitEntries, ArrivedOn, OwnDuty}
 use Rattle.rv_book.proofs.Words.{PartnersDuty, ends_waiting, opposed_by, AreWaiters, SettlesIf}
@@ -21,10 +21,9 @@ use Rattle.rv_book.specs.Operations.{MayRecord}
 use Rattle.rv_book.proofs.ArrivedDeadlines.{due_arrived}
 use Rattle.rv_book.proofs.Following.{arrival_follows}
 use Rattle.rv_book.proofs.Keeping.{fit_with, sound_with}
-use Rattle.rv_rules.proofs.CallKinds.{waiting_meets}
-use Rattle.rv_book.proofs.Lasting.{deadline_lasts, lasting_need, need_positive}
+use Rattle.rv_book.proofs.Lasting.{lasting_need, need_positive}
 use Rattle.rv_book.proofs.Owing.{Waits-after, goes_not_on, goes_on}
-use Rattle.rv_book.proofs.Parking.{among_is, nobody_beside, nobody_opposed}
+use Rattle.rv_book.proofs.Parking.{nobody_beside, nobody_opposed}
 use Rattle.rv_book.proofs.Replying.{recorded_kept, recorded_waits}
 use Rattle.rv_book.proofs.Settling.{own_stays, sessions_recorded}
 use Rattle.rv_book.proofs.Standing.{is_next}
@@ -145,30 +144,19 @@ module _ {old : BookState} {moment : ℕ} {key : Key} {call : Call} {places : Ve
       ∙ ap length first.first in
       absurd (omega (arith, there, nobody))
 
-  -- where it has a deadline it waits
-  waits_has : (limit : ℕ) → deadline_among old.waiters moment call ≡ Some limit → (own : Option OwedDuty)
-      → OwnDuty (side_of call) (wait_of call) arrived.partner (duty_of_new old key) own → own ≡ None
-  waits_has limit has None own_is = refl
-  waits_has limit has (Some own) own_is =
-      let opposed = opposed_by old.waiters (opposite (side_of call)) in
-      let lasts = deadline_lasts moment (wait_of call) limit (among_is opposed (deadline_of moment call) limit
-      has) in
-      let unmet = unmet_by arrived.partner is.on.meets (nobody_beside opposed (deadline_of moment call) limit
-      has) in
-      absurd (none-some lasts.0 (sym (own_is.1 unmet (waiting_meets call lasts.0 lasts.1, lasts.2))
-      ∙ lasts.1))
+  -- where it has a deadline it met nobody
+  waits_has : (limit : ℕ) → deadline_among old.waiters moment call ≡ Some limit → arrived.partner ≡ None
+  waits_has limit has = unmet_by arrived.partner is.on.meets
+      (nobody_beside (opposed_by old.waiters (opposite (side_of call))) (deadline_of moment call) limit has)
 
-  due_are : AreDeadlines (before.entries ++ own_entry ∷ []) (without_duty (before.entries ++ own_entry ∷ [])
-      arrived.other old.due)
+  due_are : without_duty (before.entries ++ own_entry ∷ []) arrived.other old.due
+      ≡ deadlines_of (with_entry before own_entry)
   due_are =
-      subst (λ due. AreDeadlines (before.entries ++ own_entry ∷ [])
-      (without_duty (before.entries ++ own_entry ∷ []) arrived.other due)) (sym is.may.due)
-      (due_arrived before own_entry key call sound.legal follows.pairs.names_free_partners refl
+      ap (without_duty (before.entries ++ own_entry ∷ []) arrived.other) is.may.due
+      ∙ due_arrived before moment key call sound.legal arrived.partner follows arrived.other other_is
       (deadline_among old.waiters moment call)
-      (among_is (opposed_by old.waiters (opposite (side_of call))) (deadline_of moment call))
-      arrived.partner (duty_of_new old key) arrived.own arrived.other refl is.on.own other_is
-      (λ unmet. ap (λ n. deadline_beside n (deadline_of moment call)) (opposed_none unmet))
-      (λ limit has. waits_has limit has arrived.own is.on.own) is.may.deadlines sound.due_are)
+      (λ unmet. ap (λ n. deadline_beside n (deadline_of moment call)) (opposed_none unmet)) waits_has
+      is.may.deadlines sound.due_are
 
   -- what a call that looks sees, once it has arrived
   pub sees : (MayMeet call → ⊥) → AreWaiters before.entries waiters
@@ -276,7 +264,7 @@ module _ {old : BookState} {moment : ℕ} {key : Key} {call : Call} {places : Ve
                 waiters_are;
             waiting_is = subst (NumberOf (Waiting (before.entries ++ own_entry ∷ []))) (sym same)
                 count_after.2;
-            due_are = subst (AreDeadlines (before.entries ++ own_entry ∷ [])) (sym same_due) due_are;
+            due_are = same_due ∙ due_are;
             clients = few_still before.entries own_entry (λ c i w own. absurd (no_hello key call c i w own))
                 sound.fits.clients;
             space = omega arith;

@@ -1,15 +1,16 @@
--- Who waits where, how many do, and the deadlines, while some of those who wait are taken out: at first, when
--- one more is, and with the
+-- Who waits where and how many do, while some of those who wait are taken out: at first, when one more is,
+-- and with the
 -- entry that closes those that were.
 use Rattle.rv_book.proofs.Words.{◌≡◌, ◌+◌, ◌∷◌, ◌++◌, inl, inr, ℕ, List, [], Option, refl, sym, subst, arith}
-use Rattle.rv_book.proofs.Words.{Side, OwedDuty, Deadlines, Entry, NumberOf, AreDeadlines, AreDeadlinesOf}
-use Rattle.rv_book.proofs.Words.{without_deadline, LeavesSide, AreParked, AreWaiters, IsLineOf, Left, Waiters}
-use Rattle.rv_book.proofs.Words.{waiting_on, OpenAt, SideAt, Waiting, limit_at, one_side}
+use Rattle.rv_book.proofs.Words.{Side, OwedDuty, Entry, NumberOf, Among, LeavesSide, AreParked, AreWaiters}
+use Rattle.rv_book.proofs.Words.{IsLineOf, Left, Waiters, waiting_on, OpenAt, SideAt, Waiting, one_side}
+use Rattle.rv_book.proofs.Words.{length}
+use Rattle.rv_book.proofs.Words.{get-append_cases, get-append_end}
 use Rattle.rv_book.specs.TakingOut.{AreWaitersLeft}
 use Rattle.rv_book.proofs.Closing.{ClosesThose, opened_back, opened_on, waits_back, waits_on}
 use Rattle.rv_rules.proofs.Counting.{number_drop, same_number}
 use Rattle.rv_rules.proofs.Deciding.{same_side}
-use Rattle.rv_book.proofs.DeadlineTable.{But, due_on, due_same, due_without, limit_waits}
+use Rattle.rv_rules.proofs.Places.{get-append}
 use Rattle.rv_book.proofs.WaitersBySide.{line_but, line_front, line_to, open_inside, parked_below}
 
 -- ---- while nothing was taken out
@@ -26,18 +27,27 @@ module _ (es : List Entry) (taken : ℕ → Type 0) (none : (r : ℕ) → taken 
   number_at_first n count = same_number (Waiting es) (Left taken (Waiting es)) n
       (λ r. ((λ waits. (waits, none r)), (λ left. left.0))) count
 
-  pub due_at_first : (due : Deadlines) → AreDeadlinesOf es (Waiting es) due
-      → AreDeadlinesOf es (Left taken (Waiting es)) due
-  due_at_first due are = due_same es (Waiting es) (Left taken (Waiting es)) due are
-      (λ r waits. (waits, none r)) (λ limit r left at. left.0)
-
 -- ---- a turn
+
+-- a property with one place less
+abbrev pub But : (ℕ → Type 0) → ℕ → ℕ → Type 0
+But P p r = P r × (r ≡ p → ⊥)
 
 -- what was taken out is so yet, and the place too, and nothing else
 pub record OneMore (taken more : ℕ → Type 0) (place : ℕ) : Type 0 where
   pub here : more place
   pub on : (r : ℕ) → taken r → more r
   pub back : (r : ℕ) → (r ≡ place → ⊥) → more r → taken r
+
+pub one_listed : (places : List ℕ) (place : ℕ) → OneMore (Among places) (Among (places ++ place ∷ [])) place
+one_listed places place = record {
+  here = (length places, get-append_end places place);
+  on = λ r there. (there.0, get-append places (place ∷ []) there.0 r there.1);
+  back = λ r apart there. elim (get-append_cases places place r there.0 there.1) [
+    | inl inside ↦ (there.0, inside.1)
+    | inr last ↦ absurd (apart (sym last.1))
+  ];
+}
 
 module _ (es : List Entry) (taken more : ℕ → Type 0) (place : ℕ) (one : OneMore taken more place) where
   -- who is left after it was left before it, and is another
@@ -110,27 +120,12 @@ module _ (es : List Entry) (taken more : ℕ → Type 0) (place : ℕ) (one : On
       let same : k ≡ m = omega arith in
       subst (NumberOf (Left more (Waiting es))) same less.2
 
-  pub due_turn : (due : Deadlines) (limit : Option ℕ) → limit_at es place ≡ limit
-      → AreDeadlinesOf es (Left taken (Waiting es)) due
-      → AreDeadlinesOf es (Left more (Waiting es)) (without_deadline limit place due)
-  due_turn due limit has are =
-      due_same es (But (Left taken (Waiting es)) place) (Left more (Waiting es)) (without_deadline limit place
-      due)
-      (due_without es (Left taken (Waiting es)) due place are limit has) (left_after (Waiting es))
-      (λ l r left at. left_before (Waiting es) r left)
-
   -- it was a put
   pub number_turn_put : (n : ℕ) → (Waiting es place → ⊥) → NumberOf (Left taken (Waiting es)) n
       → NumberOf (Left more (Waiting es)) n
   number_turn_put n put count =
       same_number (Left taken (Waiting es)) (Left more (Waiting es)) n
       (λ r. (same_left (Waiting es) r put, λ left. (left_before (Waiting es) r left).0)) count
-
-  pub due_turn_put : (due : Deadlines) → (Waiting es place → ⊥)
-      → AreDeadlinesOf es (Left taken (Waiting es)) due → AreDeadlinesOf es (Left more (Waiting es)) due
-  due_turn_put due put are =
-      due_same es (Left taken (Waiting es)) (Left more (Waiting es)) due are (λ r left. same_left (Waiting es)
-      r put left) (λ l r left at. (left_before (Waiting es) r left).0)
 
 -- ---- with the entry that closes those that were taken out
 
@@ -148,9 +143,3 @@ module _ (es : List Entry) (e : Entry) (taken : ℕ → Type 0) (closes : Closes
   pub number_at_last : (n : ℕ) → NumberOf (Left taken (Waiting es)) n → NumberOf (Waiting (es ++ e ∷ [])) n
   number_at_last n count = same_number (Left taken (Waiting es)) (Waiting (es ++ e ∷ [])) n
       (λ r. (waits_on es e taken closes r, waits_back es e taken closes r)) count
-
-  pub due_at_last : (due : Deadlines) → AreDeadlinesOf es (Left taken (Waiting es)) due
-      → AreDeadlines (es ++ e ∷ []) due
-  due_at_last due are = due_same (es ++ e ∷ []) (Left taken (Waiting es)) (Waiting (es ++ e ∷ [])) due
-      (due_on es (e ∷ []) (Left taken (Waiting es)) due are (λ r left. limit_waits es (e ∷ []) r left.0))
-      (waits_on es e taken closes) (λ limit r waits at. waits_back es e taken closes r waits)

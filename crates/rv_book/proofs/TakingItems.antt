@@ -1,37 +1,24 @@
 -- An item is taken out of the front of its queue: the giver's session waits for it, where it is a request,
 -- and the tables are as they
 -- are to be, with one place more that was taken out.
-use Rattle.rv_book.proofs.Words.{◌≡◌, ◌+◌, ◌≤◌, ◌∷◌, ◌++◌, ◌∙◌, ℕ, Bool, List, [], length, Option, Some, None}
-use Rattle.rv_book.proofs.Words.{IfSome, inl, inr, refl, sym, ap, subst, arith, option_and_then, none-some}
+use Rattle.rv_book.proofs.Words.{◌≡◌, ◌+◌, ◌≤◌, ◌∷◌, ◌++◌, ◌∙◌, ℕ, Bool, List, [], Option, Some, None}
+use Rattle.rv_book.proofs.Words.{IfSome, refl, sym, ap, subst, arith, option_and_then, none-some}
 use Rattle.rv_book.proofs.Words.{same_Some, Side, Key, OwedDuty, Table, waiting_of, waiting_place, Session}
-use Rattle.rv_book.proofs.Words.{Kept, Arrive, BookState, Account, act_at, NumberOf, Among, AreDeadlinesOf}
-use Rattle.rv_book.proofs.Words.{without_deadline, without_duty, LeavesFirst, ends_waiting, IsLineOf, owed_at}
+use Rattle.rv_book.proofs.Words.{Kept, Arrive, BookState, Account, act_at, NumberOf, Among}
+use Rattle.rv_book.proofs.Words.{without_duty, LeavesFirst, ends_waiting, IsLineOf, owed_at}
 use Rattle.rv_book.proofs.Words.{IsOwedIn, SettlesAs, SettlesIf, account_of, IsLeft, Left, SameWaiters}
-use Rattle.rv_book.proofs.Words.{Waiters, OpenAt, Waiting, limit_at, act_called, get-append_cases}
-use Rattle.rv_book.proofs.Words.{get-append_end}
+use Rattle.rv_book.proofs.Words.{Waiters, OpenAt, Waiting, act_called}
 use mir.Val.{bool_byte}
 use Rattle.std.specs.Option.{is_some}
 use Rattle.rv_book.specs.Draining.{SameIdle}
 use Rattle.rv_book.specs.TakingOut.{AreSessionsLeft}
 use Rattle.rv_book.proofs.Owing.{owed_waits, some_has, unowed_waits_not, waiting_owed}
-use Rattle.rv_rules.proofs.Places.{get-append}
+use Rattle.rv_book.proofs.DeadlineTable.{due_turn, owed_deadline}
 use Rattle.rv_book.proofs.Tabled.{same_parked, same_waiting}
 use Rattle.rv_book.proofs.TakenSessions.{sessions_turn, sessions_turn_put, waits_and_left}
-use Rattle.rv_book.proofs.TakenTables.{OneMore, due_turn, due_turn_put, number_turn, number_turn_put}
+use Rattle.rv_book.proofs.TakenTables.{OneMore, number_turn, number_turn_put, one_listed}
 use Rattle.rv_book.proofs.TakenTables.{waiters_front}
 use Rattle.rv_book.proofs.TakingOut.{same_state}
-
--- ---- places that are listed
-
-pub one_listed : (places : List ℕ) (place : ℕ) → OneMore (Among places) (Among (places ++ place ∷ [])) place
-one_listed places place = record {
-  here = (length places, get-append_end places place);
-  on = λ r there. (there.0, get-append places (place ∷ []) there.0 r there.1);
-  back = λ r apart there. elim (get-append_cases places place r there.0 there.1) [
-    | inl inside ↦ (there.0, inside.1)
-    | inr last ↦ absurd (apart (sym last.1))
-  ];
-}
 
 -- ---- a turn
 
@@ -45,9 +32,12 @@ pub record ItemLeft (old new : BookState) (side : Side) (duty : Option OwedDuty)
   pub counted : old.waiting ≡ new.waiting + ends_waiting duty
   pub due : new.due ≡ without_duty (account_of old).entries duty old.due
 
-module _ (old : BookState) (taken : ℕ → Type 0) (told : Kept) (is : IsLeft old taken told) where
+module _ (old : BookState) (gone : List ℕ) (told : Kept) (is : IsLeft old gone told) where
   abbrev a : Account
   a = account_of old
+
+  abbrev taken : ℕ → Type 0
+  taken = Among gone
 
   -- the first of a side is open there, and was not taken out
   first_left : (waiters : Waiters) (side : Side) (duty : Option OwedDuty) (place : ℕ)
@@ -92,77 +82,80 @@ module _ (old : BookState) (taken : ℕ → Type 0) (told : Kept) (is : IsLeft o
       let left = owed_left side duty place (first_left waiters side (Some duty) place front) owed in
       some_has (Left taken (Waiting a.entries)) old.waiting place is.waiting_is left
 
-  module _ (more : ℕ → Type 0) (new : BookState) (side : Side) (place : ℕ) (one : OneMore taken more place)
-    where
-      -- the sessions, the number of those that wait and the deadlines with the place taken out too
-      record Rest : Type 0 where
-        sessions_are : AreSessionsLeft a more told new.sessions
-        waiting_is : NumberOf (Left more (Waiting a.entries)) new.waiting
-        due_are : AreDeadlinesOf a.entries (Left more (Waiting a.entries)) new.due
-        fewer : new.waiting ≤ old.waiting
+  module _ (new : BookState) (side : Side) (place : ℕ) where
+    abbrev more : ℕ → Type 0
+    more = Among (gone ++ place ∷ [])
 
-      rest : (duty : Option OwedDuty) → ItemLeft old new side duty place told → Rest
-      rest None item =
-          let owed = item.front.duty_is a.entries is.waiters_are.parked in
-          let put = unowed_waits_not a.entries place (sym owed) in
-          let counted : old.waiting ≡ new.waiting + 0 = item.counted in
-          let same : old.waiting ≡ new.waiting = omega arith in
-          record {
-            sessions_are = subst (AreSessionsLeft a more told) (sym item.settles) (sessions_turn_put a taken
-                more told place one old.sessions put is.sessions_are);
-            waiting_is = subst (NumberOf (Left more (Waiting a.entries))) same (number_turn_put a.entries
-                taken
-                more place one old.waiting put is.waiting_is);
-            due_are = subst (AreDeadlinesOf a.entries (Left more (Waiting a.entries))) (sym item.due)
-                (due_turn_put a.entries taken more place one old.due put is.due_are);
-            fewer = omega arith;
-          }
-      rest (Some duty) item =
-          let owed = item.front.duty_is a.entries is.waiters_are.parked in
-          let left = owed_left side duty place (first_left new.waiters side (Some duty) place item.front) owed
-          in
-          let there = owed_there duty place left owed in
-          let settles = subst (λ (d : OwedDuty). SettlesAs old.sessions new.sessions d.client d.place told)
-          there.2 item.settles in
-          let due = item.due ∙ ap (λ (d : OwedDuty). without_deadline (limit_at a.entries d.place) d.place
-          old.due) there.2 in
-          let counted : old.waiting ≡ new.waiting + 1 = item.counted in
-          record {
-            sessions_are = sessions_turn a taken more told place one there.0 left.0.is_open.call is.legal
-                left.0
-                there.1 old.sessions new.sessions is.sessions_are settles;
-            waiting_is = number_turn a.entries taken more place one old.waiting new.waiting is.waiting_is left
-                counted;
-            due_are = subst (AreDeadlinesOf a.entries (Left more (Waiting a.entries))) (sym due)
-                (due_turn a.entries taken more place one old.due (limit_at a.entries place) refl is.due_are);
-            fewer = omega arith;
-          }
+    one : OneMore taken more place
+    one = one_listed gone place
 
-      pub item_left : (duty : Option OwedDuty) → ItemLeft old new side duty place told → IsLeft new more told
-      item_left duty item =
-          let others = rest duty item in
-          let spare : old.waiting ≤ old.account.room = is.spare in
-          let fewer : new.waiting ≤ old.waiting = others.fewer in
-          subst (λ s. IsLeft s more told) (sym (same_state new old.account item.account)) (record {
-            legal = is.legal;
-            fits = is.fits;
-            sessions_are = others.sessions_are;
-            waiters_are = waiters_front a.entries taken more place one old.waiters new.waiters side
-                is.waiters_are item.front.first item.front.others (item.front.parked a.entries
-                is.waiters_are.parked);
-            waiting_is = others.waiting_is;
-            due_are = others.due_are;
-            spare = omega arith;
-          })
+    -- the sessions and the number of those that wait with the place taken out too
+    record Rest : Type 0 where
+      sessions_are : AreSessionsLeft a more told new.sessions
+      waiting_is : NumberOf (Left more (Waiting a.entries)) new.waiting
+      fewer : new.waiting ≤ old.waiting
+
+    rest : (duty : Option OwedDuty) → ItemLeft old new side duty place told → Rest
+    rest None item =
+        let owed = item.front.duty_is a.entries is.waiters_are.parked in
+        let put = unowed_waits_not a.entries place (sym owed) in
+        let counted : old.waiting ≡ new.waiting + 0 = item.counted in
+        let same : old.waiting ≡ new.waiting = omega arith in
+        record {
+          sessions_are = subst (AreSessionsLeft a more told) (sym item.settles) (sessions_turn_put a taken
+              more told place one old.sessions put is.sessions_are);
+          waiting_is = subst (NumberOf (Left more (Waiting a.entries))) same (number_turn_put a.entries
+              taken
+              more place one old.waiting put is.waiting_is);
+          fewer = omega arith;
+        }
+    rest (Some duty) item =
+        let owed = item.front.duty_is a.entries is.waiters_are.parked in
+        let left = owed_left side duty place (first_left new.waiters side (Some duty) place item.front) owed
+        in
+        let there = owed_there duty place left owed in
+        let settles = subst (λ (d : OwedDuty). SettlesAs old.sessions new.sessions d.client d.place told)
+        there.2 item.settles in
+        let counted : old.waiting ≡ new.waiting + 1 = item.counted in
+        record {
+          sessions_are = sessions_turn a taken more told place one there.0 left.0.is_open.call is.legal
+              left.0
+              there.1 old.sessions new.sessions is.sessions_are settles;
+          waiting_is = number_turn a.entries taken more place one old.waiting new.waiting is.waiting_is left
+              counted;
+          fewer = omega arith;
+        }
+
+    pub item_left : (duty : Option OwedDuty) → ItemLeft old new side duty place told
+        → IsLeft new (gone ++ place ∷ []) told
+    item_left duty item =
+        let others = rest duty item in
+        let opened = (first_left new.waiters side duty place item.front).0.is_open in
+        let due = item.due ∙ owed_deadline a is.legal a.entries place duty old.due opened
+        refl (item.front.duty_is a.entries is.waiters_are.parked) in
+        let spare : old.waiting ≤ old.account.room = is.spare in
+        let fewer : new.waiting ≤ old.waiting = others.fewer in
+        subst (λ s. IsLeft s (gone ++ place ∷ []) told) (sym (same_state new old.account item.account))
+        (record {
+          legal = is.legal;
+          fits = is.fits;
+          sessions_are = others.sessions_are;
+          waiters_are = waiters_front a.entries taken more place one old.waiters new.waiters side
+              is.waiters_are item.front.first item.front.others (item.front.parked a.entries
+              is.waiters_are.parked);
+          waiting_is = others.waiting_is;
+          due_are = due ∙ due_turn a is.legal gone place old.due is.due_are;
+          spare = omega arith;
+        })
 
   -- where no item was there
   pub none_left : (new : BookState) → new.account ≡ old.account → new.sessions ≡ old.sessions
       → new.waiting ≡ old.waiting → new.due ≡ old.due → SameWaiters old.waiters new.waiters
-      → IsLeft new taken told
+      → IsLeft new gone told
   none_left new account sessions waiting due same =
       let spare : old.waiting ≤ old.account.room = is.spare in
       let count : new.waiting ≡ old.waiting = waiting in
-      subst (λ s. IsLeft s taken told) (sym (same_state new old.account account)) (record {
+      subst (λ s. IsLeft s gone told) (sym (same_state new old.account account)) (record {
         legal = is.legal;
         fits = is.fits;
         sessions_are = subst (AreSessionsLeft a taken told) (sym sessions) is.sessions_are;
@@ -172,7 +165,7 @@ module _ (old : BookState) (taken : ℕ → Type 0) (told : Kept) (is : IsLeft o
           parked = same_parked a.entries old.waiters new.waiters same is.waiters_are.parked;
         };
         waiting_is = subst (NumberOf (Left taken (Waiting a.entries))) (sym waiting) is.waiting_is;
-        due_are = subst (AreDeadlinesOf a.entries (Left taken (Waiting a.entries))) (sym due) is.due_are;
+        due_are = due ∙ is.due_are;
         spare = omega arith;
       })
 

@@ -1,28 +1,30 @@
 -- A request that waits and was not taken out yet may be ended; that leaves the tables as they are to be, with
 -- one more taken out.
+use Rattle.rv_book.proofs.Words.{◌++◌, ◌∷◌, [], none-some}
 use Rattle.rv_book.proofs.Words.{◌≡◌, ◌+◌, ◌≤◌, ◌∙◌, ℕ, List, Some, refl, sym, ap, subst, arith, same_Some}
 use Rattle.rv_book.proofs.Words.{Side, Key, side_of, Deadlines, OwedDuty, Kept, Arrive, Entry, BookState}
-use Rattle.rv_book.proofs.Words.{Account, Stored, act_at, AreDeadlinesOf, StandsOn, IsLineOf, EndsAt, MayEnd}
+use Rattle.rv_book.proofs.Words.{Account, Stored, act_at, Among, StandsOn, IsLineOf, EndsAt, MayEnd}
 use Rattle.rv_book.proofs.Words.{SettlesAs, with_due, IsSound, account_of, IsLeft, Left, Waiters, waiting_on}
-use Rattle.rv_book.proofs.Words.{OpenAt, SideAt, Waiting, limit_at, act_called, one_side, waiting_is_open}
+use Rattle.rv_book.proofs.Words.{OpenAt, SideAt, Waiting, act_called, one_side, waiting_is_open}
 use Rattle.rv_book.proofs.Owing.{some_has, waiting_owed}
 use Rattle.rv_book.proofs.TakenSessions.{sessions_at_first, sessions_turn, waits_and_left}
-use Rattle.rv_book.proofs.TakenTables.{OneMore, due_at_first, due_turn, number_at_first, number_turn}
-use Rattle.rv_book.proofs.TakenTables.{waiters_at_first, waiters_turn}
+use Rattle.rv_book.proofs.DeadlineTable.{due_at_first, due_turn}
+use Rattle.rv_book.proofs.TakenTables.{number_at_first, number_turn, one_listed, waiters_at_first}
+use Rattle.rv_book.proofs.TakenTables.{waiters_turn}
 
 -- ---- while nothing was taken out
 
-pub left_at_first : (state : BookState) (taken : ℕ → Type 0) (told : Kept) → ((r : ℕ) → taken r → ⊥)
-    → IsSound state → IsLeft state taken told
-left_at_first state taken told none sound =
+pub left_at_first : (state : BookState) (told : Kept) → IsSound state → IsLeft state [] told
+left_at_first state told sound =
     let a = account_of state in
+    let none = λ (r : ℕ) (among : Among [] r). none-some r among.1 in
     record {
       legal = sound.legal;
       fits = sound.fits;
-      sessions_are = sessions_at_first a taken told none state.sessions sound.sessions_are;
-      waiters_are = waiters_at_first a.entries taken none state.waiters sound.waiters_are;
-      waiting_is = number_at_first a.entries taken none state.waiting sound.waiting_is;
-      due_are = due_at_first a.entries taken none state.due sound.due_are;
+      sessions_are = sessions_at_first a (Among []) told none state.sessions sound.sessions_are;
+      waiters_are = waiters_at_first a.entries (Among []) none state.waiters sound.waiters_are;
+      waiting_is = number_at_first a.entries (Among []) none state.waiting sound.waiting_is;
+      due_are = sound.due_are ∙ due_at_first a;
       spare = sound.spare;
     }
 
@@ -62,10 +64,16 @@ same_state s account same =
       due = s.due;
     } in with) same
 
-module _ (old : BookState) (taken : ℕ → Type 0) (told : Kept) (is : IsLeft old taken told) (place : ℕ) (left :
-    Left taken (Waiting (account_of old).entries) place) where
+module _ (old : BookState) (gone : List ℕ) (told : Kept) (is : IsLeft old gone told) (place : ℕ) (left :
+    Left (Among gone) (Waiting (account_of old).entries) place) where
   abbrev a : Account
   a = account_of old
+
+  abbrev taken : ℕ → Type 0
+  taken = Among gone
+
+  abbrev more : ℕ → Type 0
+  more = Among (gone ++ place ∷ [])
 
   abbrev waits : Waiting a.entries place
   waits = left.0
@@ -92,9 +100,10 @@ module _ (old : BookState) (taken : ℕ → Type 0) (told : Kept) (is : IsLeft o
   }
 
   -- when it was ended it is taken out too
-  pub left_ended : (more : ℕ → Type 0) (new : BookState) → OneMore taken more place
-      → new.account ≡ old.account → EndsAt old new place told → IsLeft new more told
-  left_ended more new one same ends =
+  pub left_ended : (new : BookState) → new.account ≡ old.account → EndsAt old new place told
+      → IsLeft new (gone ++ place ∷ []) told
+  left_ended new same ends =
+      let one = one_listed gone place in
       let owed = waiting_owed a.entries place request.0 waits.is_open.call waits request.1 in
       let client : ends.duty.client ≡ request.0.client = ap (λ (d : OwedDuty). d.client)
       (same_Some _ _ (sym ends.owed ∙ owed)) in
@@ -107,7 +116,7 @@ module _ (old : BookState) (taken : ℕ → Type 0) (told : Kept) (is : IsLeft o
       } in
       let spare : old.waiting ≤ old.account.room = is.spare in
       let counted : old.waiting ≡ new.waiting + 1 = ends.counted in
-      subst (λ s. IsLeft s more told) (sym (same_state new old.account same)) (record {
+      subst (λ s. IsLeft s (gone ++ place ∷ []) told) (sym (same_state new old.account same)) (record {
         legal = is.legal;
         fits = is.fits;
         sessions_are = sessions_turn a taken more told place one request.0 waits.is_open.call is.legal waits
@@ -116,7 +125,6 @@ module _ (old : BookState) (taken : ℕ → Type 0) (told : Kept) (is : IsLeft o
             ends.duty (Some ends.duty) is.waiters_are ends.leaves ends.is_at of_side;
         waiting_is = number_turn a.entries taken more place one old.waiting new.waiting is.waiting_is left
             counted;
-        due_are = subst (AreDeadlinesOf a.entries (Left more (Waiting a.entries))) (sym ends.due)
-            (due_turn a.entries taken more place one old.due (limit_at a.entries place) refl is.due_are);
+        due_are = ends.due ∙ due_turn a is.legal gone place old.due is.due_are;
         spare = omega arith;
       })

@@ -1,8 +1,8 @@
 -- Up to so many items are taken out for a side, one a turn: what holds after each turn, and what was taken
 -- out at the end.
-use Rattle.rv_book.proofs.Words.{◌≡◌, ◌+◌, ◌<◌, ◌≤◌, ◌∷◌, ◌++◌, ◌∙◌, ℕ, List, [], length, min, take, vec_len}
+use Rattle.rv_book.proofs.Words.{◌≡◌, ◌+◌, ◌<◌, ◌≤◌, ◌∷◌, ◌++◌, ◌∙◌, ℕ, [], length, min, take, vec_len}
 use Rattle.rv_book.proofs.Words.{refl, sym, ap, subst, arith, length-append, take-append_seam, take_all}
-use Rattle.rv_book.proofs.Words.{none-some, slice_get, Side, BookState, Among, items_in, IsSound, account_of}
+use Rattle.rv_book.proofs.Words.{Side, BookState, items_in, IsSound, account_of}
 use Rattle.std.proofs.Common.{Vec, Global, vec_capacity}
 use Rattle.std.proofs.Math.Nat.{le-min}
 use Rattle.std.proofs.lemmas.List.{append-nil, append_assoc}
@@ -24,8 +24,8 @@ pub took_none : (state : BookState) (side : Side) (max : ℕ) (places : Vec ℕ 
     → places.items ≡ [] → min max (length (items_in state side)) ≤ vec_capacity places
     → TookSome state state side max places
 took_none state side max places sound empty room = record {
-  draining = left_at_first state (Among places.items) (kept.ReceivedBy (length (account_of state).entries))
-      (λ r there. none-some r (sym (ap (λ (l : List ℕ). slice_get l there.0) empty) ∙ there.1)) sound;
+  draining = subst (IsDraining state) (sym empty)
+      (left_at_first state (kept.ReceivedBy (length (account_of state).entries)) sound);
   account = refl;
   idle = record { epoch = refl; idle = λ client none. refl };
   line = ap (λ l. l ++ items_in state side) (sym empty);

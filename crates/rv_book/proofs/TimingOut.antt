@@ -1,26 +1,29 @@
 -- The time-outs of a step: a request that is due may be ended, each turn leaves the tables as they are to be,
 -- and so does the tick.
 use Rattle.rv_book.proofs.Words.{◌≡◌, ◌+◌, ◌<◌, ◌≤◌, ◌∷◌, ◌++◌, ◌∙◌, inl, inr, ℕ, [], length, Some, refl, sym}
-use Rattle.rv_book.proofs.Words.{ap, subst, arith, remove, none-some, Deadlines, Tick, Entry, BookState}
-use Rattle.rv_book.proofs.Words.{Account, Stored, with_entry, entry, NumberOf, AreDeadlines, without_deadline}
+use Rattle.rv_book.proofs.Words.{contains, ap, subst, arith, remove, none-some, Deadlines, Tick, Entry}
+use Rattle.rv_book.proofs.Words.{BookState}
+use Rattle.rv_book.proofs.Words.{Account, Stored, with_entry, entry, NumberOf, without_deadline}
 use Rattle.rv_book.proofs.Words.{IsDueAt, KeepsTime, Legal, MayFollow, NothingDue, SomethingDue, AreWaiters}
 use Rattle.rv_book.proofs.Words.{Ticks, EndsAt, MayEnd, with_due, AreSessions, IsSound, account_of, IsLeft}
 use Rattle.rv_book.proofs.Words.{Left, Waiting, limit_at, few_still, Legal-with_entry, due_until}
-use Rattle.rv_due.specs.Deadlines.{AllAbove, IsLeastUntil}
+use Rattle.rv_due.specs.Deadlines.{AllAbove, Deadline, IsLeastUntil}
 use Rattle.rv_due.proofs.Rising.{remove_absent}
 use Rattle.rv_text.specs.declared.answer.Reply.TheVariants.{TimedOut}
-use Rattle.rv_book.specs.Ending.{IsEnding, TakenOut}
+use Rattle.rv_book.specs.Ending.{IsEnding}
 use Rattle.rv_book.specs.Operations.{IsTime}
 use Rattle.rv_book.proofs.Closing.{ClosesThose, waits_on}
+use Rattle.rv_book.proofs.DeadlineTable.{due_at_first, due_at_last, left_there, limit_waits}
 use Rattle.rv_book.proofs.DeadlineTable.{taken_out}
+use Rattle.rv_book.proofs.Words.{Among, contains, get-append_cases}
 use Rattle.rv_book.proofs.Following.{tick_follows}
 use Rattle.rv_book.proofs.Keeping.{sound_with}
 use Rattle.rv_rules.proofs.Keys.{tick_no_hello}
-use Rattle.rv_book.proofs.Overdue.{nothing_taken, one_overdue, tick_closes}
+use Rattle.rv_book.proofs.Overdue.{due_is_gone, tick_closes}
 use Rattle.rv_book.proofs.SessionTable.{IsApart}
 use Rattle.rv_book.proofs.StoppedReplies.{timed_out_reply}
 use Rattle.rv_book.proofs.TakenSessions.{Tells, sessions_at_last}
-use Rattle.rv_book.proofs.TakenTables.{due_at_last, number_at_last, waiters_at_last}
+use Rattle.rv_book.proofs.TakenTables.{number_at_last, waiters_at_last}
 use Rattle.rv_book.proofs.TakingOut.{left_at_first, left_ended, left_may_end}
 use Rattle.rv_book.proofs.Ticking.{tick_ends, with_tick}
 use Rattle.rv_session.specs.declared.kept.Kept.TheVariants as kept
@@ -28,10 +31,11 @@ use Rattle.rv_session.specs.declared.kept.Kept.TheVariants as kept
 -- ---- before the first turn
 
 pub ending_at_first : (state : BookState) (moment : ℕ) → IsSound state → IsEnding state moment
-ending_at_first state moment sound =
-    let es = (account_of state).entries in
-    left_at_first state (TakenOut es moment state.due) kept.TimedOut (λ r taken. nothing_taken es moment
-    state.due r sound.due_are taken) sound
+ending_at_first state moment sound = record {
+  gone = [];
+  left = left_at_first state kept.TimedOut sound;
+  due = λ r among. absurd (none-some r among.1);
+}
 
 -- ---- a turn
 
@@ -43,17 +47,18 @@ module _ (old : BookState) (moment limit place : ℕ) (is : IsEnding old moment)
   abbrev rest : Deadlines
   rest = remove old.due (limit, place)
 
-  abbrev taken : ℕ → Type 0
-  taken = TakenOut a.entries moment old.due
-
-  found : Left taken (Waiting a.entries) place × (limit_at a.entries place ≡ Some limit)
-  found = is.due_are.are limit place least.there
+  found : Left (Among is.gone) (Waiting a.entries) place × (limit_at a.entries place ≡ Some limit)
+  found =
+      let d : Deadline = (limit, place) in
+      let till = left_there a is.left.legal is.gone d
+      (ap (λ all. contains all d) (sym is.left.due_are) ∙ least.there) in
+      ((limit_waits a is.left.legal d till.opened till.has, till.left), till.has)
 
   pub turn_due : IsDueAt a.entries moment place
   turn_due = record { waits = found.0.0; limit = limit; has = found.1; elapsed = least.due }
 
   pub turn_may_end : MayEnd (with_due old rest) place
-  turn_may_end = left_may_end old taken kept.TimedOut is place found.0 rest
+  turn_may_end = left_may_end old is.gone kept.TimedOut is.left place found.0 rest
 
   pub turn_ends : (new : BookState) → new.account ≡ old.account
       → EndsAt (with_due old rest) new place kept.TimedOut → IsEnding new moment
@@ -71,21 +76,23 @@ module _ (old : BookState) (moment limit place : ℕ) (is : IsEnding old moment)
         counted = ends.counted;
         due = due ∙ ap (λ o. without_deadline o place old.due) (sym found.1);
       } in
-      let one = one_overdue a.entries moment old.due limit place found.0.0 found.1 least.due in
-      let left = left_ended old taken kept.TimedOut is place found.0 (TakenOut a.entries moment rest) new one
-      same ended in
-      subst (λ (s : Stored). IsLeft new (TakenOut s.account.entries moment new.due) kept.TimedOut) (sym same)
-      (subst (λ d. IsLeft new (TakenOut a.entries moment d) kept.TimedOut) (sym due) left)
+      record {
+        gone = is.gone ++ place ∷ [];
+        left = left_ended old is.gone kept.TimedOut is.left place found.0 new same ended;
+        due = λ r among. subst (λ (s : Stored). IsDueAt s.account.entries moment r) (sym same)
+            (elim (get-append_cases is.gone place r among.0 among.1) [
+              | inl inside ↦ is.due r (among.0, inside.1)
+              | inr last ↦ subst (IsDueAt a.entries moment) last.1 turn_due
+            ]);
+      }
 
 -- ---- where nothing is due
 
 pub none_due : (state : BookState) (moment : ℕ) → IsSound state → AllAbove state.due moment
     → NothingDue (account_of state).entries moment
 none_due state moment sound above r due =
-    let there = sound.due_are.each due.limit r due.waits due.has in
-    let later : moment < due.limit = above (due.limit, r) there in
-    let elapsed : due.limit ≤ moment = due.elapsed in
-    omega arith
+    let a = account_of state in
+    none-some r (due_is_gone a [] state.due sound.legal (sound.due_are ∙ due_at_first a) moment r above due).1
 
 pub no_ticks : (a : Account) (moment : ℕ) → NothingDue a.entries moment → Ticks a moment a
 no_ticks a moment nothing = inr ((λ something. nothing something.0 something.1), refl)
@@ -131,17 +138,21 @@ module _ {old mid : BookState} {moment : ℕ} (out : AllTakenOut old mid moment)
   own_entry = entry moment Tick []
 
   abbrev overdue : ℕ → Type 0
-  overdue = TakenOut before.entries moment mid.due
+  overdue = Among out.ending.gone
+
+  abbrev left : IsLeft mid out.ending.gone kept.TimedOut
+  left = out.ending.left
 
   follows : MayFollow before own_entry
   follows = subst (λ (s : Stored). MayFollow s.account own_entry) (sym out.same)
       (tick_follows (account_of old) moment out.is.time out.something)
 
   closes : ClosesThose before.entries own_entry overdue
-  closes = tick_closes before.entries own_entry mid.due refl refl out.above
+  closes = tick_closes before out.ending.gone mid.due left.legal left.due_are own_entry refl refl out.above
+      out.ending.due
 
   legal_after : Legal (with_entry before own_entry)
-  legal_after = Legal-with_entry before own_entry out.ending.legal follows
+  legal_after = Legal-with_entry before own_entry left.legal follows
 
   -- who was taken out is told that its time is over
   tells : Tells before own_entry overdue kept.TimedOut
@@ -149,7 +160,7 @@ module _ {old mid : BookState} {moment : ℕ} (out : AllTakenOut old mid moment)
     reply = TimedOut;
     is = refl;
     replies = timed_out_reply before.entries own_entry r call waits arrived refl refl
-        (due_until before.entries moment r taken.is_due);
+        (due_until before.entries moment r (out.ending.due r taken));
   }
 
   pub ticks : (new : BookState) → account_of new ≡ with_entry before own_entry
@@ -183,23 +194,23 @@ module _ {old mid : BookState} {moment : ℕ} (out : AllTakenOut old mid moment)
       let room_same : mid.account.room ≡ old.account.room = ap (λ (s : Stored). s.room) out.same in
       let less : mid.waiting < old.waiting = out.fewer in
       let waits : new.waiting ≡ mid.waiting = waiting in
-      let left : mid.account.room ≡ new.account.room + 1 = room in
+      let room_left : mid.account.room ≡ new.account.room + 1 = room in
       record {
-        sound = sound_with before own_entry new out.ending.fits (record {
+        sound = sound_with before own_entry new left.fits (record {
           legal = legal_after;
           entry_fits = (out.is.fits, tt);
           account = pushed;
           sessions_are = subst (AreSessions (with_entry before own_entry)) (sym sessions)
               (sessions_at_last before own_entry overdue kept.TimedOut legal_after (waits_on before.entries
-              own_entry overdue closes) tells mid.sessions tick_apart out.ending.sessions_are);
+              own_entry overdue closes) tells mid.sessions tick_apart left.sessions_are);
           waiters_are = subst (AreWaiters (before.entries ++ own_entry ∷ [])) (sym waiters)
-              (waiters_at_last before.entries own_entry overdue closes mid.waiters out.ending.waiters_are);
+              (waiters_at_last before.entries own_entry overdue closes mid.waiters left.waiters_are);
           waiting_is = subst (NumberOf (Waiting (before.entries ++ own_entry ∷ []))) (sym waiting)
-              (number_at_last before.entries own_entry overdue closes mid.waiting out.ending.waiting_is);
-          due_are = subst (AreDeadlines (before.entries ++ own_entry ∷ [])) (sym due)
-              (due_at_last before.entries own_entry overdue closes mid.due out.ending.due_are);
+              (number_at_last before.entries own_entry overdue closes mid.waiting left.waiting_is);
+          due_are = due ∙ left.due_are ∙ due_at_last before own_entry left.legal legal_after out.ending.gone
+              closes;
           clients = few_still before.entries own_entry (λ c i v own. absurd (tick_no_hello c i v own))
-              out.ending.fits.clients;
+              left.fits.clients;
           space = omega arith;
           spare = omega arith;
         });

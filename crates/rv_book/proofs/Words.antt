@@ -20,7 +20,8 @@ pub use Rattle.rv_book.specs.Arriving.{GoesOnWaiting, IsCancelled, IsKept, IsRec
 pub use Rattle.rv_book.specs.Arriving.{entry}
 pub use Rattle.rv_book.specs.Counting.{NumberOf}
 pub use Rattle.rv_book.specs.Draining.{items_in}
-pub use Rattle.rv_book.specs.Elapsing.{AreDeadlines, AreDeadlinesOf, deadline_after, deadline_among}
+pub use Rattle.rv_book.specs.Elapsing.{deadlines_but, open_but, deadline_after, deadline_among, deadlines_of}
+pub use Rattle.rv_book.specs.Elapsing.{limits_in}
 pub use Rattle.rv_book.specs.Elapsing.{deadline_beside, deadline_of, with_deadline, without_deadline}
 pub use Rattle.rv_book.specs.Elapsing.{without_duty}
 pub use Rattle.rv_book.specs.Legal.{HasWaiting, IsDueAt, IsNextNumber, IsOpenOpposite, KeepsTime, Legal}

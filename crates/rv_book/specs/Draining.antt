@@ -13,7 +13,6 @@ use Rattle.rv_session.specs.Meanings.{HasNext}
 use Rattle.rv_session.specs.Standings.{standing_of}
 use Rattle.rv_session.specs.Table.{Table, session_of, waiting_of}
 use Rattle.rv_account.specs.declared.entry.Act.TheVariants.{Arrive}
-use Rattle.rv_account.specs.Account.{Among}
 use Rattle.rv_account.specs.Calls.{may_name}
 use Rattle.rv_book.specs.Arriving.{WillTell}
 use Rattle.rv_book.specs.Meeting.{HasRoomToName}
@@ -42,7 +41,7 @@ taken_by state call = take (may_name call) (items_in state (side_of call))
 -- request that is recorded next
 abbrev pub IsDraining : BookState → List ℕ → Type 0
 IsDraining state places =
-    IsLeft state (Among places) (kept.ReceivedBy (length (account_of state).entries))
+    IsLeft state places (kept.ReceivedBy (length (account_of state).entries))
 
 -- the oldest item that the side takes was taken out, and its place is listed behind the others
 pub record TookItem (old new : BookState) (side : Side) (before after : List ℕ) : Type 0 where

@@ -1,25 +1,36 @@
--- What the table of deadlines says of a list of entries.
-use Rattle.std.specs.Prelude.{◌≡◌, ℕ, zero, suc, List, Option, Some, None, true}
-use Rattle.std.specs.FinSet.{contains, insert, remove}
+-- What the table of deadlines says of the state of an account.
+use Rattle.std.specs.Prelude.{ℕ, zero, suc, List, Option, Some, None, filter, filter_map, nat_eq, not}
+use Rattle.std.specs.List.{list_any}
+use Rattle.std.specs.FinSet.{from_list, insert, remove}
 use Rattle.rv_text.specs.declared.call.Call.{Call}
 use Rattle.rv_text.specs.Calls.{side_of, wait_of}
 use Rattle.rv_due.specs.Deadlines.{Deadlines}
 use Rattle.rv_session.specs.OwedDuty.{OwedDuty}
 use Rattle.rv_account.specs.declared.entry.Entry.{Entry}
+use Rattle.rv_account.specs.Account.{Account}
 use Rattle.rv_account.specs.Calls.{opposite}
 pub use Rattle.rv_account.specs.Calls.{deadline_after}
+use Rattle.rv_state.specs.State.{OpenPlace}
+use Rattle.rv_state.specs.After.{deadline_of_place, state_of}
 use Rattle.rv_book.specs.Meeting.{opposed_by}
 use Rattle.rv_book.specs.Views.{Waiters}
-use Rattle.rv_book.specs.Waiting.{limit_at, Waiting}
+use Rattle.rv_book.specs.Waiting.{limit_at}
 
--- the deadlines are those of the requests with a property, each with its limit
-pub record AreDeadlinesOf (entries : List Entry) (P : ℕ → Type 0) (due : Deadlines) : Type 0 where
-  pub are : (limit r : ℕ) → contains due (limit, r) ≡ true → P r × (limit_at entries r ≡ Some limit)
-  pub each : (limit r : ℕ) → P r → limit_at entries r ≡ Some limit → contains due (limit, r) ≡ true
+-- the deadlines of some open places
+abbrev pub limits_in : List OpenPlace → Deadlines
+limits_in there = from_list (filter_map deadline_of_place there)
 
--- they are those of the requests that wait
-abbrev pub AreDeadlines : List Entry → Deadlines → Type 0
-AreDeadlines entries due = AreDeadlinesOf entries (Waiting entries) due
+-- those of an account are those of all that is open in its state
+abbrev pub deadlines_of : Account → Deadlines
+deadlines_of a = limits_in (state_of a).open_places
+
+-- what is open, but at those places
+abbrev pub open_but : List OpenPlace → List ℕ → List OpenPlace
+open_but there gone = filter (λ o. not (list_any (λ p. nat_eq p o.place) gone)) there
+
+-- the deadlines of an account but those at these places
+abbrev pub deadlines_but : Account → List ℕ → Deadlines
+deadlines_but a gone = limits_in (open_but (state_of a).open_places gone)
 
 -- the deadlines with that of a request at a place, if it has a limit
 abbrev pub with_deadline : Option ℕ → ℕ → Deadlines → Deadlines

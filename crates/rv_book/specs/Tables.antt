@@ -17,7 +17,7 @@ use Rattle.rv_book.specs.Legal.{Legal}
 use Rattle.rv_book.specs.Limits.{FitsAccount}
 use Rattle.rv_book.specs.Counting.{NumberOf}
 use Rattle.rv_book.specs.Parked.{AreWaiters}
-use Rattle.rv_book.specs.Elapsing.{AreDeadlines}
+use Rattle.rv_book.specs.Elapsing.{deadlines_of}
 use Rattle.rv_book.specs.Sessions.{HasOpened, LastNumber, SaidHello}
 use Rattle.rv_book.specs.Waiting.{Waiting}
 
@@ -78,5 +78,5 @@ pub record IsSound (state : BookState) : Type 0 where
   pub sessions_are : AreSessions (account_of state) state.sessions
   pub waiters_are : AreWaiters (account_of state).entries state.waiters
   pub waiting_is : NumberOf (Waiting (account_of state).entries) state.waiting
-  pub due_are : AreDeadlines (account_of state).entries state.due
+  pub due_are : state.due ≡ deadlines_of (account_of state)
   pub spare : state.waiting ≤ state.account.room

@@ -10,9 +10,9 @@ use Rattle.rv_session.specs.declared.session.RequestState.{RequestState as State
 use Rattle.rv_session.specs.Table.{Table, session_of}
 use Rattle.rv_account.specs.declared.entry.Entry.{Entry}
 use Rattle.rv_book.specs.declared.state.BookState.{BookState}
-use Rattle.rv_account.specs.Account.{Account}
+use Rattle.rv_account.specs.Account.{Account, Among}
 use Rattle.rv_book.specs.Counting.{NumberOf}
-use Rattle.rv_book.specs.Elapsing.{AreDeadlinesOf}
+use Rattle.rv_book.specs.Elapsing.{deadlines_but}
 use Rattle.rv_book.specs.Legal.{Legal}
 use Rattle.rv_book.specs.Limits.{FitsAccount}
 use Rattle.rv_book.specs.Parked.{AreParked, IsLineOf}
@@ -66,12 +66,14 @@ pub record AreSessionsLeft (a : Account) (taken : ℕ → Type 0) (told : Kept) 
 abbrev pub WaitingLeft : BookState → (ℕ → Type 0) → ℕ → Type 0
 WaitingLeft state taken r = Left taken (Waiting (account_of state).entries) r
 
--- the tables are what the account says, but for what was taken out, and each request that was is told this
-pub record IsLeft (state : BookState) (taken : ℕ → Type 0) (told : Kept) : Type 0 where
+-- the tables are what the account says, but for what was taken out at these places, and each request that was
+-- is
+-- told this
+pub record IsLeft (state : BookState) (gone : List ℕ) (told : Kept) : Type 0 where
   pub legal : Legal (account_of state)
   pub fits : FitsAccount (account_of state)
-  pub sessions_are : AreSessionsLeft (account_of state) taken told state.sessions
-  pub waiters_are : AreWaitersLeft (account_of state).entries taken state.waiters
-  pub waiting_is : NumberOf (WaitingLeft state taken) state.waiting
-  pub due_are : AreDeadlinesOf (account_of state).entries (WaitingLeft state taken) state.due
+  pub sessions_are : AreSessionsLeft (account_of state) (Among gone) told state.sessions
+  pub waiters_are : AreWaitersLeft (account_of state).entries (Among gone) state.waiters
+  pub waiting_is : NumberOf (WaitingLeft state (Among gone)) state.waiting
+  pub due_are : state.due ≡ deadlines_but (account_of state) gone
   pub spare : state.waiting ≤ state.account.room

@@ -21,7 +21,7 @@ limited (Some e) key call limit arrived has none =
 
 -- ---- each found is due
 
-due_of_place : (a : Account) (s : State) (moment place : ℕ) → IsStateOf a s → IsDuePlace s moment place
+pub due_of_place : (a : Account) (s : State) (moment place : ℕ) → IsStateOf a s → IsDuePlace s moment place
     → IsDueAt a.entries moment place
 due_of_place a s moment place state due =
     let arrival = state.arrivals due.i due.there due.stands in

@@ -147,6 +147,14 @@ own_told a s e comes (Cancel own) says key is =
     (own_cancel_told a s e key comes named (comes.follows.numbers.cancels key named))
 own_told a s e comes Tick says key is = absurd (none-some key is)
 
+-- what names no key is told nothing
+none_told : (s : State) (moment : ℕ) (does : Act) → key_in does ≡ None
+    → (following s moment does).reply ≡ None
+none_told s moment (Hello client incarnation version) none = refl
+none_told s moment (Arrive key call) none = absurd (none-some key (sym none))
+none_told s moment (Cancel key) none = absurd (none-some key (sym none))
+none_told s moment Tick none = refl
+
 pub says_of_entry : (a : Account) (e : Entry) → Legal a → MayFollow a e
     → SaysOfEntry a e (following (state_of a) e.moment e.act)
 says_of_entry a e legal follows =
@@ -155,4 +163,5 @@ says_of_entry a e legal follows =
       state = state_pushed a e;
       settles = settles a (state_of a) e comes;
       own = λ key named. own_told a (state_of a) e comes e.act refl key named;
+      none = none_told (state_of a) e.moment e.act;
     }

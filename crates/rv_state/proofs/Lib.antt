@@ -54,5 +54,7 @@ pub mod MovesBoth
 pub mod MoveRuns
 pub mod NamedPlaces
 pub mod RulesKept
+pub mod DueDecided
+pub mod MovesThere
 pub mod WhoWaits
 pub mod StateLaws

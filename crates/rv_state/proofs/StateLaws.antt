@@ -8,6 +8,7 @@ use Rattle.rv_rules.specs.Steps.{Next}
 use Rattle.rv_rules.proofs.Fronts.{Legal-before}
 use Rattle.rv_rules.proofs.Legality.{follows_itself}
 use Rattle.rv_state.specs.State.{opening}
+use Rattle.rv_state.specs.Laws.{MovesExist}
 use Rattle.rv_state.specs.Laws.{IsMoveTo, MovesStep, OneFuture, StatesAgree, StatesFollow, StatesKeepRules}
 use Rattle.rv_state.specs.Laws.{StatesSettle, StatesTellWaiting, StepsAlike, StepsMove}
 use Rattle.rv_state.specs.Follows.{FollowsState}
@@ -19,6 +20,7 @@ use Rattle.rv_state.proofs.FollowsBoth.{account_to_state, state_to_account}
 use Rattle.rv_state.proofs.MoveRuns.{Runs, move_runs, settles_by}
 use Rattle.rv_state.proofs.MovesBoth.{move_to_next, next_to_move}
 use Rattle.rv_state.proofs.WhoWaits.{tells_waiting}
+use Rattle.rv_state.proofs.MovesThere.{move_there}
 use Rattle.rv_state.proofs.RulesKept.{rules_agree}
 
 pub states_agree : StatesAgree
@@ -138,10 +140,16 @@ steps_alike a b after now m answer legal other same next =
     let there = subst (λ s. StateNext s now m moves.move) same moves.moves in
     let steps = moves_step b now m moves.move other there in
     record {
-      other = steps.after;
+      after_there = steps.after;
       next = subst (Next b now m steps.after) (sym moves.answers) steps.next;
       more = moves.move.entries;
       adds = moves.is.entries;
       adds_there = steps.is.entries;
+      told = moves.move.settles;
+      settles = moves.is.settles;
+      settles_there = steps.is.settles;
       same = steps.is.state ∙ sym moves.is.state;
     }
+
+pub moves_exist : MovesExist
+moves_exist s now m = move_there s now m

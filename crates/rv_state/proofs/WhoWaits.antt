@@ -1,15 +1,11 @@
 -- A state tells the line of each side, who waits and for whom, what is due, and how many there are.
-use Rattle.std.proofs.Common.{◌≡◌, ℕ, true, Option, Some, None, is_some, refl, sym, ap, subst, ◌∙◌}
-use Rattle.std.specs.Prelude.{IsSome}
-use Rattle.std.proofs.lemmas.Bool.{false≢true}
-use Rattle.std.specs.List.{slice_get}
-use Rattle.rv_account.specs.Account.{Account, Among, act_at, key_in}
-use Rattle.rv_account.specs.declared.entry.Act.TheVariants.{Arrive}
-use Rattle.rv_rules.specs.Legal.{HasWaiting, IsDueAt, Legal}
-use Rattle.rv_rules.specs.Sessions.{NamesKey}
+use Rattle.std.proofs.Common.{◌≡◌, ℕ, Option, Some, None, refl, subst}
+use Rattle.rv_account.specs.Account.{Account, Among}
+use Rattle.rv_rules.specs.Legal.{IsDueAt, Legal}
 use Rattle.rv_state.specs.State.{OpenPlace, State, client_waits, place_list}
 use Rattle.rv_state.specs.After.{due_at}
-use Rattle.rv_state.specs.Agreement.{IsStateOf, TellsWaiting}
+use Rattle.rv_state.specs.Agreement.{IsStateOf, SaysWaits, TellsWaiting, ClientWaitsAt}
+use Rattle.rv_rules.proofs.Waits.{one_waits}
 use Rattle.rv_state.proofs.Counted.{clients_number, waiter_there, waiters_number, with_waiter}
 use Rattle.rv_state.proofs.Due.{due_found, due_there}
 use Rattle.rv_state.proofs.GoneBy.{names_of}
@@ -18,22 +14,28 @@ use Rattle.rv_state.proofs.Sessions.{ClientWaits, client_waits_there, none_waits
 use Rattle.rv_state.proofs.SideLines.{line_is}
 
 module _ (a : Account) (s : State) (legal : Legal a) (state : IsStateOf a s) where
-  waits_there : (client : ℕ) (o : Option OpenPlace) → client_waits s client ≡ o
-      → HasWaiting a.entries client → IsSome o
-  waits_there client None is has = absurd (none_waits_there a s client legal state is has)
-  waits_there client (Some there) is has = refl
+  says_by : (client place : ℕ) (o : Option OpenPlace) → client_waits s client ≡ o
+      → ClientWaitsAt a.entries client place
+      → (there : OpenPlace) × (client_waits s client ≡ Some there) × (there.place ≡ place)
+  says_by client place None is waits =
+      absurd (none_waits_there a s client legal state is
+      (record { place = place; key = waits.key; waits = waits.waits; names = waits.names }))
+  says_by client place (Some there) is waits =
+      (there, is, waits_at client place there waits (client_waits_there a s client there legal state is))
+    where
+      waits_at : (n r : ℕ) (o : OpenPlace) → ClientWaitsAt a.entries n r → ClientWaits a n o → o.place ≡ r
+      waits_at n r o of found =
+          let names = names_of a.entries n o.place found.key found.call found.arrived found.of_client in
+          one_waits a n o.place r found.key of.key legal found.waits of.waits names of.names
 
-  there_waits : (client : ℕ) (o : Option OpenPlace) → client_waits s client ≡ o → IsSome o
-      → HasWaiting a.entries client
-  there_waits client None is some = absurd (false≢true some)
-  there_waits client (Some there) is some =
+  waits_by : (client place : ℕ) → SaysWaits s client place → ClientWaitsAt a.entries client place
+  waits_by client place (there, is, at) =
       let found : ClientWaits a client there = client_waits_there a s client there legal state is in
-      record {
-        place = there.place;
+      subst (ClientWaitsAt a.entries client) at (record {
         key = found.key;
         waits = found.waits;
         names = names_of a.entries client there.place found.key found.call found.arrived found.of_client;
-      }
+      })
 
   found_due : (moment r : ℕ) → IsDueAt a.entries moment r → Among (place_list (due_at s moment)) r
   found_due moment r due =
@@ -52,9 +54,9 @@ module _ (a : Account) (s : State) (legal : Legal a) (state : IsStateOf a s) whe
       record {
         lines = line_is a s state;
         waiting = λ i there at. (waiter_there a s state i there at, with_waiter a s state i there at);
-        for_client = λ client. (
-          waits_there client (client_waits s client) refl,
-          there_waits client (client_waits s client) refl,
+        of_client = λ client place. (
+          says_by client place (client_waits s client) refl,
+          waits_by client place,
         );
         due = λ moment r. (found_due moment r, due_among moment r);
         number = waiters_number a s state;

@@ -154,7 +154,7 @@ with_last s key request (Some client) =
 abbrev pub asked : State → Key → LastRequest → State
 asked s key request = with_last s key request (client_at s key.client)
 
--- a cancel ends what waits, or settles a number before a request of it came
+-- a cancel ends what waits, or is told of a number before a request of it came
 abbrev pub cancelled : State → Key → Option OpenPlace → Following
 cancelled s key None =
     record { after = asked s key CancelledUnseen; settles = []; reply = Some reply.Cancelled }
@@ -172,8 +172,8 @@ receipt_of Two taker = option_map (λ key. reply.ReceivedBy key) taker
 abbrev pub session_version : State → Key → Option Version
 session_version s key = option_map (λ client. client.version) (client_at s key.client)
 
--- what a request with this key and call is told that meets one with this key and item; a drain, which is told
--- all its items, and what meets nobody, nothing
+-- what a transfer, a take or a swap with this key is told that meets one with this key and item. A put and a
+-- drain are told otherwise, and a count and a peek meet nobody
 abbrev pub told_met : State → Key → Call → Option Key → Option (List ℕ) → Option Reply
 told_met s key (call.Put queue item) other gets = None
 told_met s key (call.Transfer queue item wait) other gets =
@@ -196,7 +196,7 @@ abbrev pub told_front : List OpenPlace → Option Reply
 told_front [] = Some reply.Empty
 told_front (front ∷ others) = option_map (λ item. reply.Peeked item) front.item
 
--- the reply that an arrival has when it comes; none where it waits
+-- the reply of an arrival that meets nobody when it comes; none where it waits
 abbrev pub told_alone : State → Call → Option Reply
 told_alone s (call.Put queue item) = Some reply.Done
 told_alone s (call.Transfer queue item wait) = told_unmet wait reply.Nobody
@@ -243,6 +243,7 @@ told_partner s key call there waits =
 abbrev pub met_by : State → Call → List OpenPlace
 met_by s call = take (may_name call) (opposites s call)
 
+-- whether a wait lasts (`Lasts`)
 abbrev pub lasts_by : Option Wait → Bool
 lasts_by None = true
 lasts_by (Some Now) = false
@@ -287,7 +288,7 @@ abbrev pub request_after : ℕ → Call → Option Reply → LastRequest
 request_after place call None = Waits place call
 request_after place call (Some reply) = RepliedTo call reply
 
--- an arrival meets those that it names, or is open where it stays; they and it are told what they are told
+-- an arrival meets those that it names, who are told so, or it is open where it stays
 abbrev pub arrived : State → ℕ → Key → Call → Following
 arrived s moment key call =
     let met : List OpenPlace = met_by s call in

@@ -11,11 +11,11 @@ use Rattle.rv_account.specs.declared.entry.Act.TheVariants.{Arrive}
 use Rattle.rv_account.specs.Account.{Account, Among, act_at, limit_at, moment_at, own_moment}
 use Rattle.std.specs.Prelude as prelude
 use Rattle.rv_rules.specs.Waiting.{Open, Waiting}
-use Rattle.rv_rules.specs.Sessions.{HasOpened, LastNumber, SaidHello}
+use Rattle.rv_rules.specs.Sessions.{HasOpened, LastNumber, NamesKey, SaidHello}
 use Rattle.rv_rules.specs.Replies.{CancelledFirst, RepliesToArrival}
 use Rattle.rv_rules.specs.Lines.{IsLine, IsLineOf}
 use Rattle.rv_rules.specs.Counting.{NumberOf}
-use Rattle.rv_rules.specs.Legal.{HasWaiting, IsDueAt}
+use Rattle.rv_rules.specs.Legal.{IsDueAt}
 use Rattle.rv_state.specs.State.{OpenPlace, LastRequest, ClientState, State, client_at, client_waits, line}
 use Rattle.rv_state.specs.State.{place_list, waiting_count}
 use Rattle.rv_state.specs.State.LastRequest.{Fresh, Waits, RepliedTo, CancelledUnseen}
@@ -80,12 +80,23 @@ pub record IsStateOf (a : Account) (s : State) : Type 0 where
       → IsArrival a.entries there
   pub clients : (client : ℕ) → IsClientOrNew a client (client_at s client)
 
--- and so it tells the line of each side, who waits and for whom, what is due, and how many wait or said hello
+-- a request of the client waits at the place
+pub record ClientWaitsAt (entries : List Entry) (client place : ℕ) : Type 0 where
+  pub key : Key
+  pub waits : Waiting entries place
+  pub names : NamesKey entries client place key
+
+-- the state says that the client waits there
+abbrev pub SaysWaits : State → ℕ → ℕ → Type 0
+SaysWaits s client place = (there : OpenPlace) × (client_waits s client ≡ Some there) × (there.place ≡ place)
+
+-- and so it tells the line of each side, which open places wait, of which clients, what is due, and how many
+-- wait or said hello
 pub record TellsWaiting (a : Account) (s : State) : Type 0 where
   pub lines : (side : Side) → IsLine a.entries side (place_list (line s side))
   pub waiting : (i : ℕ) (there : OpenPlace) → slice_get s.open_places i ≡ Some there
       → Waiting a.entries there.place ↔ IsSome there.waiter
-  pub for_client : (client : ℕ) → HasWaiting a.entries client ↔ IsSome (client_waits s client)
+  pub of_client : (client place : ℕ) → ClientWaitsAt a.entries client place ↔ SaysWaits s client place
   pub due : (moment r : ℕ) → IsDueAt a.entries moment r ↔ Among (place_list (due_at s moment)) r
   pub number : NumberOf (Waiting a.entries) (waiting_count s)
   pub clients : NumberOf (SaidHello a.entries) (len s.clients)

@@ -18,7 +18,7 @@ DueOnlyAtTick s moment (Arrive key call) = due_at s moment ≡ []
 DueOnlyAtTick s moment (Cancel key) = due_at s moment ≡ []
 DueOnlyAtTick s moment Tick = due_at s moment ≢ []
 
--- the moment isn't less than the last
+-- the moment isn't less than the last, and something is due exactly at a tick
 pub record MomentFits (s : State) (moment : ℕ) (does : Act) : Type 0 where
   pub not_before : s.moment ≤ moment
   pub due : DueOnlyAtTick s moment does

@@ -63,10 +63,10 @@ abbrev pub NamesAll : State → Entry → Type 0
 NamesAll s e = (r : ℕ) (call : Call) → call_in e.act ≡ Some call → length e.partners < may_name call
     → IsOpposite s call r → Names e r
 
--- of a legal account's rules each is kept exactly where it is kept by the state, as long as those before it
--- are. One thing isn't told by a state: where a named place is open nowhere, it may have been met before,
--- which is the rule of free partners, or not, which is that of opposites; so these two are told of open
--- places alone
+-- a rule of a legal account is kept exactly if it is kept by the state, as long as those before it are kept.
+-- One thing isn't told by a state: an entry that names well, but a place that is open nowhere, breaks the
+-- rule of opposites; whether it breaks that of free partners too, which comes first, hangs on whether that
+-- place was met or named before
 pub record RulesAgree (a : Account) (s : State) (e : Entry) : Type 0 where
   pub time : KeepsTime a e.moment ↔ (s.moment ≤ e.moment)
   pub limits : KeepsLimits a.entries e.moment e.act ↔ DueOnlyAtTick s e.moment e.act
@@ -76,7 +76,7 @@ pub record RulesAgree (a : Account) (s : State) (e : Entry) : Type 0 where
       → (CountsUp a.entries e.act × CancelsInTurn a.entries e.act) ↔ NumberInTurn s e.act
   pub well : NamesFreePartners a.entries e → NamesWell s e
   pub free : NamesWell s e → NamesOpen s e → NamesFreePartners a.entries e
-  pub not_open : NamesFreePartners a.entries e → PairsOpposites a.entries e → NamesOpen s e
+  pub names_open : NamesFreePartners a.entries e → PairsOpposites a.entries e → NamesOpen s e
   pub opposites : NamesWell s e → PairsOpposites a.entries e ↔ NamesOpposites s e
   pub oldest : NamesWell s e → NamesOpposites s e → PairsOldest a.entries e ↔ NamesOldest s e
   pub all : PairsWherePossible a.entries e ↔ NamesAll s e

@@ -1,13 +1,16 @@
 -- The laws of states: what a state says is what its account says, and what follows one follows the other.
-use Rattle.std.specs.Prelude.{◌≡◌, ◌↔◌, ◌++◌, ℕ, List, Some}
+use Rattle.std.specs.Prelude.{◌≡◌, ◌≢◌, ◌↔◌, ◌++◌, ℕ, List, Some, None}
 use Rattle.rv_text.specs.declared.message.Key.{Key}
 use Rattle.rv_text.specs.declared.message.Message.{Message}
 use Rattle.rv_text.specs.declared.answer.Answer.{Answer}
+use Rattle.rv_text.specs.declared.answer.Answer.TheVariants.{Refused}
+use Rattle.rv_text.specs.declared.answer.Refusal.TheVariants.{NoMemory}
 use Rattle.rv_account.specs.declared.entry.Entry.{Entry}
 use Rattle.rv_account.specs.Account.{Account, key_in, with_entry}
 use Rattle.rv_rules.specs.Legal.{Legal, MayFollow}
 use Rattle.rv_rules.specs.Steps.{Next}
-use Rattle.rv_state.specs.After.{Following, following, state_of}
+use Rattle.rv_state.specs.State.{State}
+use Rattle.rv_state.specs.After.{Following, Settled, following, state_of}
 use Rattle.rv_state.specs.Follows.{FollowsState}
 use Rattle.rv_state.specs.Kept.{RulesAgree}
 use Rattle.rv_state.specs.Moves.{Move, StateNext}
@@ -18,7 +21,7 @@ use Rattle.rv_state.specs.Settling.{SettlesEach, SettlesAt, ToldOwn}
 abbrev pub StatesAgree : Type 0
 StatesAgree = (a : Account) → Legal a → IsStateOf a (state_of a)
 
--- and so it tells who waits, what is due, and how many there are
+-- and so it tells which open places wait, of which clients, what is due, and how many there are
 abbrev pub StatesTellWaiting : Type 0
 StatesTellWaiting = (a : Account) → Legal a → TellsWaiting a (state_of a)
 
@@ -26,7 +29,8 @@ StatesTellWaiting = (a : Account) → Legal a → TellsWaiting a (state_of a)
 abbrev pub StatesFollow : Type 0
 StatesFollow = (a : Account) (e : Entry) → Legal a → MayFollow a e ↔ FollowsState (state_of a) e
 
--- and each rule of a legal account is asked of its state alone, but for what no place that is open says
+-- and so with each of the rules by itself, but for which is the first that is broken where a named place
+-- isn't open
 abbrev pub StatesKeepRules : Type 0
 StatesKeepRules = (a : Account) (e : Entry) → Legal a → RulesAgree a (state_of a) e
 
@@ -36,6 +40,7 @@ pub record SaysOfEntry (a : Account) (e : Entry) (made : Following) : Type 0 whe
   pub state : state_of (with_entry a e) ≡ made.after
   pub settles : SettlesAt a.entries e made.settles
   pub own : (key : Key) → key_in e.act ≡ Some key → ToldOwn (with_entry a e).entries key made.reply
+  pub none : key_in e.act ≡ None → made.reply ≡ None
 
 abbrev pub StatesSettle : Type 0
 StatesSettle = (a : Account) (e : Entry) → Legal a → MayFollow a e
@@ -72,19 +77,32 @@ abbrev pub MovesStep : Type 0
 MovesStep = (a : Account) (now : ℕ) (m : Message) (move : Move) → Legal a → StateNext (state_of a) now m move
     → StepsTo a now m move
 
+-- whatever the state, there is a move for each moment and message, where no growth is refused
+pub record HasMove (s : State) (now : ℕ) (m : Message) : Type 0 where
+  pub move : Move
+  pub moves : StateNext s now m move
+  pub in_memory : move.answer ≢ Refused NoMemory
+
+abbrev pub MovesExist : Type 0
+MovesExist = (s : State) (now : ℕ) (m : Message) → HasMove s now m
+
 -- of two legal accounts with one state, an entry may follow the one exactly where it may follow the other
 abbrev pub OneFuture : Type 0
 OneFuture = (a b : Account) (e : Entry) → Legal a → Legal b → state_of a ≡ state_of b
     → MayFollow a e ↔ MayFollow b e
 
--- the other account goes on as the first does: by a step with the same answer, entries and state after
+-- the second account goes on as the first does: by a step with the same answer, the same entries, the same
+-- that they settle, and the same state after
 pub record GoesOnAlike (a b after : Account) (now : ℕ) (m : Message) (answer : Answer) : Type 0 where
-  pub other : Account
-  pub next : Next b now m other answer
+  pub after_there : Account
+  pub next : Next b now m after_there answer
   pub more : List Entry
   pub adds : after.entries ≡ a.entries ++ more
-  pub adds_there : other.entries ≡ b.entries ++ more
-  pub same : state_of other ≡ state_of after
+  pub adds_there : after_there.entries ≡ b.entries ++ more
+  pub told : List Settled
+  pub settles : SettlesEach a.entries more told
+  pub settles_there : SettlesEach b.entries more told
+  pub same : state_of after_there ≡ state_of after
 
 -- and each step of the one is a step of the other
 abbrev pub StepsAlike : Type 0

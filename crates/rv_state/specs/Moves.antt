@@ -1,6 +1,5 @@
 -- One step of a state: the rules of a step of an account in their order, each asked of the state alone.
-use Rattle.std.specs.Prelude.{◌≡◌, ◌≢◌, ◌⊎◌, ◌<◌, ◌≤◌, ◌+◌, ℕ, max, List, [], ◌∷◌, ◌++◌, length, filter}
-use Rattle.std.specs.Prelude.{is_some}
+use Rattle.std.specs.Prelude.{◌≡◌, ◌≢◌, ◌⊎◌, ◌<◌, ◌≤◌, ◌+◌, ℕ, max, List, [], ◌∷◌, ◌++◌}
 use Rattle.std.specs.Prelude.{Option, Some, None}
 use Rattle.std.specs.FinMap.{len}
 use Rattle.rv_text.specs.declared.version.Version.{Version}
@@ -131,7 +130,7 @@ StateRequestLines s key call refuses repeats enters =
     (RefuseOr (NoEntryMore s (need_of call)) refuses
     enters)
 
--- the lines for a cancel: also what happens where its request waits, and where the last number is settled
+-- the lines for a cancel: also what happens where its request waits, and where the last number has a reply
 abbrev pub StateCancelLines : State → Key → (Refusal → Type 0) → Type 0 → Type 0 → Type 0 → Type 0
 StateCancelLines s key refuses ends repeats enters =
     StateKeyLines s key refuses
@@ -189,7 +188,8 @@ abbrev pub answer_told : Key → Option Reply → Answer
 answer_told key None = answer.Waiting key
 answer_told key (Some reply) = Replied key reply
 
--- what the request of a session's last number is told
+-- what the request of a session's last number is told. A session that asked nothing isn't asked: number 0 is
+-- old
 abbrev pub told_again : LastRequest → Option Reply
 told_again Fresh = None
 told_again (Waits place call) = None
@@ -207,7 +207,7 @@ abbrev pub EntersMove : State → ℕ → Act → Move → Answer → Type 0
 EntersMove s moment does move said =
     RefusesMove s move NoMemory ⊎ (move ≡ entering s moment does said)
 
--- the answer to a request or a cancel of this key whose entry this is
+-- the answer to a request or a cancel of this key that enters by this act
 abbrev pub answer_after : State → ℕ → Key → Act → Answer
 answer_after s moment key does = answer_told key (following s moment does).reply
 

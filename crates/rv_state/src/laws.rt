@@ -1,14 +1,15 @@
 //! Laws of states: each function is its contract, over the definitions alone.
-ghost use Rattle.rv_state.specs.Laws.{MovesStep, OneFuture, StatesAgree, StatesFollow, StatesKeepRules};
-ghost use Rattle.rv_state.specs.Laws.{StatesSettle, StatesTellWaiting, StepsAlike, StepsMove};
+ghost use Rattle.rv_state.specs.Laws.{MovesExist, MovesStep, OneFuture, StatesAgree, StatesFollow};
+ghost use Rattle.rv_state.specs.Laws.{StatesKeepRules, StatesSettle, StatesTellWaiting, StepsAlike};
+ghost use Rattle.rv_state.specs.Laws.{StepsMove};
 
 /// Each part of the state of a legal account says what the formulas over its places say.
 pub fn states_agree()
     ensures { StatesAgree }
 {}
 
-/// The state of a legal account tells the line of each side, who waits and for whom, what is due, and how
-/// many wait and said hello.
+/// The state of a legal account tells the line of each side, which open places wait, of which clients, what
+/// is due, and how many wait or said hello.
 pub fn states_tell_waiting()
     ensures { StatesTellWaiting }
 {}
@@ -18,7 +19,8 @@ pub fn states_follow()
     ensures { StatesFollow }
 {}
 
-/// Each rule of a legal account is asked of its state alone, where each place that an entry names is open.
+/// A rule of a legal account is kept exactly if it is kept by the state, as long as those before it are; that
+/// of free partners where what is named is open.
 pub fn states_keep_rules()
     ensures { StatesKeepRules }
 {}
@@ -47,7 +49,12 @@ pub fn one_future()
 {}
 
 /// Each step of one of two legal accounts with one state is a step of the other, with the same answer,
-/// entries and state after.
+/// entries, settled requests and state after.
 pub fn steps_alike()
     ensures { StepsAlike }
+{}
+
+/// Whatever the state, there is a move for each moment and message that isn't for want of memory.
+pub fn moves_exist()
+    ensures { MovesExist }
 {}

@@ -1,11 +1,11 @@
 -- The oldest item was taken out of its queue, and its giver's session was settled, if it waited.
 use Rattle.rv_book.proofs.Words.{◌≡◌, ◌≤◌, ◌++◌, ◌∷◌, ◌∙◌, [], length, Some, None, refl, sym, ap, subst}
-use Rattle.rv_book.proofs.Words.{arith, Gives, Among, Stored, items_in, IsLeft, SettlesIf, account_of}
+use Rattle.rv_book.proofs.Words.{arith, Gives, Stored, items_in, IsLeft, SettlesIf, account_of}
 use Rattle.rv_book.proofs.Words.{LeavesFirst, ends_waiting, Waiters, waiting_on}
 use Rattle.std.specs.Bool.{if◌then◌else◌}
 use Rattle.std.specs.Result.{is_ok}
 use Rattle.rv_book.specs.Meeting.{TakenFor}
-use Rattle.rv_book.proofs.TakingItems.{ends_by, idle_settled, item_left, least, none_left, one_listed}
+use Rattle.rv_book.proofs.TakingItems.{ends_by, idle_settled, item_left, least, none_left}
 use Rattle.rv_book.proofs.TakingItems.{owed_in}
 use Rattle.rv_session.specs.declared.kept.Kept.TheVariants as kept
 use Rattle.rv_book.proofs.state.BookState.take_item.Goals as goal
@@ -16,7 +16,7 @@ overflow_sub-self c =
     let takes = c.requires.takes in
     let front = subst (λ s. TakenFor old.waiters c.take_front.new.self s
     (Some (c.in-Some.duty, c.in-Some.place))) takes.1 c.in-Some.ensures in
-    let most = least old (Among c.args.listed.now.items) (kept.ReceivedBy (length (account_of old).entries))
+    let most = least old c.args.listed.now.items (kept.ReceivedBy (length (account_of old).entries))
     c.requires.draining c.take_front.new.self (Gives takes.0) c.in-Some.duty c.in-Some.place front in
     let ends : c.from.result ≡ ends_waiting c.in-Some.duty = ends_by c.in-Some.duty c.from.result
     c.is_some.result c.from.ensures c.is_some.ensures in
@@ -29,7 +29,7 @@ settle-requires-clause-waits c =
     let takes = c.requires.takes in
     let front = subst (λ s. TakenFor old.waiters c.take_front.new.self s
     (Some (c.in-Some.duty, c.in-Some.place))) takes.1 c.in-Some.ensures in
-    owed_in old (Among c.args.listed.now.items) (kept.ReceivedBy (length (account_of old).entries))
+    owed_in old c.args.listed.now.items (kept.ReceivedBy (length (account_of old).entries))
     c.requires.draining c.take_front.new.self (Gives takes.0) c.in-Some.duty c.in-Some.place front
 
 pub unwrap-requires : goal.unwrap-requires
@@ -53,12 +53,12 @@ returns-in-Some-clause-draining c =
     let front = subst (λ s. TakenFor old.waiters c.take_front.new.self s
     (Some (c.in-Some.duty, c.in-Some.place))) takes.1 c.in-Some.ensures in
     let told = kept.ReceivedBy (length (account_of old).entries) in
-    let most : ends_waiting c.in-Some.duty ≤ old.waiting = least old (Among places) told c.requires.draining
+    let most : ends_waiting c.in-Some.duty ≤ old.waiting = least old places told c.requires.draining
     c.take_front.new.self (Gives takes.0) c.in-Some.duty c.in-Some.place front in
     let ends : c.from.result ≡ ends_waiting c.in-Some.duty = ends_by c.in-Some.duty c.from.result
     c.is_some.result c.from.ensures c.is_some.ensures in
-    let left = item_left old (Among places) told c.requires.draining (Among _) new (Gives takes.0)
-    c.in-Some.place (one_listed places c.in-Some.place) c.in-Some.duty (record {
+    let left = item_left old places told c.requires.draining new (Gives takes.0) c.in-Some.place
+    c.in-Some.duty (record {
       account = c.settle.ensures.account;
       front = subst (λ (s : Waiters). LeavesFirst old.waiters s (Gives takes.0) c.in-Some.duty
           c.in-Some.place) (sym c.settle.ensures.waiters) front;
@@ -69,8 +69,8 @@ returns-in-Some-clause-draining c =
     }) in
     let listed : c.push.new.self.items ≡ places ++ c.in-Some.place ∷ [] = c.push.ensures.items
     ∙ ap (λ r. if is_ok r then places ++ c.in-Some.place ∷ [] else places) c.unwrap.ensures in
-    let listed_left = subst (λ l. IsLeft new (Among l) told) (sym listed) left in
-    subst (λ (s : Stored). IsLeft new (Among c.push.new.self.items)
+    let listed_left = subst (λ l. IsLeft new l told) (sym listed) left in
+    subst (λ (s : Stored). IsLeft new c.push.new.self.items
     (kept.ReceivedBy (length s.account.entries))) (sym c.settle.ensures.account) listed_left
 
 pub returns-in-Some-clause-idle : goal.returns-in-Some-clause-idle
@@ -79,7 +79,7 @@ returns-in-Some-clause-idle c =
     let takes = c.requires.takes in
     let front = subst (λ s. TakenFor old.waiters c.take_front.new.self s
     (Some (c.in-Some.duty, c.in-Some.place))) takes.1 c.in-Some.ensures in
-    let owed = owed_in old (Among c.args.listed.now.items) (kept.ReceivedBy (length (account_of old).entries))
+    let owed = owed_in old c.args.listed.now.items (kept.ReceivedBy (length (account_of old).entries))
     c.requires.draining c.take_front.new.self (Gives takes.0) c.in-Some.duty c.in-Some.place front in
     idle_settled old.sessions c.settle.new.self.sessions c.in-Some.duty (kept.ReceivedBy c.len-taker.result)
     owed c.settle.ensures.sessions
@@ -106,7 +106,7 @@ returns-in-None-clause-draining c =
     let old = c.args.self.now in
     let none = subst (λ s. TakenFor old.waiters c.take_front.new.self s None) c.requires.takes.1
     c.in-None.ensures in
-    none_left old (Among c.args.listed.now.items) (kept.ReceivedBy (length (account_of old).entries))
+    none_left old c.args.listed.now.items (kept.ReceivedBy (length (account_of old).entries))
     c.requires.draining _ refl refl refl refl none.1
 
 pub returns-in-None-clause-none : goal.returns-in-None-clause-none
