@@ -11,7 +11,8 @@ use Rattle.rv_book.specs.Sessions.{HasIncarnation, HasOpened, LastNumber, SaidHe
 use Rattle.rv_rules.proofs.Growing.{reads_back, reads_within}
 use Rattle.rv_rules.proofs.Keys.{NamesKey-back, NamesKey-on, client_of, key_read}
 use Rattle.rv_rules.proofs.Places.{get-append_end}
-use Rattle.rv_book.proofs.SessionTable.{IsApart, IsAt, IsAt-on, greeted_at, named_at, other_apart}
+use Rattle.rv_book.proofs.SessionTable.{named_at}
+use Rattle.rv_state.proofs.SessionsOn.{IsApart, IsAt, IsAt-on, greeted_at, other_apart}
 use Rattle.rv_rules.proofs.Sides.{ComesToWait, Waiting-back, WasWaiting, cancel_stops, hello_stops}
 use Rattle.rv_rules.proofs.Waits.{waiting_is_last}
 use Rattle.rv_audit.specs.Passed.{AreAuditSessions, IsAuditSession, session_after}

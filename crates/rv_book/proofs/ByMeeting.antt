@@ -10,9 +10,11 @@ use Rattle.rv_book.specs.Replies.{RepliesUnmet}
 use Rattle.rv_rules.proofs.Deciding.{met_or_not}
 use Rattle.rv_book.proofs.ReplyLaws.{FitsIn, ReplyLaws}
 use Rattle.rv_rules.proofs.Sides.{last_unmet}
-use Rattle.rv_book.proofs.Unmet.{kept_told, lasting_told, one_unmet, passes_by, passing_told, same_at_once}
-use Rattle.rv_book.proofs.Unmet.{still_unmet, told_at_once, unmet_exists, unmet_has, unmet_stays}
-use Rattle.rv_book.proofs.Unmet.{unmet_waits_not}
+use Rattle.rv_book.proofs.Unmet.{kept_told, passes_by, same_at_once}
+use Rattle.rv_book.proofs.Unmet.{still_unmet, unmet_exists, unmet_has}
+use Rattle.rv_state.proofs.UnmetReplies.{lasting_told, passing_told, told_at_once, unmet_stays}
+use Rattle.rv_state.proofs.UnmetReplies.{unmet_waits_not}
+use Rattle.rv_state.proofs.OneTold.{one_unmet}
 
 -- a request is told this: by whom it met; or it met nobody, and is told by its wait
 abbrev pub ByMeeting : (List Entry → ℕ → Reply → Type 0) → Wait → Reply → List Entry → ℕ → Reply → Type 0

@@ -9,10 +9,11 @@ use Rattle.rv_book.proofs.Words.{LastNumber, AreSessions, IsSession, last_key, W
 use Rattle.rv_book.proofs.Words.{client_of, just_none, Waiting-on}
 use Rattle.rv_book.proofs.SessionTable.{StillWaits, named_at, sessions_changed, set_changes}
 use Rattle.rv_rules.proofs.Sides.{stopped_by_cancel}
-use Rattle.rv_book.proofs.ToldCancelled.{cancelled_first, ended_reply}
+use Rattle.rv_book.proofs.ToldCancelled.{ended_reply}
 use Rattle.rv_book.proofs.WaitingTable.{opened_in_table, waiting_there, waits_in_table}
 use Rattle.rv_text.specs.declared.answer.Reply as reply
 use Rattle.rv_session.specs.declared.kept.Kept as kept
+use Rattle.rv_state.proofs.OwnAnswers.{cancelled_first}
 
 -- what waits of other clients than the cancel's still does
 still_waits : (a : Account) (e : Entry) (key : Key) (other : ℕ) → e.act ≡ Cancel key → e.partners ≡ []

@@ -14,6 +14,7 @@ use Rattle.rv_rules.proofs.Looking.{looks_waits_not, same_before}
 use Rattle.rv_book.proofs.ReplyLaws.{FitsIn, ReplyLaws}
 use Rattle.rv_text.specs.declared.answer.Reply as reply
 use Rattle.rv_session.specs.declared.kept.Kept as kept
+use Rattle.rv_state.proofs.OneTold.{same_counts}
 
 -- ---- what is kept
 
@@ -50,9 +51,6 @@ stays queue es more r told arrived (items, consumers, counts, is) = (
       arrived) counts,
   is,
 )
-
-same_counts : (a b c d : ℕ) → a ≡ b → c ≡ d → reply.TheVariants.Counted a c ≡ reply.TheVariants.Counted b d
-same_counts a b c d p q = cc
 
 one : (queue : ℕ) (es : List Entry) (r : ℕ) (x y : Reply) → RepliesAt es r (Count queue) x
     → RepliesAt es r (Count queue) y → y ≡ x

@@ -25,7 +25,7 @@ use Rattle.rv_rules.proofs.Counting.{number_at_most}
 use Rattle.rv_book.proofs.Keeping.{sound_same, sound_with}
 use Rattle.rv_book.proofs.NamingFront.{front_follows, named_open}
 use Rattle.rv_book.proofs.Replying.{recorded_kept, reply_laws}
-use Rattle.rv_book.proofs.SessionTable.{Changes, IsAt, named_at}
+use Rattle.rv_book.proofs.SessionTable.{Changes, named_at}
 use Rattle.rv_book.proofs.Standing.{is_next}
 use Rattle.rv_book.proofs.TakenSessions.{Tells, opened_while_left, sessions_changed_at_last}
 use Rattle.rv_book.proofs.DeadlineTable.{due_at_last}
@@ -35,6 +35,7 @@ use Rattle.rv_rules.proofs.Versions.{asked_last}
 use Rattle.rv_book.proofs.WaitingTable.{version_told}
 use Rattle.rv_session.specs.declared.standing.Standing.TheVariants as standing
 use Rattle.rv_session.specs.declared.kept.Kept.TheVariants as kept
+use Rattle.rv_state.proofs.SessionsOn.{IsAt}
 
 -- ---- what an arrival that names the first of the other side tells them
 

@@ -20,6 +20,7 @@ use Rattle.rv_rules.proofs.Limits.{call_of_act}
 use Rattle.rv_rules.proofs.OnePartner.{goes_unnamed}
 use Rattle.rv_book.proofs.ReplyLaws.{FitsIn, ReplyLaws}
 use Rattle.rv_session.specs.declared.kept.Kept.TheVariants as kept
+use Rattle.rv_state.proofs.StayingReplies.{drained_from}
 
 -- ---- the items of a list of places
 
@@ -68,13 +69,6 @@ items_fit a (p ∷ places) xs fits is =
     first.2) (items_fit a places first.1 fits first.3))
 
 -- ---- what a drain takes
-
--- the partners of which these are the items
-drained_from : (es : List Entry) (o : Option (List ℕ)) (xs : List (List ℕ))
-    → option_and_then (items_at es) o ≡ Some xs
-    → (places : List ℕ) × (o ≡ Some places) × (items_at es places ≡ Some xs)
-drained_from es None xs is = absurd (none-some xs is)
-drained_from es (Some places) xs is = (places, refl, is)
 
 pub drains_on : (es more : List Entry) (r : ℕ) (xs : List (List ℕ)) → Drains es r xs
     → Drains (es ++ more) r xs

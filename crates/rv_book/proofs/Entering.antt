@@ -36,37 +36,10 @@ use Rattle.rv_text.proofs.Kept.{same_call}
 use Rattle.rv_book.proofs.Ticking.{IsTicked, can_tick, ticked}
 use Rattle.rv_book.proofs.Staying.{one_call, reply_or_waits}
 use Rattle.rv_rules.proofs.Versions.{has_version}
+use Rattle.rv_state.proofs.OwnMoment.{own_by}
+use Rattle.rv_state.proofs.DueDecided.{same_version}
 
 -- ---- the step's moment
-
--- the last entry's moment is the greatest
-own_by : (a : Account) → Legal a → (o : Option Entry) → slice_get a.entries (length a.entries - 1) ≡ o
-    → KeepsTime a (unwrap_or (option_map (λ e. e.moment) o) a.opened)
-own_by a legal None last = record {
-  opened = omega arith;
-  since = λ r moment there.
-      let inside : r < length a.entries = reads_within moment_read refl a.entries r moment there in
-      elim (slice_get_cases a.entries (length a.entries - 1)).1 [
-        | inl found ↦ absurd (none-some found.0 (sym last ∙ found.2))
-        | inr past ↦ let short : length a.entries ≤ length a.entries - 1 = past.0 in absurd (omega arith)
-      ];
-}
-own_by a legal (Some e) last =
-    let time = (legal (length a.entries - 1) e last).moments.keeps_time in
-    record {
-      opened = time.opened;
-      since = λ r moment there.
-          let inside : r < length a.entries = reads_within moment_read refl a.entries r moment there in
-          elim (cases_lt r (length a.entries - 1)) [
-            | inl before ↦ time.since r moment (read_front moment_read a.entries (length a.entries - 1) r
-                moment before there)
-            | inr at ↦
-                let is : r ≡ length a.entries - 1 = omega arith in
-                let same : moment ≡ e.moment = same_Some _ _ (sym there
-                ∙ ap (λ n. moment_read (slice_get a.entries n)) is ∙ ap moment_read last) in
-                omega arith
-          ];
-    }
 
 pub step_keeps_time : (a : Account) (now : ℕ) → Legal a → KeepsTime a (step_moment a now)
 step_keeps_time a now legal =
@@ -460,12 +433,6 @@ newer_enters a moment client incarnation version is raises =
     line_newer _ _ _ a client incarnation version raises (clients_or a client _
     (room_or a 1 ((b : Account) × Adds a moment (Hello client incarnation version) b)
     (with_entry a e, added)))
-
-same_version : (v w : Version) → (v ≡ w) ⊎ (v ≡ w → ⊥)
-same_version One One = inl refl
-same_version One Two = inr (λ e. let no : ⊥ = cc in no)
-same_version Two One = inr (λ e. let no : ⊥ = cc in no)
-same_version Two Two = inl refl
 
 -- a hello of the session's incarnation is a repeat, or asks for another version
 hello_at_last : (a : Account) (moment client incarnation : ℕ) (version : Version)

@@ -10,6 +10,7 @@ use Rattle.std.specs.Prelude.{is_some}
 use Rattle.rv_book.specs.Legal.{IsFreePartner, KeepsLimits, KeepsMoments, KeepsNumbers, KeepsPairs}
 use Rattle.rv_rules.proofs.Naming.{just_few, just_rises, named_just}
 use Rattle.std.specs.List.Sorted.{IsStrictlyIncreasing}
+use Rattle.rv_state.proofs.NumbersBoth.{hello_numbers, tick_numbers}
 
 -- ---- moments
 
@@ -36,19 +37,6 @@ keeps_moments a moment does no_tick time nothing = record {
 }
 
 -- ---- numbers
-
-hello_numbers : (a : Account) (client incarnation : ℕ) (v : Version)
-    → HasOnlyLower a.entries client incarnation → KeepsNumbers a (Hello client incarnation v)
-hello_numbers a client incarnation v lower = record {
-  raises_incarnation = λ c i w is.
-      let same_client : client ≡ c = cc in
-      let same_incarnation : incarnation ≡ i = cc in
-      subst (HasOnlyLower a.entries c) same_incarnation (subst (λ n. HasOnlyLower a.entries n incarnation)
-      same_client lower);
-  of_session = λ key is. absurd (none-some key is);
-  counts_up = λ key call is. absurd (let no : ⊥ = cc in no);
-  cancels = λ key is. absurd (let no : ⊥ = cc in no);
-}
 
 pub next_number : (a : Account) (key : Key) → IsNext a key → IsNextNumber a.entries key
 next_number a key next = record {
@@ -85,14 +73,6 @@ cancel_numbers a key epoch has turn = record {
   counts_up = λ other more is. absurd (let no : ⊥ = cc in no);
   cancels = λ other is. subst (λ (k : Key). WaitsUnder a.entries k ⊎ IsNextNumber a.entries k)
       (same_cancel _ _ is) turn;
-}
-
-tick_numbers : (a : Account) → KeepsNumbers a Tick
-tick_numbers a = record {
-  raises_incarnation = λ c i w is. absurd (let no : ⊥ = cc in no);
-  of_session = λ key is. absurd (none-some key is);
-  counts_up = λ key call is. absurd (let no : ⊥ = cc in no);
-  cancels = λ key is. absurd (let no : ⊥ = cc in no);
 }
 
 -- ---- pairs

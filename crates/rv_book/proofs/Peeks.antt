@@ -14,6 +14,7 @@ use Rattle.rv_rules.proofs.Looking.{looks_waits_not, same_before}
 use Rattle.rv_book.proofs.ReplyLaws.{FitsIn, ReplyLaws}
 use Rattle.rv_text.specs.declared.answer.Reply as reply
 use Rattle.rv_session.specs.declared.kept.Kept as kept
+use Rattle.rv_state.proofs.OneTold.{one_oldest}
 
 -- the oldest item of a queue is its front
 front_of : (es : List Entry) (queue p : ℕ) (oldest : IsOldest es (Gives queue) p)
@@ -70,17 +71,6 @@ stays queue es more r told arrived (inr none) = inr (
       (Peek queue) arrived) none.0,
   none.1,
 )
-
-one_oldest : (es : List Entry) (queue p q : ℕ) → IsOldest es (Gives queue) p → IsOldest es (Gives queue) q
-    → p ≡ q
-one_oldest es queue p q first second = elim (cases_order p q) [
-  | inl same ↦ same
-  | inr differ ↦ elim differ [
-    | inl less ↦ absurd (second.oldest p less first.there)
-    | inr more ↦ absurd
-        (first.oldest q more second.there)
-  ]
-]
 
 one_front : (es : List Entry) (queue : ℕ) (x y : List ℕ) → IsFrontItem es queue x → IsFrontItem es queue y
     → y ≡ x

@@ -16,13 +16,13 @@ use Rattle.rv_rules.proofs.OnePartner.{meets_one}
 use Rattle.rv_book.proofs.ReplyLaws.{FitsIn}
 use Rattle.rv_rules.proofs.Versions.{asked_back, call_asked, one_version}
 use Rattle.rv_text.specs.declared.answer.Reply as reply
+use Rattle.rv_state.proofs.OneTold.{meet_back}
+use Rattle.rv_state.proofs.StayingReplies.{meets_key_on}
+use Rattle.rv_state.proofs.MetReplies.{one_apart}
 
 one_or_two : (v : Version) → (v ≡ One) ⊎ (v ≡ Two)
 one_or_two One = inl refl
 one_or_two Two = inr refl
-
-one_apart : One ≡ Two → ⊥
-one_apart e = cc
 
 -- ---- whom it meets
 
@@ -43,10 +43,6 @@ pub meet_key : (a : Account) (r s : ℕ) → Legal a → Meet a.entries r s
 meet_key a r s legal (inl names) = names_key a r s legal names
 meet_key a r s legal (inr names) = called_key a.entries s names.call names.arrived
 
-meet_back : (es : List Entry) (r s : ℕ) → Meet es r s → Meet es s r
-meet_back es r s (inl names) = inr names
-meet_back es r s (inr names) = inl names
-
 -- who is met meets a request with a key
 pub met_key : (a : Account) (r : ℕ) → Legal a → Met a.entries r → (key : Key) × MeetsKey a.entries r key
 met_key a r legal met = elim met.part [
@@ -61,15 +57,6 @@ met_key a r legal met = elim met.part [
       let named = meet_key a r met.later legal meet in
       (named.0, record { place = met.later; meet = meet; named = named.1 })
 ]
-
-pub meets_key_on : (es more : List Entry) (r : ℕ) (key : Key) → MeetsKey es r key
-    → MeetsKey (es ++ more) r key
-meets_key_on es more r key h = record {
-  place = h.place;
-  meet = Meet-on es more r h.place h.meet;
-  named =
-      reads_on key_read refl es more h.place key h.named;
-}
 
 -- an arrival that may name one meets one key
 pub one_taker : (a : Account) (r : ℕ) (call : Call) (x y : Key) → Legal a → call_at a.entries r ≡ Some call

@@ -19,52 +19,7 @@ use Rattle.rv_rules.proofs.Keys.{LastHello-on, NamesKey-back, NamesKey-on, hello
 use Rattle.rv_book.proofs.Replying.{reply_laws}
 use Rattle.rv_rules.proofs.Versions.{HasOpened-on}
 pub use Rattle.rv_book.proofs.WaitingTable.{waits_in_table}
-
--- the session of the client has this incarnation, this version and this last number
-pub record IsAt (es : List Entry) (c i : ℕ) (v : Version) (n : ℕ) : Type 0 where
-  pub opened : HasOpened es c i v
-  pub number : LastNumber es c n
-
--- the act is no hello of the client and names no key of it
-pub record IsApart (does : Act) (client : ℕ) : Type 0 where
-  pub no_hello : (incarnation : ℕ) (version : Version) → Some does ≡ Some (Hello client incarnation version)
-      → ⊥
-  pub no_key : (key : Key) → key_in does ≡ Some key → key.client ≡ client → ⊥
-
--- an act of another client is apart
-pub other_apart : (does : Act) (client : ℕ) → (client_of does ≡ client → ⊥) → IsApart does client
-other_apart does client other = record {
-  no_hello = λ incarnation version own. other (hello_is_own does client incarnation version own);
-  no_key = λ key names of_client. other (key_is_own does key names ∙ of_client);
-}
-
--- the session of another client than the entry's stays
-pub IsAt-on : (es : List Entry) (e : Entry) (c i : ℕ) (v : Version) (n : ℕ) → IsApart e.act c
-    → IsAt es c i v n → IsAt (es ++ e ∷ []) c i v n
-IsAt-on es e c i v n apart is =
-    let no_hello_of = apart.no_hello in
-    record {
-      opened = HasOpened-on es e c i v no_hello_of is.opened;
-      number = record {
-        incarnation = is.number.incarnation;
-        h = is.number.h;
-        hello = LastHello-on es e c is.number.incarnation is.number.h no_hello_of is.number.hello;
-        greatest = λ r key later names. elim (NamesKey-back es e c r key names) [
-          | inl inside ↦ is.number.greatest r key later inside
-          | inr own ↦ absurd (apart.no_key key own.1 names.of_client)
-        ];
-        reached = elim is.number.reached [
-          | inl none ↦ inl none
-          | inr there ↦ inr (
-            there.0,
-            there.1,
-            there.2,
-            NamesKey-on es (e ∷ []) c there.0 there.1 there.3,
-            there.4,
-          )
-        ];
-      };
-    }
+use Rattle.rv_state.proofs.SessionsOn.{IsApart, IsAt, IsAt-on, greeted_at, other_apart}
 
 -- after an entry that names a key its number is the session's last
 pub named_at : (es : List Entry) (e : Entry) (key : Key) (i : ℕ) (v : Version) (n : ℕ)
@@ -90,30 +45,6 @@ named_at es e key i v n is session above =
               (same_Some _ _ (sym is ∙ own.1)) in omega arith
         ];
         reached = inr (length es, key, inside, record { named = last; of_client = refl }, refl);
-      };
-    }
-
--- after a hello the session is fresh
-pub greeted_at : (es : List Entry) (e : Entry) (c i : ℕ) (v : Version) → e.act ≡ Hello c i v
-    → IsAt (es ++ e ∷ []) c i v 0
-greeted_at es e c i v is =
-    let own : act_at (es ++ e ∷ []) (length es) ≡ Some (Hello c i v) = ap act_read (get-append_end es e)
-    ∙ ap Some is in
-    let hello : LastHello (es ++ e ∷ []) c i (length es) = record {
-      version = v;
-      hello = own;
-      last = λ r j w later there. elim (reads_back act_read refl es e r (Hello c j w) there)
-          [ inl inside ↦ omega arith | inr last ↦ omega arith ];
-    } in
-    record {
-      opened = record { h = length es; last = hello; version_is = refl };
-      number = record {
-        incarnation = i;
-        h = length es;
-        hello = hello;
-        greatest = λ r key later names. elim (reads_back key_read refl es e r key names.named)
-            [ inl inside ↦ absurd (omega arith) | inr last ↦ absurd (omega arith) ];
-        reached = inl refl;
       };
     }
 

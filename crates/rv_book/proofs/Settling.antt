@@ -14,9 +14,10 @@ use Rattle.rv_book.proofs.Words.{NamesAt-last, act_read, call_read, reads_on, ac
 use Rattle.rv_book.proofs.Words.{names_only, same_or_not, get-append_end, Waiting-last, Waiting-on}
 use Rattle.rv_book.proofs.Words.{arrival_stops_nobody, asked_on}
 use Rattle.rv_book.proofs.Replying.{reply_laws}
-use Rattle.rv_book.proofs.SessionTable.{IsAt, IsAt-on, StillWaits, named_at, other_apart, session_on}
+use Rattle.rv_book.proofs.SessionTable.{StillWaits, named_at, session_on}
 use Rattle.rv_rules.proofs.Versions.{waiting_asked}
 use Rattle.rv_book.proofs.WaitingTable.{opened_in_table, version_told, waiting_there, waits_in_table}
+use Rattle.rv_state.proofs.SessionsOn.{IsAt, IsAt-on, other_apart}
 
 -- ---- the request that an arrival meets
 

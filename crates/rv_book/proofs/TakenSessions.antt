@@ -13,12 +13,13 @@ use Rattle.rv_book.proofs.Words.{asked_on, arrival, waiting_is_last}
 use Rattle.rv_session.specs.declared.session.RequestState.{RequestState as StateOf}
 use Rattle.rv_book.specs.Tables.{IsWaitingAt}
 use Rattle.rv_book.specs.TakingOut.{AreSessionsLeft, IsSessionLeft, IsSessionLeftOf, IsToldAt, StandsLeft}
-use Rattle.rv_book.proofs.SessionTable.{CancelledFirst-on, Changes, IsApart, IsAt-on, SaidHello-back}
-use Rattle.rv_book.proofs.SessionTable.{other_apart, settled_on}
+use Rattle.rv_book.proofs.SessionTable.{CancelledFirst-on, Changes, SaidHello-back}
+use Rattle.rv_book.proofs.SessionTable.{settled_on}
 use Rattle.rv_book.proofs.TakenTables.{OneMore}
 use Rattle.rv_rules.proofs.Versions.{waiting_asked}
 use Rattle.rv_book.proofs.WaitingTable.{opened_as, same_parts, settled_not, version_told}
 use Rattle.rv_session.specs.declared.session.RequestState.TheVariants as state
+use Rattle.rv_state.proofs.SessionsOn.{IsApart, IsAt-on, other_apart}
 
 -- ---- while nothing was taken out
 

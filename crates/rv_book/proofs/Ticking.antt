@@ -10,6 +10,7 @@ use Rattle.rv_rules.proofs.Deciding.{waits_or_not}
 use Rattle.rv_book.proofs.Following.{tick_follows}
 use Rattle.rv_rules.proofs.Growing.{limit_on, moment_read}
 use Rattle.rv_rules.proofs.Numbers.{first_below}
+use Rattle.rv_state.proofs.TicksBoth.{tick_ends}
 
 -- ---- whether something is due
 
@@ -36,24 +37,6 @@ something_or_nothing es moment = elim (first_below (IsDueAt es moment) (due_or_n
 ]
 
 -- ---- what was due is no longer, behind a tick
-
-pub tick_ends : (es : List Entry) (e : Entry) → NamesFreePartners es e → e.act ≡ Tick
-    → NothingDue (es ++ e ∷ []) e.moment
-tick_ends es e free says r due = elim (Waiting-back es e r free due.waits) [
-  | inl was ↦
-      let opened = was.there.is_open in
-      let arrives = act_called (act_at es r) opened.call opened.arrived in
-      let has : limit_at es r ≡ Some due.limit = sym (limit_on es (e ∷ []) r (Arrive arrives.0 opened.call)
-      arrives.1) ∙ due.has in
-      was.unstopped (tick_stops es e r says (due_until es e.moment r (record {
-        waits = was.there;
-        limit =
-            due.limit;
-        has = has;
-        elapsed = due.elapsed;
-      })))
-  | inr new ↦ none-some new.1.call (sym (ap call_in says) ∙ new.1.arrives)
-]
 
 -- ---- the time-outs of a step
 

@@ -20,13 +20,14 @@ use Rattle.rv_book.proofs.Following.{tick_follows}
 use Rattle.rv_book.proofs.Keeping.{sound_with}
 use Rattle.rv_rules.proofs.Keys.{tick_no_hello}
 use Rattle.rv_book.proofs.Overdue.{due_is_gone, tick_closes}
-use Rattle.rv_book.proofs.SessionTable.{IsApart}
 use Rattle.rv_book.proofs.StoppedReplies.{timed_out_reply}
 use Rattle.rv_book.proofs.TakenSessions.{Tells, sessions_at_last}
 use Rattle.rv_book.proofs.TakenTables.{number_at_last, waiters_at_last}
 use Rattle.rv_book.proofs.TakingOut.{left_at_first, left_ended, left_may_end}
-use Rattle.rv_book.proofs.Ticking.{tick_ends, with_tick}
+use Rattle.rv_book.proofs.Ticking.{with_tick}
 use Rattle.rv_session.specs.declared.kept.Kept.TheVariants as kept
+use Rattle.rv_state.proofs.SessionsOn.{IsApart, tick_apart}
+use Rattle.rv_state.proofs.TicksBoth.{tick_ends}
 
 -- ---- before the first turn
 
@@ -98,13 +99,6 @@ pub no_ticks : (a : Account) (moment : ℕ) → NothingDue a.entries moment → 
 no_ticks a moment nothing = inr ((λ something. nothing something.0 something.1), refl)
 
 -- ---- the tick
-
--- a tick is apart from each client
-tick_apart : (client : ℕ) → IsApart Tick client
-tick_apart client = record {
-  no_hello = λ incarnation version own. tick_no_hello client incarnation version own;
-  no_key = λ key names of_client. none-some key names;
-}
 
 -- of the state at a moment all that was due is taken out, at least one request, and the tick isn't recorded
 -- yet

@@ -8,6 +8,7 @@ use Rattle.rv_rules.proofs.OnePartner.{named_not_next}
 use Rattle.rv_rules.proofs.Sides.{IsRequestUnder, cancel_stops}
 use Rattle.rv_book.proofs.StoppedReplies.{told_stopped}
 use Rattle.rv_text.specs.declared.answer.Reply as reply
+use Rattle.rv_state.proofs.OwnAnswers.{cancelled_first}
 
 -- ---- a request that waited
 
@@ -46,21 +47,6 @@ waiting_replies a e key says none waits = record {
 }
 
 -- ---- a request that had not come
-
-pub cancelled_first : (a : Account) (e : Entry) (key : Key) → Legal a
-    → HasIncarnation a.entries key.client key.incarnation → IsNextNumber a.entries key → e.act ≡ Cancel key
-    → CancelledFirst (a.entries ++ e ∷ []) key
-cancelled_first a e key legal has next says = record {
-  place = length a.entries;
-  cancelled = ap act_read (get-append_end a.entries e) ∙ ap Some says;
-  not_arrived = λ r call arrived. elim (reads_back act_read refl a.entries e r (Arrive key call) arrived) [
-    | inl before ↦ named_not_next a r key legal (ap (option_and_then key_in) before.1) has next
-    | inr last ↦ not_both key call (sym (ap Some says) ∙ last.1)
-  ];
-}
-  where
-    not_both : (key : Key) (call : Call) → Some (Cancel key) ≡ Some (Arrive key call) → ⊥
-    not_both key call e = cc
 
 pub next_replies : (a : Account) (e : Entry) (key : Key) → Legal a
     → HasIncarnation a.entries key.client key.incarnation → IsNextNumber a.entries key → e.act ≡ Cancel key

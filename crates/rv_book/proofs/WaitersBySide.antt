@@ -22,7 +22,8 @@ use Rattle.rv_rules.proofs.Deciding.{same_side}
 use Rattle.rv_rules.proofs.Places.{get-append}
 use Rattle.rv_rules.proofs.Sides.{ComesOn, OpenAt-back, OpenAt-last, OpenAt-on}
 use Rattle.rv_book.proofs.Tabled.{same_parked, same_waiting}
-use Rattle.rv_book.proofs.Withdrawn.{differs, filter_get, get_filter}
+use Rattle.rv_book.proofs.Withdrawn.{differs}
+use Rattle.rv_state.proofs.Filtered.{filter_get, get_filter}
 
 -- ---- one side
 

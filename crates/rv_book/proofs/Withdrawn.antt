@@ -15,6 +15,7 @@ use Rattle.rv_dual.specs.Withdrawing.{WaitsAt, Withdraws, without_giver, without
 use Rattle.rv_dual.specs.declared.giver.Offer.{Offer}
 use Rattle.rv_dual.specs.declared.giver.Offer.TheVariants.{Put, Waits}
 use Rattle.rv_book.proofs.Tabled.{ChangedAt, givers_change, parked_changed, takers_change}
+use Rattle.rv_state.proofs.Filtered.{filter_get}
 
 -- ---- lists of which some are left
 
@@ -28,29 +29,6 @@ module _ {X : Type 0} (p : X → Bool) where
   left_of_head y xs x rest true passes (suc k) there = let found = rest k there in
       (suc found.0, found.1, found.2)
   left_of_head y xs x rest false passes k there = let found = rest k there in (suc found.0, found.1, found.2)
-
-  -- what is left was there, and passes
-  pub filter_get : (xs : List X) (i : ℕ) (x : X) → slice_get (filter p xs) i ≡ Some x
-      → (j : ℕ) × (slice_get xs j ≡ Some x) × (p x ≡ true)
-  filter_get [] i x at = absurd (none-some x at)
-  filter_get (y ∷ xs) i x at = left_of_head y xs x (λ k there. filter_get xs k x there) (p y) refl i at
-
-  -- what passes is left
-  pub get_filter : (xs : List X) (j : ℕ) (x : X) → slice_get xs j ≡ Some x → p x ≡ true
-      → (i : ℕ) × (slice_get (filter p xs) i ≡ Some x)
-  get_filter [] j x at passes = absurd (none-some x at)
-  get_filter (y ∷ xs) zero x at passes =
-      let same : y ≡ x = same_Some _ _ at in (
-        0,
-        subst (λ b. slice_get (cond b (y ∷ filter p xs) (filter p xs)) 0 ≡ Some x)
-            (sym (ap p same ∙ passes)) at,
-      )
-  get_filter (y ∷ xs) (suc j) x at passes = by_head (p y) (get_filter xs j x at passes)
-    where
-      by_head : (b : Bool) → (i : ℕ) × (slice_get (filter p xs) i ≡ Some x)
-          → (i : ℕ) × (slice_get (cond b (y ∷ filter p xs) (filter p xs)) i ≡ Some x)
-      by_head true found = (suc found.0, found.1)
-      by_head false found = found
 
   pub filter_all : (xs : List X) → ((i : ℕ) (x : X) → slice_get xs i ≡ Some x → p x ≡ true) → filter p xs ≡ xs
   filter_all [] all = refl

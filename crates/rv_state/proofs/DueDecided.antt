@@ -49,7 +49,7 @@ not_or_so : (P : Type 0) → P ⊎ (P → ⊥) → (P → ⊥) ⊎ ((P → ⊥) 
 not_or_so P (inl holds) = inr (λ none. none holds)
 not_or_so P (inr none) = inl none
 
-same_version : (v w : Version) → (v ≡ w) ⊎ (v ≡ w → ⊥)
+pub same_version : (v w : Version) → (v ≡ w) ⊎ (v ≡ w → ⊥)
 same_version One One = inl refl
 same_version One Two = inr (λ e. let no : ⊥ = cc in no)
 same_version Two One = inr (λ e. let no : ⊥ = cc in no)

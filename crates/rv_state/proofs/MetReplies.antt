@@ -14,7 +14,7 @@ use Rattle.rv_text.specs.declared.answer.Reply.TheVariants as reply
 
 -- ---- it is the reply
 
-one_apart : One ≡ Two → ⊥
+pub one_apart : One ≡ Two → ⊥
 one_apart e = cc
 
 receipt_met : (version : Version) (taker : Option Key) (told : Reply) (es : List Entry) (r : ℕ)

@@ -106,7 +106,7 @@ waits_to_state a s key legal state under =
 
 -- ---- the numbers of each act
 
-hello_numbers : (a : Account) (client incarnation : ℕ) (v : Version)
+pub hello_numbers : (a : Account) (client incarnation : ℕ) (v : Version)
     → HasOnlyLower a.entries client incarnation → KeepsNumbers a (Hello client incarnation v)
 hello_numbers a client incarnation v lower = record {
   raises_incarnation = λ c i w is.
@@ -150,7 +150,7 @@ cancel_numbers a key session turn = record {
       (cancelled_key _ _ is) turn;
 }
 
-tick_numbers : (a : Account) → KeepsNumbers a Tick
+pub tick_numbers : (a : Account) → KeepsNumbers a Tick
 tick_numbers a = record {
   raises_incarnation = λ c i w is. absurd (let no : ⊥ = cc in no);
   of_session = λ key is. absurd (none-some key is);

@@ -18,7 +18,8 @@ use Rattle.rv_text.specs.declared.call.Call as call
 
 -- ---- what is told of a wait
 
-one_unmet : (wait : Wait) (es : List Entry) (r : ℕ) (at_once x y : Reply) → RepliesUnmet es r wait at_once x
+pub one_unmet : (wait : Wait) (es : List Entry) (r : ℕ) (at_once x y : Reply)
+    → RepliesUnmet es r wait at_once x
     → RepliesUnmet es r wait at_once y → y ≡ x
 one_unmet wait es r at_once x y first second =
     one_by_lasting (by_lasting wait es r at_once x first) (by_lasting wait es r at_once y second)
@@ -44,7 +45,7 @@ module _ (es : List Entry) (r : ℕ) (own : Call) (wait : Wait) (at_once : Reply
 
 -- ---- receipts and items
 
-meet_back : (es : List Entry) (r s : ℕ) → Meet es r s → Meet es s r
+pub meet_back : (es : List Entry) (r s : ℕ) → Meet es r s → Meet es s r
 meet_back es r s (inl names) = inr names
 meet_back es r s (inr names) = inl names
 
@@ -77,7 +78,8 @@ one_told_item b r own told_with legal arrived single x y first second =
 
 -- ---- counts and peeks
 
-same_counts : (a b c d : ℕ) → a ≡ b → c ≡ d → reply.TheVariants.Counted a c ≡ reply.TheVariants.Counted b d
+pub same_counts : (a b c d : ℕ) → a ≡ b → c ≡ d → reply.TheVariants.Counted a c ≡ reply.TheVariants.Counted b
+    d
 same_counts a b c d p q = cc
 
 one_count : (queue : ℕ) (es : List Entry) (r : ℕ) (x y : Reply)
@@ -89,7 +91,7 @@ one_count queue es r x y (i, c, first, is) (j, d, second, also) =
     one_number (OpenAt (take r es) (Takes queue)) d c second.consumers_are first.consumers_are in
     also ∙ same_counts j i d c items consumers ∙ sym is
 
-one_oldest : (es : List Entry) (queue p q : ℕ) → IsOldest es (Gives queue) p → IsOldest es (Gives queue) q
+pub one_oldest : (es : List Entry) (queue p q : ℕ) → IsOldest es (Gives queue) p → IsOldest es (Gives queue) q
     → p ≡ q
 one_oldest es queue p q first second = elim (cases_order p q) [
   | inl same ↦ same

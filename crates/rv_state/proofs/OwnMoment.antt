@@ -11,7 +11,7 @@ use Rattle.rv_rules.proofs.Fronts.{read_front}
 use Rattle.rv_rules.proofs.Growing.{moment_read}
 
 -- the last entry's moment is the greatest
-own_by : (a : Account) → Legal a → (o : Option Entry) → slice_get a.entries (length a.entries - 1) ≡ o
+pub own_by : (a : Account) → Legal a → (o : Option Entry) → slice_get a.entries (length a.entries - 1) ≡ o
     → KeepsTime a (unwrap_or (option_map (λ e. e.moment) o) a.opened)
 own_by a legal None last = record {
   opened = omega arith;

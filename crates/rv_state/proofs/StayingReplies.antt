@@ -27,7 +27,7 @@ items_on es more (p ∷ places) xs is =
     joined (es ++ more) p places first.0 first.1 here (items_on es more places first.1 first.3)
     ∙ ap Some (sym first.4)
 
-drained_from : (es : List Entry) (o : Option (List ℕ)) (xs : List (List ℕ))
+pub drained_from : (es : List Entry) (o : Option (List ℕ)) (xs : List (List ℕ))
     → option_and_then (items_at es) o ≡ Some xs
     → (places : List ℕ) × (o ≡ Some places) × (items_at es places ≡ Some xs)
 drained_from es None xs is = absurd (none-some xs is)
@@ -41,7 +41,8 @@ drains_on es more r xs is =
 
 -- ---- what a transfer that was met is told stays
 
-meets_key_on : (es more : List Entry) (r : ℕ) (key : Key) → MeetsKey es r key → MeetsKey (es ++ more) r key
+pub meets_key_on : (es more : List Entry) (r : ℕ) (key : Key) → MeetsKey es r key
+    → MeetsKey (es ++ more) r key
 meets_key_on es more r key h =
     record {
       place = h.place;

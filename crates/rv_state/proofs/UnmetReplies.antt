@@ -49,7 +49,7 @@ passing_told Forever es r at_once passes = absurd (passes tt)
 
 -- ---- who was stopped or never stays is not met later
 
-stopped_in_front : (es : List Entry) (n r s : ℕ) → s < n → StoppedAt es r s → StoppedAt (take n es) r s
+pub stopped_in_front : (es : List Entry) (n r s : ℕ) → s < n → StoppedAt es r s → StoppedAt (take n es) r s
 stopped_in_front es n r s less h =
     let later : r < s = h.later in
     let same : limit_at (take n es) r ≡ limit_at es r =
@@ -66,14 +66,14 @@ stopped_in_front es n r s less h =
     }
 
 -- nobody names a request that was stopped before
-stopped_unnamed : (a : Account) (p r s : ℕ) → Legal a → s < p → StoppedAt a.entries r s
+pub stopped_unnamed : (a : Account) (p r s : ℕ) → Legal a → s < p → StoppedAt a.entries r s
     → NamesPartner a.entries p r → ⊥
 stopped_unnamed a p r s legal less stopped names =
     (partner_open a p r legal names).there.is_open.unstopped
     (s, stopped_in_front a.entries p r s less stopped)
 
 -- a pair that stands in the first entries is a pair of theirs
-names_before : (es more : List Entry) (p q : ℕ) → p < length es → NamesPartner (es ++ more) p q
+pub names_before : (es more : List Entry) (p q : ℕ) → p < length es → NamesPartner (es ++ more) p q
     → NamesPartner es p q
 names_before es more p q inside names =
     let same : slice_get (es ++ more) p ≡ slice_get es p = get-append_within es more p inside in
@@ -89,7 +89,7 @@ names_before es more p q inside names =
     }
 
 -- an unmet arrival that nobody names later stays unmet
-unnamed_unmet : (es more : List Entry) (r : ℕ) → r < length es → (Met es r → ⊥)
+pub unnamed_unmet : (es more : List Entry) (r : ℕ) → r < length es → (Met es r → ⊥)
     → ((p : ℕ) → length es ≤ p → NamesPartner (es ++ more) p r → ⊥) → Met (es ++ more) r → ⊥
 unnamed_unmet es more r inside unmet unnamed met = elim (cases_lt met.later (length es)) [
   | inl before ↦
