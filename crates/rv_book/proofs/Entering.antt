@@ -4,12 +4,12 @@ use Rattle.rv_book.proofs.Words.{key_in, Adds, EpochFullDue, RefuseOr, step_mome
 use Rattle.rv_book.proofs.Words.{OtherCallDue, Answers, Replies, Arrive, Cancel, Hello, Tick, Act}
 use Rattle.rv_book.proofs.Words.{CancelledFirst, HasReply, Cancelled, waiting_is_last, Call, Entry}
 use Rattle.rv_book.proofs.Words.{HasIncarnation, HasOnlyLower, HasOpened, LastNumber, SaidHello, entry}
-use Rattle.rv_book.proofs.Words.{IsNext, KeepsTime, Legal, MayFollow, WaitsUnder, Key, Version, One, Two}
+use Rattle.rv_book.proofs.Words.{IsNext, KeepsTime, Legal, MayFollow, WaitsUnder, Key, Version}
 use Rattle.rv_book.proofs.Words.{Legal-with_entry, None, Option, Some, ap, arith, inl, inr, [], length}
-use Rattle.rv_book.proofs.Words.{option_map, refl, subst, sym, ℕ, List, option_and_then, take, Replied}
+use Rattle.rv_book.proofs.Words.{refl, subst, sym, ℕ, List, option_and_then, take, Replied}
 use Rattle.rv_book.proofs.Words.{cases_lt, cases_order, one_incarnation, room_left, reads_within, act_read}
 use Rattle.rv_book.proofs.Words.{read_there, need_of, none-some, same_Some, key_read, no_hello}
-use Rattle.rv_book.proofs.Words.{get-append_end, read_front, read_whole, slice_get, unwrap_or, OtherCall}
+use Rattle.rv_book.proofs.Words.{get-append_end, read_front, read_whole, slice_get, OtherCall}
 use Rattle.rv_book.proofs.Words.{ClientsFull, Answer, Refusal, arrives_once, one_number}
 use Rattle.rv_book.specs.Steps.{HelloLines, KeyLines, max_entries, own_moment, WhereElse}
 use Rattle.rv_rules.proofs.Numbers.{first_below}
@@ -28,8 +28,6 @@ use Rattle.rv_rules.proofs.Histories.{hellos_at_most}
 use Rattle.rv_rules.proofs.Lines.{line_again, line_busy, line_gap, line_newer, line_next, line_no_session}
 use Rattle.rv_rules.proofs.Lines.{line_old_hello, line_old_incarnation, line_old_number, line_other_epoch}
 use Rattle.rv_rules.proofs.Lines.{line_other_version, no_room, line_last}
-use Rattle.rv_rules.proofs.Growing.{moment_read}
-use Rattle.std.proofs.lemmas.Option.{slice_get_cases}
 use Rattle.rv_rules.proofs.Keys.{act_named}
 use Rattle.rv_book.proofs.Replying.{reply_laws}
 use Rattle.rv_text.proofs.Kept.{same_call}

@@ -38,11 +38,6 @@ room_to_take waiters queue wait room lasts none = room (record {
 
 -- ---- its deadline
 
-pub among_is : (opposed : ℕ) (deadline : Option ℕ) (limit : ℕ) → deadline_beside opposed deadline ≡ Some limit
-    → deadline ≡ Some limit
-among_is zero deadline limit is = is
-among_is (suc more) deadline limit is = absurd (none-some limit is)
-
 pub nobody_beside : (opposed : ℕ) (deadline : Option ℕ) (limit : ℕ)
     → deadline_beside opposed deadline ≡ Some limit → opposed ≡ 0
 nobody_beside zero deadline limit is = refl

@@ -1,7 +1,7 @@
 -- The reply of a peek: the item that was the oldest open one before it.
 use Rattle.rv_book.proofs.Words.{◌≡◌, ◌∷◌, ◌++◌, ◌∙◌, inl, inr, ℕ, List, [], take, Option, Some}
 use Rattle.rv_book.proofs.Words.{option_and_then, option_map, refl, sym, ap, subst, take-append_seam}
-use Rattle.rv_book.proofs.Words.{cases_order, same_Some, Reply, Gives, item_of, FitsItem, Arrive, Entry}
+use Rattle.rv_book.proofs.Words.{same_Some, Reply, Gives, item_of, FitsItem, Arrive, Entry}
 use Rattle.rv_book.proofs.Words.{Account, act_at, call_at, call_in, just, WillReply, entry, before}
 use Rattle.rv_book.proofs.Words.{FitsAccount, RepliesAt, item_at, IsOldest, gives_item, read_whole, call_read}
 use Rattle.rv_book.proofs.Words.{reads_on, act_fits, act_there, looks_alone}

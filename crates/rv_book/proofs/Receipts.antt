@@ -4,13 +4,13 @@ use Rattle.rv_book.proofs.Words.{◌≡◌, ◌⊎◌, ◌<◌, ◌++◌, ◌∙
 use Rattle.rv_book.proofs.Words.{option_map, refl, sym, ap, subst, same_Some, slice_get, Reply, Call}
 use Rattle.rv_book.proofs.Words.{Transfer, Wait, Key, Version, One, Two, Entry, Account, act_at, call_at}
 use Rattle.rv_book.proofs.Words.{key_at, key_in, may_name, IsKept, Legal, FitsAccount, AskedIn, Met}
-use Rattle.rv_book.proofs.Words.{NamesPartner, read_whole, call_read, read_there, reads_on, act_called}
+use Rattle.rv_book.proofs.Words.{NamesPartner, read_whole, call_read, read_there, act_called}
 use Rattle.rv_book.proofs.Words.{key_read, act_fits, act_there, partner_open, asked_on}
 use Rattle.rv_text.specs.Limits.{FitsKey}
 use Rattle.rv_text.proofs.Kept.{received_fits}
 use Rattle.rv_session.specs.Kept.{receipt}
 use Rattle.rv_book.specs.Replies.{Meet, MeetsKey, RepliesMet}
-use Rattle.rv_rules.proofs.Getting.{Meet-on, meet_met}
+use Rattle.rv_rules.proofs.Getting.{meet_met}
 use Rattle.rv_rules.proofs.Limits.{key_of_act}
 use Rattle.rv_rules.proofs.OnePartner.{meets_one}
 use Rattle.rv_book.proofs.ReplyLaws.{FitsIn}

@@ -5,17 +5,16 @@ use Rattle.rv_session.specs.declared.session.RequestState as state
 use Rattle.rv_book.proofs.Words.{◌++◌, ◌<◌, ◌∙◌, ◌∷◌, ◌≡◌, ◌≤◌, Version, Session, Kept, Table, OnlySets}
 use Rattle.rv_book.proofs.Words.{OnlySettles, fresh, session_of, Account, act_at, call_at, call_in, key_at}
 use Rattle.rv_book.proofs.Words.{key_in, with_entry, AreSessions, IsSession, IsSessionOf, IsSettledAt}
-use Rattle.rv_book.proofs.Words.{StandsInAccount, last_key, CancelledFirst, Act, Arrive, Hello, Call, Entry}
-use Rattle.rv_book.proofs.Words.{HasOpened, LastNumber, SaidHello, IsKept, Waiting, Waiting-on, Key, Legal}
+use Rattle.rv_book.proofs.Words.{StandsInAccount, last_key, CancelledFirst, Arrive, Hello, Call, Entry}
+use Rattle.rv_book.proofs.Words.{SaidHello, IsKept, Waiting, Waiting-on, Key, Legal}
 use Rattle.rv_book.proofs.Words.{before, List, None, Option, Some, [], ap, arith, inl, inr, length}
 use Rattle.rv_book.proofs.Words.{option_and_then, refl, subst, sym, ℕ, act_read, reads_back, reads_on}
 use Rattle.rv_book.proofs.Words.{reads_within, get-append_end, none-some, same_Some, just_none, same_or_not}
 use Rattle.rv_book.proofs.Words.{client_of, key_read}
 use Rattle.rv_session.specs.declared.session.RequestState.{RequestState as StateOf}
-use Rattle.rv_book.specs.Sessions.{LastHello}
 use Rattle.rv_rules.proofs.Sides.{stopped_by_hello}
 use Rattle.rv_book.proofs.Staying.{kept_stays}
-use Rattle.rv_rules.proofs.Keys.{LastHello-on, NamesKey-back, NamesKey-on, hello_is_own, key_is_own}
+use Rattle.rv_rules.proofs.Keys.{LastHello-on, NamesKey-back}
 use Rattle.rv_book.proofs.Replying.{reply_laws}
 use Rattle.rv_rules.proofs.Versions.{HasOpened-on}
 pub use Rattle.rv_book.proofs.WaitingTable.{waits_in_table}

@@ -6,22 +6,18 @@ use Rattle.rv_book.proofs.Words.{HasOnlyLower, LastNumber, SaidHello, Legal, IsK
 use Rattle.rv_book.proofs.Words.{Option, Some, ap, arith, inl, inr, refl, subst, sym, ℕ, Refusal, Waiting}
 use Rattle.rv_book.proofs.Words.{one_number}
 use Rattle.rv_session.specs.declared.session.RequestState.{RequestState as StateOf}
-use Rattle.rv_session.specs.Standings.{Enters, MayEnter, greeting_for}
 use Rattle.rv_rules.proofs.Lines.{line_other_epoch, line_no_session, line_old_incarnation, line_old_number}
 use Rattle.rv_rules.proofs.Lines.{line_last, line_gap, line_busy}
 use Rattle.rv_session.specs.Meanings.{RefusalMeans}
 use Rattle.rv_session.proofs.Clients.{clients_of, clients_rise, clients_are, length-clients}
 use Rattle.rv_book.specs.Steps.{KeyLines}
 use Rattle.std.specs.Prelude.{IsSome}
-use Rattle.std.proofs.Common.{nat_lt}
-use Rattle.std.proofs.lemmas.Bool.{ltb-true}
 use Rattle.rv_rules.proofs.Histories.{hellos_at_most}
 use Rattle.rv_book.proofs.WaitingTable.{has_waiting, known, none_waits, same_parts, unknown}
 use Rattle.rv_text.specs.declared.answer.Refusal as refusal
 use Rattle.rv_account.specs.declared.entry.Act as act
 use Rattle.rv_session.specs.declared.session.RequestState as state
 use Rattle.rv_session.specs.declared.kept.Kept as kept
-use Rattle.rv_session.specs.declared.standing.Greeting.TheVariants as greeting
 
 -- ---- a new client
 

@@ -3,7 +3,7 @@ use Rattle.rv_book.specs.declared.verdict.KeptAnswer as said
 use Rattle.rv_book.proofs.Words.{◌+◌, ◌≡◌, ◌≤◌, Refused, Account, Act, Adds, EntersOrNoMemory, EpochFullDue}
 use Rattle.rv_book.proofs.Words.{NextAt, RefuseOr, Refuses, Answer, NumberOf, Waiting, Becomes, NoEntryDue}
 use Rattle.rv_book.proofs.Words.{ap, inl, inr, length, refl, ℕ, room_left, Message, Refusal}
-use Rattle.std.specs.Prelude.{Result, Ok, Err, IsOk}
+use Rattle.std.specs.Prelude.{Result, Ok, Err}
 use Rattle.std.proofs.Common.{IsErrAnd, IfErr, IfOk, OnOk, OnErr}
 
 -- ---- clauses on a result

@@ -1,14 +1,14 @@
 -- The time-outs of a step: they can be recorded, and leave a legal account in which nothing is due at the
 -- step's moment.
-use Rattle.rv_book.proofs.Words.{◌≡◌, ◌⊎◌, ◌≤◌, ◌∷◌, ◌++◌, ◌∙◌, inl, inr, ℕ, List, [], length, Option, Some}
-use Rattle.rv_book.proofs.Words.{None, refl, sym, ap, subst, arith, cases_lt, none-some, same_Some, Arrive}
-use Rattle.rv_book.proofs.Words.{Tick, Entry, Account, act_at, call_in, with_entry, entry, IsDueAt, KeepsTime}
-use Rattle.rv_book.proofs.Words.{Legal, NamesFreePartners, NothingDue, SomethingDue, Ticks, limit_at}
-use Rattle.rv_book.proofs.Words.{call_read, reads_back, reads_within, act_called, Legal-with_entry}
-use Rattle.rv_book.proofs.Words.{follows_itself, Waiting-back, due_until, tick_stops}
+use Rattle.rv_book.proofs.Words.{◌≡◌, ◌⊎◌, ◌≤◌, ◌∙◌, inl, inr, ℕ, List, [], length, Option, Some}
+use Rattle.rv_book.proofs.Words.{None, refl, sym, subst, arith, cases_lt, none-some, same_Some}
+use Rattle.rv_book.proofs.Words.{Tick, Entry, Account, with_entry, entry, IsDueAt, KeepsTime}
+use Rattle.rv_book.proofs.Words.{Legal, NothingDue, SomethingDue, Ticks, limit_at}
+use Rattle.rv_book.proofs.Words.{call_read, reads_back, reads_within, Legal-with_entry}
+use Rattle.rv_book.proofs.Words.{follows_itself}
 use Rattle.rv_rules.proofs.Deciding.{waits_or_not}
 use Rattle.rv_book.proofs.Following.{tick_follows}
-use Rattle.rv_rules.proofs.Growing.{limit_on, moment_read}
+use Rattle.rv_rules.proofs.Growing.{moment_read}
 use Rattle.rv_rules.proofs.Numbers.{first_below}
 use Rattle.rv_state.proofs.TicksBoth.{tick_ends}
 

@@ -26,7 +26,7 @@ use Rattle.rv_book.proofs.TakenTables.{number_at_last, waiters_at_last}
 use Rattle.rv_book.proofs.TakingOut.{left_at_first, left_ended, left_may_end}
 use Rattle.rv_book.proofs.Ticking.{with_tick}
 use Rattle.rv_session.specs.declared.kept.Kept.TheVariants as kept
-use Rattle.rv_state.proofs.SessionsOn.{IsApart, tick_apart}
+use Rattle.rv_state.proofs.SessionsOn.{tick_apart}
 use Rattle.rv_state.proofs.TicksBoth.{tick_ends}
 
 -- ---- before the first turn

@@ -1,10 +1,9 @@
 -- What a cancel tells: its request is cancelled, whether it waited or had not come yet.
-use Rattle.rv_book.proofs.Words.{◌≡◌, ◌∷◌, ◌++◌, ◌∙◌, inl, inr, List, [], length, Some, None, option_and_then}
-use Rattle.rv_book.proofs.Words.{refl, sym, ap, subst, same_Some, Key, Call, Replied, Entry, Arrive, Cancel}
-use Rattle.rv_book.proofs.Words.{Account, call_in, just, key_in, with_entry, IsPut, IsNextNumber, Legal}
-use Rattle.rv_book.proofs.Words.{WaitsUnder, CancelledFirst, RepliesAt, told_by, HasIncarnation, Replies}
-use Rattle.rv_book.proofs.Words.{act_read, reads_back, reads_on, get-append_end, just_none}
-use Rattle.rv_rules.proofs.OnePartner.{named_not_next}
+use Rattle.rv_book.proofs.Words.{◌≡◌, ◌∷◌, ◌++◌, ◌∙◌, inl, inr, List, [], None, option_and_then}
+use Rattle.rv_book.proofs.Words.{refl, sym, ap, subst, same_Some, Key, Replied, Entry, Arrive, Cancel}
+use Rattle.rv_book.proofs.Words.{Account, call_in, just, with_entry, IsPut, IsNextNumber, Legal}
+use Rattle.rv_book.proofs.Words.{WaitsUnder, RepliesAt, told_by, HasIncarnation, Replies}
+use Rattle.rv_book.proofs.Words.{act_read, reads_on, just_none}
 use Rattle.rv_rules.proofs.Sides.{IsRequestUnder, cancel_stops}
 use Rattle.rv_book.proofs.StoppedReplies.{told_stopped}
 use Rattle.rv_text.specs.declared.answer.Reply as reply

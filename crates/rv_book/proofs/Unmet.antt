@@ -1,23 +1,22 @@
 -- What an unmet request is told by its wait: that this stays, is the only thing, and is told unless the
 -- request waits.
-use Rattle.rv_book.proofs.Words.{◌≡◌, ◌⊎◌, ◌<◌, ◌≤◌, ◌++◌, ◌∙◌, inl, inr, ℕ, zero, suc, List, length, take}
-use Rattle.rv_book.proofs.Words.{Some, None, option_and_then, refl, sym, ap, subst, arith, slice_get}
-use Rattle.rv_book.proofs.Words.{cases_lt, none-some, same_Some, Reply, Call, Wait, Now, Millis, Forever}
+use Rattle.rv_book.proofs.Words.{◌≡◌, ◌⊎◌, ◌<◌, ◌≤◌, ◌++◌, ◌∙◌, inl, inr, ℕ, List, length}
+use Rattle.rv_book.proofs.Words.{Some, None, refl, sym, subst, arith}
+use Rattle.rv_book.proofs.Words.{none-some, Reply, Call, Wait, Now, Millis, Forever}
 use Rattle.rv_book.proofs.Words.{wait_of, Version, Act, Hello, Arrive, Cancel, Tick, Entry, Account, call_at}
 use Rattle.rv_book.proofs.Words.{told_in, Kept, GoesOnWaiting, kept_at_once, reply_of, Lasts, MayMeet, Legal}
-use Rattle.rv_book.proofs.Words.{told_by, Met, NamesPartner, Open, StoppedAt, Waiting, limit_at, act_read}
-use Rattle.rv_book.proofs.Words.{call_read, reads_on, reads_within, read_front, partner_open}
-use Rattle.rv_book.proofs.Words.{get-append_within}
-use Rattle.rv_book.specs.Replies.{RepliesUnmet, ToldStopped}
-use Rattle.rv_book.specs.Waiting.{EndsWait, Stopped, limit_in}
+use Rattle.rv_book.proofs.Words.{told_by, Met, NamesPartner, Open, Waiting}
+use Rattle.rv_book.proofs.Words.{call_read, reads_on, reads_within}
+use Rattle.rv_book.specs.Replies.{RepliesUnmet}
+use Rattle.rv_book.specs.Waiting.{Stopped}
 use Rattle.rv_rules.proofs.Growing.{StoppedAt-on}
 use Rattle.rv_rules.proofs.Deciding.{lasts_or_not}
-use Rattle.rv_rules.proofs.FirstStops.{one_told_stopped, told_on, told_or_not}
+use Rattle.rv_rules.proofs.FirstStops.{told_or_not}
 use Rattle.rv_rules.proofs.OnePartner.{goes_unnamed}
-use Rattle.rv_rules.proofs.Places.{get-take, within}
+use Rattle.rv_rules.proofs.Places.{within}
 use Rattle.rv_text.specs.declared.answer.Reply as reply
-use Rattle.rv_state.proofs.UnmetReplies.{ByLasting, by_lasting, lasting_told, names_before, passing_told}
-use Rattle.rv_state.proofs.UnmetReplies.{stopped_in_front, stopped_unnamed, told_at_once, unnamed_unmet}
+use Rattle.rv_state.proofs.UnmetReplies.{by_lasting, lasting_told, passing_told}
+use Rattle.rv_state.proofs.UnmetReplies.{stopped_unnamed, told_at_once, unnamed_unmet}
 
 -- ---- by whether the wait lasts
 

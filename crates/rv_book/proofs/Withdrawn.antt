@@ -1,6 +1,6 @@
 -- What those who wait are when a request was taken out of its queue.
 use Rattle.rv_book.proofs.Words.{◌≡◌, ◌∷◌, ◌∙◌, inl, inr, ℕ, zero, suc, List, [], cond, Bool, true, false}
-use Rattle.rv_book.proofs.Words.{Option, Some, None, refl, sym, ap, subst, option_and_then, slice_get}
+use Rattle.rv_book.proofs.Words.{Option, Some, None, refl, sym, ap, option_and_then, slice_get}
 use Rattle.rv_book.proofs.Words.{none-some, same_Some, slice_get-map, slice_get-get_or, Wait, Key, Gives}
 use Rattle.rv_book.proofs.Words.{Takes, wait_of, OwedDuty, place_of, places_of, Queue, Act, Arrive, Cancel}
 use Rattle.rv_book.proofs.Words.{Hello, Tick, Entry, act_at, LeavesSide, StandsOn, AreParked, IsParked}
