@@ -2,7 +2,8 @@
 """The gate: rt ci, then the built tests with growths refused, then the built program from outside, then the documents.
 
 In some kits rt ci keeps what it passed on this machine, by checksums of all that it read: what is the same is not proved and
-not tried again, whoever ran it in whichever clone; tests and programs are run each time. With --anew all is proved and tried.
+not tried again, whoever ran it in whichever clone; tests and programs are run each time. With --anew all is proved and tried,
+as other kits always do.
 
 On a terminal a line at the bottom tells what is being proved, for how long, and at most about how long still.
 
@@ -23,6 +24,7 @@ import os
 import pathlib
 import resource
 import shutil
+import subprocess
 import sys
 import threading
 import time
@@ -118,11 +120,16 @@ def build():
     return [0, 0]
 
 
+def keeps():
+    """Whether this kit's rt ci keeps what it passed, and so has a word by which it keeps nothing."""
+    return "--anew" in subprocess.run(["rt", "help"], stdout=subprocess.PIPE, text=True, errors="replace").stdout
+
+
 def gate(anew):
     """Proves all, or all that this machine has not passed before, and marks the programs where nothing failed. What it
     counts, and what it says of how much it did."""
     sources = {name: proved.digest(name) for name in proved.PROGRAMS}
-    counted, share = outcome(["rt", "ci", *anew])
+    counted, share = outcome(["rt", "ci", *(["--anew"] if anew and keeps() else [])])
     for name in proved.PROGRAMS if not counted[1] else []:
         proved.leave(name, sources[name])
     return counted, share or ("rt ci did not pass" if counted[1] else "this kit's rt ci does not say how many were kept")
@@ -142,7 +149,7 @@ def main():
     pathlib.Path(PROGRAM).unlink(missing_ok=True)
     provers = Provers(unit)
     provers.start()
-    counted, share = gate(["--anew"] if asked.anew else [])
+    counted, share = gate(asked.anew)
     counts = [[0, int(status != 0)], counted, build()]
     provers.end()
     counts += [count(words) for words in OF_TESTS] + outside(asked.seed)

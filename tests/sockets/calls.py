@@ -5,7 +5,7 @@ import time
 
 from tests.model.account import Key
 from tests.model.texts import written
-from tests.sockets.plain import EXCHANGES, Looker, delayed
+from tests.sockets.plain import EXCHANGES, Looker, none_waits
 from tests.sockets.programs import Caller, Server
 from tests.sockets.wire import (
     BAD_TEXT, PATIENCE, Peer, Wrong, demand, frame, give, hello, refused, replied, request, take, until, waits, welcome)
@@ -148,10 +148,12 @@ def started_while_it_waits(program):
 
 
 class Scripted:
-    """A listener that serves one connection: for each frame that it hears it sends the next bytes, and then it ends."""
+    """A listener that serves one connection: for each frame that it hears it sends the next bytes, and then it ends. It
+    acknowledges late what comes, or else every second frame at once, the first behind the hello among them."""
 
-    def __init__(self, steps, slowly=False):
-        self.steps, self.slowly, self.heard, self.took, self.fault = steps, slowly, [], [], None
+    def __init__(self, steps, slowly=False, in_turn=False):
+        self.steps, self.slowly, self.in_turn = steps, slowly, in_turn
+        self.heard, self.took, self.fault = [], [], None
         self.socket = socket.create_server(("127.0.0.1", 0))
         self.socket.settimeout(PATIENCE)
         self.port = self.socket.getsockname()[1]
@@ -168,8 +170,8 @@ class Scripted:
     def run(self):
         try:
             with Peer(self.socket.accept()[0]) as peer:
-                for step in self.steps:
-                    peer.acknowledge_late()
+                for at, step in enumerate(self.steps):
+                    peer.acknowledge(late=not self.in_turn or at % 2 == 0)
                     began = time.monotonic()
                     body = peer.hear()
                     self.took.append(time.monotonic() - began)
@@ -259,9 +261,9 @@ SECOND_SCRIPTS = [
 ]
 
 
-def at_a_script(program, steps, text, tries, printed, status, heard, slowly=False, speak=1):
+def at_a_script(program, steps, text, tries, printed, status, heard, slowly=False, speak=1, in_turn=False):
     """A caller at a listener that answers by a script must end so. Gives how long each frame was waited for, in seconds."""
-    with Scripted(steps, slowly) as listener:
+    with Scripted(steps, slowly, in_turn) as listener:
         with Caller(program, listener.port, 2, text, tries=tries, speak=speak) as caller:
             caller.judge(printed, status)
     demand(listener.heard == heard and not listener.fault,
@@ -298,11 +300,16 @@ def lines_of_calls(program):
 
 def no_packet_waits(program):
     """A request leaves in one piece, or else no part of it waits until the one before it was acknowledged."""
-    keys = [Key(1, 2, 1, number) for number in range(1, EXCHANGES + 1)]
+    keys = [Key(1, 2, 1, number) for number in range(1, 2 * EXCHANGES + 1)]
     bodies = [request(key, PUTS[0]) for key in keys]
     done = [replied(key, reply="done") for key in keys]
-    delayed(lambda _: at_a_script(program, [WELCOME, *map(frame, done)], lines(*PUTS[:1] * EXCHANGES), 3,
-                                  b"".join(line + b"\n" for line in done), 0, [HELLO, *bodies]))
+
+    def pairs():
+        took = at_a_script(program, [WELCOME, *map(frame, done)], lines(*PUTS[:1] * len(keys)), 3,
+                           b"".join(line + b"\n" for line in done), 0, [HELLO, *bodies], in_turn=True)
+        return list(zip(took[2::2], took[1::2], strict=True))
+
+    none_waits(pairs)
 
 
 CASES = [two_callers, a_line_as_soon_as_it_is_settled, settled_in_turn, started_again, started_in_another_version,

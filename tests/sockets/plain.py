@@ -442,26 +442,31 @@ def no_packet_waits(program):
     """A request costs one exchange of packets: none of an answer waits until the one before it was acknowledged."""
     with Server(program, workers=1, connections=1) as server:
         with server.greeted(1) as peer:
-            def seconds(number):
-                peer.acknowledge_late()
-                key, began = Key(1, 1, 1, number), time.monotonic()
-                peer.expect(request(key, give("put", "a")), replied(key, reply="done"))
+            numbers = itertools.count(1)
+
+            def seconds(late):
+                key, began = Key(1, 1, 1, next(numbers)), time.monotonic()
+                peer.send(frame(request(key, give("put", "a"))))
+                peer.acknowledge(late)
+                got = peer.hear()
+                demand(got == replied(key, reply="done"), f"a put was answered {got!r}")
                 return time.monotonic() - began
 
-            rounds = [range(at * EXCHANGES, (at + 1) * EXCHANGES) for at in range(ROUNDS)]
-            delayed(lambda at: [seconds(number + 1) for number in rounds[at]])
+            none_waits(lambda: [(seconds(late=True), seconds(late=False)) for _ in range(EXCHANGES)])
         server.ended()
 
 
-def delayed(seconds):
-    """Ends the test where in each round most exchanges took as long as a packet that waits. `seconds` gives what each
-    exchange of a round took. A slow machine delays a few; a packet that waits for its like delays them all."""
-    middles = []
-    for at in range(ROUNDS):
-        middles.append(statistics.median(seconds(at)))
-        if middles[-1] < DELAY / 2:
+def none_waits(round_of_pairs):
+    """Ends the test where in each round most exchanges that are acknowledged late took as much longer than those
+    acknowledged at once as a packet that waits for that. `round_of_pairs` gives what both of each pair took. A slow
+    machine delays both alike."""
+    longer = []
+    for _ in range(ROUNDS):
+        late, at_once = zip(*round_of_pairs())
+        longer.append(statistics.median(late) - statistics.median(at_once))
+        if longer[-1] < DELAY / 2:
             return
-    demand(False, f"most requests took {min(middles):.3f} seconds or more")
+    demand(False, f"acknowledged late, most requests took {min(longer):.3f} seconds longer, or more")
 
 
 def its_connections(program):

@@ -37,7 +37,7 @@ def seconds_to_item(taker, giver, number, asked):
     count, wish, gift = Key(1, 1, 1, 2 * number + 1), Key(1, 1, 1, 2 * number + 2), Key(1, 2, 1, number + 1)
     calls = {count: {"call": "count", "queue": 3}, wish: take("forever"), gift: give("put", "a")}
     asked.update(calls)
-    taker.acknowledge_late()
+    taker.acknowledge(late=True)
     began = time.monotonic()
     taker.send(frame(request(count, calls[count])) + frame(request(wish, calls[wish])))
     got = taker.hear()

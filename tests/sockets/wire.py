@@ -132,10 +132,10 @@ class Peer:
                 raise ConnectionResetError(fault.errno, "the connection was reset") from None
             raise
 
-    def acknowledge_late(self):
-        """What comes next is acknowledged with what is sent behind it, or after a while: a packet that waits for its like then
-        waits for so long, each time."""
-        self.socket.setsockopt(socket.IPPROTO_TCP, socket.TCP_QUICKACK, 0)
+    def acknowledge(self, late):
+        """What comes next is acknowledged late, with what is sent behind it or after a while, or else at once: a packet that
+        waits for its like is then kept back for so long, or for no time."""
+        self.socket.setsockopt(socket.IPPROTO_TCP, socket.TCP_QUICKACK, int(not late))
 
     def send(self, data):
         self.socket.sendall(data)

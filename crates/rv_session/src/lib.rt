@@ -2,14 +2,18 @@
 //! settle a request, which can't be copied, and can't be dropped unless it is laid aside.
 #![tactic(auto)]
 
+mod client;
 mod duty;
 mod kept;
+mod open;
 mod session;
 mod sessions;
 mod standing;
 
+pub use client::{ClientState, LastRequest};
 pub use duty::{Duty, Parked};
 pub use kept::{Kept, Place};
+pub use open::{OpenPlace, Waiter};
 pub use session::{RequestState, Session};
 pub use sessions::{MAX_CLIENTS, Sessions};
 pub use standing::{Greeting, Standing};

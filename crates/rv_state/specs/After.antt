@@ -26,7 +26,7 @@ use Rattle.rv_account.specs.Calls.{limit_of, may_name, opposite}
 use Rattle.rv_state.specs.State.{OpenPlace, Waiter, LastRequest, ClientState, State, opening, line}
 use Rattle.rv_state.specs.State.{opposites}
 use Rattle.rv_state.specs.State.{open_at, client_at, client_waits, call_waiting}
-use Rattle.rv_state.specs.State.LastRequest.{Fresh, Waits, RepliedTo, CancelledUnseen}
+use Rattle.rv_session.specs.declared.client.LastRequest.TheVariants.{Fresh, Waits, RepliedTo, CancelledUnseen}
 
 -- a key that waited, and what its request is told
 pub record Settled : Type 0 where

@@ -18,7 +18,7 @@ use Rattle.rv_rules.specs.Counting.{NumberOf}
 use Rattle.rv_rules.specs.Legal.{IsDueAt}
 use Rattle.rv_state.specs.State.{OpenPlace, LastRequest, ClientState, State, client_at, client_waits, line}
 use Rattle.rv_state.specs.State.{place_list, waiting_count}
-use Rattle.rv_state.specs.State.LastRequest.{Fresh, Waits, RepliedTo, CancelledUnseen}
+use Rattle.rv_session.specs.declared.client.LastRequest.TheVariants.{Fresh, Waits, RepliedTo, CancelledUnseen}
 use Rattle.rv_state.specs.After.{due_at, waiter_of}
 
 -- the open place is that of an arrival that stands there, with its side, item and limit, and who waits

@@ -24,7 +24,7 @@ use Rattle.rv_account.specs.Calls.{need_of}
 use Rattle.rv_rules.specs.Steps.{RefuseOr, WhereElse, capped_moment, max_clients, max_entries}
 use Rattle.rv_state.specs.State.{OpenPlace, LastRequest, ClientState, State, client_at}
 use Rattle.rv_state.specs.State.{place_waiting, waiting_count}
-use Rattle.rv_state.specs.State.LastRequest.{Fresh, Waits, RepliedTo, CancelledUnseen}
+use Rattle.rv_session.specs.declared.client.LastRequest.TheVariants.{Fresh, Waits, RepliedTo, CancelledUnseen}
 use Rattle.rv_state.specs.After.{Following, Settled, due_at, following}
 use Rattle.rv_state.specs.Follows.{IsNewIncarnation, NumberWaits, partners_of}
 

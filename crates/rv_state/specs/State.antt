@@ -10,40 +10,21 @@ use Rattle.rv_text.specs.declared.call.Side.{Side}
 use Rattle.rv_text.specs.declared.call.Side.TheVariants.{Gives, Takes, Looks, Exchanges}
 use Rattle.rv_text.specs.declared.answer.Reply.{Reply}
 use Rattle.rv_text.specs.Calls.{side_of}
+use Rattle.rv_session.specs.declared.client.LastRequest.TheVariants.{Fresh, Waits, RepliedTo, CancelledUnseen}
 use Rattle.rv_account.specs.Calls.{opposite}
 
--- ---- what is open
+-- ---- what is open, and clients
 
 -- who waits at a place, and the moment of its arrival, which no step asks for
-pub record Waiter : Type 0 where
-  pub key : Key
-  pub since : ℕ
-
+pub use Rattle.rv_session.specs.declared.open.Waiter.{Waiter}
 -- an open arrival: its place, its side of a queue or exchanger, its item and its limit if it has them, and
 -- who waits there; nobody where it is an item that lies there
-pub record OpenPlace : Type 0 where
-  pub place : ℕ
-  pub side : Side
-  pub item : Option (List ℕ)
-  pub limit : Option ℕ
-  pub waiter : Option Waiter
-
--- ---- clients
-
+pub use Rattle.rv_session.specs.declared.open.OpenPlace.{OpenPlace}
 -- the last request of a session: none yet; waiting at a place; replied to; or cancelled before it came. The
 -- whole call stays, since a request of that number with another call is refused
-pub data LastRequest : Type 0 where
-  Fresh : LastRequest
-  Waits : (place : ℕ) → (call : Call) → LastRequest
-  RepliedTo : (call : Call) → (reply : Reply) → LastRequest
-  CancelledUnseen : LastRequest
-
+pub use Rattle.rv_session.specs.declared.client.LastRequest.{LastRequest}
 -- a client's session, its last number, and what became of the request with that
-pub record ClientState : Type 0 where
-  pub incarnation : ℕ
-  pub version : Version
-  pub last : ℕ
-  pub request : LastRequest
+pub use Rattle.rv_session.specs.declared.client.ClientState.{ClientState}
 
 -- ---- the state
 

@@ -1,0 +1,27 @@
+//! What is open: an item that lies at its place, or a request that waits there.
+use crate::kept::Place;
+use rv_text::{Item, Key, Side};
+
+/// Who waits at an open place.
+#[derive(Clone, Copy, Debug, PartialEq, Eq)]
+pub struct Waiter {
+    /// The key of the request.
+    pub key: Key,
+    /// The moment of its arrival, in milliseconds, which no step asks for.
+    pub since: u64,
+}
+
+/// An arrival that is open, as the state of an account has it.
+#[derive(Debug, Drop)]
+pub struct OpenPlace {
+    /// Where it arrived.
+    pub place: Place,
+    /// Its side of a queue or of an exchanger.
+    pub side: Side,
+    /// The item that it hands over, if it does.
+    pub item: Option<Item>,
+    /// The moment at which its wait ends, in milliseconds, if it has such a limit.
+    pub limit: Option<u64>,
+    /// Who waits there; nobody where it is a put's item.
+    pub waiter: Option<Waiter>,
+}
