@@ -1,0 +1,5 @@
+pub mod Kept
+pub mod Parted
+pub mod Closing
+pub mod Limits
+pub mod DueFirst

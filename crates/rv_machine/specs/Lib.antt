@@ -1,0 +1,2 @@
+-- What the machine's tables say of what is open.
+pub mod Opens

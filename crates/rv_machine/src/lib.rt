@@ -1,0 +1,4 @@
+//! The machine of a book: its tables are the state of an account, and its steps are those of the state.
+#![tactic(auto)]
+
+mod opens;
