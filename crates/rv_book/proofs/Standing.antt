@@ -9,7 +9,7 @@ use Rattle.rv_session.specs.declared.session.RequestState.{RequestState as State
 use Rattle.rv_rules.proofs.Lines.{line_other_epoch, line_no_session, line_old_incarnation, line_old_number}
 use Rattle.rv_rules.proofs.Lines.{line_last, line_gap, line_busy}
 use Rattle.rv_session.specs.Meanings.{RefusalMeans}
-use Rattle.rv_session.proofs.Clients.{clients_of, clients_rise, clients_are, length-clients}
+use Rattle.rv_session.proofs.RisingClients.{clients_of, clients_rise, clients_are, length-clients}
 use Rattle.rv_book.specs.Steps.{KeyLines}
 use Rattle.std.specs.Prelude.{IsSome}
 use Rattle.rv_rules.proofs.Histories.{hellos_at_most}

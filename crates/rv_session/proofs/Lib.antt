@@ -1,4 +1,6 @@
 pub mod Mapping
 pub mod Setting
 pub mod Meaning
-pub mod Clients
+pub mod RisingClients
+pub mod KeyMeaning
+pub mod Writing

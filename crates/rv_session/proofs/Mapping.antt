@@ -9,7 +9,6 @@ use Rattle.std.proofs.lemmas.Bool.{cases_eq, false≢true}
 use Rattle.std.proofs.lemmas.Bool.Decides.{nat_tests}
 use Rattle.std.specs.FinMap.{FinMap, get, insert, find, len, len-empty, len-insert, same_map, get-insert}
 use Rattle.std.specs.FinMap.{get-from_entries, nat_cmp-IsAntisymmetric}
-use Rattle.rv_session.specs.declared.session.Session.{Session}
 use Rattle.rv_session.specs.Entries.{map_of, IsTable}
 
 pub same_client : (q k : ℕ) → q ≡ k → eq_by_cmp nat_cmp q k ≡ true
@@ -23,21 +22,21 @@ are_same q k e = elim (cases_eq q k) [ inl same ↦ same | inr apart ↦ absurd 
 
 -- ---- what a look-up finds
 
-find_lookup : (es : List (ℕ × Session)) (q : ℕ) → find nat_cmp q es ≡ lookup (nat_eq q) es
+find_lookup : {V : Type 0} (es : List (ℕ × V)) (q : ℕ) → find nat_cmp q es ≡ lookup (nat_eq q) es
 find_lookup [] q = refl
 find_lookup (e ∷ es) q = λ i. cond (unsigned_tied q e.0 i) (Some e.1) (find_lookup es q i)
 
-pub get_kept : (es : List (ℕ × Session)) (q : ℕ) → get (map_of es) q ≡ lookup (nat_eq q) es
+pub get_kept : {V : Type 0} (es : List (ℕ × V)) (q : ℕ) → get (map_of es) q ≡ lookup (nat_eq q) es
 get_kept es q = get-from_entries nat_cmp_total es q ∙ find_lookup es q
 
 -- ---- what an insertion leaves
 
--- the new entries have this session of the client, and of all others what the old ones have
-abbrev pub PutsSession : (old new : List (ℕ × Session)) (client : ℕ) (session : Session) → Type 0
-PutsSession old new client session = (q : ℕ) → lookup (nat_eq q) new ≡ cond (nat_eq client q) (Some session)
+-- the new entries have this at the client, and at all others what the old ones have
+abbrev pub PutsValue : {V : Type 0} (old new : List (ℕ × V)) (client : ℕ) (v : V) → Type 0
+PutsValue old new client v = (q : ℕ) → lookup (nat_eq q) new ≡ cond (nat_eq client q) (Some v)
     (lookup (nat_eq q) old)
 
-pub map_put : (old new : List (ℕ × Session)) (k : ℕ) (v : Session) → PutsSession old new k v
+pub map_put : {V : Type 0} (old new : List (ℕ × V)) (k : ℕ) (v : V) → PutsValue old new k v
     → map_of new ≡ insert (map_of old) k v
 map_put old new k v puts = same_map nat_cmp_total nat_cmp-IsAntisymmetric _ _ (λ q.
     get_kept new q
@@ -50,51 +49,52 @@ map_put old new k v puts = same_map nat_cmp_total nat_cmp-IsAntisymmetric _ _ (�
 
 -- ---- the entries stay a table
 
-known_stays : (o : Option Session) (n : ℕ) → IsSome o → cond (is_some o) n (n + 1) ≡ n
+known_stays : {V : Type 0} (o : Option V) (n : ℕ) → IsSome o → cond (is_some o) n (n + 1) ≡ n
 known_stays None n known = absurd (false≢true known)
 known_stays (Some v) n known = refl
 
-pub len_known : (m : FinMap nat_cmp Session) (k : ℕ) (v : Session) → IsSome (get m k)
+pub len_known : {V : Type 0} (m : FinMap nat_cmp V) (k : ℕ) (v : V) → IsSome (get m k)
     → len (insert m k v) ≡ len m
 len_known m k v known = len-insert nat_cmp_total m k v ∙ known_stays (get m k) (len m) known
 
-pub len_unknown : (m : FinMap nat_cmp Session) (k : ℕ) (v : Session) → get m k ≡ None
+pub len_unknown : {V : Type 0} (m : FinMap nat_cmp V) (k : ℕ) (v : V) → get m k ≡ None
     → len (insert m k v) ≡ len m + 1
-len_unknown m k v none = len-insert nat_cmp_total m k v ∙ ap (λ (o : Option Session). cond (is_some o) (len m)
+len_unknown m k v none = len-insert nat_cmp_total m k v ∙ ap (λ o. cond (is_some o) (len m)
     (len m + 1)) none
 
 -- as many more as the map has, whatever stood at the client
-as_many : (before : Option Session) (n : ℕ)
+as_many : {V : Type 0} (before : Option V) (n : ℕ)
     → cond (is_some before) n (n + 1) ≡ n + (if is_some before then 0 else 1)
 as_many None n = refl
 as_many (Some v) n = omega arith
 
-still_room : (before : Option Session) (n count : ℕ) → n ≤ 1024 → (before ≡ None → n < 1024)
-    → count ≡ n + (if is_some before then 0 else 1) → count ≤ 1024
-still_room None n count within room is = let below : n < 1024 = room refl in omega (arith, below, is)
-still_room (Some v) n count within room is = omega (arith, within, is)
+still_room : {V : Type 0} (most : ℕ) (before : Option V) (n count : ℕ) → n ≤ most → (before ≡ None → n < most)
+    → count ≡ n + (if is_some before then 0 else 1) → count ≤ most
+still_room most None n count within room is = let below : n < most = room refl in omega (arith, below, is)
+still_room most (Some v) n count within room is = omega (arith, within, is)
 
-pub put_table : (old new : List (ℕ × Session)) (k : ℕ) (v : Session) (before : Option Session) → IsTable old
-    → PutsSession old new k v → before ≡ lookup (nat_eq k) old
+pub put_table : {V : Type 0} (most : ℕ) (old new : List (ℕ × V)) (k : ℕ) (v : V) (before : Option V)
+    → IsTable most old
+    → PutsValue old new k v → before ≡ lookup (nat_eq k) old
     → length new ≡ length old + (if is_some before then 0 else 1)
-    → (get (map_of old) k ≡ None → len (map_of old) < 1024) → IsTable new
-put_table old new k v before is puts was longer room =
+    → (get (map_of old) k ≡ None → len (map_of old) < most) → IsTable most new
+put_table most old new k v before is puts was longer room =
     let there : get (map_of old) k ≡ before = get_kept old k ∙ sym was in
     record {
       distinct = ap len (map_put old new k v puts) ∙ len-insert nat_cmp_total (map_of old) k v
           ∙ (λ i. cond (is_some (there i)) (is.distinct i) (is.distinct i + 1))
           ∙ as_many before (length old) ∙ sym longer;
-      room = still_room before (length old) (length new) is.room
-          (λ none. subst (λ n. n < 1024) is.distinct (room (there ∙ none))) longer;
+      room = still_room most before (length old) (length new) is.room
+          (λ none. subst (λ n. n < most) is.distinct (room (there ∙ none))) longer;
     }
 
--- a session that was replaced
-pub written_table : (old new : List (ℕ × Session)) (k : ℕ) (v : Session) → IsTable old
-    → PutsSession old new k v → length new ≡ length old → IsSome (get (map_of old) k) → IsTable new
-written_table old new k v is puts same known = record {
+-- a value that was replaced
+pub written_table : {V : Type 0} (most : ℕ) (old new : List (ℕ × V)) (k : ℕ) (v : V) → IsTable most old
+    → PutsValue old new k v → length new ≡ length old → IsSome (get (map_of old) k) → IsTable most new
+written_table most old new k v is puts same known = record {
   distinct = ap len (map_put old new k v puts) ∙ len_known (map_of old) k v known ∙ is.distinct ∙ sym same;
-  room = subst (λ n. n ≤ 1024) (sym same) is.room;
+  room = subst (λ n. n ≤ most) (sym same) is.room;
 }
 
-pub empty_table : IsTable []
-empty_table = record { distinct = len-empty nat_cmp Session; room = omega arith }
+pub empty_table : (V : Type 0) (most : ℕ) → IsTable {V = V} most []
+empty_table V most = record { distinct = len-empty nat_cmp V; room = omega arith }

@@ -14,28 +14,28 @@ use Rattle.rv_session.specs.Standings.{first_that_holds, standing_last, standing
 use Rattle.rv_session.specs.Meanings.{OfSession, StandingMeans}
 
 -- a line: what holds where its condition holds, and where it doesn't, holds of what it decides
-by_line : {A : Type 0} (Means : A → Type 0) (b : Bool) (x y : A) → (b ≡ true → Means x)
+pub by_line : {A : Type 0} (Means : A → Type 0) (b : Bool) (x y : A) → (b ≡ true → Means x)
     → (b ≡ false → Means y) → Means (cond b x y)
 by_line Means true x y there not_there = there refl
 by_line Means false x y there not_there = not_there refl
 
-less : (a b : ℕ) → nat_lt a b ≡ true → a < b
+pub less : (a b : ℕ) → nat_lt a b ≡ true → a < b
 less a b e = grind (arith, nat_tests)
 
-not_less : (a b : ℕ) → nat_lt a b ≡ false → b ≤ a
+pub not_less : (a b : ℕ) → nat_lt a b ≡ false → b ≤ a
 not_less a b e = grind (arith, nat_tests)
 
-same : (a b : ℕ) → (a == b) ≡ true → a ≡ b
+pub same : (a b : ℕ) → (a == b) ≡ true → a ≡ b
 same a b e = grind (arith, nat_tests)
 
-not_same : (a b : ℕ) → (a == b) ≡ false → a ≢ b
+pub not_same : (a b : ℕ) → (a == b) ≡ false → a ≢ b
 not_same a b e = grind (arith, nat_tests)
 
-some_of : (o : Option ℕ) → is_some o ≡ true → (x : ℕ) × (o ≡ Some x)
+pub some_of : (o : Option ℕ) → is_some o ≡ true → (x : ℕ) × (o ≡ Some x)
 some_of None e = absurd (false≢true e)
 some_of (Some x) e = (x, refl)
 
-none_of : (o : Option ℕ) → is_some o ≡ false → o ≡ None
+pub none_of : (o : Option ℕ) → is_some o ≡ false → o ≡ None
 none_of None e = refl
 none_of (Some x) e = absurd (false≢true (sym e))
 

@@ -1,14 +1,13 @@
--- The entries that the table is kept in: each client with its session.
+-- The entries that a table is kept in: each client with what stands of it.
 use Rattle.std.specs.Prelude.{◌≡◌, ◌≤◌, ℕ, List, length}
 use Rattle.std.specs.Ordering.{nat_cmp}
 use Rattle.std.specs.FinMap.{FinMap, from_entries, len}
-use Rattle.rv_session.specs.declared.session.Session.{Session}
 
 -- the map that the entries are
-abbrev pub map_of : List (ℕ × Session) → FinMap nat_cmp Session
+abbrev pub map_of : {V : Type 0} → List (ℕ × V) → FinMap nat_cmp V
 map_of entries = from_entries entries
 
--- no client stands twice, and at most 1,024 stand there
-pub record IsTable (entries : List (ℕ × Session)) : Type 0 where
+-- no client stands twice, and at most so many stand there
+pub record IsTable {V : Type 0} (most : ℕ) (entries : List (ℕ × V)) : Type 0 where
   pub distinct : len (map_of entries) ≡ length entries
-  pub room : length entries ≤ 1024
+  pub room : length entries ≤ most

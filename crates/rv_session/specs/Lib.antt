@@ -4,5 +4,8 @@ pub mod Kept
 pub mod Table
 pub mod Standings
 pub mod Meanings
--- What only the invariant of `Sessions` and proofs cite.
+pub mod Clients
+pub mod ClientStandings
+pub mod ClientMeanings
+-- What only the invariants of the tables and proofs cite.
 pub mod Entries

@@ -1,6 +1,10 @@
 //! What an epoch keeps of a client: its session, its last number, and what became of the request with that.
+ghost use Rattle.std.specs.Prelude.{◌≡◌};
+
 use crate::kept::Place;
-use rv_text::{Call, Reply, Version};
+use crate::standing::{Greeting, KeyStanding};
+use rv_text::{Call, Key, Refusal, Reply, Version};
+use std::mem;
 
 /// What became of the last request of a session.
 #[derive(Debug, Drop)]
@@ -27,4 +31,128 @@ pub struct ClientState {
     pub last: u64,
     /// What became of the request with that number.
     pub request: LastRequest,
+}
+
+impl LastRequest {
+    ghost use Rattle.rv_session.specs.Clients.{answered, place_waiting};
+    ghost use Rattle.rv_session.specs.ClientStandings.{last_standing, stands_as};
+
+    // Where the request waits, if it does.
+    fn waiting(&self) -> Option<Place>
+        ensures { result ≡ place_waiting self.now }
+    {
+        match self {
+            LastRequest::Fresh => None,
+            LastRequest::Waits { place, .. } => Some(*place),
+            LastRequest::RepliedTo { .. } => None,
+            LastRequest::CancelledUnseen => None,
+        }
+    }
+
+    // The same request with this reply, if it waited.
+    fn answered(self, reply: Reply) -> LastRequest
+        ensures { result ≡ answered reply self }
+    {
+        match self {
+            LastRequest::Fresh => LastRequest::Fresh,
+            LastRequest::Waits { call, .. } => LastRequest::RepliedTo { call, reply },
+            LastRequest::RepliedTo { call, reply } => LastRequest::RepliedTo { call, reply },
+            LastRequest::CancelledUnseen => LastRequest::CancelledUnseen,
+        }
+    }
+
+    // What stands of the last number. No request has the number 0 of a fresh session.
+    fn standing(&self, last: u64) -> KeyStanding<'_>
+        ensures { stands_as result ≡ last_standing last self.now }
+    {
+        match self {
+            LastRequest::Fresh => KeyStanding::Refused(Refusal::OldNumber(last)),
+            LastRequest::Waits { place, call } => KeyStanding::Waits(*place, call),
+            LastRequest::RepliedTo { call, reply } => KeyStanding::Replied(call, reply),
+            LastRequest::CancelledUnseen => KeyStanding::CancelledUnseen,
+        }
+    }
+}
+
+impl ClientState {
+    ghost use Rattle.rv_session.specs.Clients.{answered, fresh_state, with_last_number, with_request};
+    ghost use Rattle.rv_session.specs.ClientStandings.{client_greeting, client_standing, stands_as};
+
+    // A session in which nothing was asked yet.
+    pub(crate) fn fresh(incarnation: u64, version: Version) -> ClientState
+        ensures { result ≡ fresh_state incarnation version }
+    {
+        ClientState {
+            incarnation,
+            version,
+            last: 0,
+            request: LastRequest::Fresh,
+        }
+    }
+
+    // Replaces the state.
+    pub(crate) fn replace(&mut self, state: ClientState)
+        ensures { self.new ≡ state }
+    {
+        *self = state;
+    }
+
+    // Makes a number the last, and says what became of its request.
+    pub(crate) fn advance(&mut self, number: u64, request: LastRequest)
+        ensures { self.new ≡ with_last_number self.old number request }
+    {
+        self.last = number;
+        self.request = request;
+    }
+
+    // Gives the last request this reply, if it waits.
+    pub(crate) fn answer(&mut self, reply: Reply)
+        ensures { self.new ≡ with_request self.old (answered reply self.old.request) }
+    {
+        let request = mem::replace(&mut self.request, LastRequest::Fresh);
+        self.request = request.answered(reply);
+    }
+
+    // What a hello of an incarnation and a version is to the state.
+    pub(crate) fn greeting(&self, incarnation: u64, version: Version) -> Greeting
+        ensures { result ≡ client_greeting self.now incarnation version }
+    {
+        if incarnation < self.incarnation {
+            return Greeting::Older(self.incarnation);
+        }
+        if incarnation > self.incarnation {
+            return Greeting::Newer {
+                waiting: self.request.waiting(),
+            };
+        }
+        if version != self.version {
+            return Greeting::OtherVersion(self.version);
+        }
+        Greeting::Again
+    }
+
+    // What stands of a key of the client.
+    pub(crate) fn standing(&self, key: &Key) -> KeyStanding<'_>
+        ensures { stands_as result ≡ client_standing self.now key.now }
+    {
+        if self.incarnation < key.incarnation {
+            return KeyStanding::Refused(Refusal::NoSession);
+        }
+        if key.incarnation < self.incarnation {
+            return KeyStanding::Refused(Refusal::OldIncarnation(self.incarnation));
+        }
+        if key.number < self.last {
+            return KeyStanding::Refused(Refusal::OldNumber(self.last));
+        }
+        if key.number == self.last {
+            return self.request.standing(self.last);
+        }
+        if self.request.waiting().is_some() {
+            return KeyStanding::Refused(Refusal::Busy(self.last));
+        }
+        if key.number - self.last > 1 {
+            return KeyStanding::Refused(Refusal::Gap(self.last));
+        }
+        KeyStanding::Next
+    }
 }

@@ -1,8 +1,10 @@
-//! The sessions of an epoch: one for each client, with what stands of its last request; and the duty to
-//! settle a request, which can't be copied, and can't be dropped unless it is laid aside.
+//! The sessions of an epoch: one for each client, with what stands of its last request, by places of the account
+//! or with all texts; and the duty to settle a request, which can't be copied, and can't be dropped unless it is
+//! laid aside.
 #![tactic(auto)]
 
 mod client;
+mod clients;
 mod duty;
 mod kept;
 mod open;
@@ -11,9 +13,10 @@ mod sessions;
 mod standing;
 
 pub use client::{ClientState, LastRequest};
+pub use clients::Clients;
 pub use duty::{Duty, Parked};
 pub use kept::{Kept, Place};
 pub use open::{OpenPlace, Waiter};
 pub use session::{RequestState, Session};
 pub use sessions::{MAX_CLIENTS, Sessions};
-pub use standing::{Greeting, Standing};
+pub use standing::{Greeting, KeyStanding, Standing};

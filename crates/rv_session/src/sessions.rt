@@ -42,7 +42,7 @@ impl Model for Sessions {
       room = spare s.sessions;
     } };
 
-    ghost invariant = { λ s. IsTable s.sessions.entries };
+    ghost invariant = { λ s. IsTable 1024 s.sessions.entries };
 }
 
 impl Sessions {

@@ -1,6 +1,6 @@
 //! What a table of sessions says to a hello and to a key.
 use crate::kept::{Kept, Place};
-use rv_text::{Refusal, Version};
+use rv_text::{Call, Refusal, Reply, Version};
 
 /// What a hello of an incarnation and a version is to the table.
 #[derive(Clone, Copy, Debug, PartialEq, Eq)]
@@ -30,6 +30,22 @@ pub enum Standing {
     /// The key has its session's last number, which was settled: the place where its request arrived, if
     /// it did, and the reply that is kept.
     Settled { place: Option<Place>, kept: Kept },
+    /// The key has its session's next number, and nothing waits there.
+    Next,
+}
+
+/// What stands of a key in a table of [`Clients`](crate::Clients). Calls and replies are lent by the table.
+#[derive(Clone, Copy, Debug)]
+pub enum KeyStanding<'a> {
+    /// The key is refused: for another epoch, no session, an old incarnation, an old number, a request
+    /// that still waits, or a gap.
+    Refused(Refusal),
+    /// The key has its session's last number, whose request waits at this place with this call.
+    Waits(Place, &'a Call),
+    /// The key has its session's last number, whose request came with this call and has this reply.
+    Replied(&'a Call, &'a Reply),
+    /// The key has its session's last number, which was cancelled before a request came with it.
+    CancelledUnseen,
     /// The key has its session's next number, and nothing waits there.
     Next,
 }

@@ -8,7 +8,7 @@ use Rattle.rv_session.proofs.sessions.Sessions.add.Goals as goal
 
 pub invariant_of-self-2 : goal.invariant_of-self-2
 invariant_of-self-2 c =
-    put_table c.self.inside.sessions.entries c.insert.new.self.entries c.args.client c.args.session
+    put_table 1024 c.self.inside.sessions.entries c.insert.new.self.entries c.args.client c.args.session
     c.in_ok-insert.field-0
     c.self.invariant c.in_ok-insert.ensures.updates.0 c.in_ok-insert.ensures.old c.in_ok-insert.ensures.len
     (λ _. subst (λ (t : Table). session_count t < 1024) (sym c.self.view_is) c.requires.room)

@@ -23,7 +23,7 @@ invariant_of-self c =
     let known = subst (λ (t : Table). IsSome (session_of t c.args.client)) (sym c.self.view_is) c.requires in
     let there = subst IsSome (get_kept c.self.inside.sessions.entries c.args.client) known in
     let wrote = c.get_mut.follows.holds c.args.session in
-    written_table c.self.inside.sessions.entries (c.get_mut.follows.lender c.args.session).entries
+    written_table 1024 c.self.inside.sessions.entries (c.get_mut.follows.lender c.args.session).entries
     c.args.client c.args.session
     c.self.invariant (wrote.3 there).0 wrote.2 known
 

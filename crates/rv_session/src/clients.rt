@@ -1,0 +1,233 @@
+//! The table of clients: of each its session, its last number, and the texts of its last request.
+ghost use Rattle.std.specs.Prelude.{◌≡◌, ◌<◌, ◌≤◌, Some, None, IsSome, IsOk, OnOk};
+ghost use Rattle.std.specs.FinMap.{get, insert, len};
+
+use crate::client::{ClientState, LastRequest};
+use crate::duty::Duty;
+use crate::kept::Place;
+use crate::standing::{Greeting, KeyStanding};
+use indexmap::IndexMap;
+use rv_text::{Call, Key, NoMemory, Refusal, Reply, Version};
+use std::alloc::Global;
+use std::marker::Model;
+
+/// The clients of an epoch, which contracts see as a map from clients to their [`ClientState`]s, beside the
+/// most that there can be, and for how many more of them there is room.
+///
+/// Only [`reserve`](Clients::reserve) takes memory. Each call but `open`, `len`, `epoch` and `reserve` looks a
+/// client up in a hash table, once or twice, and searches nothing else: it takes constant time on average.
+#[derive(Drop)]
+pub struct Clients {
+    epoch: u64,
+    // The most clients that there can be.
+    most: usize,
+    // Of each client its state.
+    clients: IndexMap<u64, ClientState>,
+}
+
+impl Model for Clients {
+    ghost use Rattle.indexmap.specs.IndexMap.{spare};
+    ghost use Rattle.rv_session.specs.Entries.{map_of, IsTable};
+    ghost use Rattle.rv_session.specs.Clients.{ClientStates, clients_code};
+    ghost use Rattle.rv_session.specs.contracts.client.ClientState as state;
+
+    ghost Value = { ClientStates };
+
+    ghost coded = { clients_code state.the_row.coded };
+
+    ghost view = { λ c. record {
+      epoch = c.epoch;
+      most = c.most;
+      clients = map_of c.clients.entries;
+      room = spare c.clients;
+    } };
+
+    ghost invariant = { λ c. IsTable c.most c.clients.entries };
+}
+
+impl Clients {
+    ghost use Rattle.std.specs.Prelude.{◌+◌, option_map};
+    ghost use Rattle.std.specs.FinMap.{empty};
+    ghost use Rattle.rv_session.specs.declared.client.LastRequest.TheVariants as requests;
+    ghost use Rattle.rv_session.specs.Clients.{clients_asked, fresh_state, clients_told, place_awaited};
+    ghost use Rattle.rv_session.specs.Clients.{with_clients, with_room};
+    ghost use Rattle.rv_session.specs.ClientStandings.{hello_greeting, key_standing, stands_as};
+    ghost use Rattle.rv_session.specs.ClientMeanings.{GreetingSays, StandingSays};
+
+    /// The table of an epoch, whatever its number, with no client, for at most so many. It takes no memory yet.
+    pub fn open(alloc: Global, epoch: u64, most: usize) -> Clients
+        ensures epoch { result.epoch ≡ epoch }
+        ensures most { result.most ≡ most }
+        ensures clients { result.clients ≡ empty }
+    {
+        let clients = IndexMap::new(alloc);
+        Clients {
+            epoch,
+            most,
+            clients,
+        }
+    }
+
+    /// The epoch.
+    pub fn epoch(&self) -> u64
+        ensures { result ≡ self.now.epoch }
+    {
+        self.epoch
+    }
+
+    /// How many clients there are.
+    pub fn len(&self) -> usize
+        ensures length { result ≡ len self.now.clients }
+        ensures bounded { len self.now.clients ≤ self.now.most }
+    {
+        self.clients.len()
+    }
+
+    /// The client's state, if it said hello.
+    pub fn get(&self, client: u64) -> Option<&ClientState>
+        ensures { option_map (λ c. c.now) result ≡ get self.now.clients client }
+    {
+        self.clients.get(&client)
+    }
+
+    /// What the hello of an incarnation and a version of a client is to the table.
+    pub fn greet(&self, client: u64, incarnation: u64, version: Version) -> Greeting
+        ensures greeting { result ≡ hello_greeting self.now client incarnation version }
+        ensures means { GreetingSays self.now client incarnation version result }
+        ensures bounded { len self.now.clients ≤ self.now.most }
+    {
+        let has_room = self.clients.len() < self.most;
+        match self.get(client) {
+            Some(state) => state.greeting(incarnation, version),
+            None if has_room => Greeting::Unknown,
+            None => Greeting::Full,
+        }
+    }
+
+    /// What stands of a key: the reason why it is refused, what stands of its session's last number, or that
+    /// it is the next one. It copies nothing.
+    #[tactic(auto, using(crate::proofs::KeyMeaning::client_standing_says))]
+    pub fn look(&self, key: &Key) -> KeyStanding<'_>
+        ensures standing { stands_as result ≡ key_standing self.now key.now }
+        ensures means { StandingSays self.now key.now (stands_as result) }
+    {
+        if key.epoch != self.epoch {
+            return KeyStanding::Refused(Refusal::OtherEpoch(self.epoch));
+        }
+        match self.get(key.client) {
+            Some(state) => state.standing(key),
+            None => KeyStanding::Refused(Refusal::NoSession),
+        }
+    }
+
+    /// Makes room for one client more, if there is none. All clients stay, and there is no less room, also
+    /// if memory is refused, for which alone it fails.
+    pub fn reserve(&mut self) -> Result<(), NoMemory>
+        ensures ok { OnOk result (0 < self.new.room) }
+        ensures succeeds { 0 < self.old.room → IsOk result }
+        ensures stays { self.new ≡ with_room self.old self.new.room }
+        ensures room { self.old.room ≤ self.new.room }
+    {
+        self.clients.reserve(1)?;
+        Ok(())
+    }
+
+    // Replaces the state of a client that is known, and takes no memory.
+    fn renew(&mut self, client: u64, state: ClientState)
+        requires { IsSome (get self.old.clients client) }
+        ensures { self.new ≡ with_clients self.old (insert self.old.clients client state) }
+    {
+        self.clients.get_mut(&client).unwrap().replace(state);
+    }
+
+    // Gives a client that isn't known this state. There must be room for it.
+    fn add(&mut self, client: u64, state: ClientState)
+        requires none { get self.old.clients client ≡ None }
+        requires most { len self.old.clients < self.old.most }
+        requires room { 0 < self.old.room }
+        ensures clients { self.new.clients ≡ insert self.old.clients client state }
+        ensures epoch { self.new.epoch ≡ self.old.epoch }
+        ensures most { self.new.most ≡ self.old.most }
+        ensures room { self.old.room ≤ self.new.room + 1 }
+    {
+        self.clients.insert(client, state).unwrap();
+    }
+
+    /// Opens the session of an incarnation and a version of a client, in which nothing was asked yet. The
+    /// client must be known, or there must be fewer clients than there can be, and room for one. It takes no
+    /// memory; a client that is known leaves the room as it was.
+    pub fn enter(&mut self, client: u64, incarnation: u64, version: Version)
+        requires most { get self.old.clients client ≡ None → len self.old.clients < self.old.most }
+        requires room { get self.old.clients client ≡ None → 0 < self.old.room }
+        ensures clients { self.new.clients ≡ insert self.old.clients client (fresh_state incarnation version) }
+        ensures epoch { self.new.epoch ≡ self.old.epoch }
+        ensures most { self.new.most ≡ self.old.most }
+        ensures known { IsSome (get self.old.clients client) → self.new.room ≡ self.old.room }
+        ensures room { self.old.room ≤ self.new.room + 1 }
+    {
+        let fresh = ClientState::fresh(incarnation, version);
+        if self.get(client).is_some() {
+            self.renew(client, fresh);
+        } else {
+            self.add(client, fresh);
+        }
+    }
+
+    // Makes a key's number the last of its client, with what became of its request.
+    fn advance(&mut self, key: &Key, request: LastRequest)
+        requires { IsSome (get self.old.clients key.now.client) }
+        ensures { self.new ≡ with_clients self.old (clients_asked self.old.clients key.now request) }
+    {
+        self.clients.get_mut(&key.client).unwrap().advance(key.number, request);
+    }
+
+    // Gives the last request of a client that is known this reply, if it waits.
+    fn tell(&mut self, client: u64, reply: Reply)
+        requires { IsSome (get self.old.clients client) }
+        ensures { self.new ≡ with_clients self.old (clients_told self.old.clients client reply) }
+    {
+        self.clients.get_mut(&client).unwrap().answer(reply);
+    }
+
+    /// Makes a key's number its client's last, whose request arrived at a place with this call and waits
+    /// there, and gives the duty to settle it. The client must be known. All else stays, the room too.
+    pub fn begin(&mut self, key: &Key, place: Place, call: Call) -> Duty
+        requires { IsSome (get self.old.clients key.now.client) }
+        ensures duty { result ≡ record { place = place; client = key.now.client } }
+        ensures waits { self.new ≡ with_clients self.old
+            (clients_asked self.old.clients key.now (requests.Waits place call)) }
+    {
+        self.advance(key, LastRequest::Waits { place, call });
+        Duty::new(place, key.client)
+    }
+
+    /// Settles the request that a duty is for: from now on it has this reply. The duty's client must wait at
+    /// the duty's place. All else stays, the room too.
+    pub fn settle(&mut self, duty: Duty, reply: Reply)
+        requires { place_awaited self.old.clients duty.client ≡ Some duty.place }
+        ensures { self.new ≡ with_clients self.old (clients_told self.old.clients duty.client reply) }
+    {
+        let (_, client) = duty.spend();
+        self.tell(client, reply);
+    }
+
+    /// Makes a key's number its client's last, which was cancelled before a request came with it. The client
+    /// must be known. All else stays, the room too.
+    pub fn bury(&mut self, key: &Key)
+        requires { IsSome (get self.old.clients key.now.client) }
+        ensures { self.new ≡ with_clients self.old
+            (clients_asked self.old.clients key.now requests.CancelledUnseen) }
+    {
+        self.advance(key, LastRequest::CancelledUnseen);
+    }
+
+    /// Makes a key's number its client's last, whose request came with this call and was answered at once.
+    /// The client must be known. All else stays, the room too.
+    pub fn conclude(&mut self, key: &Key, call: Call, reply: Reply)
+        requires { IsSome (get self.old.clients key.now.client) }
+        ensures { self.new ≡ with_clients self.old
+            (clients_asked self.old.clients key.now (requests.RepliedTo call reply)) }
+    {
+        self.advance(key, LastRequest::RepliedTo { call, reply });
+    }
+}
