@@ -1,6 +1,7 @@
 -- After an arrival the deadlines are those of the account with it: with its own, if it waits for some time,
 -- and without
 -- that of the request that it met.
+use Rattle.rv_book.proofs.Words.{deadline_beside, zero, suc}
 use Rattle.rv_book.proofs.Words.{◌≡◌, ◌∷◌, ◌++◌, ◌∙◌, ℕ, List, [], Bool, true, false, cond, length, Option}
 use Rattle.rv_book.proofs.Words.{Some, None, refl, sym, ap, none-some, same_Some, Deadlines, Call, Key, entry}
 use Rattle.rv_book.proofs.Words.{wait_of, OwedDuty, Account, just, Stays, deadline_of, deadlines_of}
@@ -63,7 +64,7 @@ module _ (a : Account) (moment : ℕ) (key : Key) (call : Call) (legal : Legal a
   -- ---- after its entry
 
   module _ (partner : Option ℕ) (follows : MayFollow a (entry moment (Arrive key call) (just partner)))
-      (other : Option OwedDuty) (other_is : PartnersDuty a.entries partner other) (deadline : Option ℕ)
+      (other : Option OwedDuty) (other_is : PartnersDuty (owed_at a.entries) partner other) (deadline : Option ℕ)
       (unmet : partner ≡ None → deadline ≡ deadline_of moment call)
       (waits : (limit : ℕ) → deadline ≡ Some limit → partner ≡ None) where
     abbrev e : Entry
@@ -87,7 +88,7 @@ module _ (a : Account) (moment : ℕ) (key : Key) (call : Call) (legal : Legal a
     no_deadline p at (Some limit) is = absurd (none-some p (sym (waits limit is) ∙ at))
 
     by_met : (met : List OpenPlace) → met_by s call ≡ met → (p : Option ℕ) → partner ≡ p
-        → just p ≡ place_list met → PartnersDuty a.entries p other
+        → just p ≡ place_list met → PartnersDuty (owed_at a.entries) p other
         → without_duty after other (with_deadline deadline place (deadlines_of a)) ≡ deadlines_of
         (with_entry a e)
     by_met [] is None alone names none =
@@ -122,3 +123,14 @@ module _ (a : Account) (moment : ℕ) (key : Key) (call : Call) (legal : Legal a
     due_arrived due is =
         ap (λ d. without_duty after other (with_deadline deadline place d)) is
         ∙ by_met (met_by s call) refl partner refl names_met other_is
+
+-- ---- beside those whom it can meet
+
+pub nobody_beside : (opposed : ℕ) (deadline : Option ℕ) (limit : ℕ)
+    → deadline_beside opposed deadline ≡ Some limit → opposed ≡ 0
+nobody_beside zero deadline limit is = refl
+nobody_beside (suc more) deadline limit is = absurd (none-some limit is)
+
+pub none_beside : (opposed : ℕ) → deadline_beside opposed None ≡ None
+none_beside zero = refl
+none_beside (suc more) = refl

@@ -31,7 +31,7 @@ use Rattle.rv_state.proofs.Filtered.{get_filter_map, mapped_there}
 use Rattle.rv_state.proofs.Sessions.{open_found}
 use Rattle.rv_state.proofs.SideLines.{stands_open}
 use Rattle.rv_book.proofs.Owing.{unowed_waits_not}
-use Rattle.rv_book.proofs.Withdrawn.{owed_place}
+use Rattle.rv_book.proofs.Owing.{owed_place}
 
 -- ---- sets of deadlines
 

@@ -13,10 +13,10 @@ use Rattle.rv_book.proofs.Words.{partners_reply, told_to, with_due, IsSession, I
 use Rattle.rv_book.proofs.Words.{IsLeft, Left, NamesPartner, Waiting, few_still, NamesAt-last, act_read}
 use Rattle.rv_book.proofs.Words.{call_read, reads_on, no_hello, Legal-with_entry, get-append_end}
 use Rattle.rv_session.specs.Standings.{standing_of}
-use Rattle.rv_book.specs.Meeting.{HasRoomToName}
+use Rattle.rv_waiters.specs.Meeting.{HasRoomToName}
 use Rattle.rv_account.specs.Account.{entry}
 use Rattle.rv_account.specs.Calls.{need_by}
-use Rattle.rv_book.proofs.Parking.{none_beside}
+use Rattle.rv_book.proofs.ArrivedDeadlines.{none_beside}
 use Rattle.rv_book.specs.Draining.{IsDraining, MayDrain, taken_by}
 use Rattle.std.specs.Global.{Vec}
 use Rattle.rv_book.specs.Operations.{IsPrepared}

@@ -11,7 +11,7 @@ use Rattle.rv_session.specs.Table.{IsOpened, SameSessions}
 use Rattle.rv_book.specs.Limits.{FitsEntry}
 use Rattle.std.specs.FinSet.{empty as no_deadline}
 use Rattle.rv_book.specs.Operations.{IsSame}
-use Rattle.rv_book.specs.Views.{NobodyWaits}
+use Rattle.rv_waiters.specs.Views.{NobodyWaits}
 use Rattle.rv_rules.proofs.FewClients.{FewClients, few_none}
 use Rattle.rv_book.proofs.Owing.{waiting_inside}
 use Rattle.rv_book.proofs.SessionTable.{no_sessions}

@@ -4,9 +4,9 @@ use Rattle.rv_book.proofs.Words.{◌≡◌, ◌<◌, ◌∙◌, inl, inr, ℕ, S
 use Rattle.rv_book.proofs.Words.{Call, Side, Exchanges, Gives, Looks, Takes, side_of, may_name, opposite}
 use Rattle.rv_book.proofs.Words.{BookState, deadline_among, deadline_beside, deadline_of, opposed_by}
 use Rattle.rv_book.proofs.Words.{SameWaiters, Waiters}
-use Rattle.rv_book.specs.Meeting.{NamesSome}
+use Rattle.rv_waiters.specs.Meeting.{NamesSome}
 use Rattle.rv_book.specs.Operations.{LacksRoomFor}
-use Rattle.rv_book.proofs.Tabled.{same_waiting}
+use Rattle.rv_waiters.proofs.Tabled.{same_waiting}
 
 same_opposed : (old new : Waiters) → SameWaiters old new → (side : Side)
     → opposed_by new (opposite side) ≡ opposed_by old (opposite side)

@@ -1,11 +1,7 @@
 pub mod Words
 pub mod Capacity
-pub mod Tabled
-pub mod Withdrawn
-pub mod Exchanging
 pub mod WaitersBySide
 pub mod Owing
-pub mod Parking
 pub mod Following
 pub mod Leaving
 pub mod Lasting

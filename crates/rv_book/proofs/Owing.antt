@@ -7,9 +7,29 @@ use Rattle.rv_book.proofs.Words.{Arrive, Entry, Legal, NamesFreePartners, OwnDut
 use Rattle.rv_book.proofs.Words.{owed_at, owed_by, owed_in, Open, StoppedAt, Waiting, act_called, just_none}
 use Rattle.rv_book.proofs.Words.{names_it, names_only, Waiting-back, Waiting-last, Waiting-on}
 use Rattle.rv_book.proofs.Words.{arrival_stops_nobody, waiting_is_open}
-use Rattle.rv_book.specs.Meeting.{starts_waiting}
+use Rattle.rv_book.proofs.Words.{Act, Cancel, Hello, Tick}
+use Rattle.rv_waiters.specs.Meeting.{starts_waiting}
 use Rattle.rv_rules.proofs.Counting.{number_drop, number_push, same_number}
 use Rattle.rv_book.proofs.WaitersBySide.{met_last, open_inside}
+
+-- ---- duties
+
+by_wait : (place : ℕ) (key : Key) (wait : Option Wait) (d : OwedDuty) → owed_by place key wait ≡ Some d
+    → d.place ≡ place
+by_wait place key None d is = absurd (none-some d is)
+by_wait place key (Some wait) d is = ap (λ (o : OwedDuty). o.place) (sym (same_Some _ _ is))
+
+by_act : (place : ℕ) (o : Option Act) (d : OwedDuty) → option_and_then (owed_in place) o ≡ Some d
+    → d.place ≡ place
+by_act place None d is = absurd (none-some d is)
+by_act place (Some (Hello client incarnation version)) d is = absurd (none-some d is)
+by_act place (Some (Cancel key)) d is = absurd (none-some d is)
+by_act place (Some Tick) d is = absurd (none-some d is)
+by_act place (Some (Arrive key call)) d is = by_wait place key (wait_of call) d is
+
+-- a duty is owed at its own place
+pub owed_place : (es : List Entry) (place : ℕ) (d : OwedDuty) → owed_at es place ≡ Some d → d.place ≡ place
+owed_place es place d is = by_act place (act_at es place) d is
 
 -- ---- one arrival
 
@@ -178,7 +198,7 @@ module _ (a : Account) (e : Entry) (key : Key) (call : Call) (legal : Legal a) (
   pub Waits-after : (n : ℕ) (partner : Option ℕ) (duty : OwedDuty) (own other : Option OwedDuty)
       → NumberOf (Waiting a.entries) n → e.partners ≡ just partner
       → MeetsOldest a.entries (side_of call) partner
-      → OwnDuty (side_of call) (wait_of call) partner duty own → PartnersDuty a.entries partner other
+      → OwnDuty (side_of call) (wait_of call) partner duty own → PartnersDuty (owed_at a.entries) partner other
       → (k : ℕ) × (n + starts_waiting own ≡ k + ends_waiting other)
       × NumberOf (Waiting (a.entries ++ e ∷ [])) k
   Waits-after n None duty None other count named meets own_is other_is = (

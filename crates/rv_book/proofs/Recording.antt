@@ -1,5 +1,5 @@
 -- What a request that is recorded leaves: a sound state, and what the request is told.
-use Rattle.rv_book.proofs.Words.{◌≡◌, ◌+◌, ◌<◌, ◌≤◌, ◌∷◌, ◌++◌, ◌∙◌, inl, inr, ℕ, suc, [], List, length}
+use Rattle.rv_book.proofs.Words.{owed_at, ◌≡◌, ◌+◌, ◌<◌, ◌≤◌, ◌∷◌, ◌++◌, ◌∙◌, inl, inr, ℕ, suc, [], List, length}
 use Rattle.rv_book.proofs.Words.{Option, Some, None, IfSome, is_some, option_map, refl, sym, ap, subst, arith}
 use Rattle.rv_book.proofs.Words.{none-some, Call, Key, Version, side_of, wait_of, OwedDuty, told_in}
 use Rattle.rv_book.proofs.Words.{OnlyAdvances, Table, session_for, version_in, Waits, Session, Kept, Account}
@@ -16,14 +16,14 @@ use Rattle.std.specs.Global.{Vec}
 use Rattle.std.specs.Vec.{vec_capacity}
 use Rattle.std.proofs.Math.Nat.{le-min}
 use Rattle.std.specs.Prelude.{min}
-use Rattle.rv_book.specs.Meeting.{MeetsOrWaits, starts_waiting}
+use Rattle.rv_waiters.specs.Meeting.{MeetsOrWaits, starts_waiting}
 use Rattle.rv_book.specs.Operations.{MayRecord}
-use Rattle.rv_book.proofs.ArrivedDeadlines.{due_arrived}
+use Rattle.rv_book.proofs.ArrivedDeadlines.{due_arrived, nobody_beside}
 use Rattle.rv_book.proofs.Following.{arrival_follows}
 use Rattle.rv_book.proofs.Keeping.{fit_with, sound_with}
 use Rattle.rv_book.proofs.Lasting.{lasting_need, need_positive}
 use Rattle.rv_book.proofs.Owing.{Waits-after, goes_not_on, goes_on}
-use Rattle.rv_book.proofs.Parking.{nobody_beside, nobody_opposed}
+use Rattle.rv_waiters.proofs.Parking.{nobody_opposed}
 use Rattle.rv_book.proofs.Replying.{recorded_kept, recorded_waits}
 use Rattle.rv_book.proofs.Settling.{own_stays, sessions_recorded}
 use Rattle.rv_book.proofs.Standing.{is_next}
@@ -106,8 +106,8 @@ module _ {old : BookState} {moment : ℕ} {key : Key} {call : Call} {places : Ve
     is.may.comes.act_fits,
   )
 
-  other_is : PartnersDuty before.entries arrived.partner arrived.other
-  other_is = is.on.other before.entries sound.waiters_are.parked
+  other_is : PartnersDuty (owed_at before.entries) arrived.partner arrived.other
+  other_is = is.on.other (owed_at before.entries) sound.waiters_are.parked
 
   pub count_after : (k : ℕ) × (old.waiting + starts_waiting arrived.own ≡ k + ends_waiting arrived.other)
       × NumberOf (Waiting (before.entries ++ own_entry ∷ [])) k

@@ -42,7 +42,7 @@ owed_waits place key None d is = absurd (none-some d (sym is))
 owed_waits place key (Some wait) d is = (refl, same_Some _ _ (sym is))
 
 pub partner_met : (a : Account) (call : Call) (partner : Option ℕ) (d : OwedDuty)
-    → MeetsOldest a.entries (side_of call) partner → PartnersDuty a.entries partner (Some d)
+    → MeetsOldest a.entries (side_of call) partner → PartnersDuty (owed_at a.entries) partner (Some d)
     → IsMet a call partner d
 partner_met a call None d meets is = absurd (none-some d (sym is))
 partner_met a call (Some p) d (side, opposes, oldest) is =
@@ -103,7 +103,7 @@ told_waiting a old call partner d legal are met = ap (waiting_of old) (sym met.o
 pub partner_due : (a : Account) (old begun : Table) (key : Key) (call : Call) (partner : Option ℕ)
     (s : Session) (other : Option OwedDuty) → Legal a → AreSessions a old → IsNext a key
     → MeetsOldest a.entries (side_of call) partner → OnlySets old begun key.client s
-    → PartnersDuty a.entries partner other → IfSome other (IsOwedIn begun)
+    → PartnersDuty (owed_at a.entries) partner other → IfSome other (IsOwedIn begun)
 partner_due a old begun key call partner s None legal are next meets begins duty = tt
 partner_due a old begun key call partner s (Some d) legal are next meets begins duty =
     let met = partner_met a call partner d meets duty in
@@ -114,7 +114,7 @@ partner_due a old begun key call partner s (Some d) legal are next meets begins 
 pub own_stays : (a : Account) (old begun mid : Table) (key : Key) (call : Call) (partner : Option ℕ)
     (s : Session) (other : Option OwedDuty) (others : Kept) → IsNext a key
     → MeetsOldest a.entries (side_of call) partner → OnlySets old begun key.client s
-    → SettlesIf begun mid other others → PartnersDuty a.entries partner other
+    → SettlesIf begun mid other others → PartnersDuty (owed_at a.entries) partner other
     → session_of mid key.client ≡ Some s
 own_stays a old begun mid key call partner s None others next meets begins settles duty =
     ap (λ t. session_of t key.client) settles ∙ begins.own
@@ -128,7 +128,7 @@ pub own_due : (a : Account) (old begun mid : Table) (key : Key) (call : Call) (p
     (other own : Option OwedDuty) (others : Kept) → IsNext a key
     → MeetsOldest a.entries (side_of call) partner → OnlyAdvances old begun key (Waits place)
     → SettlesIf begun mid other others
-    → PartnersDuty a.entries partner other
+    → PartnersDuty (owed_at a.entries) partner other
     → OwnDuty (side_of call) (wait_of call) partner (record { place = place; client = key.client }) own
     → IfSome own (IsOwedIn mid)
 own_due a old begun mid key call partner place other None others next meets begins settles duty own = tt
@@ -212,10 +212,10 @@ module _ (a : Account) (e : Entry) (key : Key) (call : Call) (partner : Option �
       names named)) (arrival_stops_nobody a.entries e key call r says)
 
   -- where nobody is settled
-  nobody_met : PartnersDuty a.entries partner None → (client : ℕ) → StillWaits a e client
+  nobody_met : PartnersDuty (owed_at a.entries) partner None → (client : ℕ) → StillWaits a e client
   nobody_met duty client = still client (by_partner partner duty)
     where
-      by_partner : (p : Option ℕ) → PartnersDuty a.entries p None → (r : ℕ) (other : Key) (at : Call)
+      by_partner : (p : Option ℕ) → PartnersDuty (owed_at a.entries) p None → (r : ℕ) (other : Key) (at : Call)
           → other.client ≡ client → act_at a.entries r ≡ Some (Arrive other at) → Waiting a.entries r
           → p ≡ Some r → ⊥
       by_partner None none r other at of_client arrived w named = none-some r named
@@ -293,7 +293,7 @@ module _ (a : Account) (e : Entry) (key : Key) (call : Call) (partner : Option �
 
     -- a client whose own request this is not
     others_mid : (other : Option OwedDuty) → SettlesIf begun mid other others
-        → PartnersDuty a.entries partner other → (c : ℕ) → (c ≡ key.client → ⊥)
+        → PartnersDuty (owed_at a.entries) partner other → (c : ℕ) → (c ≡ key.client → ⊥)
         → IsSessionOf b c (session_of mid c)
     others_mid None settles duty c differs =
         let same : session_of mid c ≡ session_of old c = ap (λ t. session_of t c) settles ∙ begins.sets.others
@@ -328,7 +328,7 @@ module _ (a : Account) (e : Entry) (key : Key) (call : Call) (partner : Option �
     epoch_mid (Some d) settles = settles.settles.sets.epoch ∙ begins.sets.epoch
 
     each_new : (other own : Option OwedDuty) → SettlesIf begun mid other others → SettlesIf mid new own k
-        → PartnersDuty a.entries partner other
+        → PartnersDuty (owed_at a.entries) partner other
         → OwnDuty (side_of call) (wait_of call) partner (record { place = place; client = key.client }) own
         → ((own ≡ None → ⊥) → IsKept b.entries place call (told_in v k))
         → (c : ℕ) → IsSessionOf b c (session_of new c)
@@ -369,7 +369,7 @@ module _ (a : Account) (e : Entry) (key : Key) (call : Call) (partner : Option �
 
     -- after an arrival the table is what the account says
     pub sessions_recorded : (other own : Option OwedDuty) → SettlesIf begun mid other others
-        → SettlesIf mid new own k → PartnersDuty a.entries partner other
+        → SettlesIf mid new own k → PartnersDuty (owed_at a.entries) partner other
         → OwnDuty (side_of call) (wait_of call) partner (record { place = place; client = key.client }) own
         → ((own ≡ None → ⊥) → IsKept b.entries place call (told_in v k))
         → AreSessions b new

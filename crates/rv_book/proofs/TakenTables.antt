@@ -1,7 +1,7 @@
 -- Who waits where and how many do, while some of those who wait are taken out: at first, when one more is,
 -- and with the
 -- entry that closes those that were.
-use Rattle.rv_book.proofs.Words.{◌≡◌, ◌+◌, ◌∷◌, ◌++◌, inl, inr, ℕ, List, [], Option, refl, sym, subst, arith}
+use Rattle.rv_book.proofs.Words.{owed_at, ◌≡◌, ◌+◌, ◌∷◌, ◌++◌, inl, inr, ℕ, List, [], Option, refl, sym, subst, arith}
 use Rattle.rv_book.proofs.Words.{Side, OwedDuty, Entry, NumberOf, Among, LeavesSide, AreParked, AreWaiters}
 use Rattle.rv_book.proofs.Words.{IsLineOf, Left, Waiters, waiting_on, OpenAt, SideAt, Waiting, one_side}
 use Rattle.rv_book.proofs.Words.{length}
@@ -68,7 +68,7 @@ module _ (es : List Entry) (taken more : ℕ → Type 0) (place : ℕ) (one : On
   -- the line of its side lost it, and the other lines are as they were
   waiters_less : (old new : Waiters) (side : Side) → AreWaitersLeft es taken old
       → IsLineOf (But (Left taken (OpenAt es side)) place) (waiting_on new side)
-      → ((other : Side) → (other ≡ side → ⊥) → waiting_on new other ≡ waiting_on old other) → AreParked es new
+      → ((other : Side) → (other ≡ side → ⊥) → waiting_on new other ≡ waiting_on old other) → AreParked (owed_at es) new
       → SideAt es side place → AreWaitersLeft es more new
   waiters_less old new side are less others parked of_side = record {
     lines = λ other. elim (same_side other side) [
@@ -97,12 +97,12 @@ module _ (es : List Entry) (taken more : ℕ → Type 0) (place : ℕ) (one : On
       (subst (λ p. IsLineOf (But (Left taken (OpenAt es side)) p) (waiting_on new side)) at
       (subst (IsLineOf (But (Left taken (OpenAt es side)) duty.place)) (sym leaves.places)
       (line_but (Left taken (OpenAt es side)) (waiting_on old side) duty.place (are.lines side))))
-      leaves.others (leaves.parked es are.parked) of_side
+      leaves.others (leaves.parked (owed_at es) are.parked) of_side
 
   -- it was the first of its side
   pub waiters_front : (old new : Waiters) (side : Side) → AreWaitersLeft es taken old
       → waiting_on old side ≡ place ∷ waiting_on new side
-      → ((other : Side) → (other ≡ side → ⊥) → waiting_on new other ≡ waiting_on old other) → AreParked es new
+      → ((other : Side) → (other ≡ side → ⊥) → waiting_on new other ≡ waiting_on old other) → AreParked (owed_at es) new
       → AreWaitersLeft es more new
   waiters_front old new side are first others parked =
       let line = subst (IsLineOf (Left taken (OpenAt es side))) first (are.lines side) in

@@ -14,7 +14,7 @@ use Rattle.rv_book.specs.Draining.{SameIdle}
 use Rattle.rv_book.specs.TakingOut.{AreSessionsLeft}
 use Rattle.rv_book.proofs.Owing.{owed_waits, some_has, unowed_waits_not, waiting_owed}
 use Rattle.rv_book.proofs.DeadlineTable.{due_turn, owed_deadline}
-use Rattle.rv_book.proofs.Tabled.{same_parked, same_waiting}
+use Rattle.rv_waiters.proofs.Tabled.{same_parked, same_waiting}
 use Rattle.rv_book.proofs.TakenSessions.{sessions_turn, sessions_turn_put, waits_and_left}
 use Rattle.rv_book.proofs.TakenTables.{OneMore, number_turn, number_turn_put, one_listed}
 use Rattle.rv_book.proofs.TakenTables.{waiters_front}
@@ -67,7 +67,7 @@ module _ (old : BookState) (gone : List ℕ) (told : Kept) (is : IsLeft old gone
       → LeavesFirst old.waiters waiters side duty place → IfSome duty (IsOwedIn old.sessions)
   owed_in waiters side None place front = tt
   owed_in waiters side (Some duty) place front =
-      let owed = front.duty_is a.entries is.waiters_are.parked in
+      let owed = front.duty_is (owed_at a.entries) is.waiters_are.parked in
       let left = owed_left side duty place (first_left waiters side (Some duty) place front) owed in
       let there = owed_there duty place left owed in
       subst (IsOwedIn old.sessions) (sym there.2) (waits_and_left a taken told old.sessions place there.0
@@ -78,7 +78,7 @@ module _ (old : BookState) (gone : List ℕ) (told : Kept) (is : IsLeft old gone
       → LeavesFirst old.waiters waiters side duty place → ends_waiting duty ≤ old.waiting
   least waiters side None place front = omega arith
   least waiters side (Some duty) place front =
-      let owed = front.duty_is a.entries is.waiters_are.parked in
+      let owed = front.duty_is (owed_at a.entries) is.waiters_are.parked in
       let left = owed_left side duty place (first_left waiters side (Some duty) place front) owed in
       some_has (Left taken (Waiting a.entries)) old.waiting place is.waiting_is left
 
@@ -97,7 +97,7 @@ module _ (old : BookState) (gone : List ℕ) (told : Kept) (is : IsLeft old gone
 
     rest : (duty : Option OwedDuty) → ItemLeft old new side duty place told → Rest
     rest None item =
-        let owed = item.front.duty_is a.entries is.waiters_are.parked in
+        let owed = item.front.duty_is (owed_at a.entries) is.waiters_are.parked in
         let put = unowed_waits_not a.entries place (sym owed) in
         let counted : old.waiting ≡ new.waiting + 0 = item.counted in
         let same : old.waiting ≡ new.waiting = omega arith in
@@ -110,7 +110,7 @@ module _ (old : BookState) (gone : List ℕ) (told : Kept) (is : IsLeft old gone
           fewer = omega arith;
         }
     rest (Some duty) item =
-        let owed = item.front.duty_is a.entries is.waiters_are.parked in
+        let owed = item.front.duty_is (owed_at a.entries) is.waiters_are.parked in
         let left = owed_left side duty place (first_left new.waiters side (Some duty) place item.front) owed
         in
         let there = owed_there duty place left owed in
@@ -132,7 +132,7 @@ module _ (old : BookState) (gone : List ℕ) (told : Kept) (is : IsLeft old gone
         let others = rest duty item in
         let opened = (first_left new.waiters side duty place item.front).0.is_open in
         let due = item.due ∙ owed_deadline a is.legal a.entries place duty old.due opened
-        refl (item.front.duty_is a.entries is.waiters_are.parked) in
+        refl (item.front.duty_is (owed_at a.entries) is.waiters_are.parked) in
         let spare : old.waiting ≤ old.account.room = is.spare in
         let fewer : new.waiting ≤ old.waiting = others.fewer in
         subst (λ s. IsLeft s (gone ++ place ∷ []) told) (sym (same_state new old.account item.account))
@@ -141,7 +141,7 @@ module _ (old : BookState) (gone : List ℕ) (told : Kept) (is : IsLeft old gone
           fits = is.fits;
           sessions_are = others.sessions_are;
           waiters_are = waiters_front a.entries taken more place one old.waiters new.waiters side
-              is.waiters_are item.front.first item.front.others (item.front.parked a.entries
+              is.waiters_are item.front.first item.front.others (item.front.parked (owed_at a.entries)
               is.waiters_are.parked);
           waiting_is = others.waiting_is;
           due_are = due ∙ due_turn a is.legal gone place old.due is.due_are;
@@ -162,7 +162,7 @@ module _ (old : BookState) (gone : List ℕ) (told : Kept) (is : IsLeft old gone
         waiters_are = record {
           lines = λ side. subst (IsLineOf (Left taken (OpenAt a.entries side)))
               (sym (same_waiting old.waiters new.waiters same side)) (is.waiters_are.lines side);
-          parked = same_parked a.entries old.waiters new.waiters same is.waiters_are.parked;
+          parked = same_parked (owed_at a.entries) old.waiters new.waiters same is.waiters_are.parked;
         };
         waiting_is = subst (NumberOf (Left taken (Waiting a.entries))) (sym waiting) is.waiting_is;
         due_are = due ∙ is.due_are;

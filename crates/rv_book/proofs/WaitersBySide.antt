@@ -16,13 +16,14 @@ use Rattle.std.proofs.Common.{not, ◌==◌}
 use Rattle.std.specs.List.{filter}
 use Rattle.std.proofs.lemmas.Bool.Decides.{nat_tests}
 use Rattle.std.specs.Prelude.{option_map}
-use Rattle.rv_book.specs.Meeting.{StaysBy, MeetsOrWaits, MeetsFirst}
-use Rattle.rv_book.specs.Views.{NobodyWaits}
+use Rattle.rv_waiters.specs.Meeting.{StaysBy, MeetsOrWaits, MeetsFirst}
+use Rattle.rv_waiters.specs.Views.{NobodyWaits}
 use Rattle.rv_rules.proofs.Deciding.{same_side}
 use Rattle.rv_rules.proofs.Places.{get-append}
 use Rattle.rv_rules.proofs.Sides.{ComesOn, OpenAt-back, OpenAt-last, OpenAt-on}
-use Rattle.rv_book.proofs.Tabled.{same_parked, same_waiting}
-use Rattle.rv_book.proofs.Withdrawn.{differs}
+use Rattle.rv_waiters.proofs.Tabled.{same_parked, same_waiting}
+use Rattle.rv_waiters.proofs.Withdrawn.{differs}
+use Rattle.rv_waiters.proofs.Owed.{none_parked, nowhere, parked_below as stay_parked}
 use Rattle.rv_state.proofs.Filtered.{filter_get, get_filter}
 
 -- ---- one side
@@ -204,28 +205,19 @@ below_account es waiters are side i r at = open_inside es side r ((are.lines sid
 
 -- the duties of those who wait below an entry stay parked with it
 pub parked_below : (es : List Entry) (e : Entry) (waiters : Waiters) → AreBelow waiters (length es)
-    → AreParked es waiters → AreParked (es ++ e ∷ []) waiters
-parked_below es e waiters below parked = record {
-  queues = λ queue. record {
-    givers = λ i offer at. owed_on es e (place_of offer) (below (Gives queue) i (place_of offer)
-        (slice_get-map place_of _ i ∙ ap (option_map place_of) at)) ∙ (parked.queues queue).givers i offer at;
-    takers = λ i duty at. owed_on es e duty.place (below (Takes queue) i duty.place
-        (slice_get-map (λ (d : OwedDuty). d.place) _ i ∙ ap (option_map (λ (d : OwedDuty). d.place)) at))
-        ∙ (parked.queues queue).takers i duty at;
-  };
-  exchangers = λ exchanger duty there. owed_on es e duty.place (below (Exchanges exchanger) 0 duty.place
-      (ap (λ o. slice_get (place_of_duty o) 0) there)) ∙ parked.exchangers exchanger duty there;
-}
+    → AreParked (owed_at es) waiters → AreParked (owed_at (es ++ e ∷ [])) waiters
+parked_below es e waiters below parked = stay_parked (owed_at es) (owed_at (es ++ e ∷ [])) waiters (length es)
+    (owed_on es e) below parked
 
 pub parked_on : (es : List Entry) (e : Entry) (waiters : Waiters) → AreWaiters es waiters
-    → AreParked (es ++ e ∷ []) waiters
+    → AreParked (owed_at (es ++ e ∷ [])) waiters
 parked_on es e waiters are = parked_below es e waiters (below_account es waiters are) are.parked
 
 pub waiters_as_before : (es : List Entry) (old new : Waiters) → SameWaiters old new → AreWaiters es old
     → AreWaiters es new
 waiters_as_before es old new same are = record {
   lines = λ side. subst (IsLine es side) (sym (same_waiting old new same side)) (are.lines side);
-  parked = same_parked es old new same are.parked;
+  parked = same_parked (owed_at es) old new same are.parked;
 }
 
 -- ---- whom an arrival meets
@@ -369,7 +361,7 @@ module _ (a : Account) (e : Entry) (old new : Waiters) (key : Key) (call : Call)
   waiters_after duty result is named arrived = record {
     lines = by_partner result.partner named (subst (λ (d : OwedDuty). MeetsOrWaits old new (side_of call)
         (wait_of call) d.place result.partner) is arrived.meets);
-    parked = arrived.parked (a.entries ++ e ∷ []) (parked_on a.entries e old are) (owed_new duty is);
+    parked = arrived.parked (owed_at (a.entries ++ e ∷ [])) (parked_on a.entries e old are) (owed_new duty is);
   }
 
 -- ---- after an entry that is no arrival
@@ -385,25 +377,11 @@ pub record Stops (es : List Entry) (e : Entry) (P : ℕ → Type 0) : Type 0 whe
 
 pub no_waiters : (es : List Entry) (waiters : Waiters) → es ≡ [] → NobodyWaits waiters → AreWaiters es waiters
 no_waiters es waiters none empty = record {
-  lines = λ side. subst (IsLine es side) (sym (nowhere side)) (record {
+  lines = λ side. subst (IsLine es side) (sym (nowhere waiters empty side)) (record {
     are = λ i r at. absurd (none-some r at);
     each = λ r opened. let inside : r < length es = open_inside es side r opened in let short :
         length es ≡ 0 = ap length none in absurd (omega arith);
     rising = λ i j p q less at_i at_j. absurd (none-some p at_i);
   });
-  parked = record {
-    queues = λ queue. record {
-      givers = λ i offer at. absurd
-          (none-some offer (sym (ap (λ l. slice_get l i) (empty.queues queue).givers) ∙ at));
-      takers = λ i duty at. absurd (none-some duty (sym (ap (λ l. slice_get l i) (empty.queues queue).takers)
-          ∙ at));
-    };
-    exchangers = λ exchanger duty there. absurd (none-some duty (sym (empty.exchangers exchanger) ∙ there));
-  };
+  parked = none_parked (owed_at es) waiters empty;
 }
-  where
-    nowhere : (side : Side) → waiting_on waiters side ≡ []
-    nowhere (Gives queue) = ap places_of (empty.queues queue).givers
-    nowhere (Takes queue) = ap takers_places (empty.queues queue).takers
-    nowhere (Looks queue) = refl
-    nowhere (Exchanges exchanger) = ap place_of_duty (empty.exchangers exchanger)

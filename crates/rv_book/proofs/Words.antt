@@ -28,13 +28,10 @@ pub use Rattle.rv_book.specs.Legal.{HasWaiting, IsDueAt, IsNextNumber, IsOpenOpp
 pub use Rattle.rv_book.specs.Legal.{MayFollow, NamesFreePartners, NothingDue, SomethingDue, WaitsUnder}
 pub use Rattle.rv_book.specs.Legal.{before}
 pub use Rattle.rv_book.specs.Limits.{FitEntries, FitsAccount}
-pub use Rattle.rv_book.specs.Meeting.{ArrivedOn, FindsNobody, LeavesFirst, LeavesSide, OwnDuty, PartnersDuty}
-pub use Rattle.rv_book.specs.Meeting.{StandsOn, ends_waiting, opposed_by}
 pub use Rattle.rv_book.specs.Operations.{Becomes, Comes, EndsAt, EndsIf, HasSpace, IsOwedIn, MayEnd}
 pub use Rattle.rv_book.specs.Operations.{NoEntryDue, SettlesAs, SettlesIf, kept_at_once, partners_reply}
 pub use Rattle.rv_book.specs.Operations.{told_to, with_due}
-pub use Rattle.rv_book.specs.Parked.{AreParked, AreWaiters, IsLine, IsLineOf, IsParked, owed_at, owed_by}
-pub use Rattle.rv_book.specs.Parked.{owed_in}
+pub use Rattle.rv_book.specs.Parked.{AreWaiters, IsLine, IsLineOf, owed_at, owed_by, owed_in}
 pub use Rattle.rv_book.specs.Replies.{CancelledFirst, HasReply, RepliesAt, told_by}
 pub use Rattle.rv_book.specs.Saying.{said_in}
 pub use Rattle.rv_book.specs.Sessions.{AskedIn, HasIncarnation, HasOnlyLower, HasOpened, LastNumber}
@@ -45,14 +42,10 @@ pub use Rattle.rv_book.specs.Tables.{AreSessions, IsSession, IsSessionOf, IsSett
 pub use Rattle.rv_book.specs.Tables.{StandsInAccount, account_of, last_key}
 pub use Rattle.rv_book.specs.TakingOut.{IsLeft, Left}
 pub use Rattle.rv_book.specs.Verdicts.{IsAsKept, item_at, reply_of}
-pub use Rattle.rv_book.specs.Views.{AllEmpty, AllFree, AreBelow, SameWaiters, Waiters, place_of_duty}
-pub use Rattle.rv_book.specs.Views.{queue_at, takers_places, waiting_on}
 pub use Rattle.rv_book.specs.Waiting.{IsOldest, Met, NamesPartner, Open, OpenAt, SideAt, StoppedAt, Waiting}
 pub use Rattle.rv_book.specs.Waiting.{limit_at}
-pub use Rattle.rv_book.specs.declared.outcome.Arrived.{Arrived}
 pub use Rattle.rv_book.specs.declared.state.BookState.{BookState}
 pub use Rattle.rv_dual.specs.Offers.{place_of, places_of}
-pub use Rattle.rv_dual.specs.Queue.{Queue}
 pub use Rattle.rv_due.specs.Deadlines.{Deadlines}
 pub use Rattle.rv_rules.proofs.CallKinds.{gives_item}
 pub use Rattle.rv_rules.proofs.Counting.{one_number}
@@ -105,3 +98,9 @@ pub use Rattle.rv_text.specs.declared.message.Message.{Message}
 pub use Rattle.rv_text.specs.declared.message.Message.TheVariants.{Request}
 pub use Rattle.rv_text.specs.declared.version.Version.{Version}
 pub use Rattle.rv_text.specs.declared.version.Version.TheVariants.{One, Two}
+pub use Rattle.rv_waiters.specs.Meeting.{ArrivedOn, FindsNobody, LeavesFirst, LeavesSide, OwnDuty, PartnersDuty}
+pub use Rattle.rv_waiters.specs.Meeting.{StandsOn, ends_waiting, opposed_by}
+pub use Rattle.rv_waiters.specs.Views.{AreBelow, SameWaiters, Waiters, place_of_duty}
+pub use Rattle.rv_waiters.specs.Views.{takers_places, waiting_on}
+pub use Rattle.rv_waiters.specs.declared.outcome.Arrived.{Arrived}
+pub use Rattle.rv_waiters.specs.Parked.{AreParked}

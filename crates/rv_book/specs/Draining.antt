@@ -15,12 +15,12 @@ use Rattle.rv_session.specs.Table.{Table, session_of, waiting_of}
 use Rattle.rv_account.specs.declared.entry.Act.TheVariants.{Arrive}
 use Rattle.rv_account.specs.Calls.{may_name}
 use Rattle.rv_book.specs.Arriving.{WillTell}
-use Rattle.rv_book.specs.Meeting.{HasRoomToName}
+use Rattle.rv_waiters.specs.Meeting.{HasRoomToName}
 use Rattle.rv_book.specs.Operations.{Comes, HasSpace}
 use Rattle.rv_book.specs.Tables.{account_of}
 use Rattle.rv_book.specs.declared.state.BookState.{BookState}
 use Rattle.rv_book.specs.TakingOut.{IsLeft}
-use Rattle.rv_book.specs.Views.{waiting_on}
+use Rattle.rv_waiters.specs.Views.{waiting_on}
 
 -- the side takes
 abbrev pub IsTaker : Side → Type 0

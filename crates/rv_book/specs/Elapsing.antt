@@ -12,8 +12,8 @@ use Rattle.rv_account.specs.Calls.{opposite}
 pub use Rattle.rv_account.specs.Calls.{deadline_after}
 use Rattle.rv_state.specs.State.{OpenPlace}
 use Rattle.rv_state.specs.After.{deadline_of_place, state_of}
-use Rattle.rv_book.specs.Meeting.{opposed_by}
-use Rattle.rv_book.specs.Views.{Waiters}
+use Rattle.rv_waiters.specs.Meeting.{opposed_by}
+use Rattle.rv_waiters.specs.Views.{Waiters}
 use Rattle.rv_book.specs.Waiting.{limit_at}
 
 -- the deadlines of some open places

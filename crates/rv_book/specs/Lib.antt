@@ -10,7 +10,6 @@ pub mod Verdicts
 pub mod Order
 pub mod Laws
 -- What the invariant of `Book`, `IsSound` in `Tables`, says of its tables; private clauses cite these too.
-pub mod Views
 pub mod Parked
 pub mod Elapsing
 pub mod Saying
@@ -18,7 +17,6 @@ pub mod Arriving
 pub mod Tables
 -- What only private clauses and proofs cite.
 pub mod Operations
-pub mod Meeting
 pub mod TakingOut
 pub mod Ending
 pub mod Draining

@@ -30,13 +30,14 @@ use Rattle.rv_account.specs.Account.{Account, call_at, with_entry}
 use Rattle.rv_book.specs.Legal.{KeepsTime, NothingDue}
 use Rattle.rv_book.specs.Limits.{FitEntries, FitsAccount, FitsAct}
 use Rattle.rv_account.specs.Calls.{MayMeet, need_of}
-use Rattle.rv_book.specs.Meeting.{HasRoomOn, HasRoomToName, LacksRoomOn, LeavesSide, MakesRoomFor}
-use Rattle.rv_book.specs.Meeting.{NamesSome, StandsOn}
-use Rattle.rv_book.specs.Parked.{AreParked, AreWaiters, owed_at}
+use Rattle.rv_waiters.specs.Meeting.{HasRoomOn, HasRoomToName, LacksRoomOn, LeavesSide, MakesRoomFor}
+use Rattle.rv_waiters.specs.Meeting.{NamesSome, StandsOn}
+use Rattle.rv_waiters.specs.Parked.{AreParked}
+use Rattle.rv_book.specs.Parked.{AreWaiters, owed_at}
 use Rattle.rv_book.specs.Elapsing.{deadline_among, with_deadline, without_deadline}
 use Rattle.rv_book.specs.Steps.{EpochFullDue, NextAt, Ticks, max_entries, max_moment, step_moment}
 use Rattle.rv_book.specs.Saying.{answer_of}
-use Rattle.rv_book.specs.Views.{SameWaiters, Waiters}
+use Rattle.rv_waiters.specs.Views.{SameWaiters, Waiters}
 use Rattle.rv_session.specs.OwedDuty.{OwedDuty}
 use Rattle.rv_book.specs.Waiting.{limit_at}
 use Rattle.rv_due.specs.Deadlines.{Deadlines}
@@ -216,7 +217,7 @@ pub record MayEnd (state : BookState) (place : ℕ) : Type 0 where
   pub due_in : IsOwedIn state.sessions duty
   pub call : Call
   pub arrived : call_at (account_of state).entries place ≡ Some call
-  pub parked : AreParked (account_of state).entries state.waiters
+  pub parked : AreParked (owed_at (account_of state).entries) state.waiters
   pub stands : StandsOn state.waiters (side_of call) place
   pub counted : 1 ≤ state.waiting
 

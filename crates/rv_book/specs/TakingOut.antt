@@ -15,10 +15,11 @@ use Rattle.rv_book.specs.Counting.{NumberOf}
 use Rattle.rv_book.specs.Elapsing.{deadlines_but}
 use Rattle.rv_book.specs.Legal.{Legal}
 use Rattle.rv_book.specs.Limits.{FitsAccount}
-use Rattle.rv_book.specs.Parked.{AreParked, IsLineOf}
+use Rattle.rv_waiters.specs.Parked.{AreParked}
+use Rattle.rv_book.specs.Parked.{IsLineOf, owed_at}
 use Rattle.rv_book.specs.Sessions.{HasOpened, LastNumber, SaidHello}
 use Rattle.rv_book.specs.Tables.{IsSettledAt, IsWaitingAt, StandsInAccount, account_of}
-use Rattle.rv_book.specs.Views.{Waiters, waiting_on}
+use Rattle.rv_waiters.specs.Views.{Waiters, waiting_on}
 use Rattle.rv_book.specs.Waiting.{OpenAt, Waiting}
 
 -- what has a property, but for what was taken out
@@ -29,7 +30,7 @@ Left taken P r = P r × ¬ taken r
 -- them
 pub record AreWaitersLeft (entries : List Entry) (taken : ℕ → Type 0) (waiters : Waiters) : Type 0 where
   pub lines : (side : Side) → IsLineOf (Left taken (OpenAt entries side)) (waiting_on waiters side)
-  pub parked : AreParked entries waiters
+  pub parked : AreParked (owed_at entries) waiters
 
 -- the request of the session's last number waited at the place, was taken out there, and is told what all are
 -- that were, as its session's version tells it

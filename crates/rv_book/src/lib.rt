@@ -2,13 +2,9 @@
 #![tactic(auto)]
 
 mod book;
-mod exchangers;
 pub mod laws;
-mod outcome;
-mod queues;
 mod state;
 mod verdict;
-mod waiters;
 
 pub use book::Book;
 pub use rv_account::{Account, Act, Entry, Partners, Place};

@@ -10,11 +10,11 @@ mod growth;
 mod hellos;
 
 use crate::verdict::KeptAnswer;
-use crate::waiters::Waiters;
 use rv_account::{Account, Act};
 use rv_due::Due;
 use rv_session::Sessions;
 use rv_text::{Message, NoMemory};
+use rv_waiters::Waiters;
 use std::alloc::Global;
 
 /// The most entries of an epoch.

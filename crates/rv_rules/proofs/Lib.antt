@@ -13,7 +13,6 @@ pub mod Keys
 pub mod Waits
 pub mod Versions
 pub mod Sides
-pub mod Slots
 pub mod Lines
 pub mod OnePartner
 pub mod Limits

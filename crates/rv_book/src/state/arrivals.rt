@@ -17,10 +17,10 @@ ghost use Rattle.rv_session.specs.declared.standing.Standing.TheVariants as stan
 ghost use Rattle.rv_text.specs.declared.answer.Refusal.TheVariants.{OtherCall};
 
 use super::BookState;
-use crate::outcome::Arrived;
 use rv_account::{Act, Partners, may_name};
 use rv_session::{Kept, Place, Standing};
 use rv_text::{Call, Key, Refusal, Side, Wait};
+use rv_waiters::Arrived;
 
 // The reply to keep for a request that met nobody and goes, if this one says that nobody was there.
 fn reply_at_once(wait: Wait, nobody: Kept) -> Kept

@@ -4,7 +4,7 @@ ghost use Rattle.rv_text.specs.Limits.{FitsCall, FitsSide};
 ghost use Rattle.rv_account.specs.Calls.{need_of};
 ghost use Rattle.rv_book.specs.Steps.{max_moment};
 ghost use Rattle.rv_text.specs.Calls.{side_of};
-ghost use Rattle.rv_book.specs.Meeting.{HasRoomToName, NamesSome};
+ghost use Rattle.rv_waiters.specs.Meeting.{HasRoomToName, NamesSome};
 ghost use Rattle.rv_book.specs.Elapsing.{deadline_among};
 ghost use Rattle.rv_book.specs.Operations.{GrowsFor, HasRoomReady, IsPrepared, IsSame, LacksRoom};
 ghost use Rattle.rv_book.specs.Operations.{LacksRoomFor, NoEntryDue, OnlyFor};

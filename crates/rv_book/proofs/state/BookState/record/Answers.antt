@@ -1,6 +1,6 @@
 -- After a request that was recorded the account and its tables are sound, and it is told its reply or that it
 -- waits.
-use Rattle.rv_book.proofs.Words.{◌≡◌, ◌∙◌, ◌+◌, Option, length, refl, sym, ap, subst, side_of, OwedDuty}
+use Rattle.rv_book.proofs.Words.{owed_at, ◌≡◌, ◌∙◌, ◌+◌, Option, length, refl, sym, ap, subst, side_of, OwedDuty}
 use Rattle.rv_book.proofs.Words.{OnlyAdvances, Waits, Kept, Account, IsRecorded, without_duty, FitEntries}
 use Rattle.rv_book.proofs.Words.{ends_waiting, partners_reply, told_to, account_of, BookState, AreBelow}
 use Rattle.rv_book.proofs.Recording.{arrives, fit_after, least, meets, named, next, room_named, sees}
@@ -32,7 +32,7 @@ settle-requires-clause-waits c =
     let sound = c.requires.comes.sound in
     partner_due (account_of old) old.sessions c.begin-duty.new.self c.args.key c.args.call arrived.partner _
     arrived.other sound.legal sound.sessions_are (next is) (meets is) c.begin-duty.ensures.waits.sets
-    (is.on.other (account_of old).entries sound.waiters_are.parked)
+    (is.on.other (owed_at (account_of old).entries) sound.waiters_are.parked)
 
 pub settle-requires-clause-fit : goal.settle-requires-clause-fit
 settle-requires-clause-fit c =
@@ -50,7 +50,7 @@ settle_new-requires c =
     c.len-place.ensures c.begin-duty.ensures.waits in
     own_due a old.sessions c.begin-duty.new.self c.settle.new.self.sessions c.args.key c.args.call
     arrived.partner (length a.entries) arrived.other arrived.own c.reply_to_partner-others.result
-    (next is) (meets is) begins c.settle.ensures.sessions (is.on.other a.entries
+    (next is) (meets is) begins c.settle.ensures.sessions (is.on.other (owed_at a.entries)
     c.requires.comes.sound.waiters_are.parked) is.on.own
 
 pub returns-clause-sound : goal.returns-clause-sound

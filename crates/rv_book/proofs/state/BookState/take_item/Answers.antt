@@ -4,7 +4,7 @@ use Rattle.rv_book.proofs.Words.{arith, Gives, Stored, items_in, IsLeft, Settles
 use Rattle.rv_book.proofs.Words.{LeavesFirst, ends_waiting, Waiters, waiting_on}
 use Rattle.std.specs.Bool.{if◌then◌else◌}
 use Rattle.std.specs.Result.{is_ok}
-use Rattle.rv_book.specs.Meeting.{TakenFor}
+use Rattle.rv_waiters.specs.Meeting.{TakenFor}
 use Rattle.rv_book.proofs.TakingItems.{ends_by, idle_settled, item_left, least, none_left}
 use Rattle.rv_book.proofs.TakingItems.{owed_in}
 use Rattle.rv_session.specs.declared.kept.Kept.TheVariants as kept

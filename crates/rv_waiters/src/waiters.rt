@@ -1,0 +1,141 @@
+//! The queues and the exchangers, in which requests wait for each other, by the side of a call.
+ghost use Rattle.std.specs.Prelude.{◌≡◌, ◌↔◌, OnOk, OnErr, IfOk, IsTrue, length, slice_get};
+ghost use Rattle.rv_text.specs.Calls.{side_of, wait_of};
+ghost use Rattle.rv_text.specs.Limits.{FitsQueue, FitsSide};
+ghost use Rattle.rv_text.specs.declared.call.Side.TheVariants.{Gives, Takes};
+ghost use Rattle.rv_account.specs.Calls.{opposite};
+ghost use Rattle.rv_waiters.specs.Meeting.{ArrivedOn, HasRoomOn, LacksRoomOn, MakesRoomFor, TakenFor};
+ghost use Rattle.rv_waiters.specs.Meeting.{StaysAlone, Withdrew, opposed_by};
+ghost use Rattle.rv_waiters.specs.Views.{AreBelow, NobodyWaits, waiting_on};
+
+use crate::exchangers::Exchangers;
+use crate::outcome::Arrived;
+use crate::queues::Queues;
+use rv_account::lasts;
+use rv_session::{Duty, Place};
+use rv_text::{Call, NoMemory, Side};
+use std::alloc::Global;
+use std::marker::Model;
+
+/// All that wait, in queues and at exchangers.
+#[derive(Drop)]
+pub struct Waiters {
+    queues: Queues,
+    exchangers: Exchangers,
+}
+
+impl Model for Waiters {
+    ghost use Rattle.rv_waiters.specs.Views as views;
+
+    ghost Value = { views.Waiters };
+
+    ghost view = { λ s. record { queues = s.queues; exchangers = s.exchangers } };
+}
+
+impl Waiters {
+    /// Empty queues and exchangers.
+    pub fn empty(alloc: Global) -> Result<Waiters, NoMemory>
+        ensures { IfOk result NobodyWaits }
+    {
+        let queues = Queues::empty(alloc)?;
+        let exchangers = Exchangers::empty(alloc)?;
+        Ok(Waiters { queues, exchangers })
+    }
+
+    /// The place of the oldest item of a queue.
+    pub fn front(&self, queue: u64) -> Option<Place>
+        requires { FitsQueue queue }
+        ensures { result ≡ slice_get (waiting_on self.now (Gives queue)) 0 }
+    {
+        self.queues.front(queue)
+    }
+
+    /// How many items and how many consumers wait in a queue.
+    pub fn count(&self, queue: u64) -> (usize, usize)
+        requires { FitsQueue queue }
+        ensures items { result.0 ≡ length (waiting_on self.now (Gives queue)) }
+        ensures consumers { result.1 ≡ length (waiting_on self.now (Takes queue)) }
+    {
+        self.queues.count(queue)
+    }
+
+    /// How many wait that an arrival of this side can meet.
+    pub fn opposed(&self, side: Side) -> usize
+        requires { FitsSide side }
+        ensures { result ≡ opposed_by self.now (opposite side) }
+    {
+        match side {
+            Side::Gives(queue) => self.count(queue).1,
+            Side::Takes(queue) => self.count(queue).0,
+            Side::Looks(_) => 0,
+            Side::Exchanges(exchanger) => self.exchangers.count(exchanger),
+        }
+    }
+
+    // Whether an arrival with this call stays, and meets nobody.
+    fn parks(&self, call: &Call) -> bool
+        requires { FitsSide (side_of call.now) }
+        ensures { IsTrue result ↔ StaysAlone self.now (side_of call.now) (wait_of call.now) }
+    {
+        call.wait().is_none_or(|wait| lasts(wait)) && self.opposed(call.side()) == 0
+    }
+
+    /// Makes room for an arrival that parks in a queue, on its own side. No other arrival needs any.
+    pub fn reserve(&mut self, call: &Call) -> Result<(), NoMemory>
+        requires { FitsSide (side_of call.now) }
+        ensures makes { MakesRoomFor self.old self.new (side_of call.now) (wait_of call.now) }
+        ensures room { OnOk result (HasRoomOn self.new (side_of call.now) (wait_of call.now)) }
+        ensures full { OnErr result (LacksRoomOn self.old (side_of call.now) (wait_of call.now)) }
+    {
+        if !self.parks(call) {
+            return Ok(());
+        }
+        match call.side() {
+            Side::Gives(queue) => self.queues.reserve_giver(queue),
+            Side::Takes(queue) => self.queues.reserve_taker(queue),
+            Side::Looks(_) | Side::Exchanges(_) => Ok(()),
+        }
+    }
+
+    /// A request meets the oldest of the other side, which leaves. Alone it waits last, if its wait lasts.
+    pub fn arrive(&mut self, call: &Call, duty: Duty) -> Arrived
+        requires fits { FitsSide (side_of call.now) }
+        requires room { HasRoomOn self.old (side_of call.now) (wait_of call.now) }
+        requires above { AreBelow self.old duty.place }
+        ensures { ArrivedOn self.old self.new (side_of call.now) (wait_of call.now) duty result }
+    {
+        match call.side() {
+            Side::Gives(queue) => self.queues.give(queue, call.wait(), duty),
+            Side::Takes(queue) => self.queues.receive(queue, call.wait().unwrap(), duty),
+            Side::Looks(_) => Arrived::alone(Some(duty)),
+            Side::Exchanges(exchanger) => {
+                self.exchangers
+                    .exchange(exchanger, call.wait().unwrap(), duty)
+            }
+        }
+    }
+
+    /// The oldest item that a side takes, if there is one, leaves: its duty, None for a put's, and its place.
+    pub fn take_front(&mut self, side: Side) -> Option<(Option<Duty>, Place)>
+        requires { FitsSide side }
+        ensures { TakenFor self.old self.new side result }
+    {
+        match side {
+            Side::Takes(queue) => self.queues.take_front(queue),
+            Side::Gives(_) | Side::Looks(_) | Side::Exchanges(_) => None,
+        }
+    }
+
+    /// The request that waits at a place on this side leaves it, and gives its duty back.
+    pub fn withdraw(&mut self, side: Side, place: Place) -> Option<Duty>
+        requires { FitsSide side }
+        ensures { Withdrew self.old self.new side place result }
+    {
+        match side {
+            Side::Gives(queue) => self.queues.withdraw(queue, place),
+            Side::Takes(queue) => self.queues.withdraw(queue, place),
+            Side::Looks(_) => None,
+            Side::Exchanges(exchanger) => self.exchangers.withdraw(exchanger, place),
+        }
+    }
+}
