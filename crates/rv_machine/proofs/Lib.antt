@@ -3,3 +3,4 @@ pub mod Parted
 pub mod Closing
 pub mod Limits
 pub mod DueFirst
+pub mod Indexing

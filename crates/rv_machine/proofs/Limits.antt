@@ -100,7 +100,7 @@ place_listed all i o d at place limit =
     get_any (eq_by_cmp by_moment d) (filter_map deadline_of_place all) value.0 d (value.1 ∙ ap Some same)
     (own_test d)
 
-left_apart : (all : List OpenPlace) (place i : ℕ) (o : OpenPlace)
+pub left_apart : (all : List OpenPlace) (place i : ℕ) (o : OpenPlace)
     → slice_get (without all place) i ≡ Some o → o.place ≡ place → ⊥
 left_apart all place i o at same =
     let was = filter_get (λ (x : OpenPlace). not (nat_eq x.place place)) all i o at in

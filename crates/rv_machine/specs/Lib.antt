@@ -1,2 +1,3 @@
 -- What the machine's tables say of what is open.
 pub mod Opens
+pub mod Indexed

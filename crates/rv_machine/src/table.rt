@@ -1,0 +1,85 @@
+//! What is open, with the tables by which it is found: who waits on each side, how many, and until when.
+ghost use Rattle.std.specs.Prelude.{◌≡◌, [], ◌∷◌, ◌++◌, None, Some, IfOk, IfSome, IfNone, OnOk, OnErr, length};
+ghost use Rattle.std.specs.Prelude.{option_map, slice_get};
+ghost use Rattle.rv_machine.specs.Opens.{due_in, found_at, line_in, waiting_in, without_limit};
+ghost use Rattle.rv_machine.specs.Indexed.{Closes, WaitsIn};
+
+use crate::opens::Opens;
+use rv_due::Due;
+use rv_session::{Duty, OpenPlace, Place};
+use rv_text::NoMemory;
+use rv_waiters::Waiters;
+use std::alloc::Global;
+use std::marker::Model;
+
+/// What is open, which contracts see as the list of open places, the oldest first.
+#[derive(Drop)]
+pub(crate) struct OpenTable {
+    opens: Opens,
+    waiters: Waiters,
+    // How many requests wait.
+    waiting: usize,
+    // The limits of those that have one, with their places.
+    due: Due,
+}
+
+impl Model for OpenTable {
+    ghost use Rattle.std.specs.Prelude.{List};
+    ghost use Rattle.rv_state.specs.State.{OpenPlace};
+    ghost use Rattle.rv_machine.specs.Indexed.{AreIndexed};
+
+    ghost Value = { List OpenPlace };
+
+    ghost view = { λ t. t.opens };
+
+    ghost invariant = { λ t. AreIndexed t.opens t.waiters t.waiting t.due };
+}
+
+// Takes the limit of a place out, if it has one.
+fn forget(due: &mut Due, limit: Option<u64>, place: Place)
+    ensures { due.new ≡ without_limit limit place due.old }
+{
+    if let Some(limit) = limit {
+        due.remove(limit, place);
+    }
+}
+
+impl OpenTable {
+    /// Nothing is open.
+    pub(crate) fn empty(alloc: Global) -> Result<OpenTable, NoMemory>
+        ensures { IfOk result (λ table. table ≡ []) }
+    {
+        Ok(OpenTable {
+            opens: Opens::new(alloc),
+            waiters: Waiters::empty(alloc)?,
+            waiting: 0,
+            due: Due::new(alloc),
+        })
+    }
+
+    /// How many requests wait.
+    pub(crate) fn waiting(&self) -> usize
+        ensures { result ≡ waiting_in self.now }
+    {
+        self.waiting
+    }
+
+    /// What is open at a place.
+    pub(crate) fn get(&self, place: Place) -> Option<&OpenPlace>
+        ensures { option_map (λ o. o.now) result ≡ found_at self.now place }
+    {
+        self.opens.get(place)
+    }
+
+    /// Closes the place of a request that waits, and gives what stood there and the duty to settle it.
+    pub(crate) fn close(&mut self, place: Place) -> (OpenPlace, Duty)
+        requires { WaitsIn self.old place }
+        ensures { Closes self.old self.new place result.0 (Some result.1) }
+    {
+        let there = self.opens.take(place).unwrap();
+        let duty = self.waiters.withdraw(there.side, place).unwrap();
+        forget(&mut self.due, there.limit, place);
+        self.waiting -= 1;
+        (there, duty)
+    }
+}
