@@ -4,3 +4,4 @@ pub mod Closing
 pub mod Limits
 pub mod DueFirst
 pub mod Indexing
+pub mod Fronts

@@ -1,6 +1,6 @@
 -- How the tables of what is open agree with it: those that wait on each side, how many wait, and when their
 -- waits end.
-use Rattle.std.specs.Prelude.{◌≡◌, ◌≢◌, ℕ, List, Option, Some, None, IsSome, slice_get}
+use Rattle.std.specs.Prelude.{◌≡◌, ◌∷◌, ℕ, List, Option, Some, None, IsSome, slice_get}
 use Rattle.rv_text.specs.declared.call.Side.{Side}
 use Rattle.rv_text.specs.Limits.{FitsSide}
 use Rattle.rv_session.specs.OwedDuty.{OwedDuty}
@@ -8,8 +8,8 @@ use Rattle.rv_due.specs.Deadlines.{Deadlines}
 use Rattle.rv_state.specs.State.{OpenPlace, place_list}
 use Rattle.rv_waiters.specs.Parked.{AreParked}
 use Rattle.rv_waiters.specs.Views.{Waiters, waiting_on}
-use Rattle.rv_machine.specs.Opens.{PlacesRise, duty_at, found_at, limits_in, line_in, owed_in, waiting_in}
-use Rattle.rv_machine.specs.Opens.{without}
+use Rattle.rv_machine.specs.Opens.{PlacesRise, due_in, duty_at, found_at, limits_in, line_in, owed_in}
+use Rattle.rv_machine.specs.Opens.{waiting_in, without}
 
 -- the places rise, each is of a side that there is, and whoever has a limit waits; the tables have just these
 pub record AreIndexed (all : List OpenPlace) (waiters : Waiters) (waiting : ℕ) (due : Deadlines) : Type 0
@@ -34,3 +34,9 @@ pub record Closes (old new : List OpenPlace) (place : ℕ) (there : OpenPlace) (
   pub found : found_at old place ≡ Some there
   pub owed : duty_at there ≡ duty
   pub rest : new ≡ without old place
+
+-- the first that is due at a moment is closed, of all that are due there, by limit and then place
+pub record ClosesDue (old new : List OpenPlace) (moment : ℕ) (there : OpenPlace) (duty : OwedDuty) : Type 0
+    where
+  pub closes : Closes old new there.place there (Some duty)
+  pub first : due_in old moment ≡ there ∷ due_in new moment

@@ -1,5 +1,5 @@
 -- What is open, as the machine keeps it: a list of open places that rise, and what is read off it.
-use Rattle.std.specs.Prelude.{◌≡◌, ◌<◌, ℕ, List, length, slice_get, Some, None, nat_eq, not, filter, find}
+use Rattle.std.specs.Prelude.{◌≡◌, ◌<◌, ℕ, List, [], length, slice_get, Some, None, nat_eq, not, filter, find}
 use Rattle.std.specs.Prelude.{Option, is_some, map, nat_lt, option_and_then, option_map}
 use Rattle.std.specs.FinMap.{FinMap, from_entries, keys}
 use Rattle.std.specs.FinSet.{from_list, insert, remove}
@@ -7,6 +7,7 @@ use Rattle.std.specs.List.{filter_map}
 use Rattle.std.specs.Map.{values_of}
 use Rattle.rv_text.specs.declared.call.Side.{Side}
 use Rattle.rv_session.specs.OwedDuty.{OwedDuty}
+use Rattle.rv_account.specs.Calls.{opposite}
 use Rattle.rv_due.specs.Deadlines.{Deadline, Deadlines, by_moment}
 use Rattle.rv_state.specs.State.{OpenPlace, same_side}
 use Rattle.rv_state.specs.After.{deadline_of_place}
@@ -31,6 +32,15 @@ without all place = filter (λ o. not (nat_eq o.place place)) all
 -- those of a side
 abbrev pub line_in : List OpenPlace → Side → List OpenPlace
 line_in all side = filter (λ o. same_side o.side side) all
+
+-- those of a side, if there is one
+abbrev pub facing : List OpenPlace → Option Side → List OpenPlace
+facing all None = []
+facing all (Some side) = line_in all side
+
+-- those that an arrival of this side meets, the oldest first
+abbrev pub opposed_in : List OpenPlace → Side → List OpenPlace
+opposed_in all side = facing all (opposite side)
 
 -- how many requests wait
 abbrev pub waiting_in : List OpenPlace → ℕ

@@ -1,13 +1,15 @@
 //! What is open, with the tables by which it is found: who waits on each side, how many, and until when.
 ghost use Rattle.std.specs.Prelude.{◌≡◌, [], ◌∷◌, ◌++◌, None, Some, IfOk, IfSome, IfNone, OnOk, OnErr, length};
 ghost use Rattle.std.specs.Prelude.{option_map, slice_get};
-ghost use Rattle.rv_machine.specs.Opens.{due_in, found_at, line_in, waiting_in, without_limit};
-ghost use Rattle.rv_machine.specs.Indexed.{Closes, WaitsIn};
+ghost use Rattle.rv_text.specs.Limits.{FitsQueue, FitsSide};
+ghost use Rattle.rv_text.specs.declared.call.Side.TheVariants.{Gives, Takes};
+ghost use Rattle.rv_machine.specs.Opens.{due_in, found_at, line_in, opposed_in, waiting_in, without_limit};
+ghost use Rattle.rv_machine.specs.Indexed.{Closes, ClosesDue, WaitsIn};
 
 use crate::opens::Opens;
 use rv_due::Due;
 use rv_session::{Duty, OpenPlace, Place};
-use rv_text::NoMemory;
+use rv_text::{NoMemory, Side};
 use rv_waiters::Waiters;
 use std::alloc::Global;
 use std::marker::Model;
@@ -81,5 +83,44 @@ impl OpenTable {
         forget(&mut self.due, there.limit, place);
         self.waiting -= 1;
         (there, duty)
+    }
+
+    /// Closes the place of the request whose limit comes first, if that is at or below a moment. If none is, nothing
+    /// changes.
+    pub(crate) fn close_due(&mut self, moment: u64) -> Option<(OpenPlace, Duty)>
+        ensures some { IfSome result (λ out. ClosesDue self.old self.new moment out.0 out.1) }
+        ensures none { IfNone result (due_in self.old moment ≡ []) }
+        ensures stays { IfNone result (self.new ≡ self.old) }
+    {
+        let (_, place) = self.due.pop_until(moment)?;
+        let there = self.opens.take(place).unwrap();
+        let duty = self.waiters.withdraw(there.side, place).unwrap();
+        self.waiting -= 1;
+        Some((there, duty))
+    }
+
+    /// How many items and how many consumers wait in a queue.
+    pub(crate) fn count(&self, queue: u64) -> (usize, usize)
+        requires { FitsQueue queue }
+        ensures items { result.0 ≡ length (line_in self.now (Gives queue)) }
+        ensures consumers { result.1 ≡ length (line_in self.now (Takes queue)) }
+    {
+        self.waiters.count(queue)
+    }
+
+    /// The oldest item of a queue.
+    pub(crate) fn front(&self, queue: u64) -> Option<&OpenPlace>
+        requires { FitsQueue queue }
+        ensures { option_map (λ o. o.now) result ≡ slice_get (line_in self.now (Gives queue)) 0 }
+    {
+        self.opens.get(self.waiters.front(queue)?)
+    }
+
+    /// How many wait that an arrival of this side can meet.
+    pub(crate) fn opposed(&self, side: Side) -> usize
+        requires { FitsSide side }
+        ensures { result ≡ length (opposed_in self.now side) }
+    {
+        self.waiters.opposed(side)
     }
 }
