@@ -42,21 +42,8 @@ pub record Following : Type 0 where
 
 -- ---- telling
 
--- a request that waited has its reply
-abbrev pub answered : Reply → LastRequest → LastRequest
-answered reply Fresh = Fresh
-answered reply (Waits place call) = RepliedTo call reply
-answered reply (RepliedTo call other) = RepliedTo call other
-answered reply CancelledUnseen = CancelledUnseen
-
-abbrev pub with_request : ClientState → LastRequest → ClientState
-with_request client request =
-    record {
-      incarnation = client.incarnation;
-      version = client.version;
-      last = client.last;
-      request = request;
-    }
+-- a request that waited has its reply, and a client with another last request
+pub use Rattle.rv_session.specs.Clients.{answered, with_request}
 
 abbrev pub insert_told : FinMap nat_cmp ClientState → Settled → Option ClientState
     → FinMap nat_cmp ClientState
