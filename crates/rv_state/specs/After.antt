@@ -28,6 +28,9 @@ use Rattle.rv_state.specs.State.{opposites}
 use Rattle.rv_state.specs.State.{open_at, client_at, client_waits, call_waiting}
 use Rattle.rv_session.specs.declared.client.LastRequest.TheVariants.{Fresh, Waits, RepliedTo, CancelledUnseen}
 
+-- a request that waited, which has its reply; and a client with another last request
+pub use Rattle.rv_session.specs.Clients.{answered, with_request}
+
 -- a key that waited, and what its request is told
 pub record Settled : Type 0 where
   pub key : Key
@@ -41,9 +44,6 @@ pub record Following : Type 0 where
   pub reply : Option Reply
 
 -- ---- telling
-
--- a request that waited has its reply, and a client with another last request
-pub use Rattle.rv_session.specs.Clients.{answered, with_request}
 
 abbrev pub insert_told : FinMap nat_cmp ClientState → Settled → Option ClientState
     → FinMap nat_cmp ClientState

@@ -24,6 +24,8 @@ pub use Rattle.rv_session.specs.declared.open.OpenPlace.{OpenPlace}
 pub use Rattle.rv_session.specs.declared.client.LastRequest.{LastRequest}
 -- a client's session, its last number, and what became of the request with that
 pub use Rattle.rv_session.specs.declared.client.ClientState.{ClientState}
+-- where a last request waits, and with which call
+pub use Rattle.rv_session.specs.Clients.{call_waiting, place_waiting}
 
 -- ---- the state
 
@@ -77,9 +79,6 @@ open_at s place = find (λ o. nat_eq o.place place) s.open_places
 
 abbrev pub client_at : State → ℕ → Option ClientState
 client_at s client = get s.clients client
-
--- where a request waits, and with which call
-pub use Rattle.rv_session.specs.Clients.{call_waiting, place_waiting}
 
 -- the open place at which the client waits, if it does
 abbrev pub client_waits : State → ℕ → Option OpenPlace
