@@ -55,8 +55,8 @@ TESTS = ("rv_wire_tests", "rv_tests", "rv_server_tests", "rv_bench")
 BESIDE = ("src/laws.rt", "src/testing.rt")
 NO_WRONG_BODY = (r"\w+::swap::Swap\w*::new", r"\w+::shared::Shared\w*::lock", r"\w+::account::Account\w*::allocator")
 # Names of types and definitions that two crates declare: in each they mean the same. Of `Item` one crate has what a producer
-# hands over, the other what a frame was answered by.
-SHARED = ("Item", "NoMemory", "Place", "Stamp")
+# hands over, the other what a frame was answered by; of `Clients` one has the sessions, the other the processes.
+SHARED = ("Clients", "Item", "NoMemory", "Place", "Stamp")
 # How many lines and words the first page may have.
 README_LINES, README_WORDS = 80, 700
 # How many columns a line of the sources, of the definitions and of the proofs may have.

@@ -13,7 +13,8 @@ use Rattle.rv_session.specs.ClientStandings.{IsRefused, IsNext, last_standing, c
 use Rattle.rv_session.specs.ClientMeanings.{IsOfState, StandingSays}
 use Rattle.rv_session.proofs.Meaning.{by_line, less, not_less, same, not_same, some_of, none_of}
 
-last_standing_says : (t : ClientStates) (key : Key) (s : ClientState) (request : LastRequest) → IsOfState t key s
+last_standing_says : (t : ClientStates) (key : Key) (s : ClientState) (request : LastRequest)
+    → IsOfState t key s
     → key.number ≡ s.last → s.request ≡ request
     → StandingSays t key (last_standing s.last request)
 last_standing_says t key s Fresh of_key number is = record {
@@ -41,13 +42,15 @@ last_standing_says t key s CancelledUnseen of_key number is = record {
   request_is = is;
 }
 
-where_waiting : (o : Option ClientState) (s : ClientState) → o ≡ Some s → is_some (place_waiting s.request) ≡ true
+where_waiting : (o : Option ClientState) (s : ClientState) → o ≡ Some s
+    → is_some (place_waiting s.request) ≡ true
     → (place : ℕ) × (option_and_then (λ (x : ClientState). place_waiting x.request) o ≡ Some place)
 where_waiting o s there waits =
     let at = some_of (place_waiting s.request) waits in
     (at.0, ap (option_and_then (λ (x : ClientState). place_waiting x.request)) there ∙ at.1)
 
-where_idle : (o : Option ClientState) (s : ClientState) → o ≡ Some s → is_some (place_waiting s.request) ≡ false
+where_idle : (o : Option ClientState) (s : ClientState) → o ≡ Some s
+    → is_some (place_waiting s.request) ≡ false
     → option_and_then (λ (x : ClientState). place_waiting x.request) o ≡ None
 where_idle o s there idle = ap (option_and_then (λ (x : ClientState). place_waiting x.request)) there
     ∙ none_of (place_waiting s.request) idle

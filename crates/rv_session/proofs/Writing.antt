@@ -1,5 +1,7 @@
--- A write at a client that is known: it is there to be written, and the table is the old one with the new state.
-use Rattle.std.proofs.Common.{◌≡◌, ℕ, nat_eq, List, Option, Some, None, IsSome, is_some, refl, sym, subst, ap, ◌∙◌}
+-- A write at a client that is known: it is there to be written, and the table is the old one with the new
+-- state.
+use Rattle.std.proofs.Common.{◌≡◌, ℕ, nat_eq, List, Option, Some, None, IsSome, is_some, refl, sym, subst, ap}
+use Rattle.std.proofs.Common.{◌∙◌}
 use Rattle.std.specs.Ordering.{nat_cmp}
 use Rattle.std.specs.Map.{lookup}
 use Rattle.std.specs.FinMap.{FinMap, get, insert}

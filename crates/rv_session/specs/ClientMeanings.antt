@@ -1,4 +1,5 @@
--- What each greeting and each standing says of a table of clients: what a caller learns from the one it got.
+-- What each greeting and each standing says of a table of clients: what a caller learns from the one that it
+-- got.
 use Rattle.std.specs.Prelude.{◌≡◌, ◌≢◌, ◌⊎◌, ◌+◌, ◌<◌, ◌≤◌, ℕ, Option, Some, None}
 use Rattle.std.specs.FinMap.{get, len}
 use Rattle.rv_text.specs.declared.version.Version.{Version}
@@ -24,7 +25,8 @@ pub record HasState (t : ClientStates) (client incarnation : ℕ) (version : Ver
   pub version_is : state.version ≡ version
 
 -- the client has a session of this incarnation and another version, which is this one
-pub record HasOtherState (t : ClientStates) (client incarnation : ℕ) (version current : Version) : Type 0 where
+pub record HasOtherState (t : ClientStates) (client incarnation : ℕ) (version current : Version)
+    : Type 0 where
   pub opened : HasState t client incarnation current
   pub other : version ≢ current
 

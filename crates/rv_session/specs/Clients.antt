@@ -90,7 +90,8 @@ insert_known clients client becomes (Some state) = insert clients client (become
 -- the key's number is its client's last, and this became of its request
 abbrev pub clients_asked : FinMap nat_cmp ClientState → Key → LastRequest → FinMap nat_cmp ClientState
 clients_asked clients key request =
-    insert_known clients key.client (λ state. with_last_number state key.number request) (get clients key.client)
+    insert_known clients key.client (λ state. with_last_number state key.number request)
+    (get clients key.client)
 
 -- the client's request, which waited, has its reply
 abbrev pub clients_told : FinMap nat_cmp ClientState → ℕ → Reply → FinMap nat_cmp ClientState

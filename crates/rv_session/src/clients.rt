@@ -14,8 +14,9 @@ use std::marker::Model;
 /// The clients of an epoch, which contracts see as a map from clients to their [`ClientState`]s, beside the
 /// most that there can be, and for how many more of them there is room.
 ///
-/// Only [`reserve`](Clients::reserve) takes memory. Each call but `open`, `len`, `epoch` and `reserve` looks a
-/// client up in a hash table, once or twice, and searches nothing else: it takes constant time on average.
+/// Only [`reserve`](Clients::reserve) takes memory, and what a call replaces is freed. Each call but `open`,
+/// `len`, `epoch` and `reserve` looks a client up in a hash table, once or twice, and searches nothing else:
+/// it takes constant time on average.
 #[derive(Drop)]
 pub struct Clients {
     epoch: u64,
@@ -54,7 +55,8 @@ impl Clients {
     ghost use Rattle.rv_session.specs.ClientStandings.{hello_greeting, key_standing, stands_as};
     ghost use Rattle.rv_session.specs.ClientMeanings.{GreetingSays, StandingSays};
 
-    /// The table of an epoch, whatever its number, with no client, for at most so many. It takes no memory yet.
+    /// The table of an epoch, whatever its number, with no client, for at most so many clients. It takes no
+    /// memory yet.
     pub fn open(alloc: Global, epoch: u64, most: usize) -> Clients
         ensures epoch { result.epoch ≡ epoch }
         ensures most { result.most ≡ most }
@@ -120,8 +122,8 @@ impl Clients {
         }
     }
 
-    /// Makes room for one client more, if there is none. All clients stay, and there is no less room, also
-    /// if memory is refused, for which alone it fails.
+    /// Makes room for one client more, if there is none. It fails only if memory is refused. All clients
+    /// stay, and there is no less room, also where it fails.
     pub fn reserve(&mut self) -> Result<(), NoMemory>
         ensures ok { OnOk result (0 < self.new.room) }
         ensures succeeds { 0 < self.old.room → IsOk result }
@@ -159,7 +161,8 @@ impl Clients {
     pub fn enter(&mut self, client: u64, incarnation: u64, version: Version)
         requires most { get self.old.clients client ≡ None → len self.old.clients < self.old.most }
         requires room { get self.old.clients client ≡ None → 0 < self.old.room }
-        ensures clients { self.new.clients ≡ insert self.old.clients client (fresh_state incarnation version) }
+        ensures clients { self.new.clients
+            ≡ insert self.old.clients client (fresh_state incarnation version) }
         ensures epoch { self.new.epoch ≡ self.old.epoch }
         ensures most { self.new.most ≡ self.old.most }
         ensures known { IsSome (get self.old.clients client) → self.new.room ≡ self.old.room }
@@ -178,7 +181,10 @@ impl Clients {
         requires { IsSome (get self.old.clients key.now.client) }
         ensures { self.new ≡ with_clients self.old (clients_asked self.old.clients key.now request) }
     {
-        self.clients.get_mut(&key.client).unwrap().advance(key.number, request);
+        self.clients
+            .get_mut(&key.client)
+            .unwrap()
+            .advance(key.number, request);
     }
 
     // Gives the last request of a client that is known this reply, if it waits.

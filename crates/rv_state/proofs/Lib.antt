@@ -58,3 +58,4 @@ pub mod DueDecided
 pub mod MovesThere
 pub mod WhoWaits
 pub mod StateLaws
+pub mod TableClients

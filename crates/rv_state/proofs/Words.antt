@@ -40,7 +40,8 @@ pub use Rattle.rv_state.specs.Moves.{IncarnationOld, Move, Ticked, entering, sta
 pub use Rattle.rv_state.specs.State.{ClientState, LastRequest, OpenPlace, State, Waiter, client_at}
 pub use Rattle.rv_state.specs.State.{client_waits, line, line_of, open_at, place_list, place_waiting}
 pub use Rattle.rv_state.specs.State.{same_side}
-pub use Rattle.rv_session.specs.declared.client.LastRequest.TheVariants.{CancelledUnseen, Fresh, RepliedTo, Waits}
+pub use Rattle.rv_session.specs.declared.client.LastRequest.TheVariants.{CancelledUnseen, Fresh, RepliedTo}
+pub use Rattle.rv_session.specs.declared.client.LastRequest.TheVariants.{Waits}
 pub use Rattle.rv_text.specs.Calls.{drains_of, item_of, side_of, wait_of}
 pub use Rattle.rv_text.specs.declared.answer.Answer.{Answer}
 pub use Rattle.rv_text.specs.declared.answer.Answer.TheVariants.{Replied}

@@ -28,6 +28,9 @@ use Rattle.rv_state.specs.State.{opposites}
 use Rattle.rv_state.specs.State.{open_at, client_at, client_waits, call_waiting}
 use Rattle.rv_session.specs.declared.client.LastRequest.TheVariants.{Fresh, Waits, RepliedTo, CancelledUnseen}
 
+-- a request that waited, which has its reply; and a client with another last request
+pub use Rattle.rv_session.specs.Clients.{answered, with_request}
+
 -- a key that waited, and what its request is told
 pub record Settled : Type 0 where
   pub key : Key
@@ -41,22 +44,6 @@ pub record Following : Type 0 where
   pub reply : Option Reply
 
 -- ---- telling
-
--- a request that waited has its reply
-abbrev pub answered : Reply → LastRequest → LastRequest
-answered reply Fresh = Fresh
-answered reply (Waits place call) = RepliedTo call reply
-answered reply (RepliedTo call other) = RepliedTo call other
-answered reply CancelledUnseen = CancelledUnseen
-
-abbrev pub with_request : ClientState → LastRequest → ClientState
-with_request client request =
-    record {
-      incarnation = client.incarnation;
-      version = client.version;
-      last = client.last;
-      request = request;
-    }
 
 abbrev pub insert_told : FinMap nat_cmp ClientState → Settled → Option ClientState
     → FinMap nat_cmp ClientState

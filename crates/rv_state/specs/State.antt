@@ -10,7 +10,6 @@ use Rattle.rv_text.specs.declared.call.Side.{Side}
 use Rattle.rv_text.specs.declared.call.Side.TheVariants.{Gives, Takes, Looks, Exchanges}
 use Rattle.rv_text.specs.declared.answer.Reply.{Reply}
 use Rattle.rv_text.specs.Calls.{side_of}
-use Rattle.rv_session.specs.declared.client.LastRequest.TheVariants.{Fresh, Waits, RepliedTo, CancelledUnseen}
 use Rattle.rv_account.specs.Calls.{opposite}
 
 -- ---- what is open, and clients
@@ -25,6 +24,8 @@ pub use Rattle.rv_session.specs.declared.open.OpenPlace.{OpenPlace}
 pub use Rattle.rv_session.specs.declared.client.LastRequest.{LastRequest}
 -- a client's session, its last number, and what became of the request with that
 pub use Rattle.rv_session.specs.declared.client.ClientState.{ClientState}
+-- where a last request waits, and with which call
+pub use Rattle.rv_session.specs.Clients.{call_waiting, place_waiting}
 
 -- ---- the state
 
@@ -78,19 +79,6 @@ open_at s place = find (λ o. nat_eq o.place place) s.open_places
 
 abbrev pub client_at : State → ℕ → Option ClientState
 client_at s client = get s.clients client
-
--- where a request waits, and with which call
-abbrev pub place_waiting : LastRequest → Option ℕ
-place_waiting Fresh = None
-place_waiting (Waits place call) = Some place
-place_waiting (RepliedTo call reply) = None
-place_waiting CancelledUnseen = None
-
-abbrev pub call_waiting : LastRequest → Option Call
-call_waiting Fresh = None
-call_waiting (Waits place call) = Some call
-call_waiting (RepliedTo call reply) = None
-call_waiting CancelledUnseen = None
 
 -- the open place at which the client waits, if it does
 abbrev pub client_waits : State → ℕ → Option OpenPlace

@@ -9,12 +9,15 @@ use Rattle.rv_session.proofs.clients.Clients.advance.Goals as goal
 
 pub unwrap-requires : goal.unwrap-requires
 unwrap-requires c =
-    lent_there option_copied_mut refl c.get_mut.result c.self.inside.clients.entries c.args.key.now.client c.get_mut.ensures.value
-    (subst (λ (t : ClientStates). IsSome (get t.clients c.args.key.now.client)) (sym c.self.view_is) c.requires)
+    lent_there option_copied_mut refl c.get_mut.result c.self.inside.clients.entries c.args.key.now.client
+    c.get_mut.ensures.value
+    (subst (λ (t : ClientStates). IsSome (get t.clients c.args.key.now.client)) (sym c.self.view_is)
+    c.requires)
 
 pub invariant_of-self : goal.invariant_of-self
 invariant_of-self c =
-    let known = subst (λ (t : ClientStates). IsSome (get t.clients c.args.key.now.client)) (sym c.self.view_is) c.requires in
+    let known = subst (λ (t : ClientStates). IsSome (get t.clients c.args.key.now.client))
+    (sym c.self.view_is) c.requires in
     let there = subst IsSome (get_kept c.self.inside.clients.entries c.args.key.now.client) known in
     let wrote = c.get_mut.follows.holds c.advance.new.self in
     written_table c.self.inside.most c.self.inside.clients.entries
@@ -23,7 +26,8 @@ invariant_of-self c =
 
 pub returns : goal.returns
 returns c =
-    let known = subst (λ (t : ClientStates). IsSome (get t.clients c.args.key.now.client)) (sym c.self.view_is) c.requires in
+    let known = subst (λ (t : ClientStates). IsSome (get t.clients c.args.key.now.client))
+    (sym c.self.view_is) c.requires in
     let there = subst IsSome (get_kept c.self.inside.clients.entries c.args.key.now.client) known in
     let wrote = c.get_mut.follows.holds c.advance.new.self in
     let put = map_put c.self.inside.clients.entries (c.get_mut.follows.lender c.advance.new.self).entries
