@@ -39,8 +39,8 @@ impl Arrived {
         }
     }
 
-    /// How many requests wait after it, if so many did before: one more if it waits itself, one less if it met a
-    /// request.
+    /// How many requests wait after it, if so many did before: one more if it waits itself, one less if it
+    /// met a request.
     pub fn count(&self, waiting: usize) -> usize
         requires most { waiting + starts_waiting self.now.own ≤ 2 ^ 32 }
         requires least { ends_waiting self.now.other ≤ waiting + starts_waiting self.now.own }

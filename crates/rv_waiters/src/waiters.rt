@@ -17,10 +17,10 @@ use rv_text::{Call, NoMemory, Side};
 use std::alloc::Global;
 use std::marker::Model;
 
-/// All that wait, in 64 queues and at 64 exchangers, numbered from 0: in a queue items or consumers, the oldest
-/// first, and at an exchanger one request at most. Each waits by the place at which it arrived, a request with
-/// the duty to settle it, a put with none. Contracts see the places that wait on each side, and of the duties
-/// that they are the owed ones, whoever says which are owed.
+/// All that wait, in 64 queues and at 64 exchangers, numbered from 0: in a queue items or consumers, the
+/// oldest first, and at an exchanger one request at most. Each waits by the place at which it arrived, a
+/// request with the duty to settle it, a put with none. Contracts see the places that wait on each side, and
+/// of the duties that they are the owed ones, whoever says which are owed.
 #[derive(Drop)]
 pub struct Waiters {
     queues: Queues,
@@ -101,8 +101,9 @@ impl Waiters {
         }
     }
 
-    /// A request meets the oldest of the other side, which leaves. Alone it waits last, if its wait lasts; else
-    /// it goes, and all that wait stay. Its place is to be above theirs, and if it parks its side has room.
+    /// A request meets the oldest of the other side, which leaves. Alone it waits last, if its wait lasts;
+    /// else it goes, and all that wait stay. Its place is to be above theirs, and its side is to have room if
+    /// it parks.
     pub fn arrive(&mut self, call: &Call, duty: Duty) -> Arrived
         requires fits { FitsSide (side_of call.now) }
         requires room { HasRoomOn self.old (side_of call.now) (wait_of call.now) }
