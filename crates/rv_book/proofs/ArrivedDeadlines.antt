@@ -1,13 +1,11 @@
 -- After an arrival the deadlines are those of the account with it: with its own, if it waits for some time,
--- and without
--- that of the request that it met.
-use Rattle.rv_book.proofs.Words.{deadline_beside, zero, suc}
-use Rattle.rv_book.proofs.Words.{◌≡◌, ◌∷◌, ◌++◌, ◌∙◌, ℕ, List, [], Bool, true, false, cond, length, Option}
-use Rattle.rv_book.proofs.Words.{Some, None, refl, sym, ap, none-some, same_Some, Deadlines, Call, Key, entry}
-use Rattle.rv_book.proofs.Words.{wait_of, OwedDuty, Account, just, Stays, deadline_of, deadlines_of}
-use Rattle.rv_book.proofs.Words.{limits_in}
-use Rattle.rv_book.proofs.Words.{with_deadline, without_duty, with_entry, Legal, MayFollow}
-use Rattle.rv_book.proofs.Words.{PartnersDuty, Arrive, Entry, act_at, act_called, owed_at, slice_get}
+-- and without that of the request that it met.
+use Rattle.rv_book.proofs.Words.{deadline_beside, zero, suc, ◌≡◌, ◌∷◌, ◌++◌, ◌∙◌, ℕ, List, [], Bool, true}
+use Rattle.rv_book.proofs.Words.{false, cond, length, Option, Some, None, refl, sym, ap, none-some, same_Some}
+use Rattle.rv_book.proofs.Words.{Deadlines, Call, Key, entry, wait_of, OwedDuty, Account, just, Stays}
+use Rattle.rv_book.proofs.Words.{deadline_of, deadlines_of, limits_in, with_deadline, without_duty}
+use Rattle.rv_book.proofs.Words.{with_entry, Legal, MayFollow, PartnersDuty, Arrive, Entry, act_at}
+use Rattle.rv_book.proofs.Words.{act_called, owed_at, slice_get}
 use Rattle.std.proofs.lemmas.Bool.{true≢false}
 use Rattle.std.proofs.lemmas.List.{append-nil}
 use Rattle.rv_rules.proofs.CallKinds.{waiting_meets}
@@ -64,7 +62,8 @@ module _ (a : Account) (moment : ℕ) (key : Key) (call : Call) (legal : Legal a
   -- ---- after its entry
 
   module _ (partner : Option ℕ) (follows : MayFollow a (entry moment (Arrive key call) (just partner)))
-      (other : Option OwedDuty) (other_is : PartnersDuty (owed_at a.entries) partner other) (deadline : Option ℕ)
+      (other : Option OwedDuty) (other_is : PartnersDuty (owed_at a.entries) partner other) (deadline :
+      Option ℕ)
       (unmet : partner ≡ None → deadline ≡ deadline_of moment call)
       (waits : (limit : ℕ) → deadline ≡ Some limit → partner ≡ None) where
     abbrev e : Entry

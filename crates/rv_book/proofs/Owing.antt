@@ -6,8 +6,7 @@ use Rattle.rv_book.proofs.Words.{call_in, just, GoesOnWaiting, MeetsOldest, IsPu
 use Rattle.rv_book.proofs.Words.{Arrive, Entry, Legal, NamesFreePartners, OwnDuty, PartnersDuty, ends_waiting}
 use Rattle.rv_book.proofs.Words.{owed_at, owed_by, owed_in, Open, StoppedAt, Waiting, act_called, just_none}
 use Rattle.rv_book.proofs.Words.{names_it, names_only, Waiting-back, Waiting-last, Waiting-on}
-use Rattle.rv_book.proofs.Words.{arrival_stops_nobody, waiting_is_open}
-use Rattle.rv_book.proofs.Words.{Act, Cancel, Hello, Tick}
+use Rattle.rv_book.proofs.Words.{arrival_stops_nobody, waiting_is_open, Act, Cancel, Hello, Tick}
 use Rattle.rv_waiters.specs.Meeting.{starts_waiting}
 use Rattle.rv_rules.proofs.Counting.{number_drop, number_push, same_number}
 use Rattle.rv_book.proofs.WaitersBySide.{met_last, open_inside}
@@ -198,7 +197,8 @@ module _ (a : Account) (e : Entry) (key : Key) (call : Call) (legal : Legal a) (
   pub Waits-after : (n : ℕ) (partner : Option ℕ) (duty : OwedDuty) (own other : Option OwedDuty)
       → NumberOf (Waiting a.entries) n → e.partners ≡ just partner
       → MeetsOldest a.entries (side_of call) partner
-      → OwnDuty (side_of call) (wait_of call) partner duty own → PartnersDuty (owed_at a.entries) partner other
+      → OwnDuty (side_of call) (wait_of call) partner duty own
+      → PartnersDuty (owed_at a.entries) partner other
       → (k : ℕ) × (n + starts_waiting own ≡ k + ends_waiting other)
       × NumberOf (Waiting (a.entries ++ e ∷ [])) k
   Waits-after n None duty None other count named meets own_is other_is = (

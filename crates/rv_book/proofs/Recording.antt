@@ -1,5 +1,5 @@
 -- What a request that is recorded leaves: a sound state, and what the request is told.
-use Rattle.rv_book.proofs.Words.{owed_at, ◌≡◌, ◌+◌, ◌<◌, ◌≤◌, ◌∷◌, ◌++◌, ◌∙◌, inl, inr, ℕ, suc, [], List, length}
+use Rattle.rv_book.proofs.Words.{◌≡◌, ◌+◌, ◌<◌, ◌≤◌, ◌∷◌, ◌++◌, ◌∙◌, inl, inr, ℕ, suc, [], List, length}
 use Rattle.rv_book.proofs.Words.{Option, Some, None, IfSome, is_some, option_map, refl, sym, ap, subst, arith}
 use Rattle.rv_book.proofs.Words.{none-some, Call, Key, Version, side_of, wait_of, OwedDuty, told_in}
 use Rattle.rv_book.proofs.Words.{OnlyAdvances, Table, session_for, version_in, Waits, Session, Kept, Account}
@@ -10,7 +10,7 @@ use Rattle.rv_book.proofs.Words.{Entry, Arrived, BookState, Legal, MayFollow, Fi
 use Rattle.rv_book.proofs.Words.{PartnersDuty, ends_waiting, opposed_by, AreWaiters, SettlesIf}
 use Rattle.rv_book.proofs.Words.{partners_reply, told_to, with_due, AreSessions, IsSound, account_of}
 use Rattle.rv_book.proofs.Words.{HasOpened, Waiting, few_still, no_hello, Legal-with_entry, Waiters}
-use Rattle.rv_book.proofs.Words.{waiting_on}
+use Rattle.rv_book.proofs.Words.{waiting_on, owed_at}
 use Rattle.std.proofs.Common.{unwrap_or}
 use Rattle.std.specs.Global.{Vec}
 use Rattle.std.specs.Vec.{vec_capacity}

@@ -215,7 +215,8 @@ module _ (a : Account) (e : Entry) (key : Key) (call : Call) (partner : Option �
   nobody_met : PartnersDuty (owed_at a.entries) partner None → (client : ℕ) → StillWaits a e client
   nobody_met duty client = still client (by_partner partner duty)
     where
-      by_partner : (p : Option ℕ) → PartnersDuty (owed_at a.entries) p None → (r : ℕ) (other : Key) (at : Call)
+      by_partner : (p : Option ℕ) → PartnersDuty (owed_at a.entries) p None
+          → (r : ℕ) (other : Key) (at : Call)
           → other.client ≡ client → act_at a.entries r ≡ Some (Arrive other at) → Waiting a.entries r
           → p ≡ Some r → ⊥
       by_partner None none r other at of_client arrived w named = none-some r named

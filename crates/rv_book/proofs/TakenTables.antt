@@ -1,11 +1,10 @@
 -- Who waits where and how many do, while some of those who wait are taken out: at first, when one more is,
 -- and with the
 -- entry that closes those that were.
-use Rattle.rv_book.proofs.Words.{owed_at, ◌≡◌, ◌+◌, ◌∷◌, ◌++◌, inl, inr, ℕ, List, [], Option, refl, sym, subst, arith}
+use Rattle.rv_book.proofs.Words.{◌≡◌, ◌+◌, ◌∷◌, ◌++◌, inl, inr, ℕ, List, [], Option, refl, sym, subst, arith}
 use Rattle.rv_book.proofs.Words.{Side, OwedDuty, Entry, NumberOf, Among, LeavesSide, AreParked, AreWaiters}
 use Rattle.rv_book.proofs.Words.{IsLineOf, Left, Waiters, waiting_on, OpenAt, SideAt, Waiting, one_side}
-use Rattle.rv_book.proofs.Words.{length}
-use Rattle.rv_book.proofs.Words.{get-append_cases, get-append_end}
+use Rattle.rv_book.proofs.Words.{length, get-append_cases, get-append_end, owed_at}
 use Rattle.rv_book.specs.TakingOut.{AreWaitersLeft}
 use Rattle.rv_book.proofs.Closing.{ClosesThose, opened_back, opened_on, waits_back, waits_on}
 use Rattle.rv_rules.proofs.Counting.{number_drop, same_number}
@@ -68,7 +67,8 @@ module _ (es : List Entry) (taken more : ℕ → Type 0) (place : ℕ) (one : On
   -- the line of its side lost it, and the other lines are as they were
   waiters_less : (old new : Waiters) (side : Side) → AreWaitersLeft es taken old
       → IsLineOf (But (Left taken (OpenAt es side)) place) (waiting_on new side)
-      → ((other : Side) → (other ≡ side → ⊥) → waiting_on new other ≡ waiting_on old other) → AreParked (owed_at es) new
+      → ((other : Side) → (other ≡ side → ⊥) → waiting_on new other ≡ waiting_on old other)
+      → AreParked (owed_at es) new
       → SideAt es side place → AreWaitersLeft es more new
   waiters_less old new side are less others parked of_side = record {
     lines = λ other. elim (same_side other side) [
@@ -102,7 +102,8 @@ module _ (es : List Entry) (taken more : ℕ → Type 0) (place : ℕ) (one : On
   -- it was the first of its side
   pub waiters_front : (old new : Waiters) (side : Side) → AreWaitersLeft es taken old
       → waiting_on old side ≡ place ∷ waiting_on new side
-      → ((other : Side) → (other ≡ side → ⊥) → waiting_on new other ≡ waiting_on old other) → AreParked (owed_at es) new
+      → ((other : Side) → (other ≡ side → ⊥) → waiting_on new other ≡ waiting_on old other)
+      → AreParked (owed_at es) new
       → AreWaitersLeft es more new
   waiters_front old new side are first others parked =
       let line = subst (IsLineOf (Left taken (OpenAt es side))) first (are.lines side) in

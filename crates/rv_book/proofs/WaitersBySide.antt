@@ -2,20 +2,18 @@
 -- there, where it takes the first, and where it stops one.
 use Rattle.rv_book.proofs.Words.{◌≡◌, ◌<◌, ◌∷◌, ◌++◌, ◌∙◌, inl, inr, ℕ, zero, suc, List, [], length, cond}
 use Rattle.rv_book.proofs.Words.{Bool, true, false, Option, Some, None, refl, sym, ap, subst, arith}
-use Rattle.rv_book.proofs.Words.{option_and_then, slice_get, none-some, same_Some, slice_get-map, Call, Side}
-use Rattle.rv_book.proofs.Words.{Exchanges, Gives, Looks, Takes, Wait, Key, side_of, wait_of, OwedDuty}
-use Rattle.rv_book.proofs.Words.{place_of, places_of, Account, Names, act_at, call_at, call_in, just}
-use Rattle.rv_book.proofs.Words.{MeetsOldest, Stays, Arrive, Entry, Arrived, Legal, NamesFreePartners}
-use Rattle.rv_book.proofs.Words.{ArrivedOn, FindsNobody, AreParked, AreWaiters, IsLine, IsLineOf, owed_at}
-use Rattle.rv_book.proofs.Words.{owed_by, owed_in, AreBelow, SameWaiters, Waiters, place_of_duty}
-use Rattle.rv_book.proofs.Words.{takers_places, waiting_on, OpenAt, StoppedAt, IsOldest, NamesAt-last}
-use Rattle.rv_book.proofs.Words.{act_read, call_read, reads_within, just_none, names_it, names_only}
-use Rattle.rv_book.proofs.Words.{get-append_cases, get-append_end, get-append_within, arrival_stops_nobody}
-use Rattle.rv_book.proofs.Words.{one_side}
+use Rattle.rv_book.proofs.Words.{option_and_then, slice_get, none-some, same_Some, Call, Side}
+use Rattle.rv_book.proofs.Words.{Wait, Key, side_of, wait_of, OwedDuty}
+use Rattle.rv_book.proofs.Words.{Account, Names, act_at, call_at, call_in, just, MeetsOldest, Stays, Arrive}
+use Rattle.rv_book.proofs.Words.{Entry, Arrived, Legal, NamesFreePartners, ArrivedOn, FindsNobody, AreParked}
+use Rattle.rv_book.proofs.Words.{AreWaiters, IsLine, IsLineOf, owed_at, owed_by, owed_in, AreBelow}
+use Rattle.rv_book.proofs.Words.{SameWaiters, Waiters, waiting_on, OpenAt}
+use Rattle.rv_book.proofs.Words.{StoppedAt, IsOldest, NamesAt-last, act_read, call_read, reads_within}
+use Rattle.rv_book.proofs.Words.{just_none, names_it, names_only, get-append_cases, get-append_end}
+use Rattle.rv_book.proofs.Words.{get-append_within, arrival_stops_nobody, one_side}
 use Rattle.std.proofs.Common.{not, ◌==◌}
 use Rattle.std.specs.List.{filter}
 use Rattle.std.proofs.lemmas.Bool.Decides.{nat_tests}
-use Rattle.std.specs.Prelude.{option_map}
 use Rattle.rv_waiters.specs.Meeting.{StaysBy, MeetsOrWaits, MeetsFirst}
 use Rattle.rv_waiters.specs.Views.{NobodyWaits}
 use Rattle.rv_rules.proofs.Deciding.{same_side}
@@ -361,7 +359,8 @@ module _ (a : Account) (e : Entry) (old new : Waiters) (key : Key) (call : Call)
   waiters_after duty result is named arrived = record {
     lines = by_partner result.partner named (subst (λ (d : OwedDuty). MeetsOrWaits old new (side_of call)
         (wait_of call) d.place result.partner) is arrived.meets);
-    parked = arrived.parked (owed_at (a.entries ++ e ∷ [])) (parked_on a.entries e old are) (owed_new duty is);
+    parked = arrived.parked (owed_at (a.entries ++ e ∷ [])) (parked_on a.entries e old are)
+        (owed_new duty is);
   }
 
 -- ---- after an entry that is no arrival

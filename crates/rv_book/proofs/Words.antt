@@ -45,7 +45,6 @@ pub use Rattle.rv_book.specs.Verdicts.{IsAsKept, item_at, reply_of}
 pub use Rattle.rv_book.specs.Waiting.{IsOldest, Met, NamesPartner, Open, OpenAt, SideAt, StoppedAt, Waiting}
 pub use Rattle.rv_book.specs.Waiting.{limit_at}
 pub use Rattle.rv_book.specs.declared.state.BookState.{BookState}
-pub use Rattle.rv_dual.specs.Offers.{place_of, places_of}
 pub use Rattle.rv_due.specs.Deadlines.{Deadlines}
 pub use Rattle.rv_rules.proofs.CallKinds.{gives_item}
 pub use Rattle.rv_rules.proofs.Counting.{one_number}
@@ -98,8 +97,8 @@ pub use Rattle.rv_text.specs.declared.message.Message.{Message}
 pub use Rattle.rv_text.specs.declared.message.Message.TheVariants.{Request}
 pub use Rattle.rv_text.specs.declared.version.Version.{Version}
 pub use Rattle.rv_text.specs.declared.version.Version.TheVariants.{One, Two}
-pub use Rattle.rv_waiters.specs.Meeting.{ArrivedOn, FindsNobody, LeavesFirst, LeavesSide, OwnDuty, PartnersDuty}
-pub use Rattle.rv_waiters.specs.Meeting.{StandsOn, ends_waiting, opposed_by}
+pub use Rattle.rv_waiters.specs.Meeting.{ArrivedOn, FindsNobody, LeavesFirst, LeavesSide, OwnDuty}
+pub use Rattle.rv_waiters.specs.Meeting.{PartnersDuty, StandsOn, ends_waiting, opposed_by}
 pub use Rattle.rv_waiters.specs.Views.{AreBelow, SameWaiters, Waiters, place_of_duty}
 pub use Rattle.rv_waiters.specs.Views.{takers_places, waiting_on}
 pub use Rattle.rv_waiters.specs.declared.outcome.Arrived.{Arrived}

@@ -5,3 +5,4 @@ pub mod Limits
 pub mod DueFirst
 pub mod Indexing
 pub mod Fronts
+pub mod Firsts

@@ -22,7 +22,7 @@ pub record PartedAt (all : List OpenPlace) (place : ℕ) (there : OpenPlace) : T
 pub rise_behind : (x : OpenPlace) (all : List OpenPlace) → PlacesRise (x ∷ all) → PlacesRise all
 rise_behind x all rise i j one other less at there = rise (suc i) (suc j) one other (omega arith) at there
 
-others_pass : (x : OpenPlace) (all : List OpenPlace) → PlacesRise (x ∷ all)
+pub others_pass : (x : OpenPlace) (all : List OpenPlace) → PlacesRise (x ∷ all)
     → without all x.place ≡ all
 others_pass x all rise =
     filter_these (λ (o : OpenPlace). not (nat_eq o.place x.place)) all (λ i o at.

@@ -8,8 +8,8 @@ use Rattle.rv_due.specs.Deadlines.{Deadlines}
 use Rattle.rv_state.specs.State.{OpenPlace, place_list}
 use Rattle.rv_waiters.specs.Parked.{AreParked}
 use Rattle.rv_waiters.specs.Views.{Waiters, waiting_on}
-use Rattle.rv_machine.specs.Opens.{PlacesRise, due_in, duty_at, found_at, limits_in, line_in, owed_in}
-use Rattle.rv_machine.specs.Opens.{waiting_in, without}
+use Rattle.rv_machine.specs.Opens.{PlacesRise, due_in, duty_at, facing, found_at, limits_in, line_in}
+use Rattle.rv_machine.specs.Opens.{owed_in, waiting_in, without}
 
 -- the places rise, each is of a side that there is, and whoever has a limit waits; the tables have just these
 pub record AreIndexed (all : List OpenPlace) (waiters : Waiters) (waiting : ℕ) (due : Deadlines) : Type 0
@@ -40,3 +40,9 @@ pub record ClosesDue (old new : List OpenPlace) (moment : ℕ) (there : OpenPlac
     where
   pub closes : Closes old new there.place there (Some duty)
   pub first : due_in old moment ≡ there ∷ due_in new moment
+
+-- the first of a line is closed
+pub record ClosesFirst (old new : List OpenPlace) (line : Option Side) (there : OpenPlace)
+    (duty : Option OwedDuty) : Type 0 where
+  pub closes : Closes old new there.place there duty
+  pub first : facing old line ≡ there ∷ facing new line

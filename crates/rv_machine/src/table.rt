@@ -4,7 +4,7 @@ ghost use Rattle.std.specs.Prelude.{option_map, slice_get};
 ghost use Rattle.rv_text.specs.Limits.{FitsQueue, FitsSide};
 ghost use Rattle.rv_text.specs.declared.call.Side.TheVariants.{Gives, Takes};
 ghost use Rattle.rv_machine.specs.Opens.{due_in, found_at, line_in, opposed_in, waiting_in, without_limit};
-ghost use Rattle.rv_machine.specs.Indexed.{Closes, ClosesDue, WaitsIn};
+ghost use Rattle.rv_machine.specs.Indexed.{Closes, ClosesDue, ClosesFirst, WaitsIn};
 
 use crate::opens::Opens;
 use rv_due::Due;
@@ -122,5 +122,20 @@ impl OpenTable {
         ensures { result ≡ length (opposed_in self.now side) }
     {
         self.waiters.opposed(side)
+    }
+
+    /// Closes the place of a queue's oldest item, and gives the duty to settle who waited with it; a put's owes none. If
+    /// there is no item nothing changes.
+    pub(crate) fn take_front(&mut self, queue: u64) -> Option<(OpenPlace, Option<Duty>)>
+        requires { FitsQueue queue }
+        ensures some { IfSome result (λ out. ClosesFirst self.old self.new (Some (Gives queue)) out.0 out.1) }
+        ensures none { IfNone result (line_in self.old (Gives queue) ≡ []) }
+        ensures stays { IfNone result (self.new ≡ self.old) }
+    {
+        let (duty, place) = self.waiters.take_front(Side::Takes(queue))?;
+        let there = self.opens.take(place).unwrap();
+        forget(&mut self.due, there.limit, place);
+        self.waiting -= usize::from(duty.is_some());
+        Some((there, duty))
     }
 }

@@ -1,5 +1,9 @@
 -- What a change of one exchanger is to all who wait, side by side.
-use Rattle.rv_waiters.proofs.Words.{◌≡◌, ◌∷◌, ◌++◌, ◌∙◌, inl, inr, ℕ, zero, suc, List, [], Option, Some, None, refl, sym, ap, subst, none-some, same_Some, Side, Exchanges, Gives, Looks, Takes, Wait, OwedDuty, places_of, Arrived, Lasts, ArrivedOn, FindsNobody, AreParked, IsParked, AllFree, SameWaiters, Waiters, place_of_duty, queue_at, takers_places, waiting_on, eqb_tells}
+use Rattle.rv_waiters.proofs.Words.{◌≡◌, ◌∷◌, ◌++◌, ◌∙◌, inl, inr, ℕ, zero, suc, List, [], Option, Some, None}
+use Rattle.rv_waiters.proofs.Words.{refl, sym, ap, subst, none-some, same_Some, Side, Exchanges, Gives, Looks}
+use Rattle.rv_waiters.proofs.Words.{Takes, Wait, OwedDuty, places_of, Arrived, Lasts, ArrivedOn, FindsNobody}
+use Rattle.rv_waiters.proofs.Words.{AreParked, IsParked, AllFree, SameWaiters, Waiters, place_of_duty}
+use Rattle.rv_waiters.proofs.Words.{queue_at, takers_places, waiting_on, eqb_tells}
 use Rattle.rv_dual.specs.Queue.{SameLists}
 use Rattle.rv_waiters.specs.Meeting.{Exchanged, SwappedNothing, SwappedWith, WaitsAlone}
 use Rattle.rv_waiters.specs.Views.{OnlyExchanger, exchanger_at}
@@ -34,7 +38,8 @@ module _ (old new : Waiters) (exchanger : ℕ) (changed : ExchangerChanged old n
   parked_at : (owed : ℕ → Option OwedDuty) → AreParked owed old
       → ((duty : OwedDuty) → after ≡ Some duty → owed duty.place ≡ Some duty) → AreParked owed new
   parked_at owed parked here = record {
-    queues = λ queue. subst (λ l. IsParked owed (queue_at l queue)) (sym changed.queues) (parked.queues queue);
+    queues = λ queue. subst (λ l. IsParked owed (queue_at l queue)) (sym changed.queues)
+        (parked.queues queue);
     exchangers = λ other duty there. elim (eqb_tells other exchanger) [
       | inl is ↦ here duty (ap (exchanger_at new.exchangers) (sym is.1) ∙ there)
       | inr apart ↦ parked.exchangers other duty (sym (changed.others other apart.1) ∙ there)
@@ -70,8 +75,8 @@ module _ (old new : Waiters) (exchanger : ℕ) (changed : ExchangerChanged old n
         };
         own = (refl, λ is. absurd (some_is_none swap.earlier.place is));
         other = λ owed parked. sym (parked.exchangers exchanger swap.earlier swap.waited);
-        parked = λ owed parked is_owed. parked_at owed parked (λ duty there. absurd (none-some duty (sym swap.left
-            ∙ there)));
+        parked = λ owed parked is_owed. parked_at owed parked (λ duty there. absurd
+            (none-some duty (sym swap.left ∙ there)));
       })
 
   waits_alone : (wait : Wait) (duty : OwedDuty) (result : Arrived) → Lasts (Some wait)

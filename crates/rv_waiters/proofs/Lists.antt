@@ -1,5 +1,6 @@
 -- What stands in a list with one more, and in one of which some are left.
-use Rattle.rv_waiters.proofs.Words.{◌≡◌, ◌⊎◌, ◌∷◌, ◌++◌, inl, inr, ℕ, zero, suc, List, [], Bool, true, false, cond, Some, slice_get, none-some, same_Some}
+use Rattle.rv_waiters.proofs.Words.{◌≡◌, ◌⊎◌, ◌∷◌, ◌++◌, inl, inr, ℕ, zero, suc, List, [], Bool, true, false}
+use Rattle.rv_waiters.proofs.Words.{cond, Some, slice_get, none-some, same_Some}
 use Rattle.std.specs.List.{filter}
 
 -- what stands in a list with one more is in the list, or it is that one

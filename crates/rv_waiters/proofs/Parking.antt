@@ -1,5 +1,7 @@
 -- Who parks: it stays, and nobody is there whom it meets. Its room.
-use Rattle.rv_waiters.proofs.Words.{◌≡◌, ℕ, [], length, Option, refl, ap, subst, same_Some, Side, Exchanges, Gives, Looks, Takes, Wait, opposite, FindsNobody, opposed_by, Waiters, queue_at, takers_places, waiting_on, places_of}
+use Rattle.rv_waiters.proofs.Words.{◌≡◌, ℕ, [], length, Option, refl, ap, subst, same_Some, Side, Exchanges}
+use Rattle.rv_waiters.proofs.Words.{Gives, Looks, Takes, Wait, opposite, FindsNobody, opposed_by, Waiters}
+use Rattle.rv_waiters.proofs.Words.{queue_at, takers_places, waiting_on, places_of}
 use Rattle.rv_waiters.specs.Meeting.{HasRoomOn, HasRoomToGive, HasRoomToTake, ParksOn, StaysAlone}
 
 -- ---- nobody is there

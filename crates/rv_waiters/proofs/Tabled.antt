@@ -1,5 +1,11 @@
 -- What a change of one queue is to all who wait, side by side.
-use Rattle.rv_waiters.proofs.Words.{◌≡◌, ◌∷◌, ◌++◌, ◌∙◌, inl, inr, ℕ, zero, suc, List, [], Option, Some, None, refl, sym, ap, subst, option_and_then, slice_get, none-some, slice_get-map, slice_get-get_or, Side, Exchanges, Gives, Looks, Takes, Wait, OwedDuty, place_of, places_of, Queue, Arrived, Lasts, ArrivedOn, FindsNobody, LeavesFirst, OwnDuty, AreParked, IsParked, AllEmpty, AreBelow, SameWaiters, Waiters, place_of_duty, queue_at, takers_places, waiting_on, eqb_tells, option_map, same_Some}
+use Rattle.rv_waiters.proofs.Words.{◌≡◌, ◌∷◌, ◌++◌, ◌∙◌, inl, inr, ℕ, zero, suc, List, [], Option, Some, None}
+use Rattle.rv_waiters.proofs.Words.{refl, sym, ap, subst, option_and_then, slice_get, none-some}
+use Rattle.rv_waiters.proofs.Words.{slice_get-map, slice_get-get_or, Side, Exchanges, Gives, Looks, Takes}
+use Rattle.rv_waiters.proofs.Words.{Wait, OwedDuty, place_of, places_of, Queue, Arrived, Lasts, ArrivedOn}
+use Rattle.rv_waiters.proofs.Words.{FindsNobody, LeavesFirst, OwnDuty, AreParked, IsParked, AllEmpty}
+use Rattle.rv_waiters.proofs.Words.{AreBelow, SameWaiters, Waiters, place_of_duty, queue_at, takers_places}
+use Rattle.rv_waiters.proofs.Words.{waiting_on, eqb_tells, option_map, same_Some}
 use Rattle.rv_dual.specs.Offers.{duty_of}
 use Rattle.rv_dual.specs.Meanings.{TakenFront}
 use Rattle.rv_dual.specs.Queue.{IsAbove, SameLists}
@@ -81,8 +87,8 @@ module _ (old new : Waiters) (queue : ℕ) (changed : ChangedAt old new queue) w
     exchangers = λ exchanger. ap (λ l. exchanger_at l exchanger) changed.exchangers;
   }
 
-  pub parked_changed : (owed : ℕ → Option OwedDuty) → AreParked owed old → (IsParked owed was → IsParked owed is_now)
-      → AreParked owed new
+  pub parked_changed : (owed : ℕ → Option OwedDuty) → AreParked owed old
+      → (IsParked owed was → IsParked owed is_now) → AreParked owed new
   parked_changed owed parked step = record {
     queues = λ other. elim (eqb_tells other queue) [
       | inl is ↦ subst (λ n. IsParked owed (queue_at new.queues n)) (sym is.1) (step (parked.queues queue))
@@ -252,8 +258,8 @@ module _ (old new : Waiters) (queue : ℕ) (changed : ChangedAt old new queue) (
     );
     own = own_of wait lasts;
     other = λ owed parked. refl;
-    parked = λ owed parked is_owed. parked_changed old new queue changed owed parked (pushed_givers owed wait is_owed
-        lays.givers lays.takers);
+    parked = λ owed parked is_owed. parked_changed old new queue changed owed parked (pushed_givers owed wait
+        is_owed lays.givers lays.takers);
   })
 
   gave_nobody : (wait : Option Wait) (result : Arrived) → (Lasts wait → ⊥)
@@ -313,8 +319,8 @@ module _ (old new : Waiters) (queue : ℕ) (changed : ChangedAt old new queue) (
         );
         own = (refl, (refl, lasts), refl);
         other = λ owed parked. refl;
-        parked = λ owed parked is_owed. parked_changed old new queue changed owed parked (pushed_takers owed is_owed
-            stands.takers stands.givers);
+        parked = λ owed parked is_owed. parked_changed old new queue changed owed parked
+            (pushed_takers owed is_owed stands.takers stands.givers);
       })
 
   took_nothing : (wait : Option Wait) (result : Arrived) → (Lasts wait → ⊥)

@@ -1,5 +1,9 @@
 -- What those who wait are when a request was taken out of its queue.
-use Rattle.rv_waiters.proofs.Words.{◌≡◌, ◌∷◌, ◌∙◌, inl, inr, ℕ, suc, List, [], cond, Bool, true, false, Option, Some, None, refl, sym, ap, slice_get, none-some, same_Some, slice_get-map, slice_get-get_or, Gives, Takes, OwedDuty, place_of, places_of, Queue, LeavesSide, StandsOn, AreParked, IsParked, Waiters, queue_at, takers_places, option_map, eqb_tells}
+use Rattle.rv_waiters.proofs.Words.{◌≡◌, ◌∷◌, ◌∙◌, inl, inr, ℕ, suc, List, [], cond, Bool, true, false}
+use Rattle.rv_waiters.proofs.Words.{Option, Some, None, refl, sym, ap, slice_get, none-some, same_Some}
+use Rattle.rv_waiters.proofs.Words.{slice_get-map, slice_get-get_or, Gives, Takes, OwedDuty, place_of}
+use Rattle.rv_waiters.proofs.Words.{places_of, Queue, LeavesSide, StandsOn, AreParked, IsParked, Waiters}
+use Rattle.rv_waiters.proofs.Words.{queue_at, takers_places, option_map, eqb_tells}
 use Rattle.std.proofs.Common.{map}
 use Rattle.std.specs.List.{filter}
 use Rattle.std.specs.Prelude.{IfNone, IfSome, not, ◌==◌}
@@ -55,8 +59,8 @@ differs m n apart = elim (eqb_tells m n) [
 
 -- ---- one queue
 
-module _ (owed : ℕ → Option OwedDuty) (q : Queue) (place : ℕ) (duty : OwedDuty) (parked : IsParked owed q) (is_owed :
-    owed place ≡ Some duty) where
+module _ (owed : ℕ → Option OwedDuty) (q : Queue) (place : ℕ) (duty : OwedDuty) (parked : IsParked owed q)
+    (is_owed : owed place ≡ Some duty) where
   offer_of_duty : (offer : Offer) → duty_of offer ≡ Some duty → offer ≡ Waits duty
   offer_of_duty (Put other) is = absurd (none-some duty is)
   offer_of_duty (Waits other) is = ap Waits (same_Some _ _ is)
@@ -148,7 +152,8 @@ parked_left owed q new place result w parked = record {
 
 module _ (old new : Waiters) (queue : ℕ) (changed : ChangedAt old new queue) (place : ℕ) (result :
     Option OwedDuty) (w : Withdraws (queue_at old.queues queue) (queue_at new.queues queue) place result)
-    (owed : ℕ → Option OwedDuty) (duty : OwedDuty) (parked : AreParked owed old) (is_owed : owed place ≡ Some duty)
+    (owed : ℕ → Option OwedDuty) (duty : OwedDuty) (parked : AreParked owed old) (is_owed : owed place ≡ Some
+    duty)
   where
     abbrev pub was : Queue
     was = queue_at old.queues queue

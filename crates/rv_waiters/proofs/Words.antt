@@ -7,11 +7,15 @@ pub use Rattle.rv_text.specs.Calls.{side_of, wait_of}
 pub use Rattle.rv_text.specs.declared.call.Side.{Side}
 pub use Rattle.rv_text.specs.declared.call.Side.TheVariants.{Exchanges, Gives, Looks, Takes}
 pub use Rattle.rv_text.specs.declared.call.Wait.{Wait}
-pub use Rattle.rv_waiters.specs.Meeting.{ArrivedOn, FindsNobody, LeavesFirst, LeavesSide, OwnDuty, StandsOn, opposed_by}
+pub use Rattle.rv_waiters.specs.Meeting.{ArrivedOn, FindsNobody, LeavesFirst, LeavesSide, OwnDuty, StandsOn}
+pub use Rattle.rv_waiters.specs.Meeting.{opposed_by}
 pub use Rattle.rv_waiters.specs.Parked.{AreParked, IsParked}
-pub use Rattle.rv_waiters.specs.Views.{AllEmpty, AllFree, AreBelow, SameWaiters, Waiters, place_of_duty, queue_at, takers_places, waiting_on}
+pub use Rattle.rv_waiters.specs.Views.{AllEmpty, AllFree, AreBelow, SameWaiters, Waiters, place_of_duty}
+pub use Rattle.rv_waiters.specs.Views.{queue_at, takers_places, waiting_on}
 pub use Rattle.rv_waiters.specs.declared.outcome.Arrived.{Arrived}
-pub use Rattle.std.proofs.Common.{Bool, List, None, Option, Some, [], ap, arith, cond, false, inl, inr, length, length-append, option_and_then, refl, subst, suc, sym, true, zero, ℕ, ◌++◌, ◌<◌, ◌∙◌, ◌∷◌, ◌≡◌, ◌⊎◌}
+pub use Rattle.std.proofs.Common.{Bool, List, None, Option, Some, [], ap, arith, cond, false, inl, inr}
+pub use Rattle.std.proofs.Common.{length, length-append, option_and_then, refl, subst, suc, sym, true, zero}
+pub use Rattle.std.proofs.Common.{ℕ, ◌++◌, ◌<◌, ◌∙◌, ◌∷◌, ◌≡◌, ◌⊎◌}
 pub use Rattle.std.proofs.lemmas.Bool.{false≢true}
 pub use Rattle.std.proofs.lemmas.Bool.Decides.{eqb_tells}
 pub use Rattle.std.proofs.lemmas.Option.{none-some, same_Some, slice_get-get_or, slice_get-map}

@@ -1,5 +1,5 @@
-//! All that wait for each other: 64 queues and 64 exchangers, by the side of a call, with the duties to settle
-//! the requests that wait.
+//! All that wait for each other: 64 queues and 64 exchangers, by the side of a call, with the duties to
+//! settle the requests that wait.
 #![tactic(auto)]
 
 mod exchangers;

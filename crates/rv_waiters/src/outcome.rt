@@ -5,7 +5,7 @@ use rv_session::{Duty, Place};
 
 /// What became of an arrival in its queue or at its exchanger. The duties in it are to be settled.
 pub struct Arrived {
-    /// The place of the earlier arrival that it met.
+    /// The place of the earlier arrival that it met, or None if it met nobody.
     pub partner: Option<Place>,
     /// Its own duty, unless it waits.
     pub own: Option<Duty>,
@@ -39,7 +39,8 @@ impl Arrived {
         }
     }
 
-    /// How many requests wait after it, if so many did before.
+    /// How many requests wait after it, if so many did before: one more if it waits itself, one less if it
+    /// met a request.
     pub fn count(&self, waiting: usize) -> usize
         requires most { waiting + starts_waiting self.now.own ≤ 2 ^ 32 }
         requires least { ends_waiting self.now.other ≤ waiting + starts_waiting self.now.own }

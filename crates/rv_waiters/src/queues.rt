@@ -5,7 +5,8 @@ ghost use Rattle.rv_dual.specs.Offers.{duty_of, place_of, places_of};
 ghost use Rattle.rv_dual.specs.Meanings.{TakenFront};
 ghost use Rattle.rv_dual.specs.Queue.{IsAbove};
 ghost use Rattle.rv_dual.specs.Withdrawing.{Withdraws};
-ghost use Rattle.rv_waiters.specs.Meeting.{Gave, GrowsGivers, GrowsTakers, HasRoomToGive, HasRoomToTake, Took};
+ghost use Rattle.rv_waiters.specs.Meeting.{Gave, GrowsGivers, GrowsTakers, HasRoomToGive, HasRoomToTake};
+ghost use Rattle.rv_waiters.specs.Meeting.{Took};
 ghost use Rattle.rv_waiters.specs.Views.{AllEmpty, OnlyQueue, queue_at};
 
 use crate::outcome::Arrived;

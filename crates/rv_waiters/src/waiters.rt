@@ -17,7 +17,10 @@ use rv_text::{Call, NoMemory, Side};
 use std::alloc::Global;
 use std::marker::Model;
 
-/// All that wait, in queues and at exchangers.
+/// All that wait, in 64 queues and at 64 exchangers, numbered from 0: in a queue items or consumers, the
+/// oldest first, and at an exchanger one request at most. Each waits by the place at which it arrived, a
+/// request with the duty to settle it, a put with none. Contracts see the places that wait on each side, and
+/// of the duties that they are the owed ones, whoever says which are owed.
 #[derive(Drop)]
 pub struct Waiters {
     queues: Queues,
@@ -33,7 +36,7 @@ impl Model for Waiters {
 }
 
 impl Waiters {
-    /// Empty queues and exchangers.
+    /// Empty queues and exchangers. Fails only if memory is refused.
     pub fn empty(alloc: Global) -> Result<Waiters, NoMemory>
         ensures { IfOk result NobodyWaits }
     {
@@ -42,7 +45,7 @@ impl Waiters {
         Ok(Waiters { queues, exchangers })
     }
 
-    /// The place of the oldest item of a queue.
+    /// The place of the oldest item of a queue from 0 to 63, or None where no item waits.
     pub fn front(&self, queue: u64) -> Option<Place>
         requires { FitsQueue queue }
         ensures { result ≡ slice_get (waiting_on self.now (Gives queue)) 0 }
@@ -50,7 +53,7 @@ impl Waiters {
         self.queues.front(queue)
     }
 
-    /// How many items and how many consumers wait in a queue.
+    /// How many items and how many consumers wait in a queue from 0 to 63.
     pub fn count(&self, queue: u64) -> (usize, usize)
         requires { FitsQueue queue }
         ensures items { result.0 ≡ length (waiting_on self.now (Gives queue)) }
@@ -59,7 +62,7 @@ impl Waiters {
         self.queues.count(queue)
     }
 
-    /// How many wait that an arrival of this side can meet.
+    /// How many wait that an arrival of this side can meet; none for one that looks.
     pub fn opposed(&self, side: Side) -> usize
         requires { FitsSide side }
         ensures { result ≡ opposed_by self.now (opposite side) }
@@ -80,7 +83,8 @@ impl Waiters {
         call.wait().is_none_or(|wait| lasts(wait)) && self.opposed(call.side()) == 0
     }
 
-    /// Makes room for an arrival that parks in a queue, on its own side. No other arrival needs any.
+    /// Makes room for an arrival that parks in a queue, on its own side; for any other nothing changes. Fails
+    /// only if it parks, no room was left there and memory was refused. Either way all that wait stay.
     pub fn reserve(&mut self, call: &Call) -> Result<(), NoMemory>
         requires { FitsSide (side_of call.now) }
         ensures makes { MakesRoomFor self.old self.new (side_of call.now) (wait_of call.now) }
@@ -97,7 +101,9 @@ impl Waiters {
         }
     }
 
-    /// A request meets the oldest of the other side, which leaves. Alone it waits last, if its wait lasts.
+    /// A request meets the oldest of the other side, which leaves. Alone it waits last, if its wait lasts;
+    /// else it goes, and all that wait stay. Its place is to be above theirs, and its side is to have room if
+    /// it parks.
     pub fn arrive(&mut self, call: &Call, duty: Duty) -> Arrived
         requires fits { FitsSide (side_of call.now) }
         requires room { HasRoomOn self.old (side_of call.now) (wait_of call.now) }
@@ -116,6 +122,7 @@ impl Waiters {
     }
 
     /// The oldest item that a side takes, if there is one, leaves: its duty, None for a put's, and its place.
+    /// All others stay, in their order.
     pub fn take_front(&mut self, side: Side) -> Option<(Option<Duty>, Place)>
         requires { FitsSide side }
         ensures { TakenFor self.old self.new side result }
@@ -126,7 +133,8 @@ impl Waiters {
         }
     }
 
-    /// The request that waits at a place on this side leaves it, and gives its duty back.
+    /// The request that waits at a place on this side leaves it, and gives its duty back. All others stay, in
+    /// their order.
     pub fn withdraw(&mut self, side: Side, place: Place) -> Option<Duty>
         requires { FitsSide side }
         ensures { Withdrew self.old self.new side place result }

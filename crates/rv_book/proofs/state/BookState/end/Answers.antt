@@ -1,8 +1,8 @@
 -- The request that waited was taken out of its queue, and its session was settled.
-use Rattle.rv_book.proofs.Words.{owed_at, ◌≡◌, ◌≤◌, ◌∙◌, Option, Some, IfSome, option_map, sym, subst, ap, arith}
+use Rattle.rv_book.proofs.Words.{◌≡◌, ◌≤◌, ◌∙◌, Option, Some, IfSome, option_map, sym, subst, ap, arith}
 use Rattle.rv_book.proofs.Words.{same_Some, OwedDuty, Side, side_of, without_deadline, without_duty}
 use Rattle.rv_book.proofs.Words.{LeavesSide, StandsOn, IsOwedIn, SettlesAs, SettlesIf, account_of, limit_at}
-use Rattle.rv_book.proofs.Words.{Waiters}
+use Rattle.rv_book.proofs.Words.{Waiters, owed_at}
 use Rattle.rv_book.proofs.state.BookState.end.Goals as goal
 
 pub settle-requires-clause-waits : goal.settle-requires-clause-waits
@@ -13,7 +13,8 @@ settle-requires-clause-waits c =
     ∙ ap (option_map (λ r. r.now)) c.unwrap.ensures) in
     let stands = subst (λ side. StandsOn old.waiters side c.args.place) (ap side_of call
     ∙ sym c.side-side.ensures) may.stands in
-    let leaves = c.withdraw-duty.ensures (owed_at (account_of old).entries) may.duty may.parked stands may.owed in
+    let leaves = c.withdraw-duty.ensures (owed_at (account_of old).entries) may.duty may.parked stands
+    may.owed in
     subst (λ (o : Option OwedDuty). IfSome o (IsOwedIn old.sessions)) (sym leaves.is) may.due_in
 
 pub returns-clause-ended : goal.returns-clause-ended

@@ -1,8 +1,9 @@
 -- After a request that was recorded the account and its tables are sound, and it is told its reply or that it
 -- waits.
-use Rattle.rv_book.proofs.Words.{owed_at, ◌≡◌, ◌∙◌, ◌+◌, Option, length, refl, sym, ap, subst, side_of, OwedDuty}
+use Rattle.rv_book.proofs.Words.{◌≡◌, ◌∙◌, ◌+◌, Option, length, refl, sym, ap, subst, side_of, OwedDuty}
 use Rattle.rv_book.proofs.Words.{OnlyAdvances, Waits, Kept, Account, IsRecorded, without_duty, FitEntries}
 use Rattle.rv_book.proofs.Words.{ends_waiting, partners_reply, told_to, account_of, BookState, AreBelow}
+use Rattle.rv_book.proofs.Words.{owed_at}
 use Rattle.rv_book.proofs.Recording.{arrives, fit_after, least, meets, named, next, room_named, sees}
 use Rattle.rv_book.proofs.Recording.{sound_after, told}
 use Rattle.rv_book.proofs.Settling.{own_due, partner_due}

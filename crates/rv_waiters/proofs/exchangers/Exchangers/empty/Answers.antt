@@ -1,5 +1,6 @@
 -- At each exchanger that was made nobody waits.
-use Rattle.rv_waiters.proofs.Words.{◌≡◌, ◌∷◌, ◌++◌, ◌∙◌, [], length, sym, ap, subst, arith, length-append, AllFree}
+use Rattle.rv_waiters.proofs.Words.{◌≡◌, ◌∷◌, ◌++◌, ◌∙◌, [], length, sym, ap, subst, arith, length-append}
+use Rattle.rv_waiters.proofs.Words.{AllFree}
 use Rattle.rv_waiters.proofs.Exchanging.{append_free, none_free}
 use Rattle.rv_waiters.proofs.exchangers.Exchangers.empty.Goals as goal
 

@@ -1,5 +1,6 @@
 -- Each queue that was made is empty.
-use Rattle.rv_waiters.proofs.Words.{◌≡◌, ◌∷◌, ◌++◌, ◌∙◌, [], length, sym, ap, subst, arith, length-append, AllEmpty}
+use Rattle.rv_waiters.proofs.Words.{◌≡◌, ◌∷◌, ◌++◌, ◌∙◌, [], length, sym, ap, subst, arith, length-append}
+use Rattle.rv_waiters.proofs.Words.{AllEmpty}
 use Rattle.rv_waiters.proofs.Tabled.{append_empty, none_empty}
 use Rattle.rv_waiters.proofs.queues.Queues.empty.Goals as goal
 

@@ -1,5 +1,6 @@
 -- What the arrival did in its queue or at its exchanger is what it did to all who wait.
-use Rattle.rv_waiters.proofs.Words.{◌∙◌, Some, refl, sym, subst, Exchanges, Gives, Takes, side_of, wait_of, ArrivedOn, AreBelow, Waiters}
+use Rattle.rv_waiters.proofs.Words.{◌∙◌, Some, refl, sym, subst, Exchanges, Gives, Takes, side_of, wait_of}
+use Rattle.rv_waiters.proofs.Words.{ArrivedOn, AreBelow, Waiters}
 use Rattle.rv_waiters.specs.Meeting.{HasRoomOn}
 use Rattle.rv_waiters.proofs.Exchanging.{arrived_exchanges}
 use Rattle.rv_waiters.proofs.Parking.{room_to_give, room_to_take}
