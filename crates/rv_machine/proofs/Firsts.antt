@@ -1,5 +1,5 @@
 -- The first of a line is closed.
-use Rattle.std.proofs.Common.{◌≡◌, ◌≢◌, ◌∷◌, ◌∙◌, ◌+◌, ℕ, zero, suc, List, [], Bool, true, false, cond, not}
+use Rattle.std.proofs.Common.{◌≡◌, ◌≢◌, ◌∷◌, ◌∙◌, ◌+◌, ◌-◌, ℕ, zero, suc, List, [], Bool, true, false, cond, not}
 use Rattle.std.proofs.Common.{Option, Some, None, IsSome, is_some, refl, sym, ap, subst, arith, slice_get, nat_eq}
 use Rattle.std.specs.Prelude.{option_and_then, option_map}
 use Rattle.std.proofs.lemmas.Bool.{eq-eqb, eqb-true, false≢true}
@@ -12,11 +12,12 @@ use Rattle.rv_state.proofs.Filtered.{filter_get, rises_left}
 use Rattle.rv_state.proofs.SideLines.{same_side_is}
 use Rattle.rv_waiters.specs.Parked.{AreParked}
 use Rattle.rv_waiters.specs.Views.{Waiters, waiting_on}
-use Rattle.rv_machine.specs.Opens.{PlacesRise, duty_at, facing, found_at, line_in, owed_in, without}
+use Rattle.rv_machine.specs.Opens.{PlacesRise, duty_at, facing, found_at, line_in, owed_in, waiting_in, without}
+use Rattle.rv_machine.specs.Opens.{without_limit}
 use Rattle.rv_machine.specs.Indexed.{AreIndexed, Closes, ClosesFirst}
 use Rattle.rv_machine.proofs.Closing.{line_without}
 use Rattle.rv_machine.proofs.Fronts.{line_found}
-use Rattle.rv_machine.proofs.Indexing.{LeftLine}
+use Rattle.rv_machine.proofs.Indexing.{LeftLine, closed_all, one_less}
 use Rattle.rv_machine.proofs.Parted.{others_pass}
 
 -- the first of a line, which left it
@@ -35,6 +36,11 @@ same_tail x p xs ps is = cc
 
 no_first : (p : ℕ) (ps : List ℕ) → [] ≡ p ∷ ps → ⊥
 no_first p ps is = cc
+
+-- a list without places is empty
+pub no_places : (line : List OpenPlace) → place_list line ≡ [] → line ≡ []
+no_places [] is = refl
+no_places (x ∷ line) is = absurd (no_first x.place (place_list line) (sym is))
 
 -- without the first of a rising list the rest is left
 rest_of : (x : OpenPlace) (xs : List OpenPlace) → PlacesRise (x ∷ xs) → without (x ∷ xs) x.place ≡ xs
@@ -82,11 +88,12 @@ module _ (all : List OpenPlace) (old new : Waiters) (waiting : ℕ) (due : Deadl
 
 -- what its duty is, and how many wait
 pub count_owed : (there : OpenPlace) (duty : Option OwedDuty) → duty_at there ≡ duty
-    → cond (is_some duty) 1 0 ≡ cond (is_some there.waiter) 1 0
-count_owed there duty owed = ap (λ (o : Option OwedDuty). cond (is_some o) 1 0) (sym owed) ∙ by_waiter there.waiter
+    → is_some {T = OwedDuty} duty ≡ is_some {T = Waiter} there.waiter
+count_owed there duty owed = ap (λ (o : Option OwedDuty). is_some o) (sym owed) ∙ by_waiter there.waiter
   where
-    by_waiter : (w : Option Waiter) → cond (is_some (option_map (λ x. record { place = there.place; client = x.key.client }) w)) 1 0
-        ≡ cond (is_some w) 1 0
+    by_waiter : (w : Option Waiter)
+        → is_some {T = OwedDuty} (option_map (λ x. record { place = there.place; client = x.key.client }) w)
+        ≡ is_some {T = Waiter} w
     by_waiter None = refl
     by_waiter (Some w) = refl
 
@@ -107,3 +114,25 @@ closes_first all new side place there duty found at line owed rest =
       };
       first = line ∙ ap (λ (l : List OpenPlace). there ∷ line_in l side) (sym rest);
     }
+
+-- how many wait with it, and without it
+pub count_first : (all : List OpenPlace) (waiters : Waiters) (waiting : ℕ) (due : Deadlines) (place : ℕ)
+    (there : OpenPlace) (duty : Option OwedDuty) → AreIndexed all waiters waiting due
+    → found_at all place ≡ Some there → duty_at there ≡ duty
+    → waiting ≡ waiting_in (without all place) + cond (is_some duty) 1 0
+count_first all waiters waiting due place there duty is found owed =
+    is.counted ∙ one_less all place there is.rise found
+    ∙ ap (λ b. waiting_in (without all place) + cond b 1 0) (sym (count_owed there duty owed))
+
+-- what is closed leaves the tables of all others
+pub closed_first : (all rest : List OpenPlace) (old new : Waiters) (waiting left count : ℕ) (due after : Deadlines)
+    (place : ℕ) (there : OpenPlace) (duty : Option OwedDuty) → AreIndexed all old waiting due
+    → found_at all place ≡ Some there → duty_at there ≡ duty → count ≡ cond (is_some duty) 1 0
+    → rest ≡ without all place → LeftLine all old new there → left ≡ waiting - count
+    → after ≡ without_limit there.limit place due → AreIndexed rest new left after
+closed_first all rest old new waiting left count due after place there duty is found owed number rest_is gone
+    less after_is =
+    let counted = count_first all old waiting due place there duty is found owed in
+    closed_all all rest old new waiting left due after place there is found rest_is gone
+    (omega (arith, counted, number, less) ∙ ap (λ n. left + n) number
+    ∙ ap (λ b. left + cond b 1 0) (count_owed there duty owed)) after_is

@@ -1,6 +1,6 @@
 //! What is open, with the tables by which it is found: who waits on each side, how many, and until when.
 ghost use Rattle.std.specs.Prelude.{◌≡◌, [], ◌∷◌, ◌++◌, None, Some, IfOk, IfSome, IfNone, OnOk, OnErr, length};
-ghost use Rattle.std.specs.Prelude.{option_map, slice_get};
+ghost use Rattle.std.specs.Prelude.{cond, is_some, option_map, slice_get};
 ghost use Rattle.rv_text.specs.Limits.{FitsQueue, FitsSide};
 ghost use Rattle.rv_text.specs.declared.call.Side.TheVariants.{Gives, Takes};
 ghost use Rattle.rv_machine.specs.Opens.{due_in, found_at, line_in, opposed_in, waiting_in, without_limit};
@@ -44,6 +44,13 @@ fn forget(due: &mut Due, limit: Option<u64>, place: Place)
     if let Some(limit) = limit {
         due.remove(limit, place);
     }
+}
+
+// How many requests a duty is for, one or none.
+fn owing(duty: &Option<Duty>) -> usize
+    ensures { result ≡ cond (is_some duty.now) 1 0 }
+{
+    usize::from(duty.is_some())
 }
 
 impl OpenTable {
@@ -135,7 +142,7 @@ impl OpenTable {
         let (duty, place) = self.waiters.take_front(Side::Takes(queue))?;
         let there = self.opens.take(place).unwrap();
         forget(&mut self.due, there.limit, place);
-        self.waiting -= usize::from(duty.is_some());
+        self.waiting -= owing(&duty);
         Some((there, duty))
     }
 }
