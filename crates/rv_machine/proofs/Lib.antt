@@ -6,3 +6,4 @@ pub mod DueFirst
 pub mod Indexing
 pub mod Fronts
 pub mod Firsts
+pub mod Meetings

@@ -1,16 +1,20 @@
 //! What is open, with the tables by which it is found: who waits on each side, how many, and until when.
 ghost use Rattle.std.specs.Prelude.{◌≡◌, [], ◌∷◌, ◌++◌, None, Some, IfOk, IfSome, IfNone, OnOk, OnErr, length};
 ghost use Rattle.std.specs.Prelude.{cond, is_some, option_map, slice_get};
+ghost use Rattle.std.specs.Prelude.{◌<◌};
+ghost use Rattle.rv_account.specs.Calls.{opposite};
+ghost use Rattle.rv_text.specs.Calls.{side_of, wait_of};
 ghost use Rattle.rv_text.specs.Limits.{FitsQueue, FitsSide};
 ghost use Rattle.rv_text.specs.declared.call.Side.TheVariants.{Gives, Takes};
-ghost use Rattle.rv_machine.specs.Opens.{due_in, found_at, line_in, opposed_in, waiting_in, without_limit};
+ghost use Rattle.rv_machine.specs.Opens.{StandBelow, due_in, found_at, line_in, opposed_in, waiting_in};
+ghost use Rattle.rv_machine.specs.Opens.{without_limit};
 ghost use Rattle.rv_machine.specs.Indexed.{Closes, ClosesDue, ClosesFirst, WaitsIn};
 
 use crate::opens::Opens;
 use rv_due::Due;
 use rv_session::{Duty, OpenPlace, Place};
-use rv_text::{NoMemory, Side};
-use rv_waiters::Waiters;
+use rv_text::{Call, NoMemory, Side};
+use rv_waiters::{Arrived, Waiters};
 use std::alloc::Global;
 use std::marker::Model;
 
@@ -23,6 +27,16 @@ pub(crate) struct OpenTable {
     waiting: usize,
     // The limits of those that have one, with their places.
     due: Due,
+}
+
+/// What became of an arrival that met somebody.
+pub(crate) struct Met {
+    /// What stood at the place that it met.
+    pub(crate) there: OpenPlace,
+    /// Its own duty.
+    pub(crate) own: Duty,
+    /// The duty to settle who waited there, if somebody did.
+    pub(crate) other: Option<Duty>,
 }
 
 impl Model for OpenTable {
@@ -144,5 +158,29 @@ impl OpenTable {
         forget(&mut self.due, there.limit, place);
         self.waiting -= owing(&duty);
         Some((there, duty))
+    }
+
+    /// An arrival with a call meets the oldest that it can meet, which there must be. Its place must be above all that
+    /// are open.
+    pub(crate) fn meet(&mut self, call: &Call, duty: Duty) -> Met
+        requires fits { FitsSide (side_of call.now) }
+        requires some { 0 < length (opposed_in self.old (side_of call.now)) }
+        requires above { StandBelow self.old duty.place }
+        ensures own { result.own ≡ duty }
+        ensures met { ClosesFirst self.old self.new (opposite (side_of call.now)) result.there result.other }
+    {
+        let Arrived {
+            partner,
+            own,
+            other,
+        } = self.waiters.arrive(call, duty);
+        let there = self.opens.take(partner.unwrap()).unwrap();
+        forget(&mut self.due, there.limit, there.place);
+        self.waiting -= owing(&other);
+        Met {
+            there,
+            own: own.unwrap(),
+            other,
+        }
     }
 }
