@@ -11,7 +11,6 @@ use Rattle.rv_text.specs.declared.call.Side.TheVariants.{Gives, Takes, Looks, Ex
 use Rattle.rv_text.specs.declared.answer.Reply.{Reply}
 use Rattle.rv_text.specs.Calls.{side_of}
 use Rattle.rv_account.specs.Calls.{opposite}
-
 -- ---- what is open, and clients
 
 -- who waits at a place, and the moment of its arrival, which no step asks for
