@@ -27,7 +27,6 @@ use Rattle.rv_state.specs.State.{OpenPlace, Waiter, LastRequest, ClientState, St
 use Rattle.rv_state.specs.State.{opposites}
 use Rattle.rv_state.specs.State.{open_at, client_at, client_waits, call_waiting}
 use Rattle.rv_session.specs.declared.client.LastRequest.TheVariants.{Fresh, Waits, RepliedTo, CancelledUnseen}
-
 -- a request that waited, which has its reply; and a client with another last request
 pub use Rattle.rv_session.specs.Clients.{answered, with_request}
 

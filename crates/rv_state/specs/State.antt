@@ -3,15 +3,11 @@ use Rattle.std.specs.Prelude.{ℕ, Bool, false, List, [], map, find, filter, len
 use Rattle.std.specs.Prelude.{is_some, option_and_then}
 use Rattle.std.specs.FinMap.{FinMap, empty, get}
 use Rattle.std.specs.Ordering.{nat_cmp}
-use Rattle.rv_text.specs.declared.version.Version.{Version}
-use Rattle.rv_text.specs.declared.message.Key.{Key}
 use Rattle.rv_text.specs.declared.call.Call.{Call}
 use Rattle.rv_text.specs.declared.call.Side.{Side}
 use Rattle.rv_text.specs.declared.call.Side.TheVariants.{Gives, Takes, Looks, Exchanges}
-use Rattle.rv_text.specs.declared.answer.Reply.{Reply}
 use Rattle.rv_text.specs.Calls.{side_of}
 use Rattle.rv_account.specs.Calls.{opposite}
-
 -- ---- what is open, and clients
 
 -- who waits at a place, and the moment of its arrival, which no step asks for
