@@ -1,0 +1,116 @@
+-- The state that a machine holds, what always holds of it, and what a step tells.
+use Rattle.std.specs.Prelude.{◌≡◌, ◌+◌, ◌≤◌, ◌++◌, ℕ, List, map, Option, Some, None, IsSome, slice_get}
+use Rattle.std.specs.Prelude.{vec_capacity, vec_len}
+use Rattle.rv_text.specs.declared.message.Key.{Key}
+use Rattle.rv_text.specs.declared.message.Message.{Message}
+use Rattle.rv_text.specs.declared.call.Call.{Call}
+use Rattle.rv_text.specs.declared.call.Side.TheVariants.{Gives}
+use Rattle.rv_text.specs.declared.answer.Answer.{Answer}
+use Rattle.rv_text.specs.declared.answer.Answer.TheVariants as answer
+use Rattle.rv_text.specs.Calls.{item_of, side_of, wait_of}
+use Rattle.rv_session.specs.declared.client.LastRequest.TheVariants.{Waits}
+use Rattle.rv_account.specs.declared.entry.Entry.{Entry}
+use Rattle.rv_rules.specs.Steps.{max_clients, max_entries, max_moment}
+use Rattle.rv_state.specs.State.{ClientState, OpenPlace, State, Waiter, client_at}
+use Rattle.rv_state.specs.After.{Settled}
+use Rattle.rv_state.specs.Moves.{Move, StateNextAt, answer_told, told_again}
+use Rattle.rv_machine.specs.declared.machine.Machine.{Machine}
+use Rattle.rv_machine.specs.declared.machine.Said.{Said}
+use Rattle.rv_machine.specs.declared.machine.Said.TheVariants as said
+use Rattle.rv_machine.specs.Opens.{PlacesRise, StandBelow, found_at, waiting_in}
+
+-- ---- what a machine holds
+
+-- the state that its tables are
+abbrev pub state_in : Machine → State
+state_in m =
+    record {
+      epoch = m.clients.epoch;
+      moment = m.moment;
+      length = m.length;
+      open_places = m.table;
+      clients = m.clients.clients;
+    }
+
+-- ---- what holds of such a state
+
+-- the key of a session's last number
+abbrev pub last_key : State → ℕ → ClientState → Key
+last_key s client session =
+    record {
+      epoch = s.epoch;
+      client = client;
+      incarnation = session.incarnation;
+      number = session.last;
+    }
+
+-- who waits at an open place is its client's last request, with the side and the item of its call
+pub record IsWaiter (s : State) (there : OpenPlace) (w : Waiter) : Type 0 where
+  pub session : ClientState
+  pub known : client_at s w.key.client ≡ Some session
+  pub key_is : w.key ≡ last_key s w.key.client session
+  pub call : Call
+  pub waits : session.request ≡ Waits there.place call
+  pub side : there.side ≡ side_of call
+  pub item : there.item ≡ item_of call
+  pub lasts : IsSome (wait_of call)
+
+-- a request of the client waits at the open place
+pub record WaitsFor (s : State) (client place : ℕ) : Type 0 where
+  pub there : OpenPlace
+  pub found : found_at s.open_places place ≡ Some there
+  pub waiter : Waiter
+  pub waits : there.waiter ≡ Some waiter
+  pub client_is : waiter.key.client ≡ client
+
+-- a put's item lies at the open place
+pub record LiesThere (there : OpenPlace) : Type 0 where
+  pub queue : ℕ
+  pub side : there.side ≡ Gives queue
+  pub item : List ℕ
+  pub has : there.item ≡ Some item
+
+-- the open places rise, all below the number of entries; who waits and the clients that wait are the same;
+-- moments and entries are within their limits
+pub record IsConsistent (s : State) : Type 0 where
+  pub rise : PlacesRise s.open_places
+  pub below : StandBelow s.open_places s.length
+  pub waiters : (i : ℕ) (there : OpenPlace) (w : Waiter) → slice_get s.open_places i ≡ Some there
+      → there.waiter ≡ Some w → IsWaiter s there w
+  pub lie : (i : ℕ) (there : OpenPlace) → slice_get s.open_places i ≡ Some there → there.waiter ≡ None
+      → LiesThere there
+  pub clients : (client : ℕ) (session : ClientState) (place : ℕ) (call : Call)
+      → client_at s client ≡ Some session → session.request ≡ Waits place call → WaitsFor s client place
+  pub time : s.moment ≤ max_moment
+  pub space : s.length + waiting_in s.open_places ≤ max_entries
+
+-- and the machine has room to list whoever waits among those that a step settles
+pub record IsReady (m : Machine) : Type 0 where
+  pub consistent : IsConsistent (state_in m)
+  pub most : m.clients.most ≡ max_clients
+  pub room : waiting_in m.table + vec_len m.settled ≤ vec_capacity m.settled
+
+-- ---- what a step tells
+
+-- the keys of those that were settled
+abbrev pub keys_settled : List Settled → List Key
+keys_settled settles = map (λ x. x.key) settles
+
+-- what is said of a step, with what the session of a key has as its reply in the state after it
+abbrev pub Says : State → Said → Answer → Type 0
+Says s (said.Welcome epoch client incarnation version) a = a ≡ answer.Welcome epoch client incarnation version
+Says s (said.Told key) a =
+    (session : ClientState) × (client_at s key.client ≡ Some session)
+    × (a ≡ answer_told key (told_again session.request))
+Says s (said.Refused refusal) a = a ≡ answer.Refused refusal
+
+-- one move of the state for a message at a moment: these entries were made, this is said, and these keys
+-- were settled
+pub record MovesBy (old new : Machine) (moment : ℕ) (m : Message) (entries : List Entry) (told : Said) : Type 0
+  where
+    pub move : Move
+    pub moves : StateNextAt (state_in old) moment m move
+    pub makes : entries ≡ move.entries
+    pub says : Says (state_in new) told move.answer
+    pub settles : new.settled.items ≡ old.settled.items ++ keys_settled move.settles
+    pub after : state_in new ≡ move.after

@@ -1,0 +1,75 @@
+//! The machine of a book: the state of an account in tables, and what changes them together.
+ghost use Rattle.std.specs.Prelude.{◌≡◌, ◌++◌, ◌∷◌, []};
+ghost use Rattle.rv_machine.specs.Indexed.{WaitsIn};
+ghost use Rattle.rv_machine.specs.Machines.{IsReady, state_in};
+ghost use Rattle.rv_machine.specs.Ending.{EndsWaiting, counted};
+ghost use Rattle.std.specs.Prelude.{◌<◌, ◌≤◌, ◌+◌};
+ghost use Rattle.rv_account.specs.Account.{entry};
+ghost use Rattle.rv_rules.specs.Steps.{max_entries, max_moment};
+ghost use Rattle.rv_machine.specs.Opens.{waiting_in};
+
+use crate::table::OpenTable;
+use rv_account::{Act, Entry, Partners};
+use rv_session::{Clients, Place};
+use rv_text::{Key, Refusal, Reply, Version};
+use std::alloc::Global;
+
+/// What is said of a step. An answer is made of it, and of the state after the step.
+#[derive(Clone, Copy, Debug, PartialEq, Eq)]
+pub enum Said {
+    /// A welcome: the epoch, the client, its incarnation and its version.
+    Welcome(u64, u64, u64, Version),
+    /// The request of this key has the reply that its session keeps, or waits.
+    Told(Key),
+    /// The message was refused.
+    Refused(Refusal),
+}
+
+/// The machine: the state of an account, without its entries.
+#[derive(Drop)]
+pub struct Machine {
+    pub(crate) moment: u64,
+    // How many entries there were.
+    pub(crate) length: usize,
+    pub(crate) table: OpenTable,
+    pub(crate) clients: Clients,
+    // The keys that the step has settled so far.
+    pub(crate) settled: Vec<Key>,
+}
+
+impl Machine {
+    /// Ends the wait of the request at a place, which has this reply now, and lists its key.
+    pub(crate) fn end(&mut self, place: Place, reply: Reply)
+        requires ready { IsReady self.old }
+        requires waits { WaitsIn self.old.table place }
+        ensures ready { IsReady self.new }
+        ensures ends { EndsWaiting self.old self.new place reply }
+    {
+        let (there, duty) = self.table.close(place);
+        self.settled.push(there.waiter.unwrap().key).unwrap();
+        self.clients.settle(duty, reply);
+    }
+
+    /// Counts one entry more, of a moment, and gives it. There must be room for it among the entries.
+    pub(crate) fn record(&mut self, moment: u64, act: Act, partners: Partners) -> Entry
+        requires ready { IsReady self.old }
+        requires time { moment ≤ max_moment }
+        requires space { self.old.length + waiting_in self.old.table < max_entries }
+        ensures entry { result ≡ entry moment act partners }
+        ensures ready { IsReady self.new }
+        ensures counted { self.new ≡ counted self.old moment }
+    {
+        self.length += 1;
+        self.moment = moment;
+        Entry {
+            moment,
+            act,
+            partners,
+        }
+    }
+
+    /// The allocator that the machine keeps.
+    pub(crate) fn allocator(&self) -> Global {
+        *self.settled.allocator()
+    }
+}
