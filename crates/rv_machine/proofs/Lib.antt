@@ -7,3 +7,7 @@ pub mod Indexing
 pub mod Fronts
 pub mod Firsts
 pub mod Meetings
+pub mod Told
+pub mod EndingOne
+pub mod Recorded
+pub mod EndedMachine
