@@ -11,3 +11,4 @@ pub mod Told
 pub mod EndingOne
 pub mod Recorded
 pub mod EndedMachine
+pub mod Parking
