@@ -62,9 +62,10 @@ taken_back all o below =
     apart_below : (a b : ℕ) → a < b → not (nat_eq a b) ≡ true
     apart_below a b less = grind (arith, nat_tests)
 
-pub on_err_back : {T E X : Type 0} {a b c : X} (r : Result T E) → OnErr r (a ≡ b) → b ≡ c → OnErr r (a ≡ c)
-on_err_back (Ok x) is then = is
-on_err_back (Err x) is then = is ∙ then
+pub on_err_back : {T E : Type 0} (a b c : List OpenPlace) (r : Result T E) → OnErr r (a ≡ b) → b ≡ c
+    → OnErr r (a ≡ c)
+on_err_back a b c (Ok x) is then = is
+on_err_back a b c (Err x) is then = is ∙ then
 
 -- ---- one more
 

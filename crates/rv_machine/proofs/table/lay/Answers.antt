@@ -7,6 +7,6 @@ use Rattle.rv_machine.proofs.table.lay.Goals as goal
 
 pub returns-in-Some-clause-opens : goal.returns-in-Some-clause-opens
 returns-in-Some-clause-opens c =
-    on_err_back c.lay_limit.result c.lay_limit.ensures.opens
+    on_err_back _ _ _ c.lay_limit.result c.lay_limit.ensures.opens
     (ap (λ (l : List OpenPlace). without l c.args.opened.place) c.in_ok-push.ensures.ok
     ∙ taken_back c.args.opens.now c.args.opened c.requires)
