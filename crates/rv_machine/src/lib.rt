@@ -3,6 +3,7 @@
 
 mod machine;
 mod opens;
+mod stays;
 mod table;
 
 pub use machine::{Machine, Said};
