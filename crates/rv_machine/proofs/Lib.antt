@@ -12,3 +12,6 @@ pub mod EndingOne
 pub mod Recorded
 pub mod EndedMachine
 pub mod Parking
+pub mod Concluded
+pub mod Leaving
+pub mod Lying
