@@ -15,3 +15,6 @@ pub mod Parking
 pub mod Asked
 pub mod Stayed
 pub mod StayedMachine
+pub mod Concluded
+pub mod Leaving
+pub mod Lying
