@@ -7,3 +7,4 @@ pub mod Indexing
 pub mod Fronts
 pub mod Firsts
 pub mod Meetings
+pub mod KeyLines

@@ -4,3 +4,4 @@ pub mod Indexed
 -- The state that a machine holds, and what a step of it tells.
 pub mod Machines
 pub mod Ending
+pub mod Numbering
