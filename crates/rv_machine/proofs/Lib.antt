@@ -8,3 +8,7 @@ pub mod Fronts
 pub mod Firsts
 pub mod Meetings
 pub mod KeyLines
+pub mod Stopping
+pub mod InTurn
+pub mod Numbered
+pub mod Idle

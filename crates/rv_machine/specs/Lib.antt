@@ -5,3 +5,5 @@ pub mod Indexed
 pub mod Machines
 pub mod Ending
 pub mod Numbering
+pub mod Ticking
+pub mod Entering

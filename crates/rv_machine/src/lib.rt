@@ -1,8 +1,12 @@
 //! The machine of a book: its tables are the state of an account, and its steps are those of the state.
 #![tactic(auto)]
 
+mod cancels;
+mod hellos;
 mod machine;
 mod opens;
+mod space;
 mod table;
+mod ticks;
 
 pub use machine::{Machine, Said};
