@@ -123,7 +123,7 @@ less_open es new k opens is =
     })
 
 -- what stands in a list with one more at its end stands before it, or is that one
-in_end : (v o : OpenPlace) (j : ℕ) → slice_get (v ∷ []) j ≡ Some o → v ≡ o
+pub in_end : (v o : OpenPlace) (j : ℕ) → slice_get (v ∷ []) j ≡ Some o → v ≡ o
 in_end v o zero at = same_Some _ _ at
 in_end v o (suc j) at = absurd (none-some o at)
 

@@ -16,7 +16,7 @@ use Rattle.rv_session.specs.ClientMeanings.{LacksState, RefusalSays}
 use Rattle.rv_state.specs.State.{ClientState, State, client_at}
 use Rattle.rv_state.specs.Moves.{EpochDiffers, IncarnationOld, NumberAbove, NumberIsLast, NumberOld}
 use Rattle.rv_state.specs.Moves.{SessionBusy, SessionLacks, StateKeyLines}
-use Rattle.rv_state.specs.Follows.{IsNewIncarnation}
+use Rattle.rv_state.specs.Follows.{IsNewIncarnation, NumberIsNext}
 use Rattle.rv_state.proofs.Words.{none-some, same_Some}
 use Rattle.rv_machine.specs.Numbering.{AreNumbered, IsNumbered}
 use Rattle.rv_machine.specs.Machines.{state_in}
@@ -208,7 +208,7 @@ module _ (s : State) (key : Key) (refuses : Refusal → Type 0) (at_last above :
 -- ---- by what stands of the key
 
 -- where the last request of the key's client waits
-awaited_there : (t : ClientStates) (client : ℕ) (x : ClientState) (o : Option ℕ) → get t.clients client ≡ Some x
+pub awaited_there : (t : ClientStates) (client : ℕ) (x : ClientState) (o : Option ℕ) → get t.clients client ≡ Some x
     → place_awaited t.clients client ≡ o → place_waiting x.request ≡ o
 awaited_there t client x o there waits =
     sym (ap (option_and_then (λ (c : ClientState). place_waiting c.request)) there) ∙ waits
@@ -282,3 +282,16 @@ module _ (m : Machine) (key : Key) (refuses : Refusal → Type 0) (at_last above
       next_lines (state_in m) key refuses at_last above says.state says.of_key.epoch says.of_key.there
       says.of_key.incarnation says.number
       (awaited_there m.clients key.client says.state None says.of_key.there says.idle) then
+
+-- the next number of the table is that of the state
+pub number_next : (m : Machine) (key : Key) → AsksNext m.clients key → NumberIsNext (state_in m) key
+number_next m key says = record {
+  session = says.state;
+  of_session = record {
+    epoch = says.of_key.epoch;
+    there = says.of_key.there;
+    incarnation = says.of_key.incarnation;
+  };
+  next = says.number;
+  idle = awaited_there m.clients key.client says.state None says.of_key.there says.idle;
+}

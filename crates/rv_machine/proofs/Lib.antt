@@ -7,8 +7,17 @@ pub mod Indexing
 pub mod Fronts
 pub mod Firsts
 pub mod Meetings
+pub mod Told
+pub mod EndingOne
+pub mod Recorded
+pub mod EndedMachine
+pub mod Parking
 pub mod KeyLines
 pub mod Stopping
 pub mod InTurn
 pub mod Numbered
 pub mod Idle
+pub mod EndedLast
+pub mod HelloLines
+pub mod Staying
+pub mod HelloMoves

@@ -7,3 +7,4 @@ pub mod Ending
 pub mod Numbering
 pub mod Ticking
 pub mod Entering
+pub mod Arriving

@@ -10,6 +10,7 @@ use Rattle.rv_text.specs.declared.answer.Answer.TheVariants as answer
 use Rattle.rv_text.specs.Calls.{item_of, side_of, wait_of}
 use Rattle.rv_session.specs.declared.client.LastRequest.TheVariants.{Waits}
 use Rattle.rv_account.specs.declared.entry.Entry.{Entry}
+use Rattle.rv_account.specs.Calls.{Lasts}
 use Rattle.rv_rules.specs.Steps.{max_clients, max_entries, max_moment}
 use Rattle.rv_state.specs.State.{ClientState, OpenPlace, State, Waiter, client_at}
 use Rattle.rv_state.specs.After.{Settled}
@@ -44,6 +45,10 @@ last_key s client session =
       number = session.last;
     }
 
+-- the call waits for a partner, and past the moment of its arrival
+abbrev pub WaitsLong : Call → Type 0
+WaitsLong call = IsSome (wait_of call) × Lasts (wait_of call)
+
 -- who waits at an open place is its client's last request, with the side and the item of its call
 pub record IsWaiter (s : State) (there : OpenPlace) (w : Waiter) : Type 0 where
   pub session : ClientState
@@ -53,7 +58,7 @@ pub record IsWaiter (s : State) (there : OpenPlace) (w : Waiter) : Type 0 where
   pub waits : session.request ≡ Waits there.place call
   pub side : there.side ≡ side_of call
   pub item : there.item ≡ item_of call
-  pub lasts : IsSome (wait_of call)
+  pub lasts : WaitsLong call
 
 -- a request of the client waits at the open place
 pub record WaitsFor (s : State) (client place : ℕ) : Type 0 where

@@ -46,7 +46,7 @@ impl Machine {
         ensures ends { EndsWaiting self.old self.new place reply }
     {
         let (there, duty) = self.table.close(place);
-        self.settled.push(there.waiter.unwrap().key).unwrap();
+        self.settled.push_reserved(there.waiter.unwrap().key);
         self.clients.settle(duty, reply);
     }
 

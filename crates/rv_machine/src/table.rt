@@ -1,19 +1,20 @@
 //! What is open, with the tables by which it is found: who waits on each side, how many, and until when.
 ghost use Rattle.std.specs.Prelude.{◌≡◌, [], ◌∷◌, ◌++◌, None, Some, IfOk, IfSome, IfNone, OnOk, OnErr, length};
 ghost use Rattle.std.specs.Prelude.{cond, is_some, option_map, slice_get};
-ghost use Rattle.std.specs.Prelude.{◌<◌};
+ghost use Rattle.std.specs.Prelude.{◌<◌, IsSome};
+ghost use Rattle.std.specs.FinMap.{get};
 ghost use Rattle.rv_account.specs.Calls.{opposite};
 ghost use Rattle.rv_text.specs.Calls.{side_of, wait_of};
 ghost use Rattle.rv_text.specs.Limits.{FitsQueue, FitsSide};
 ghost use Rattle.rv_text.specs.declared.call.Side.TheVariants.{Gives, Takes};
 ghost use Rattle.rv_machine.specs.Opens.{StandBelow, due_in, found_at, line_in, opposed_in, waiting_in};
-ghost use Rattle.rv_machine.specs.Opens.{without_limit};
-ghost use Rattle.rv_machine.specs.Indexed.{Closes, ClosesDue, ClosesFirst, WaitsIn};
+ghost use Rattle.rv_machine.specs.Opens.{with_limit, without, without_limit};
+ghost use Rattle.rv_machine.specs.Indexed.{Closes, ClosesDue, ClosesFirst, MayPark, Parks, WaitsIn};
 
 use crate::opens::Opens;
 use rv_due::Due;
-use rv_session::{Duty, OpenPlace, Place};
-use rv_text::{Call, NoMemory, Side};
+use rv_session::{Clients, Duty, OpenPlace, Place};
+use rv_text::{Call, Key, NoMemory, Side};
 use rv_waiters::{Arrived, Waiters};
 use std::alloc::Global;
 use std::marker::Model;
@@ -60,11 +61,59 @@ fn forget(due: &mut Due, limit: Option<u64>, place: Place)
     }
 }
 
+// Lays an open place into the map and its limit among the deadlines. Fails only if memory was refused, and then both stay.
+fn lay(opens: &mut Opens, due: &mut Due, opened: OpenPlace) -> Result<(), NoMemory>
+    requires { StandBelow opens.old opened.place }
+    ensures opened { OnOk result (opens.new ≡ opens.old ++ opened ∷ []) }
+    ensures limit { OnOk result (due.new ≡ with_limit opened.limit opened.place due.old) }
+    ensures opens { OnErr result (opens.new ≡ opens.old) }
+    ensures due { OnErr result (due.new ≡ due.old) }
+{
+    let (place, limit) = (opened.place, opened.limit);
+    opens.push(opened)?;
+    match limit {
+        Some(limit) => lay_limit(opens, due, limit, place),
+        None => Ok(()),
+    }
+}
+
+// Lays the limit of the place that was opened last among the deadlines, or else takes that place out again.
+fn lay_limit(opens: &mut Opens, due: &mut Due, limit: u64, place: Place) -> Result<(), NoMemory>
+    ensures opened { OnOk result (opens.new ≡ opens.old) }
+    ensures limit { OnOk result (due.new ≡ with_limit (Some limit) place due.old) }
+    ensures opens { OnErr result (opens.new ≡ without opens.old place) }
+    ensures due { OnErr result (due.new ≡ due.old) }
+{
+    match due.add(limit, place) {
+        Ok(()) => Ok(()),
+        Err(refused) => {
+            opens.take(place);
+            Err(refused)
+        }
+    }
+}
+
 // How many requests a duty is for, one or none.
 fn owing(duty: &Option<Duty>) -> usize
     ensures { result ≡ cond (is_some duty.now) 1 0 }
 {
     usize::from(duty.is_some())
+}
+
+// The duty of an arrival that met nobody, if it came back.
+fn parked(arrived: Arrived) -> Option<Duty>
+    requires { arrived.other ≡ None }
+    ensures { result ≡ arrived.own }
+{
+    let Arrived {
+        partner: _,
+        own,
+        other,
+    } = arrived;
+    match other {
+        None => own,
+        Some(_duty) => unreachable!(),
+    }
 }
 
 impl OpenTable {
@@ -182,5 +231,31 @@ impl OpenTable {
             own: own.unwrap(),
             other,
         }
+    }
+
+    /// An arrival that stays is open from now on, behind all others: its request is the last of its client, and its
+    /// duty comes back only where it is a put's. Fails only if memory was refused, and then nothing changes.
+    pub(crate) fn park(
+        &mut self,
+        clients: &mut Clients,
+        opened: OpenPlace,
+        key: &Key,
+        call: Call,
+        copy: &Call,
+    ) -> Result<Option<Duty>, NoMemory>
+        requires copy { copy.now ≡ call }
+        requires known { IsSome (get clients.old.clients key.now.client) }
+        requires may { MayPark self.old opened key.now call }
+        ensures ok { IfOk result (λ own. Parks self.old self.new clients.old clients.new opened key.now call own) }
+        ensures same { OnErr result (self.new ≡ self.old) }
+        ensures clients { OnErr result (clients.new ≡ clients.old) }
+    {
+        self.waiters.reserve(copy)?;
+        let place = opened.place;
+        lay(&mut self.opens, &mut self.due, opened)?;
+        let duty = clients.begin(key, place, call);
+        let own = parked(self.waiters.arrive(copy, duty));
+        self.waiting += 1 - owing(&own);
+        Ok(own)
     }
 }

@@ -1,0 +1,41 @@
+-- A machine that counted one entry more.
+use Rattle.std.proofs.Common.{◌≡◌, ◌<◌, ◌≤◌, ◌+◌, ℕ, arith}
+use Rattle.rv_rules.specs.Steps.{max_entries, max_moment}
+use Rattle.rv_machine.specs.declared.machine.Machine.{Machine}
+use Rattle.rv_machine.specs.Ending.{counted}
+use Rattle.rv_machine.specs.Machines.{IsConsistent, IsReady, IsWaiter, state_in}
+use Rattle.rv_machine.specs.Opens.{waiting_in}
+
+pub recorded_ready : (m : Machine) (moment : ℕ) → IsReady m → moment ≤ max_moment
+    → m.length + waiting_in m.table < max_entries → IsReady (counted m moment)
+recorded_ready m moment ready time space =
+    let is = ready.consistent in
+    record {
+      consistent = record {
+        rise = is.rise;
+        below = λ i one at. let less : one.place < m.length = is.below i one at in omega arith;
+        waiters = λ i there w at has. let own = is.waiters i there w at has in record {
+          session = own.session;
+          known = own.known;
+          key_is = own.key_is;
+          call = own.call;
+          waits = own.waits;
+          side = own.side;
+          item = own.item;
+          lasts = own.lasts;
+        };
+        lie = is.lie;
+        clients = λ client session place call known asked. let was = is.clients client session place call known asked
+            in record {
+              there = was.there;
+              found = was.found;
+              waiter = was.waiter;
+              waits = was.waits;
+              client_is = was.client_is;
+            };
+        time = time;
+        space = omega (arith, space);
+      };
+      most = ready.most;
+      room = ready.room;
+    }

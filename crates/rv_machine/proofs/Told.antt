@@ -1,0 +1,60 @@
+-- A map of clients where one was told its reply, or asked its next number.
+use Rattle.std.proofs.Common.{◌≡◌, ◌≢◌, ◌⊎◌, ◌∙◌, ℕ, Bool, true, false, cond, Option, Some, None, IsSome, refl}
+use Rattle.std.proofs.Common.{sym, ap, subst, inl, inr}
+use Rattle.std.specs.Cmp.{nat_cmp_total}
+use Rattle.std.specs.FinMap.{FinMap, get, get-insert, insert}
+use Rattle.std.specs.Ordering.{eq_by_cmp, nat_cmp}
+use Rattle.rv_text.specs.declared.message.Key.{Key}
+use Rattle.rv_text.specs.declared.answer.Reply.{Reply}
+use Rattle.rv_session.specs.declared.client.ClientState.{ClientState}
+use Rattle.rv_session.specs.declared.client.LastRequest.{LastRequest}
+use Rattle.rv_session.specs.Clients.{answered, clients_asked, clients_told, insert_known, with_last_number}
+use Rattle.rv_session.specs.Clients.{with_request}
+use Rattle.rv_session.proofs.Mapping.{other_client, same_client}
+
+abbrev ClientMap : Type 0
+ClientMap = FinMap nat_cmp ClientState
+
+pub put_own : (m : ClientMap) (client : ℕ) (session : ClientState) → get (insert m client session) client ≡ Some session
+put_own m client session =
+    get-insert nat_cmp_total m client session client
+    ∙ ap (λ b. cond b (Some session) (get m client)) (same_client client client refl)
+
+pub put_other : (m : ClientMap) (client other : ℕ) (session : ClientState) → other ≢ client
+    → get (insert m client session) other ≡ get m other
+put_other m client other session apart =
+    get-insert nat_cmp_total m client session other
+    ∙ ap (λ b. cond b (Some session) (get m other)) (other_client other client apart)
+
+known_own : (m : ClientMap) (client : ℕ) (becomes : ClientState → ClientState) (session : ClientState)
+    → get m client ≡ Some session
+    → get (insert_known m client becomes (get m client)) client ≡ Some (becomes session)
+known_own m client becomes session known =
+    ap (λ o. get (insert_known m client becomes o) client) known ∙ put_own m client (becomes session)
+
+known_other : (m : ClientMap) (client other : ℕ) (becomes : ClientState → ClientState) (o : Option ClientState)
+    → other ≢ client → get (insert_known m client becomes o) other ≡ get m other
+known_other m client other becomes None apart = refl
+known_other m client other becomes (Some session) apart = put_other m client other (becomes session) apart
+
+pub told_own : (m : ClientMap) (client : ℕ) (reply : Reply) (session : ClientState)
+    → get m client ≡ Some session
+    → get (clients_told m client reply) client ≡ Some (with_request session (answered reply session.request))
+told_own m client reply session known =
+    known_own m client (λ state. with_request state (answered reply state.request)) session known
+
+pub told_other : (m : ClientMap) (client other : ℕ) (reply : Reply) → other ≢ client
+    → get (clients_told m client reply) other ≡ get m other
+told_other m client other reply apart =
+    known_other m client other (λ state. with_request state (answered reply state.request)) (get m client) apart
+
+pub asked_own : (m : ClientMap) (key : Key) (request : LastRequest) (session : ClientState)
+    → get m key.client ≡ Some session
+    → get (clients_asked m key request) key.client ≡ Some (with_last_number session key.number request)
+asked_own m key request session known =
+    known_own m key.client (λ state. with_last_number state key.number request) session known
+
+pub asked_other : (m : ClientMap) (key : Key) (other : ℕ) (request : LastRequest) → other ≢ key.client
+    → get (clients_asked m key request) other ≡ get m other
+asked_other m key other request apart =
+    known_other m key.client other (λ state. with_last_number state key.number request) (get m key.client) apart

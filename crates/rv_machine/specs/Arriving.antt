@@ -1,0 +1,42 @@
+-- What it is that a request arrives at a machine.
+use Rattle.std.specs.Prelude.{◌≡◌, ◌+◌, ◌≤◌, ◌++◌, ℕ, Some}
+use Rattle.rv_text.specs.declared.message.Key.{Key}
+use Rattle.rv_text.specs.declared.call.Call.{Call}
+use Rattle.rv_text.specs.Limits.{FitsCall}
+use Rattle.rv_account.specs.declared.entry.Entry.{Entry}
+use Rattle.rv_account.specs.declared.entry.Act.TheVariants.{Arrive}
+use Rattle.rv_account.specs.Account.{entry}
+use Rattle.rv_account.specs.Calls.{need_of}
+use Rattle.rv_rules.specs.Steps.{max_entries, max_moment}
+use Rattle.rv_state.specs.State.{ClientState, client_at}
+use Rattle.rv_state.specs.After.{following}
+use Rattle.rv_state.specs.Follows.{NumberIsNext, partners_of}
+use Rattle.rv_state.specs.Moves.{told_again}
+use Rattle.rv_machine.specs.declared.machine.Machine.{Machine}
+use Rattle.rv_machine.specs.Machines.{IsReady, keys_settled, state_in}
+use Rattle.rv_machine.specs.Opens.{waiting_in}
+
+-- a request of this key with this call is its session's next, and there is room for its entries
+pub record MayArrive (m : Machine) (moment : ℕ) (key : Key) (call : Call) : Type 0 where
+  pub ready : IsReady m
+  pub later : m.moment ≤ moment
+  pub time : moment ≤ max_moment
+  pub fits : FitsCall call
+  pub next : NumberIsNext (state_in m) key
+  pub space : m.length + waiting_in m.table + need_of call ≤ max_entries
+
+-- it arrived: the state is what its entry makes of the one before, whom that settles is listed, and its
+-- session has what the entry's own reply is
+pub record Arrives (old new : Machine) (moment : ℕ) (key : Key) (call : Call) (made : Entry) : Type 0 where
+  pub made_is : made ≡ entry moment (Arrive key call) (partners_of (state_in old) (Arrive key call))
+  pub state : state_in new ≡ (following (state_in old) moment (Arrive key call)).after
+  pub settles : new.settled.items
+      ≡ old.settled.items ++ keys_settled (following (state_in old) moment (Arrive key call)).settles
+  pub session : ClientState
+  pub known : client_at (state_in new) key.client ≡ Some session
+  pub told : told_again session.request ≡ (following (state_in old) moment (Arrive key call)).reply
+
+-- nothing changed but room
+pub record IsAsBefore (old new : Machine) : Type 0 where
+  pub state : state_in new ≡ state_in old
+  pub settled : new.settled.items ≡ old.settled.items
