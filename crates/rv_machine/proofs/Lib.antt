@@ -18,3 +18,12 @@ pub mod StayedMachine
 pub mod Concluded
 pub mod Leaving
 pub mod Lying
+pub mod KeyLines
+pub mod Stopping
+pub mod InTurn
+pub mod Numbered
+pub mod Idle
+pub mod EndedLast
+pub mod HelloLines
+pub mod Staying
+pub mod HelloMoves

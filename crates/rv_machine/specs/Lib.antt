@@ -4,4 +4,7 @@ pub mod Indexed
 -- The state that a machine holds, and what a step of it tells.
 pub mod Machines
 pub mod Ending
+pub mod Numbering
+pub mod Ticking
+pub mod Entering
 pub mod Arriving

@@ -5,6 +5,10 @@ mod leaves;
 mod machine;
 mod opens;
 mod stays;
+mod cancels;
+mod hellos;
+mod space;
 mod table;
+mod ticks;
 
 pub use machine::{Machine, Said};

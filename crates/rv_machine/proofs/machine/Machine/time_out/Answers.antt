@@ -1,0 +1,21 @@
+-- The tick ends all that is due.
+use Rattle.std.proofs.Common.{◌∷◌, ◌∙◌, [], ap, subst, sym, refl}
+use Rattle.rv_account.specs.Account.{entry}
+use Rattle.rv_account.specs.declared.entry.Entry.{Entry}
+use Rattle.rv_account.specs.declared.entry.Act.TheVariants.{Tick}
+use Rattle.rv_machine.specs.Ending.{counted}
+use Rattle.rv_machine.specs.Ticking.{TimesOut}
+use Rattle.rv_machine.specs.declared.machine.Machine.{Machine}
+use Rattle.rv_machine.proofs.InTurn.{ends_more, ends_one, ticked_all}
+use Rattle.rv_machine.proofs.machine.Machine.time_out.Goals as goal
+
+pub returns-clause-ticks : goal.returns-clause-ticks
+returns-clause-ticks c =
+    let old = c.args.self.now in
+    let one = c.end_next.ensures.one c.if-not-end_next.false in
+    let ends = ends_more old c.end_next.new.self c.end_due.new.self c.args.moment
+    (ends_one old c.end_next.new.self c.args.moment one) c.end_due.ensures.ends in
+    subst (λ (m : Machine). TimesOut old m c.args.moment (c.record.result ∷ [])) (sym c.record.ensures.counted)
+    (subst (λ (e : Entry). TimesOut old (counted c.end_due.new.self c.args.moment) c.args.moment (e ∷ []))
+    (sym (c.record.ensures.entry ∙ ap (entry c.args.moment Tick) c.none-partners.ensures))
+    (ticked_all old c.end_due.new.self c.args.moment one.there _ one.first ends c.end_due.ensures.none_due))

@@ -1,0 +1,39 @@
+-- What it is to enter an entry that meets no partner: the space for it, and the clients that may enter.
+use Rattle.std.specs.Prelude.{◌≡◌, ◌+◌, ◌<◌, ◌≤◌, ◌++◌, ◌∷◌, [], ℕ, Option, Some, None}
+use Rattle.std.specs.FinMap.{len}
+use Rattle.rv_text.specs.declared.call.Call.{Call}
+use Rattle.rv_text.specs.declared.message.Key.{Key}
+use Rattle.rv_session.specs.declared.client.LastRequest.TheVariants.{Waits}
+use Rattle.rv_session.specs.ClientMeanings.{AsksLast}
+use Rattle.rv_session.specs.Clients.{place_waiting}
+use Rattle.rv_rules.specs.Steps.{max_clients, max_entries}
+use Rattle.rv_state.specs.Follows.{IsNewIncarnation}
+use Rattle.rv_state.specs.State.{ClientState, State, client_at}
+use Rattle.rv_machine.specs.declared.machine.Machine.{Machine}
+use Rattle.rv_machine.specs.Machines.{state_in}
+use Rattle.rv_machine.specs.Opens.{waiting_in}
+
+-- so many entries more can be made, beside those that end what waits
+abbrev pub HasSpace : Machine → ℕ → Type 0
+HasSpace m need = m.length + waiting_in m.table + need ≤ max_entries
+
+-- no request of the client waits
+abbrev pub IsIdle : State → ℕ → Type 0
+IsIdle s client = (session : ClientState) → client_at s client ≡ Some session
+    → place_waiting session.request ≡ None
+
+-- no request of the client waits, which is known, or can be entered without memory
+pub record CanOpen (m : Machine) (client : ℕ) : Type 0 where
+  pub idle : IsIdle (state_in m) client
+  pub most : client_at (state_in m) client ≡ None → len m.clients.clients < m.clients.most
+  pub room : client_at (state_in m) client ≡ None → 0 < m.clients.room
+
+-- the incarnation is a new one of the client, which is known, or fewer are known than there can be
+pub record IsNewHello (s : State) (client incarnation : ℕ) : Type 0 where
+  pub is_new : IsNewIncarnation s client incarnation
+  pub most : client_at s client ≡ None → len s.clients < max_clients
+
+-- the key has its session's last number, whose request waits at this place
+pub record LastWaits (m : Machine) (key : Key) (place : ℕ) : Type 0 where
+  pub call : Call
+  pub asks : AsksLast m.clients key (Waits place call)

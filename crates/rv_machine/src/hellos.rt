@@ -1,0 +1,143 @@
+//! Hellos: the first one of a client, and those of a later incarnation.
+ghost use Rattle.std.specs.Prelude.{◌≡◌, ◌≤◌, ◌<◌, ◌+◌, [], ◌∷◌, None, IfOk, IfErr, option_to_list};
+ghost use Rattle.std.specs.FinMap.{get};
+ghost use Rattle.rv_text.specs.declared.message.Message.TheVariants.{Hello};
+ghost use Rattle.rv_account.specs.Account.{entry};
+ghost use Rattle.rv_account.specs.declared.entry.Act.TheVariants as act;
+ghost use Rattle.rv_rules.specs.Steps.{max_entries, max_moment};
+ghost use Rattle.rv_session.specs.ClientMeanings.{HasLowerState};
+ghost use Rattle.rv_session.specs.Clients.{fresh_state};
+ghost use Rattle.rv_state.specs.After.{advanced, with_client};
+ghost use Rattle.rv_machine.specs.declared.machine.Said.TheVariants as said;
+ghost use Rattle.rv_machine.specs.Entering.{CanOpen, IsNewHello};
+ghost use Rattle.rv_machine.specs.Machines.{IsReady, MovesBy, state_in};
+ghost use Rattle.rv_machine.specs.Numbering.{AreNumbered};
+ghost use Rattle.rv_machine.specs.Opens.{waiting_in};
+
+use crate::machine::Machine;
+use rv_account::{Act, Entry, Partners};
+use rv_session::{Greeting, Place};
+use rv_text::{Refusal, Reply, Version};
+
+impl Machine {
+    /// A hello: it opens a session of a new incarnation, and what waits of an earlier one is cancelled. A repeat makes
+    /// no entry.
+    pub(crate) fn greet(
+        &mut self,
+        moment: u64,
+        client: u64,
+        incarnation: u64,
+        version: Version,
+    ) -> Result<Option<Entry>, Refusal>
+        requires ready { IsReady self.old }
+        requires numbered { AreNumbered (state_in self.old) }
+        requires time { moment ≤ max_moment }
+        ensures ready { IsReady self.new }
+        ensures numbered { AreNumbered (state_in self.new) }
+        ensures ok { IfOk result (λ made. MovesBy self.old self.new moment (Hello client incarnation version)
+            (option_to_list made) (said.Welcome self.old.clients.epoch client incarnation version)) }
+        ensures err { IfErr result (λ refusal. MovesBy self.old self.new moment
+            (Hello client incarnation version) [] (said.Refused refusal)) }
+    {
+        match self.clients.greet(client, incarnation, version) {
+            Greeting::Again => Ok(None),
+            Greeting::Older(current) => Err(Refusal::OldIncarnation(current)),
+            Greeting::OtherVersion(current) => Err(Refusal::OtherVersion(current)),
+            Greeting::Full => Err(Refusal::ClientsFull),
+            Greeting::Unknown => self.admit(moment, client, incarnation, version),
+            Greeting::Newer { waiting } => self.renew(
+                moment,
+                client,
+                incarnation,
+                version,
+                waiting,
+            ),
+        }
+    }
+
+    // The first hello of a client. All that can fail comes first.
+    fn admit(
+        &mut self,
+        moment: u64,
+        client: u64,
+        incarnation: u64,
+        version: Version,
+    ) -> Result<Option<Entry>, Refusal>
+        requires ready { IsReady self.old }
+        requires numbered { AreNumbered (state_in self.old) }
+        requires time { moment ≤ max_moment }
+        requires unknown { get self.old.clients.clients client ≡ None }
+        requires is_new { IsNewHello (state_in self.old) client incarnation }
+        ensures ready { IsReady self.new }
+        ensures numbered { AreNumbered (state_in self.new) }
+        ensures ok { IfOk result (λ made. MovesBy self.old self.new moment (Hello client incarnation version)
+            (option_to_list made) (said.Welcome self.old.clients.epoch client incarnation version)) }
+        ensures err { IfErr result (λ refusal. MovesBy self.old self.new moment
+            (Hello client incarnation version) [] (said.Refused refusal)) }
+    {
+        if self.is_full(1) {
+            return Err(Refusal::EpochFull);
+        }
+        match self.clients.reserve() {
+            Ok(()) => Ok(Some(self.enter(moment, client, incarnation, version))),
+            Err(_) => Err(Refusal::NoMemory),
+        }
+    }
+
+    // A hello of a later incarnation of a client, whose last request waits at a place if there is one. It takes no
+    // memory.
+    fn renew(
+        &mut self,
+        moment: u64,
+        client: u64,
+        incarnation: u64,
+        version: Version,
+        waiting: Option<Place>,
+    ) -> Result<Option<Entry>, Refusal>
+        requires ready { IsReady self.old }
+        requires numbered { AreNumbered (state_in self.old) }
+        requires time { moment ≤ max_moment }
+        requires lower { HasLowerState self.old.clients client incarnation waiting }
+        ensures ready { IsReady self.new }
+        ensures numbered { AreNumbered (state_in self.new) }
+        ensures ok { IfOk result (λ made. MovesBy self.old self.new moment (Hello client incarnation version)
+            (option_to_list made) (said.Welcome self.old.clients.epoch client incarnation version)) }
+        ensures err { IfErr result (λ refusal. MovesBy self.old self.new moment
+            (Hello client incarnation version) [] (said.Refused refusal)) }
+    {
+        if self.is_full(1) {
+            return Err(Refusal::EpochFull);
+        }
+        match waiting {
+            Some(place) => {
+                self.end(place, Reply::Cancelled);
+                Ok(Some(self.enter(moment, client, incarnation, version)))
+            }
+            None => Ok(Some(self.enter(moment, client, incarnation, version))),
+        }
+    }
+
+    // Opens a session in which nothing was asked yet, and counts its entry. It takes no memory.
+    fn enter(&mut self, moment: u64, client: u64, incarnation: u64, version: Version) -> Entry
+        requires ready { IsReady self.old }
+        requires numbered { AreNumbered (state_in self.old) }
+        requires time { moment ≤ max_moment }
+        requires opens { CanOpen self.old client }
+        requires space { self.old.length + waiting_in self.old.table < max_entries }
+        ensures ready { IsReady self.new }
+        ensures numbered { AreNumbered (state_in self.new) }
+        ensures entry { result ≡ entry moment (act.Hello client incarnation version) [] }
+        ensures after { state_in self.new ≡ advanced (with_client (state_in self.old) client
+            (fresh_state incarnation version)) moment }
+        ensures settles { self.new.settled ≡ self.old.settled }
+    {
+        self.clients.enter(client, incarnation, version);
+        let partners = Partners::none(self.allocator());
+        let hello = Act::Hello {
+            client,
+            incarnation,
+            version,
+        };
+        self.record(moment, hello, partners)
+    }
+}
