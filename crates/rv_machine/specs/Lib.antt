@@ -8,3 +8,4 @@ pub mod Numbering
 pub mod Ticking
 pub mod Entering
 pub mod Arriving
+pub mod Telling

@@ -19,8 +19,8 @@ use rv_session::{Clients, Duty, OpenPlace, Waiter};
 use rv_text::{Call, Item, Key, NoMemory, Reply};
 use std::alloc::Global;
 
-// A copy of the item that a call hands over, if it does.
-fn copy_item(alloc: Global, call: &Call) -> Result<Option<Item>, NoMemory>
+/// A copy of the item that a call hands over, if it does. Fails only if memory was refused.
+pub(crate) fn copy_item(alloc: Global, call: &Call) -> Result<Option<Item>, NoMemory>
     ensures { IfOk result (λ item. item ≡ item_of call.now) }
 {
     match call.item() {

@@ -1,0 +1,76 @@
+-- What those who meet are told, by side and version.
+use Rattle.std.specs.Prelude.{◌≡◌, ◌<◌, ◌+◌, ◌++◌, ◌∷◌, [], ℕ, List, Option, Some, None, option_map, vec_capacity, vec_len}
+use Rattle.std.specs.FinMap.{get}
+use Rattle.std.specs.Global.{Vec}
+use Rattle.rv_text.specs.declared.message.Key.{Key}
+use Rattle.rv_text.specs.declared.version.Version.{Version}
+use Rattle.rv_text.specs.declared.call.Side.{Side}
+use Rattle.rv_text.specs.declared.call.Side.TheVariants.{Gives, Takes, Looks, Exchanges}
+use Rattle.rv_text.specs.declared.call.Wait.{Wait}
+use Rattle.rv_text.specs.declared.answer.Reply.{Reply}
+use Rattle.rv_text.specs.declared.answer.Reply.TheVariants as reply
+use Rattle.rv_session.specs.OwedDuty.{OwedDuty}
+use Rattle.rv_session.specs.declared.client.ClientState.{ClientState}
+use Rattle.rv_session.specs.Clients.{clients_told, place_awaited, with_clients}
+use Rattle.rv_state.specs.State.{Waiter}
+use Rattle.rv_state.specs.After.{receipt_of}
+use Rattle.rv_machine.specs.declared.machine.Machine.{Machine}
+
+-- what a request that waits, or that doesn't wait long, is told of the one that it meets, which has this key and
+-- item: a giver who took its item, by its session's version, a taker the item, and who swaps the other's
+abbrev pub told_by : Side → Version → Option Key → Option (List ℕ) → Option Reply
+told_by (Gives queue) version other gets = receipt_of version other
+told_by (Takes queue) version other gets = option_map (λ item. reply.Item item) gets
+told_by (Exchanges exchanger) version other gets = option_map (λ item. reply.Swapped item) gets
+told_by (Looks queue) version other gets = None
+
+-- an arrival with this wait is told so too; a put is done
+abbrev pub told_arriving : Option Wait → Side → Version → Option Key → Option (List ℕ) → Option Reply
+told_arriving None side version other gets = Some reply.Done
+told_arriving (Some wait) side version other gets = told_by side version other gets
+
+-- who waits with a duty has its session, its reply by that session's version, and room in the list
+pub record CanTell (m : Machine) (duty : OwedDuty) (waiter : Option Waiter) (side : Side) (key : Key)
+    (gift : Option (List ℕ)) : Type 0 where
+  pub who : Waiter
+  pub is : waiter ≡ Some who
+  pub client : duty.client ≡ who.key.client
+  pub awaited : place_awaited m.clients.clients duty.client ≡ Some duty.place
+  pub session : ClientState
+  pub known : get m.clients.clients who.key.client ≡ Some session
+  pub reply : Reply
+  pub told : told_by side session.version (Some key) gift ≡ Some reply
+  pub room : vec_len m.settled < vec_capacity m.settled
+
+abbrev pub TellsWaiter : Machine → Option OwedDuty → Option Waiter → Side → Key → Option (List ℕ) → Type 0
+TellsWaiter m None waiter side key gift = Unit {0}
+TellsWaiter m (Some duty) waiter side key gift = CanTell m duty waiter side key gift
+
+-- the machine where one who waited was told a reply
+abbrev pub machine_told : Machine → Waiter → Reply → Vec Key → Machine
+machine_told m who reply settled =
+    record {
+      moment = m.moment;
+      length = m.length;
+      table = m.table;
+      clients = with_clients m.clients (clients_told m.clients.clients who.key.client reply);
+      settled = settled;
+    }
+
+-- it was told so, and its key listed
+pub record WasTold (old new : Machine) (waiter : Option Waiter) (side : Side) (key : Key)
+    (gift : Option (List ℕ)) : Type 0 where
+  pub who : Waiter
+  pub is : waiter ≡ Some who
+  pub session : ClientState
+  pub known : get old.clients.clients who.key.client ≡ Some session
+  pub reply : Reply
+  pub told : told_by side session.version (Some key) gift ≡ Some reply
+  pub machine : new ≡ machine_told old who reply new.settled
+  pub listed : new.settled.items ≡ old.settled.items ++ who.key ∷ []
+  pub longer : vec_len new.settled ≡ vec_len old.settled + 1
+  pub capacity : vec_capacity new.settled ≡ vec_capacity old.settled
+
+abbrev pub TellsOne : Machine → Machine → Option OwedDuty → Option Waiter → Side → Key → Option (List ℕ) → Type 0
+TellsOne old new None waiter side key gift = new ≡ old
+TellsOne old new (Some duty) waiter side key gift = WasTold old new waiter side key gift
