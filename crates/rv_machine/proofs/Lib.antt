@@ -27,3 +27,6 @@ pub mod EndedLast
 pub mod HelloLines
 pub mod Staying
 pub mod HelloMoves
+pub mod GoneItem
+pub mod MetReplies
+pub mod MetOne
