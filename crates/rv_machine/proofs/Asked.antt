@@ -84,8 +84,10 @@ met_clients m key place call partner its own session other known there apart =
   where
     asks : FinMap nat_cmp ClientState
     asks = clients_asked m key (Waits place call)
+
     tells : FinMap nat_cmp ClientState
     tells = clients_told m partner its
+
     by_client : (q : ℕ) → (q ≡ key.client) ⊎ (q ≢ key.client) → (q ≡ partner) ⊎ (q ≢ partner)
         → get (clients_told (clients_told (clients_asked m key (Waits place call)) partner its) key.client own) q
         ≡ get (clients_asked (clients_told m partner its) key (RepliedTo call own)) q

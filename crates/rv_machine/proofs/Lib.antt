@@ -30,3 +30,4 @@ pub mod HelloMoves
 pub mod GoneItem
 pub mod MetReplies
 pub mod MetOne
+pub mod MetMachine

@@ -54,6 +54,11 @@ pub faces : (all new : List OpenPlace) (o : Option Side) (there : OpenPlace)
 faces all new None there first = absurd (no_line there [] first)
 faces all new (Some side) there first = ap Some (sym (faced_side all side there (line_in new side) first))
 
+-- a machine with this table of what is open and these clients
+abbrev pub begun_with : Machine → List OpenPlace → ClientStates → Machine
+begun_with m table clients =
+    record { moment = m.moment; length = m.length; table = table; clients = clients; settled = m.settled }
+
 module _ (m : Machine) (moment : ℕ) (key : Key) (call : Call) (may : MayArrive m moment key call)
     (table : List OpenPlace) (there : OpenPlace) (other : Option OwedDuty)
     (met : ClosesFirst m.table table (opposite (side_of call)) there other) where
@@ -70,15 +75,8 @@ module _ (m : Machine) (moment : ℕ) (key : Key) (call : Call) (may : MayArrive
   opposes = faces m.table table (opposite (side_of call)) there met.first
 
   -- with its own request begun
-  abbrev begun : Machine
-  begun =
-      record {
-        moment = m.moment;
-        length = m.length;
-        table = table;
-        clients = with_clients m.clients (clients_asked m.clients.clients key (Waits m.length call));
-        settled = m.settled;
-      }
+  abbrev pub begun : Machine
+  begun = begun_with m table (with_clients m.clients (clients_asked m.clients.clients key (Waits m.length call)))
 
   stands : (i : ℕ) × (slice_get m.table i ≡ Some there) × (nat_eq there.place there.place ≡ true)
   stands = find_get (λ (o : OpenPlace). nat_eq o.place there.place) m.table there met.closes.found
@@ -113,7 +111,7 @@ module _ (m : Machine) (moment : ℕ) (key : Key) (call : Call) (may : MayArrive
         is = waits;
         client = refl;
         awaited = ap (option_and_then (λ (c : ClientState). place_waiting c.request))
-            (asked_other m.clients.clients key w.key.client (Waits m.length call) (apart w waits) )
+            (asked_other m.clients.clients key w.key.client (Waits m.length call) (apart w waits))
             ∙ awaited s is there.place there w reply.Cancelled found_there waits;
         session = one.session;
         known = asked_other m.clients.clients key w.key.client (Waits m.length call) (apart w waits) ∙ one.known;
@@ -242,6 +240,7 @@ module _ (m : Machine) (moment : ℕ) (key : Key) (call : Call) (may : MayArrive
       told_as : (o : Option OwedDuty) → other ≡ o
           → TellsOne begun now o there.waiter there.side key (item_of call)
       told_as o same = subst (λ x. TellsOne begun now x there.waiter there.side key (item_of call)) same tells
+
       by_waiter : (w : Option Waiter) → there.waiter ≡ w → TellsBoth now
       by_waiter None none = nobody now none (told_as None (sym met.closes.owed ∙ ap (λ (x : Option Waiter). option_map
           (λ v. record { place = there.place; client = v.key.client }) x) none))

@@ -123,6 +123,7 @@ module _ (s : State) (is : IsConsistent s) (place : ℕ) (there : OpenPlace)
       of_call (call.Count q) at = absurd (no_looker q (sym at))
       of_call (call.Peek q) at = absurd (no_looker q (sym at))
       of_call (call.Drain q max) at = absurd (no_taker q (sym at))
+
       by_waiter : (w : Option Waiter) → there.waiter ≡ w → IsSome there.item
       by_waiter None none =
           let lies = is.lie stands.0 there stands.1 none in
@@ -155,6 +156,7 @@ module _ (s : State) (is : IsConsistent s) (place : ℕ) (there : OpenPlace)
           let at : Exchanges e ≡ there.side = same_Some _ _ faces in
           some_item (λ item. reply.Swapped item) there.item
           (item_there (Exchanges e) (sym at) (λ r x. cc) (λ r x. cc))
+
       by_wait : (wait : Option Wait)
           → IsSome (told_arriving wait (side_of its) version (key_of_waiter there) there.item)
       by_wait None = refl
@@ -168,7 +170,7 @@ module _ (s : State) (is : IsConsistent s) (place : ℕ) (there : OpenPlace)
       let version : session_version s w.key ≡ Some own.session.version =
       ap (option_map (λ (c : ClientState). c.version)) own.known in
       let asked : option_and_then (λ (c : ClientState). call_waiting c.request) (client_at s w.key.client)
-          ≡ Some own.call =
+      ≡ Some own.call =
       ap (option_and_then (λ (c : ClientState). call_waiting c.request)) own.known ∙ ap call_waiting own.waits in
       let is_told : told_partner s key its there w.key ≡ Some reply =
       ap (option_and_then (λ c. told_met s w.key c (Some key) (item_of its))) asked
@@ -187,3 +189,11 @@ module _ (s : State) (is : IsConsistent s) (place : ℕ) (there : OpenPlace)
       ap (λ (o : Option Waiter). cons_option (option_and_then (λ x. option_map
       (λ r. let one : Settled = record { key = x.key; reply = r } in one) (told_partner s key its there x.key)) o) [])
       none
+
+-- what an arrival is told, as the machine reads its call
+pub same_told : (wait : Option Wait) (side : Side) (its : Call) (version : Version) (taker : Option Key)
+    (there : OpenPlace) → wait ≡ wait_of its → side ≡ side_of its → taker ≡ key_of_waiter there
+    → told_arriving wait side version taker there.item
+    ≡ told_arriving (wait_of its) (side_of its) version (key_of_waiter there) there.item
+same_told wait side its version taker there wait_is side_is taker_is =
+    λ i. told_arriving (wait_is i) (side_is i) version (taker_is i) there.item
