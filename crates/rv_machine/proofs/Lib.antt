@@ -21,3 +21,4 @@ pub mod EndedLast
 pub mod HelloLines
 pub mod Staying
 pub mod HelloMoves
+pub mod CancelMoves
