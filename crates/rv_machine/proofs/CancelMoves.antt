@@ -1,19 +1,15 @@
 -- The moves of cancels.
-use Rattle.std.proofs.Common.{◌≡◌, ◌≢◌, ◌<◌, ◌≤◌, ◌+◌, ◌++◌, ◌∷◌, ◌∙◌, ℕ, [], List, Option, Some, None, inl, inr}
-use Rattle.std.proofs.Common.{refl, sym, ap, subst, arith}
+use Rattle.std.proofs.Common.{◌≡◌, ◌≢◌, ◌<◌, ◌+◌, ◌++◌, ◌∷◌, ◌∙◌, ℕ, [], Option, Some, None, inl, inr}
+use Rattle.std.proofs.Common.{refl, sym, ap, arith}
 use Rattle.std.proofs.lemmas.List.{append-nil}
-use Rattle.std.specs.FinMap.{FinMap, get, insert}
-use Rattle.std.specs.Ordering.{nat_cmp}
+use Rattle.std.specs.FinMap.{insert}
 use Rattle.rv_text.specs.declared.message.Key.{Key}
 use Rattle.rv_text.specs.declared.message.Message.TheVariants.{Cancel}
-use Rattle.rv_text.specs.declared.answer.Answer.{Answer}
-use Rattle.rv_text.specs.declared.answer.Answer.TheVariants.{Refused, Replied}
+use Rattle.rv_text.specs.declared.answer.Answer.TheVariants.{Replied}
 use Rattle.rv_text.specs.declared.answer.Refusal.{Refusal}
 use Rattle.rv_text.specs.declared.answer.Refusal.TheVariants.{EpochFull}
-use Rattle.rv_text.specs.declared.answer.Reply.{Reply}
 use Rattle.rv_text.specs.declared.answer.Reply.TheVariants.{Cancelled}
 use Rattle.rv_account.specs.Account.{entry}
-use Rattle.rv_account.specs.declared.entry.Entry.{Entry}
 use Rattle.rv_account.specs.declared.entry.Act.{Act}
 use Rattle.rv_account.specs.declared.entry.Act.TheVariants as act
 use Rattle.rv_rules.specs.Steps.{max_entries}
@@ -23,7 +19,7 @@ use Rattle.rv_session.specs.ClientMeanings.{AsksLast, AsksNext, RefusalSays}
 use Rattle.rv_session.specs.Clients.{ClientStates, answered, clients_asked, insert_known, place_waiting}
 use Rattle.rv_session.specs.Clients.{with_clients, with_last_number, with_request}
 use Rattle.rv_state.specs.State.{ClientState, OpenPlace, State, client_at, client_waits, waiting_count}
-use Rattle.rv_state.specs.After.{Following, Settled, advanced, cancelled, following, with_client, with_last}
+use Rattle.rv_state.specs.After.{advanced, cancelled, with_client, with_last}
 use Rattle.rv_state.specs.Follows.{NumberWaits}
 use Rattle.rv_state.specs.Moves.{NoEntryMore, answer_after, answer_told, entering, told_again}
 use Rattle.rv_state.proofs.Words.{none-some, same_Some}
@@ -35,7 +31,6 @@ use Rattle.rv_machine.specs.Machines.{IsReady, MovesBy, keys_settled, state_in}
 use Rattle.rv_machine.specs.Numbering.{AreNumbered, IsNumbered}
 use Rattle.rv_machine.specs.Opens.{waiting_in}
 use Rattle.rv_machine.proofs.EndedLast.{found_waiting, idle_waits, known_after}
-use Rattle.rv_machine.proofs.Idle.{put_state, with_table}
 use Rattle.rv_machine.proofs.KeyLines.{awaited_there, key_last, key_next, key_refused}
 use Rattle.rv_machine.proofs.Staying.{moves_refused, moves_staying}
 use Rattle.rv_machine.proofs.Stopping.{settled_one, stopped_one}
@@ -49,10 +44,12 @@ module _ (m : Machine) (moment : ℕ) (key : Key) (numbered : AreNumbered (state
   refuses_cancel refusal says =
       moves_refused m m moment _ refl refl refusal (key_refused m key _ _ _ numbered refusal says refl)
 
-  not_waiting : (request : LastRequest) → place_waiting request ≡ None → (says : AsksLast m.clients key request)
+  not_waiting : (request : LastRequest) → place_waiting request ≡ None
+      → (says : AsksLast m.clients key request)
       → NumberWaits (state_in m) key → ⊥
   not_waiting request idle says waits =
-      let same : waits.session ≡ says.state = same_Some _ _ (sym waits.of_session.there ∙ says.of_key.there) in
+      let same : waits.session ≡ says.state = same_Some _ _ (sym waits.of_session.there ∙ says.of_key.there)
+      in
       none-some waits.place
       (sym idle ∙ ap place_waiting (sym says.request_is)
       ∙ ap (λ (x : ClientState). place_waiting x.request) (sym same) ∙ waits.waits)
@@ -78,7 +75,8 @@ module _ (m : Machine) (moment : ℕ) (key : Key) (numbered : AreNumbered (state
 
 -- ---- where the last request waits
 
-module _ (old mid : Machine) (ready : IsReady old) (numbered : AreNumbered (state_in old)) (moment : ℕ) (key : Key)
+module _ (old mid : Machine) (ready : IsReady old) (numbered : AreNumbered (state_in old)) (moment : ℕ)
+    (key : Key)
     (place : ℕ) (last : LastWaits old key place) (ends : EndsWaiting old mid place Cancelled) where
   abbrev s : State
   s = state_in old
@@ -98,7 +96,8 @@ module _ (old mid : Machine) (ready : IsReady old) (numbered : AreNumbered (stat
   told : answer_told key (told_again (answered Cancelled x.request)) ≡ Replied key Cancelled
   told = ap (λ (r : LastRequest). answer_told key (told_again (answered Cancelled r))) last.asks.request_is
 
-  pub ends_cancel : MovesBy old (counted mid moment) moment (Cancel key) (entry moment does [] ∷ []) (said.Told key)
+  pub ends_cancel : MovesBy old (counted mid moment) moment (Cancel key) (entry moment does [] ∷ [])
+      (said.Told key)
   ends_cancel = record {
     move = entering s moment does (Replied key Cancelled);
     moves = key_last old key _ _ _ numbered (Waits place last.call) (λ e. cc) last.asks (inl (

@@ -10,7 +10,8 @@ use Rattle.rv_machine.specs.declared.machine.Said.TheVariants as said
 use Rattle.rv_machine.specs.Ending.{counted}
 use Rattle.rv_machine.specs.Machines.{MovesBy, state_in}
 use Rattle.rv_machine.specs.Numbering.{AreNumbered}
-use Rattle.rv_machine.proofs.CancelMoves.{buried, buried_numbered, buries_cancel, clients_buried, fills_cancel}
+use Rattle.rv_machine.proofs.CancelMoves.{buried, buried_numbered, buries_cancel, clients_buried}
+use Rattle.rv_machine.proofs.CancelMoves.{fills_cancel}
 use Rattle.rv_machine.proofs.CancelMoves.{next_idle}
 use Rattle.rv_machine.proofs.Idle.{put_ready, put_state, with_table}
 use Rattle.rv_machine.proofs.Numbered.{put_numbered}

@@ -1,5 +1,5 @@
 -- The request that waited is cancelled.
-use Rattle.std.proofs.Common.{◌∷◌, ◌∙◌, [], Some, ap, sym, subst}
+use Rattle.std.proofs.Common.{◌∷◌, ◌∙◌, [], ap, sym, subst}
 use Rattle.rv_account.specs.Account.{entry}
 use Rattle.rv_account.specs.declared.entry.Act.TheVariants as act
 use Rattle.rv_account.specs.declared.entry.Entry.{Entry}
@@ -41,7 +41,8 @@ returns-clause-moves c =
     ∙ ap (entry c.args.moment (act.Cancel c.args.key)) c.none-partners.ensures in
     subst (λ (m : Machine). MovesBy old m c.args.moment (Cancel c.args.key) (c.record.result ∷ [])
     (said.Told c.args.key)) (sym c.record.ensures.counted)
-    (subst (λ (e : Entry). MovesBy old (counted c.end.new.self c.args.moment) c.args.moment (Cancel c.args.key)
+    (subst (λ (e : Entry). MovesBy old (counted c.end.new.self c.args.moment) c.args.moment
+    (Cancel c.args.key)
     (e ∷ []) (said.Told c.args.key)) (sym made)
     (ends_cancel old c.end.new.self c.requires.ready c.requires.numbered c.args.moment c.args.key c.args.place
     c.requires.waits c.end.ensures.ends))

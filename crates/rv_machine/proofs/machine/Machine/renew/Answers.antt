@@ -1,11 +1,11 @@
 -- What waited of the client's session is over, if something did.
-use Rattle.std.proofs.Common.{◌≡◌, ◌∙◌, Some, None, ap, sym, subst, refl}
+use Rattle.std.proofs.Common.{◌≡◌, ◌∙◌, Some, None, sym, refl}
 use Rattle.rv_session.specs.Clients.{place_waiting}
 use Rattle.rv_text.specs.declared.answer.Reply.TheVariants.{Cancelled}
-use Rattle.rv_state.specs.State.{ClientState}
-use Rattle.rv_state.proofs.Words.{none-some, same_Some}
+use Rattle.rv_state.proofs.Words.{none-some}
 use Rattle.rv_machine.specs.Machines.{state_in}
-use Rattle.rv_machine.proofs.EndedLast.{found_waiting, idle_after, known_after, space_after, waits_for, waits_in}
+use Rattle.rv_machine.proofs.EndedLast.{found_waiting, idle_after, known_after, space_after, waits_for}
+use Rattle.rv_machine.proofs.EndedLast.{waits_in}
 use Rattle.rv_machine.proofs.HelloMoves.{lower_new, moves_idle, moves_no_entry, moves_waiting}
 use Rattle.rv_machine.proofs.KeyLines.{awaited_there}
 use Rattle.rv_machine.proofs.Numbered.{ended_numbered}
