@@ -12,6 +12,12 @@ pub mod EndingOne
 pub mod Recorded
 pub mod EndedMachine
 pub mod Parking
+pub mod Asked
+pub mod Stayed
+pub mod StayedMachine
+pub mod Concluded
+pub mod Leaving
+pub mod Lying
 pub mod KeyLines
 pub mod Stopping
 pub mod InTurn

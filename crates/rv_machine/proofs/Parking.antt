@@ -185,7 +185,7 @@ module _ (all : List OpenPlace) (old new : Waiters) (waiting : ℕ) (due : Deadl
       parked = arrived.parked (owed_in more)
           (parked_on (owed_in all) (owed_in more) old
           (λ side i r on. ap (option_and_then duty_at) (found_more all r
-          (λ same. let less : r < o.place = all_below side i r on in absurd (omega (arith, same, less)))) )
+          (λ same. let less : r < o.place = all_below side i r on in absurd (omega (arith, same, less)))))
           is.parked)
           (its ∙ as_some (wait_of call));
       counted = count_is;
@@ -218,6 +218,7 @@ module _ (all : List OpenPlace) (old new : Waiters) (waiting : ℕ) (due : Deadl
     where
       by_waiter : is_some {T = OwedDuty} (option_map (λ w. duty) (wait_of call)) ≡ is_some {T = Waiter} o.waiter
       by_waiter = sym (ap (λ (d : Option OwedDuty). is_some d) may.waiter) ∙ count_owed o (duty_at o) refl
+
       by_wait : (wait : Option Wait) (own : Option OwedDuty) → own ≡ own_duty wait duty
           → count ≡ cond (is_some own) 1 0 → is_some {T = Waiter} o.waiter ≡ is_some {T = Waiter} o.waiter
           → is_some {T = OwedDuty} (option_map (λ w. duty) wait) ≡ is_some {T = Waiter} o.waiter

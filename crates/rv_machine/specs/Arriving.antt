@@ -1,8 +1,11 @@
 -- What it is that a request arrives at a machine.
-use Rattle.std.specs.Prelude.{◌≡◌, ◌+◌, ◌≤◌, ◌++◌, ℕ, Some}
+use Rattle.std.specs.Prelude.{◌≡◌, ◌+◌, ◌≤◌, ◌++◌, ℕ, Option, Some, None}
 use Rattle.rv_text.specs.declared.message.Key.{Key}
 use Rattle.rv_text.specs.declared.call.Call.{Call}
 use Rattle.rv_text.specs.Limits.{FitsCall}
+use Rattle.rv_text.specs.declared.answer.Reply.TheVariants.{Done}
+use Rattle.rv_session.specs.OwedDuty.{OwedDuty}
+use Rattle.rv_session.specs.Clients.{ClientStates, clients_told, with_clients}
 use Rattle.rv_account.specs.declared.entry.Entry.{Entry}
 use Rattle.rv_account.specs.declared.entry.Act.TheVariants.{Arrive}
 use Rattle.rv_account.specs.Account.{entry}
@@ -40,3 +43,8 @@ pub record Arrives (old new : Machine) (moment : ℕ) (key : Key) (call : Call) 
 pub record IsAsBefore (old new : Machine) : Type 0 where
   pub state : state_in new ≡ state_in old
   pub settled : new.settled.items ≡ old.settled.items
+
+-- the clients where a put, whose own duty came back, was told that it is done
+abbrev pub after_put : ClientStates → Option OwedDuty → ClientStates
+after_put clients None = clients
+after_put clients (Some duty) = with_clients clients (clients_told clients.clients duty.client Done)

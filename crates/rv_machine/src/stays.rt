@@ -1,0 +1,99 @@
+//! Requests that find nobody and stay: they are open from then on.
+ghost use Rattle.std.specs.Prelude.{◌≡◌, ◌+◌, ◌<◌, ◌≤◌, [], Some, IfOk, IfSome, OnErr};
+ghost use Rattle.rv_session.specs.Clients.{place_awaited};
+ghost use Rattle.rv_account.specs.Account.{entry};
+ghost use Rattle.rv_account.specs.Calls.{Lasts};
+ghost use Rattle.rv_rules.specs.Steps.{max_entries, max_moment};
+ghost use Rattle.rv_state.specs.After.{opened_by};
+ghost use Rattle.rv_text.specs.Calls.{item_of, side_of, wait_of};
+ghost use Rattle.rv_text.specs.Limits.{FitsCall};
+ghost use Rattle.rv_waiters.specs.Meeting.{StaysBy};
+ghost use Rattle.rv_machine.specs.Arriving.{Arrives, IsAsBefore, MayArrive, after_put};
+ghost use Rattle.rv_machine.specs.Ending.{counted};
+ghost use Rattle.rv_machine.specs.Machines.{IsReady, state_in};
+ghost use Rattle.rv_machine.specs.Opens.{opposed_in};
+
+use crate::machine::Machine;
+use rv_account::{Act, Entry, Partners, deadline_after};
+use rv_session::{Clients, Duty, OpenPlace, Waiter};
+use rv_text::{Call, Item, Key, NoMemory, Reply};
+use std::alloc::Global;
+
+// A copy of the item that a call hands over, if it does.
+fn copy_item(alloc: Global, call: &Call) -> Result<Option<Item>, NoMemory>
+    ensures { IfOk result (λ item. item ≡ item_of call.now) }
+{
+    match call.item() {
+        Some(item) => Ok(Some(item.copy(alloc)?)),
+        None => Ok(None),
+    }
+}
+
+// Settles a put, which is done when it comes.
+fn settle_put(clients: &mut Clients, put: Option<Duty>)
+    requires { IfSome put (λ d. place_awaited clients.old.clients d.client ≡ Some d.place) }
+    ensures { clients.new ≡ after_put clients.old put }
+{
+    if let Some(duty) = put {
+        clients.settle(duty, Reply::Done);
+    }
+}
+
+impl Machine {
+    /// Counts one entry more, of a moment, and gives it.
+    pub(crate) fn push(&mut self, moment: u64, act: Act, partners: Partners) -> Entry
+        requires { self.old.length < max_entries }
+        ensures entry { result ≡ entry moment act partners }
+        ensures counted { self.new ≡ counted self.old moment }
+    {
+        self.length += 1;
+        self.moment = moment;
+        Entry {
+            moment,
+            act,
+            partners,
+        }
+    }
+
+    // The open place of a request that stays, with a copy of its item.
+    fn opening(&self, moment: u64, key: &Key, call: &Call) -> Result<OpenPlace, NoMemory>
+        requires time { moment ≤ max_moment }
+        requires fits { FitsCall call.now }
+        requires lasts { Lasts (wait_of call.now) }
+        ensures { IfOk result (λ place. place ≡ opened_by (state_in self.now) moment key.now call.now) }
+    {
+        let item = copy_item(self.allocator(), call)?;
+        let waiter = call.wait().map(|_| Waiter {
+            key: *key,
+            since: moment,
+        });
+        Ok(OpenPlace {
+            place: self.length,
+            side: call.side(),
+            item,
+            limit: deadline_after(moment, call.wait()),
+            waiter,
+        })
+    }
+
+    /// A request finds nobody and stays. Fails only if memory was refused, and then the state stays.
+    pub(crate) fn stay(&mut self, moment: u64, key: Key, call: Call) -> Result<Entry, NoMemory>
+        requires may { MayArrive self.old moment key call }
+        requires alone { opposed_in self.old.table (side_of call) ≡ [] }
+        requires stays { StaysBy (side_of call) (wait_of call) }
+        ensures ready { IsReady self.new }
+        ensures ok { IfOk result (Arrives self.old self.new moment key call) }
+        ensures err { OnErr result (IsAsBefore self.old self.new) }
+    {
+        let alloc = self.allocator();
+        let copy = call.copy(alloc)?;
+        let opened = self.opening(moment, &key, &call)?;
+        self.settled.reserve(self.table.waiting() + 1)?;
+        let put = self
+            .table
+            .park(&mut self.clients, opened, &key, call, &copy)?;
+        settle_put(&mut self.clients, put);
+        let act = Act::Arrive { key, call: copy };
+        Ok(self.push(moment, act, Partners::none(alloc)))
+    }
+}
