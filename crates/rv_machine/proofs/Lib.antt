@@ -28,3 +28,4 @@ pub mod HelloLines
 pub mod Staying
 pub mod HelloMoves
 pub mod CancelMoves
+pub mod NumberedArrivals

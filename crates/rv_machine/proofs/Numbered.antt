@@ -17,11 +17,11 @@ use Rattle.rv_machine.specs.Machines.{state_in}
 use Rattle.rv_machine.specs.Numbering.{AreNumbered, IsNumbered}
 use Rattle.rv_machine.proofs.Told.{put_other, put_own}
 
-abbrev AllNumbered : FinMap nat_cmp ClientState → Type 0
+abbrev pub AllNumbered : FinMap nat_cmp ClientState → Type 0
 AllNumbered clients = (client : ℕ) (session : ClientState) → get clients client ≡ Some session
     → IsNumbered session
 
-put_in : (clients : FinMap nat_cmp ClientState) (client : ℕ) (session : ClientState) → AllNumbered clients
+pub put_in : (clients : FinMap nat_cmp ClientState) (client : ℕ) (session : ClientState) → AllNumbered clients
     → IsNumbered session → AllNumbered (insert clients client session)
 put_in clients client session all its other x there = elim (cases_eq other client) [
   | inl same ↦
@@ -53,7 +53,7 @@ known_in clients client reply (Some x) is all =
       zero = λ fresh. (all client x is).zero (answered_fresh reply x.request fresh);
     })
 
-tell_numbered : (clients : FinMap nat_cmp ClientState) (settled : Settled) → AllNumbered clients
+pub tell_numbered : (clients : FinMap nat_cmp ClientState) (settled : Settled) → AllNumbered clients
     → AllNumbered (tell clients settled)
 tell_numbered clients settled all =
     subst AllNumbered (sym (clients_after_tell clients settled))

@@ -1,13 +1,13 @@
 //! The machine of a book: its tables are the state of an account, and its steps are those of the state.
 #![tactic(auto)]
 
+mod cancels;
+mod hellos;
 mod leaves;
 mod machine;
 mod opens;
-mod stays;
-mod cancels;
-mod hellos;
 mod space;
+mod stays;
 mod table;
 mod ticks;
 
