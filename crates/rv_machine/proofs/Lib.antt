@@ -24,6 +24,7 @@ pub mod InTurn
 pub mod Numbered
 pub mod Idle
 pub mod EndedLast
+pub mod SpaceLines
 pub mod HelloLines
 pub mod Staying
 pub mod HelloMoves
