@@ -18,10 +18,10 @@ use Rattle.rv_session.specs.declared.client.LastRequest.TheVariants.{CancelledUn
 use Rattle.rv_session.specs.ClientMeanings.{AsksLast, AsksNext, RefusalSays}
 use Rattle.rv_session.specs.Clients.{ClientStates, answered, clients_asked, insert_known, place_waiting}
 use Rattle.rv_session.specs.Clients.{with_clients, with_last_number, with_request}
-use Rattle.rv_state.specs.State.{ClientState, OpenPlace, State, client_at, client_waits, waiting_count}
+use Rattle.rv_state.specs.State.{ClientState, OpenPlace, State, client_at, client_waits}
 use Rattle.rv_state.specs.After.{advanced, cancelled, with_client, with_last}
 use Rattle.rv_state.specs.Follows.{NumberWaits}
-use Rattle.rv_state.specs.Moves.{NoEntryMore, answer_after, answer_told, entering, told_again}
+use Rattle.rv_state.specs.Moves.{answer_after, answer_told, entering, told_again}
 use Rattle.rv_state.proofs.Words.{none-some, same_Some}
 use Rattle.rv_machine.specs.declared.machine.Machine.{Machine}
 use Rattle.rv_machine.specs.declared.machine.Said.TheVariants as said

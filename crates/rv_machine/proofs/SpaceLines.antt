@@ -1,5 +1,5 @@
 -- The line on an epoch's space, and those at a session's last number.
-use Rattle.std.proofs.Common.{◌≡◌, ◌≢◌, ◌<◌, ◌≤◌, ◌+◌, ◌∙◌, ℕ, Option, Some, None, inl, inr}
+use Rattle.std.proofs.Common.{◌≡◌, ◌≢◌, ◌<◌, ◌≤◌, ◌+◌, ◌∙◌, ℕ, Some, inl, inr}
 use Rattle.std.proofs.Common.{refl, sym, ap, arith}
 use Rattle.rv_text.specs.declared.call.Call.{Call}
 use Rattle.rv_text.specs.declared.message.Key.{Key}
@@ -9,7 +9,7 @@ use Rattle.rv_rules.specs.Steps.{RefuseOr, max_entries}
 use Rattle.rv_session.specs.declared.client.LastRequest.{LastRequest}
 use Rattle.rv_session.specs.ClientMeanings.{AsksLast}
 use Rattle.rv_state.specs.Moves.{CallDiffers, NoEntryMore, call_asked}
-use Rattle.rv_state.specs.State.{ClientState, State, client_at, waiting_count}
+use Rattle.rv_state.specs.State.{ClientState, State, waiting_count}
 use Rattle.rv_state.proofs.Words.{same_Some}
 use Rattle.rv_machine.specs.declared.machine.Machine.{Machine}
 use Rattle.rv_machine.specs.Machines.{state_in}
